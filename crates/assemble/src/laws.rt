@@ -11,8 +11,8 @@ ghost use Rattle.assemble.specs.declared.fault.AsmError.TheVariants.{Memory};
 ghost use Rattle.assemble.specs.declared.fault.Rule.{Rule};
 
 use crate::fault::AsmError;
-use crate::reading::assemble;
-use crate::writing::disassemble;
+use crate::parser::assemble;
+use crate::printer::disassemble;
 use decode::Insn;
 use limits::SLOTS;
 use std::alloc::Global;

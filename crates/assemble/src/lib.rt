@@ -21,13 +21,13 @@ mod mistake;
 mod mnemonic;
 mod number;
 mod operands;
-mod reading;
+mod parser;
 mod sentence;
 mod split;
-mod writing;
+mod printer;
 
 pub use fault::{AsmError, Rule};
 pub use laws::{one_fault, one_list, read_back, there_and_back};
 pub use mistake::{Mistake, Wanted, is_compiled, mistake_of};
-pub use reading::assemble;
-pub use writing::disassemble;
+pub use parser::assemble;
+pub use printer::disassemble;

@@ -4,7 +4,7 @@ use Rattle.std.proofs.lemmas.List.{append-nil}
 use Rattle.checkpoint.specs.declared.fault.SavedFault.{SavedFault}
 use Rattle.checkpoint.specs.declared.fault.SavedError.{SavedError}
 use Rattle.checkpoint.specs.declared.fault.SavedError.TheVariants as errors
-use Rattle.checkpoint.specs.Reading.{◌>>=◌, Fails, times}
+use Rattle.checkpoint.specs.Reader.{◌>>=◌, Fails, times}
 
 -- what reads a field from the front of bytes, and leaves the rest
 abbrev pub Field : Type 0 → Type 0

@@ -14,7 +14,7 @@ use Rattle.checkpoint.specs.Saved.{TheKept, TheSaved, nothing_kept, PayloadFits,
 use Rattle.checkpoint.specs.Inside.Saved.{HeadFits}
 use Rattle.checkpoint.specs.Format.{magic, payload_bytes, kept_bytes, number_bytes}
 use Rattle.checkpoint.specs.Laws.{IsTooShort}
-use Rattle.checkpoint.specs.Reading.{◌>>=◌, bytes_at, byte_at, number_at, form_at, senders_at, payload_at, times, kept_at, head_at, body_at, reading}
+use Rattle.checkpoint.specs.Reader.{◌>>=◌, bytes_at, byte_at, number_at, form_at, senders_at, payload_at, times, kept_at, head_at, body_at, reading}
 use Rattle.checkpoint.proofs.Counted.{Field}
 use Rattle.checkpoint.proofs.FieldLemmas.{IsWide, wide16, wide32, bytes_again, byte_again, number_again, form_again, senders_again, payload_again}
 use Rattle.checkpoint.proofs.KeptLemmas.{kept_again}

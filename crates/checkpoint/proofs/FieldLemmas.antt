@@ -13,7 +13,7 @@ use Rattle.checkpoint.specs.declared.fault.SavedFault.{SavedFault}
 use Rattle.checkpoint.specs.declared.fault.SavedFault.TheVariants.{Magic, Length, Range}
 use Rattle.checkpoint.specs.Saved.{PayloadFits, is_sender}
 use Rattle.checkpoint.specs.Format.{magic, payload_bytes}
-use Rattle.checkpoint.specs.Reading.{◌>>=◌, bytes_at, in_range, byte_at, number_at, form_at, senders_at, payload_at}
+use Rattle.checkpoint.specs.Reader.{◌>>=◌, bytes_at, in_range, byte_at, number_at, form_at, senders_at, payload_at}
 
 -- each number is a byte's
 abbrev pub IsBytes : List ℕ → Type 0

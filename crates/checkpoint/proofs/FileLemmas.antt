@@ -16,7 +16,7 @@ use Rattle.checkpoint.specs.Saved.{TheKept, TheSaved, nothing_kept, KeptFits, Fi
 use Rattle.checkpoint.specs.Inside.Saved.{HeadFits}
 use Rattle.checkpoint.specs.Format.{magic, kept_bytes, number_bytes, bytes_of, IsCheckpoint}
 use Rattle.checkpoint.specs.Laws.{IsOneCheckpoint, IsTooLong}
-use Rattle.checkpoint.specs.Reading.{◌>>=◌, Gives, bytes_at, byte_at, number_at, form_at, senders_at, times, kept_at, head_at, body_at, reading}
+use Rattle.checkpoint.specs.Reader.{◌>>=◌, Gives, bytes_at, byte_at, number_at, form_at, senders_at, times, kept_at, head_at, body_at, reading}
 use Rattle.checkpoint.proofs.FieldLemmas.{IsBytes, bind_ok, passed_ok, ok_is, Takes, Takes-then, wide16, wide32, bytes_takes, bytes_again, byte_takes, byte_again, number_takes, number_again, form_takes, form_again, senders_takes, senders_again}
 use Rattle.checkpoint.proofs.KeptLemmas.{times_takes, times_again, kept_takes, kept_again}
 

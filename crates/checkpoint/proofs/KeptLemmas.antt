@@ -5,7 +5,7 @@ use Rattle.std.specs.List.{flat_map, AllByRecursion}
 use Rattle.checkpoint.specs.declared.form.Form.{Form}
 use Rattle.checkpoint.specs.Saved.{TheKept, PayloadFits, KeptFits}
 use Rattle.checkpoint.specs.Format.{payload_bytes, kept_bytes}
-use Rattle.checkpoint.specs.Reading.{◌>>=◌, number_at, payload_at, times, kept_at}
+use Rattle.checkpoint.specs.Reader.{◌>>=◌, number_at, payload_at, times, kept_at}
 use Rattle.checkpoint.proofs.Counted.{Field}
 use Rattle.checkpoint.proofs.FieldLemmas.{IsBytes, bind_ok, ok_is, Takes, Takes-then, wide32, number_takes, number_again, payload_takes, payload_again}
 

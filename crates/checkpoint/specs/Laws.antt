@@ -5,7 +5,7 @@ use Rattle.checkpoint.specs.declared.form.Form.TheVariants.{Second}
 use Rattle.checkpoint.specs.declared.fault.SavedFault.TheVariants.{Length}
 use Rattle.checkpoint.specs.Saved.{TheSaved}
 use Rattle.checkpoint.specs.Format.{IsCheckpoint}
-use Rattle.checkpoint.specs.Reading.{reading}
+use Rattle.checkpoint.specs.Reader.{reading}
 
 -- bytes are the checkpoint of at most one saved process, in one form
 abbrev pub IsOneCheckpoint : Type 0

@@ -1,6 +1,6 @@
 pub mod Saved
 pub mod Format
 pub mod FaultNumbers
-pub mod Reading
+pub mod Reader
 pub mod Laws
 pub mod Inside

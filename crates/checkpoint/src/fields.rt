@@ -5,7 +5,7 @@ ghost use Rattle.std.specs.Int.{w16, w32};
 ghost use Rattle.std.specs.List.{list_all};
 ghost use Rattle.checkpoint.specs.Saved.{is_sender};
 ghost use Rattle.checkpoint.specs.Inside.Saved.{HeadFits};
-ghost use Rattle.checkpoint.specs.Reading.{Gives, bytes_at, byte_at, number_at, form_at, senders_at, payload_at, head_at};
+ghost use Rattle.checkpoint.specs.Reader.{Gives, bytes_at, byte_at, number_at, form_at, senders_at, payload_at, head_at};
 
 use crate::fault::{SavedError, SavedFault};
 use crate::form::Form;
@@ -54,7 +54,7 @@ pub fn byte_of(least: u8, most: u8, bytes: &[u8]) -> Result<(u8, &[u8]), SavedEr
 }
 
 /// A number of two bytes, in a range.
-#[tactic(auto, using(crate::proofs::ByteLemmas::little_16), unfolding(crate::specs::Reading::number_at))]
+#[tactic(auto, using(crate::proofs::ByteLemmas::little_16), unfolding(crate::specs::Reader::number_at))]
 pub fn u16_of(least: u16, most: u16, bytes: &[u8]) -> Result<(u16, &[u8]), SavedError>
     ensures exact { Gives (λ x. (x.0, x.1.now)) result (number_at w16 least most bytes.now) }
     ensures range { IfOk result (λ x. (least ≤ x.0) × (x.0 ≤ most)) }
@@ -68,7 +68,7 @@ pub fn u16_of(least: u16, most: u16, bytes: &[u8]) -> Result<(u16, &[u8]), Saved
 }
 
 /// A number of four bytes, in a range.
-#[tactic(auto, using(crate::proofs::ByteLemmas::little_32), unfolding(crate::specs::Reading::number_at))]
+#[tactic(auto, using(crate::proofs::ByteLemmas::little_32), unfolding(crate::specs::Reader::number_at))]
 pub fn u32_of(least: u32, most: u32, bytes: &[u8]) -> Result<(u32, &[u8]), SavedError>
     ensures exact { Gives (λ x. (x.0, x.1.now)) result (number_at w32 least most bytes.now) }
     ensures range { IfOk result (λ x. (least ≤ x.0) × (x.0 ≤ most)) }
@@ -82,7 +82,7 @@ pub fn u32_of(least: u32, most: u32, bytes: &[u8]) -> Result<(u32, &[u8]), Saved
 }
 
 /// The form with this magic.
-#[tactic(auto, unfolding(crate::specs::Reading::form_at))]
+#[tactic(auto, unfolding(crate::specs::Reader::form_at))]
 fn form_of(bytes: &[u8]) -> Result<(Form, &[u8]), SavedError>
     ensures { Gives (λ x. (x.0, x.1.now)) result (form_at bytes.now) }
 {
@@ -97,7 +97,7 @@ fn form_of(bytes: &[u8]) -> Result<(Form, &[u8]), SavedError>
 }
 
 /// The fields up to the number of receipts.
-#[tactic(auto, unfolding(crate::specs::Reading::head_at))]
+#[tactic(auto, unfolding(crate::specs::Reader::head_at))]
 pub fn head_of(bytes: &[u8]) -> Result<(Head, &[u8]), SavedError>
     ensures exact { Gives (λ x. (x.0, x.1.now)) result (head_at bytes.now) }
     ensures fits { IfOk result (λ x. HeadFits x.0) }
@@ -118,7 +118,7 @@ pub fn head_of(bytes: &[u8]) -> Result<(Head, &[u8]), SavedError>
 }
 
 /// The senders of the received messages, a byte each.
-#[tactic(auto, unfolding(crate::specs::Reading::senders_at))]
+#[tactic(auto, unfolding(crate::specs::Reader::senders_at))]
 pub fn senders_of(head: Head, bytes: &[u8]) -> Result<(&[u8], &[u8]), SavedError>
     ensures exact { Gives (λ x. (x.0.now, x.1.now)) result (senders_at head.me head.count head.received bytes.now) }
     ensures len { IfOk result (λ x. length x.0.now ≡ head.received) }
@@ -141,7 +141,7 @@ fn are_senders(head: Head, senders: &[u8]) -> bool
 }
 
 /// A payload. In the second form its length comes first.
-#[tactic(auto, unfolding(crate::specs::Reading::payload_at))]
+#[tactic(auto, unfolding(crate::specs::Reader::payload_at))]
 pub fn payload_of(form: Form, bytes: &[u8]) -> Result<(&[u8], &[u8]), SavedError>
     ensures exact { Gives (λ x. (x.0.now, x.1.now)) result (payload_at form bytes.now) }
     ensures bound { IfOk result (λ x. length x.0.now ≤ PAYLOAD_BYTES) }

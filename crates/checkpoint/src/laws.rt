@@ -2,12 +2,12 @@
 
 ghost use Rattle.std.specs.Prelude.{Ok};
 ghost use Rattle.checkpoint.specs.Laws.{IsOneCheckpoint, IsTooLong, IsTooShort};
-ghost use Rattle.checkpoint.specs.Reading.{Gives};
+ghost use Rattle.checkpoint.specs.Reader.{Gives};
 
 use crate::fault::SavedError;
-use crate::reading::decode;
+use crate::reader::decode;
 use crate::saved::Saved;
-use crate::writing::encode;
+use crate::writer::encode;
 use std::alloc::Global;
 
 /// Bytes are the checkpoint of at most one saved process, in one form.

@@ -6,7 +6,7 @@ ghost use Rattle.checkpoint.specs.declared.form.Form.TheVariants.{Second};
 ghost use Rattle.checkpoint.specs.Saved.{PayloadFits};
 ghost use Rattle.checkpoint.specs.Format.{payload_bytes};
 
-use crate::writing::put_payload;
+use crate::writer::put_payload;
 use limits::PAYLOAD_BYTES;
 use std::alloc::{AllocError, Global};
 use std::marker::Model;

@@ -6,9 +6,9 @@ ghost use Rattle.checkpoint.specs.Format.{IsCheckpoint};
 ghost use Rattle.checkpoint.specs.Saved.{Fits, receipts_again, log_again};
 
 use crate::fault::SavedError;
-use crate::reading::decode;
+use crate::reader::decode;
 use crate::saved::Saved;
-use crate::writing::encode;
+use crate::writer::encode;
 use limits::RECEIPTS;
 use rsn::Receipts;
 use sender_log::Log;

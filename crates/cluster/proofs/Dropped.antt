@@ -21,8 +21,8 @@ use Rattle.cluster.specs.Memory.{unsaved, ToldIsDropped}
 use Rattle.cluster.specs.Inside.Agrees.{Beside, world, is_answered, Agrees}
 use Rattle.cluster.proofs.Worlds.{Lawful}
 use Rattle.cluster.proofs.Facts.{choose2, takes-is, takes-well, takes-runs, well-is, well-back, back-answered, true-not-false}
-use Rattle.cluster.proofs.Replaying.{is-peer}
-use Rattle.cluster.proofs.Growing.{Continues, either-way, takes-back, does-continue}
+use Rattle.cluster.proofs.Replays.{is-peer}
+use Rattle.cluster.proofs.Growth.{Continues, either-way, takes-back, does-continue}
 use Rattle.cluster.proofs.MemoryLemmas.{taken-parts, taken-sent, well-sent}
 use Rattle.cluster.proofs.Runs.{Holds, run-holds, step-holds, run-append, run-count}
 

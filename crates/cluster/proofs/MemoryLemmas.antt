@@ -18,7 +18,7 @@ use Rattle.cluster.specs.Memory.{receipts, how_many, is_of, counts, taken_since,
 use Rattle.cluster.specs.Inside.Agrees.{Beside, world, Agrees}
 use Rattle.cluster.proofs.Worlds.{Lawful}
 use Rattle.cluster.proofs.Facts.{well-is}
-use Rattle.cluster.proofs.Growing.{either-way}
+use Rattle.cluster.proofs.Growth.{either-way}
 use Rattle.cluster.proofs.Moment.{kept-is}
 use Rattle.cluster.proofs.Promised.{output-once-node, received-once-node}
 use Rattle.cluster.proofs.Runs.{Holds, run-holds, step-holds, opens-holds}

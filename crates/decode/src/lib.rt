@@ -21,15 +21,15 @@ mod fault;
 mod form;
 mod insn;
 mod laws;
-mod reading;
+mod decoder;
 mod table;
 mod word;
-mod writing;
+mod encoder;
 
 pub use fault::{DecodeError, Rule};
 pub use insn::{
     AluOp, ByteOrder, Condition, Extension, Insn, Operand, Reg, SignedSize, Size, SwapBits, Width,
 };
 pub use laws::{one_fault, one_list};
-pub use reading::decode;
-pub use writing::{encode, slots};
+pub use decoder::decode;
+pub use encoder::{encode, slots};

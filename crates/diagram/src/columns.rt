@@ -3,10 +3,10 @@
 
 ghost use Rattle.std.specs.Prelude.{◌≡◌, ◌<◌, ◌+◌, ◌^◌, ◌++◌, ◌∷◌, [], IfOk, None, OnOk, Some};
 ghost use Rattle.diagram.specs.Columns.{behind, behind_entry, column, columns, keys_after, moves_other, outputs_in, text_of};
-ghost use Rattle.diagram.specs.Standing.{run_of, standing_of};
+ghost use Rattle.diagram.specs.Moments.{run_of, standing_of};
 
 use crate::run::{Moment, Run};
-use crate::standing::Standing;
+use crate::moments::Standing;
 use helpers::Payload;
 use indexmap::IndexSet;
 use std::alloc::{AllocError, Global};

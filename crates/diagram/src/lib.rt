@@ -30,7 +30,7 @@ mod picture;
 mod processes;
 mod run;
 mod sign;
-mod standing;
+mod moments;
 mod wire;
 
 pub use page::draw;

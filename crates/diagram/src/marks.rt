@@ -12,7 +12,7 @@ use crate::label::{Side, push_number, push_word};
 use crate::page::{column_x, lane_y};
 use helpers::Payload;
 use std::alloc::AllocError;
-use trace::Hex;
+use scenario::Hex;
 use world::{Answer, Call, Entry};
 
 /// How many bytes of a message are shown.

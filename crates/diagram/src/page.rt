@@ -3,7 +3,7 @@
 ghost use Rattle.std.specs.Prelude.{◌≡◌, ◌++◌, IfOk, OnOk, length, min, string_bytes};
 ghost use Rattle.indexmap.specs.IndexMap.{index_map_len};
 ghost use Rattle.diagram.specs.Columns.{columns};
-ghost use Rattle.diagram.specs.Standing.{run_of};
+ghost use Rattle.diagram.specs.Moments.{run_of};
 ghost use Rattle.diagram.specs.Marks.{HasPart, marks_from};
 ghost use Rattle.diagram.specs.Picture.{IsPicture};
 ghost use Rattle.diagram.specs.Page.{column_place, head_text, line_place, page_height, page_width};
@@ -18,7 +18,7 @@ use crate::sign::Sign;
 use indexmap::IndexMap;
 use scenario::Process;
 use std::alloc::{AllocError, Global};
-use trace::name_at;
+use scenario::name_at;
 use world::Entry;
 
 /// The distance from a column to the next, in pixels.

@@ -1,6 +1,6 @@
 pub mod Overwritten
 pub mod Reports
-pub mod Calls
+pub mod CallLemmas
 pub mod FirstFailure
 pub mod Lent
 pub mod Loosened

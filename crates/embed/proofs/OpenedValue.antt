@@ -17,7 +17,7 @@ use denote.Struct.Struct.{within}
 use denote.Struct.Owning.{shape}
 use Rattle.handlers.specs.Image.{TheImage}
 use Rattle.embed.specs.Handles.{owns_image}
-use Rattle.embed.specs.contracts.opening.Opened as opened
+use Rattle.embed.specs.contracts.lifetime.Opened as opened
 
 -- its pointer and its code
 abbrev pub word : Ptr → ℕ → Val

@@ -1,8 +1,8 @@
 -- The array of calls of form 3 before the first one.
 use Rattle.std.proofs.Common.{◌≡◌, ℕ, zero, suc, ◌+◌, ◌<◌, ◌≤◌, List, [], refl, ◌∙◌, arith}
 use Rattle.std.proofs.lemmas.Bool.Decides.{nat_tests}
-use Rattle.span_calls.specs.Concrete.{entry_array}
-use Rattle.span_calls.specs.Slices.{listed}
+use Rattle.spans.specs.Concrete.{entry_array}
+use Rattle.spans.specs.Slices.{listed}
 use Rattle.span_interp.specs.CallArray.{HoldsEntry, IsLeft}
 
 entry_first : (n : ℕ) (f g : ℕ → ℕ) (a : ℕ) → a < 512 → entry_array n f g a ≡ f a

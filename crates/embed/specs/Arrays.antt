@@ -10,7 +10,7 @@ use Rattle.span_interp.specs.CallArray as span_array
 use Rattle.handlers.specs.Image.{TheImage, as_image}
 use Rattle.handlers.specs.declared.handler.Handler.{Handler}
 use Rattle.handlers.specs.declared.handler.Handler.TheVariants.{Flat, Span}
-use Rattle.embed.specs.declared.calling.TheConstants.{MESSAGE}
+use Rattle.embed.specs.declared.calls.TheConstants.{MESSAGE}
 use Rattle.embed.specs.Calls.{IsReported}
 
 -- no call is under way in the array that is kept for a handler. Calls of form 3 use another array

@@ -10,7 +10,7 @@ use Rattle.handlers.specs.Image.{TheImage}
 use Rattle.handlers.specs.Answer.{HasRun}
 use Rattle.operations.specs.Bytes.{overwritten}
 use Rattle.embed.specs.declared.report.TheConstants.{REPORT_LIMIT}
-use Rattle.embed.specs.declared.calling.TheConstants.{MESSAGE}
+use Rattle.embed.specs.declared.calls.TheConstants.{MESSAGE}
 use Rattle.embed.specs.Layout.{report_bytes}
 
 -- the file of an image whose code has a typing in its form: these files are accepted

@@ -10,7 +10,7 @@ use Rattle.images.specs.declared.file_form.FileForm.TheVariants.{Sbi2}
 use Rattle.images.specs.ImageFile.{IsRefusal}
 use Rattle.handlers.specs.Image.{TheImage}
 use Rattle.operations.specs.Bytes.{overwritten}
-use Rattle.embed.specs.declared.calling.TheConstants.{MESSAGE}
+use Rattle.embed.specs.declared.calls.TheConstants.{MESSAGE}
 use Rattle.embed.specs.declared.refusal.Refusal.{Refusal}
 use Rattle.embed.specs.declared.refusal.Refusal.TheVariants.{Image, State, Message, Who as NotSeat, Room, Form, Handle, Record}
 use Rattle.embed.specs.declared.report.TheConstants.{FAULT_SIZE, REPORT_LIMIT}

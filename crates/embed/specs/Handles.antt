@@ -9,7 +9,7 @@ use base.Fml.{Fml, feq}
 use Rattle.helpers.specs.declared.effects.Who.{Who}
 use Rattle.handlers.specs.Image.{TheImage}
 use Rattle.embed.specs.contracts.handler.Handler.{the_row}
-use Rattle.embed.specs.declared.calling.TheConstants.{MESSAGE}
+use Rattle.embed.specs.declared.calls.TheConstants.{MESSAGE}
 use Rattle.embed.specs.declared.refusal.Refusal.{Refusal}
 use Rattle.embed.specs.declared.refusal.Refusal.TheVariants.{State, Message, Who as NotSeat, Room, Form, Handle}
 use Rattle.embed.specs.declared.report.TheConstants.{REPORT_LIMIT}

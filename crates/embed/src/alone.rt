@@ -4,7 +4,7 @@ ghost use Rattle.std.specs.Prelude.{◌≡◌, ◌≤◌, ◌+◌, length};
 ghost use Rattle.handlers.specs.Image.{the_image};
 ghost use Rattle.embed.specs.Calls.{IsReported, IsSeat};
 
-use crate::calling::MESSAGE;
+use crate::calls::MESSAGE;
 use crate::report::{REPORT_LIMIT, put_report};
 use handlers::Handler;
 use helpers::{Effects, Payload, Who};

@@ -7,7 +7,7 @@ ghost use Rattle.embed.specs.Arrays.{IsReportedIn, flat_image, state_in};
 ghost use Rattle.embed.specs.Calls.{AreReported};
 
 use crate::bytes::put;
-use crate::calling::MESSAGE;
+use crate::calls::MESSAGE;
 use crate::message::message_at;
 use crate::report::{REPORT_LIMIT, put_report};
 use helpers::{Effects, Who};

@@ -5,7 +5,7 @@ ghost use Rattle.embed.specs.CallRecord.{Reports};
 ghost use Rattle.embed.specs.Calls.{caller};
 ghost use Rattle.embed.specs.Exports.{Answers, AnswersCall, AnswersCalls, IsChecked, IsUnchecked};
 
-use crate::{call_record, calling};
+use crate::{call_record, calls};
 use helpers::Who;
 use std::alloc::Global;
 
@@ -15,7 +15,7 @@ use std::alloc::Global;
 pub extern "C" fn sblog_check(alloc: Global, file: &[u8], out: &mut [u8]) -> u32
     ensures { Answers result (IsChecked file.now out.old out.new) (IsUnchecked file.now out.old out.new) }
 {
-    match calling::check(alloc, file, out) {
+    match calls::check(alloc, file, out) {
         Ok(()) => 0,
         Err(refusal) => refusal.number(),
     }
@@ -36,7 +36,7 @@ pub extern "C" fn sblog_call(
 ) -> u32
     ensures { AnswersCall result file.now (caller me from count) state.old message.now state.new out.old out.new }
 {
-    match calling::call(alloc, file, state, message, Who { me, from, count }, out) {
+    match calls::call(alloc, file, state, message, Who { me, from, count }, out) {
         Ok(()) => 0,
         Err(refusal) => refusal.number(),
     }
@@ -58,7 +58,7 @@ pub extern "C" fn sblog_call_many(
 ) -> u32
     ensures { AnswersCalls result file.now (caller me from count) state.old messages.now state.new out.old out.new }
 {
-    match calling::call_many(alloc, file, state, messages, Who { me, from, count }, out) {
+    match calls::call_many(alloc, file, state, messages, Who { me, from, count }, out) {
         Ok(()) => 0,
         Err(refusal) => refusal.number(),
     }

@@ -5,7 +5,7 @@ ghost use Rattle.interp.specs.Flat.{IsSpent};
 ghost use Rattle.embed.specs.Arrays.{IsReady};
 
 use crate::array::call_each;
-use crate::calling::MESSAGE;
+use crate::calls::MESSAGE;
 use crate::refusal::Refusal;
 use crate::report::REPORT_LIMIT;
 use crate::span_array::call_spans;

@@ -11,8 +11,8 @@ ghost use Rattle.embed.specs.MachineCode.{Compiles};
 use crate::handler::Handler;
 use crate::loose::Loose;
 use crate::machine_code::compile;
-use crate::opening::{Opened, close, open};
-use crate::running::run;
+use crate::lifetime::{Opened, close, open};
+use crate::runs::run;
 use std::alloc::Global;
 
 /// The code of a null handle.

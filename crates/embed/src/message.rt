@@ -2,7 +2,7 @@
 
 ghost use Rattle.std.specs.Prelude.{◌≡◌, ◌≤◌, ◌+◌, length, slice_range};
 
-use crate::calling::MESSAGE;
+use crate::calls::MESSAGE;
 
 /// The 64 bytes of the message at `at`.
 #[inline(always)]

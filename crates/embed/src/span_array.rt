@@ -5,7 +5,7 @@ ghost use Rattle.span_interp.specs.CallArray.{HoldsEntry, IsLeft, state_in};
 ghost use Rattle.embed.specs.Arrays.{IsReportedAfter, span_image};
 ghost use Rattle.embed.specs.Calls.{AreReported, IsSeat};
 
-use crate::calling::MESSAGE;
+use crate::calls::MESSAGE;
 use crate::message::message_at;
 use crate::report::{REPORT_LIMIT, put_report};
 use helpers::{Effects, Who};

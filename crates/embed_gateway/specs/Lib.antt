@@ -1,5 +1,5 @@
 pub mod Inside
 pub mod Answers
-pub mod Opening
+pub mod Lifetime
 pub mod Calls
-pub mod Giving
+pub mod Results

@@ -3,13 +3,13 @@
 
 ghost use Rattle.std.specs.Prelude.{◌≡◌};
 ghost use Rattle.embed_gateway.specs.Answers.{Answers, OnFault};
-ghost use Rattle.embed_gateway.specs.Opening.{IsApplied, IsClosed, IsOpened, IsRevived, IsUnapplied, IsUnopened, IsUnrevived, WasClosed};
+ghost use Rattle.embed_gateway.specs.Lifetime.{IsApplied, IsClosed, IsOpened, IsRevived, IsUnapplied, IsUnopened, IsUnrevived, WasClosed};
 ghost use Rattle.embed_gateway.specs.Calls.{IsLogged, IsReceived, IsTicked, IsUnlogged, IsUnreceived};
-ghost use Rattle.embed_gateway.specs.Giving.{IsShown, IsStored, IsTaken, IsTold, IsUnshown, IsUnstored, IsUntaken, IsUntold};
+ghost use Rattle.embed_gateway.specs.Results.{IsShown, IsStored, IsTaken, IsTold, IsUnshown, IsUnstored, IsUntaken, IsUntold};
 
 use crate::fault::code;
 use crate::handle::GatewayHandle;
-use crate::{calling, giving, opening};
+use crate::{calls, results, lifetime};
 use std::alloc::Global;
 
 /// Opens the gateway of a new cluster of 1 to 15 processes. A packet has at most `page` bytes, 512
@@ -24,7 +24,7 @@ pub extern "C" fn sblog_gateway_open(
 ) -> u32
     ensures { Answers result handle.old.gateway.value handle.new.gateway.value (IsOpened n page tick) (IsUnopened n page tick) }
 {
-    code(opening::open(alloc, n, page, tick, handle))
+    code(lifetime::open(alloc, n, page, tick, handle))
 }
 
 /// Opens the gateway with a store that was kept when an earlier one was killed. If the bytes are
@@ -40,7 +40,7 @@ pub extern "C" fn sblog_gateway_revive(
 ) -> u32
     ensures { Answers result handle.old.gateway.value handle.new.gateway.value (IsRevived store.now page tick fault.old fault.new) (IsUnrevived store.now page tick fault.old fault.new) }
 {
-    code(opening::revive(alloc, store, page, tick, handle, fault))
+    code(lifetime::revive(alloc, store, page, tick, handle, fault))
 }
 
 /// Makes changes that were made durable after the store. If they are refused, writes why: 1 if the
@@ -54,7 +54,7 @@ pub extern "C" fn sblog_gateway_apply(
 ) -> u32
     ensures { Answers result handle.old.gateway.value handle.new.gateway.value (IsApplied changes.now fault.old fault.new) (IsUnapplied changes.now fault.old fault.new) }
 {
-    code(opening::apply(alloc, handle, changes, fault))
+    code(lifetime::apply(alloc, handle, changes, fault))
 }
 
 /// Closes a handle, and gives the memory of its gateway back.
@@ -62,7 +62,7 @@ pub extern "C" fn sblog_gateway_apply(
 pub extern "C" fn sblog_gateway_close(alloc: Global, handle: &mut GatewayHandle) -> u32
     ensures { Answers result handle.old.gateway.value handle.new.gateway.value IsClosed WasClosed }
 {
-    code(opening::close(alloc, handle))
+    code(lifetime::close(alloc, handle))
 }
 
 /// Takes a message of 0 to 256 bytes from outside for a process. Writes its SSN.
@@ -76,7 +76,7 @@ pub extern "C" fn sblog_gateway_input(
 ) -> u32
     ensures { Answers result handle.old.gateway.value handle.new.gateway.value (IsLogged process payload.now ssn.new) (IsUnlogged process payload.now ssn.old ssn.new) }
 {
-    code(calling::input(alloc, handle, process, payload, ssn))
+    code(calls::input(alloc, handle, process, payload, ssn))
 }
 
 /// Takes the bytes of a packet, as the rules say. If they are not a packet, writes the number of
@@ -90,7 +90,7 @@ pub extern "C" fn sblog_gateway_receive(
 ) -> u32
     ensures { Answers result handle.old.gateway.value handle.new.gateway.value (IsReceived packet.now fault.old fault.new) (IsUnreceived packet.now fault.old fault.new) }
 {
-    code(calling::receive(alloc, handle, packet, fault))
+    code(calls::receive(alloc, handle, packet, fault))
 }
 
 /// Takes the first packet that waits: writes its bytes, its length, and its receiver.
@@ -105,7 +105,7 @@ pub extern "C" fn sblog_gateway_take(
     ensures taken { Answers result handle.old.gateway.value handle.new.gateway.value (IsTaken out.old out.new size.new to.new) (IsUntaken out.old out.new size.old size.new) }
     ensures kept { OnFault result (to.new ≡ to.old) }
 {
-    code(giving::take(alloc, handle, out, size, to))
+    code(results::take(alloc, handle, out, size, to))
 }
 
 /// Sends again what isn't answered.
@@ -113,7 +113,7 @@ pub extern "C" fn sblog_gateway_take(
 pub extern "C" fn sblog_gateway_tick(alloc: Global, handle: &mut GatewayHandle) -> u32
     ensures { Answers result handle.old.gateway.value handle.new.gateway.value IsTicked WasClosed }
 {
-    code(calling::tick(alloc, handle))
+    code(calls::tick(alloc, handle))
 }
 
 /// Takes the first output that wasn't taken: writes its process, its SSN, its bytes and their
@@ -130,7 +130,7 @@ pub extern "C" fn sblog_gateway_output(
     ensures shown { Answers result handle.old.gateway.value handle.new.gateway.value (IsShown process.new ssn.new out.old out.new size.new) (IsUnshown out.old out.new size.old size.new) }
     ensures kept { OnFault result ((process.new ≡ process.old) × (ssn.new ≡ ssn.old)) }
 {
-    code(giving::output(alloc, handle, process, ssn, out, size))
+    code(results::output(alloc, handle, process, ssn, out, size))
 }
 
 /// Writes the bytes of its store, and their number.
@@ -143,7 +143,7 @@ pub extern "C" fn sblog_gateway_store(
 ) -> u32
     ensures { Answers result handle.old.gateway.value handle.new.gateway.value (IsStored out.old out.new size.new) (IsUnstored out.old out.new size.old size.new) }
 {
-    code(giving::store(alloc, handle, out, size))
+    code(results::store(alloc, handle, out, size))
 }
 
 /// Takes the changes of its store since the last call: writes their bytes, none if nothing changed,
@@ -157,5 +157,5 @@ pub extern "C" fn sblog_gateway_changes(
 ) -> u32
     ensures { Answers result handle.old.gateway.value handle.new.gateway.value (IsTold out.old out.new size.new) (IsUntold out.old out.new size.old size.new) }
 {
-    code(giving::changes(alloc, handle, out, size))
+    code(results::changes(alloc, handle, out, size))
 }

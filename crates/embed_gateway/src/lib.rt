@@ -18,12 +18,12 @@
 //! ```
 #![tactic(auto)]
 
-mod calling;
+mod calls;
 mod exports;
 mod fault;
-mod giving;
+mod results;
 mod handle;
 mod loose;
-mod opening;
+mod lifetime;
 mod output;
 mod parts;

@@ -9,19 +9,19 @@ use Rattle.packets.specs.Format.{IsPacket}
 use Rattle.packets.proofs.WholeLemmas.{one_packet}
 use Rattle.process.specs.Process.{TheProcess}
 use Rattle.process.specs.Calls.{Calls, Stays, IsHanded, Ticks, Freezes, Thaws}
-use Rattle.process.specs.Reviving.{IsOpened, IsRevived}
+use Rattle.process.specs.Revival.{IsOpened, IsRevived}
 use Rattle.process.specs.Packets.{GivesBytes}
-use Rattle.process.specs.Saving.{IsSavable, Keeps}
-use Rattle.process.specs.Working.{Works}
+use Rattle.process.specs.Checkpoints.{IsSavable, Keeps}
+use Rattle.process.specs.Work.{Works}
 use Rattle.process.specs.Job.{IsAnswered, WorksAs}
-use Rattle.hosted.specs.Process.{Checkpoint, Alive, Has, Durable}
-use Rattle.hosted.specs.System.{System, Ticked, AnswersSo, DoesIt}
+use Rattle.node_laws.specs.HostProcess.{Checkpoint, Alive, Has, Durable}
+use Rattle.node_laws.specs.HostSystem.{System, Ticked, AnswersSo, DoesIt}
 use Rattle.embed_node.specs.declared.fault.Fault.{Fault}
 use Rattle.embed_node.specs.declared.fault.Fault.TheVariants.{Memory, Handle, Image, Room, Absent, Bytes, Unready, Limit, Left}
 use Rattle.embed_node.specs.Answers.{OfBoth}
 use Rattle.embed_node.specs.Calls.{IsHeldBack}
 use Rattle.embed_node.specs.NodeJob.{state_in}
-use Rattle.embed_node.specs.Opening.{IsImageIn, limits_of}
+use Rattle.embed_node.specs.Lifetime.{IsImageIn, limits_of}
 use Rattle.embed_node.specs.HostCalls.{Holds, ExportsAreCalls}
 
 held : {X : Type 0} (a b : X) → Some a ≡ Some b → b ≡ a

@@ -4,11 +4,11 @@ use Rattle.std.specs.Prelude.{Option, Some, None, Result, Ok, Err, OnOk, IfErr, 
 use Rattle.images.specs.declared.any_image.AnyImage.{AnyImage}
 use Rattle.node.specs.Node.{IsPositive}
 use Rattle.process.specs.Process.{TheProcess}
-use Rattle.process.specs.Reviving.{IsRevived}
-use Rattle.embed_node.specs.declared.opening.Limits.{Limits}
+use Rattle.process.specs.Revival.{IsRevived}
+use Rattle.embed_node.specs.declared.lifetime.Limits.{Limits}
 use Rattle.embed_node.specs.declared.fault.Fault.{Fault}
 use Rattle.embed_node.specs.declared.fault.Fault.TheVariants.{Memory}
-use Rattle.embed_node.specs.Opening.{IsImageIn, AreLimits, limits_of, Revives, DoesNotRevive}
+use Rattle.embed_node.specs.Lifetime.{IsImageIn, AreLimits, limits_of, Revives, DoesNotRevive}
 
 pub put-revives : (r : Result (Unit {0}) Fault) (file kept : List ℕ) (life : ℕ) (l : Limits) (old new : Option TheProcess) (image : AnyImage) (p : TheProcess) → OnOk r (new ≡ Some p)
     → IfErr r (λ why. (why ≡ Memory) × (new ≡ old)) → old ≡ None → AreLimits l → IsPositive life → IsImageIn file image → IsRevived image (limits_of l) kept life p

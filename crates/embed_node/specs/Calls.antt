@@ -8,9 +8,9 @@ use Rattle.packets.specs.declared.fault.PacketError.TheVariants as packet
 use Rattle.process.specs.Process.{TheProcess}
 use Rattle.recovery.specs.declared.moment.Cause.TheVariants as cause
 use Rattle.process.specs.Calls as calls
-use Rattle.process.specs.Passing as passing
+use Rattle.process.specs.Transitions as passing
 use Rattle.process.specs.Job.{HasNext}
-use Rattle.process.specs.Working as working
+use Rattle.process.specs.Work as working
 use Rattle.embed_node.specs.declared.fault.Fault.{Fault}
 use Rattle.embed_node.specs.declared.fault.Fault.TheVariants.{Memory, Handle, Absent, Bytes, Unready, Limit}
 use Rattle.embed_node.specs.Answers.{OfBoth, OfSame, StaysClosed}

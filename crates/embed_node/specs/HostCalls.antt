@@ -6,19 +6,19 @@ use Rattle.images.specs.declared.any_image.AnyImage.{AnyImage}
 use Rattle.packets.specs.declared.packet.Packet.{Packet}
 use Rattle.packets.specs.Format.{IsPacket}
 use Rattle.node.specs.Runs.{IsOne}
-use Rattle.together.specs.Together.{IsFirst}
+use Rattle.node_laws.specs.Together.{IsFirst}
 use Rattle.process.specs.declared.call.Ticket.{Ticket}
 use Rattle.process.specs.Process.{TheProcess}
-use Rattle.process.specs.Reviving.{IsOpened}
-use Rattle.hosted.specs.Process.{Checkpoint, Durable, Runs, Killed}
-use Rattle.hosted.specs.System.{System, GaveBytes, HandedBytes, Worked, Answered, Ticked, Froze, Saved, Revived, AnswersSo, DoesIt}
-use Rattle.embed_node.specs.declared.opening.Limits.{Limits}
+use Rattle.process.specs.Revival.{IsOpened}
+use Rattle.node_laws.specs.HostProcess.{Checkpoint, Durable, Runs, Killed}
+use Rattle.node_laws.specs.HostSystem.{System, GaveBytes, HandedBytes, Worked, Answered, Ticked, Froze, Saved, Revived, AnswersSo, DoesIt}
+use Rattle.embed_node.specs.declared.lifetime.Limits.{Limits}
 use Rattle.embed_node.specs.declared.fault.Fault.{Fault}
 use Rattle.embed_node.specs.Answers.{IsCopied}
 use Rattle.embed_node.specs.Calls.{IsReceived, HasWorked, HasTicked, IsHeldBack, HasSaved}
-use Rattle.embed_node.specs.Giving.{IsTaken, IsMade}
+use Rattle.embed_node.specs.Results.{IsTaken, IsMade}
 use Rattle.embed_node.specs.NodeJob.{IsDone, IsLeftBy, state_in}
-use Rattle.embed_node.specs.Opening.{limits_of, IsImageIn, Opens, Revives}
+use Rattle.embed_node.specs.Lifetime.{limits_of, IsImageIn, Opens, Revives}
 
 -- an open handle holds the process p of a system, and holds another after a call
 pub record Holds (n : ℕ) (s : System) (p : ℕ) (w : Checkpoint) (old : TheProcess) : Type 0 where

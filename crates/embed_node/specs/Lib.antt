@@ -1,9 +1,9 @@
 pub mod Inside
 pub mod Answers
 pub mod Calls
-pub mod Giving
-pub mod Opening
-pub mod Standing
+pub mod Results
+pub mod Lifetime
+pub mod Status
 pub mod Outcome
 pub mod NodeJob
 pub mod HostCalls

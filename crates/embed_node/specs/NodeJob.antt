@@ -8,7 +8,7 @@ use Rattle.images.specs.AnyImage.{state_of as image_state}
 use Rattle.node.specs.declared.job.OpenJob.{OpenJob}
 use Rattle.process.specs.declared.call.Ticket.{Ticket}
 use Rattle.process.specs.Process.{TheProcess}
-use Rattle.process.specs.Working.{Rests}
+use Rattle.process.specs.Work.{Rests}
 use Rattle.process.specs.Job.{TheJob, array_size, shown_by, ticket_at, HasNext, IsJobOf, IsLaid, IsNext, IsAnswered, WorksAs}
 use Rattle.embed_node.specs.declared.node_job.NodeJob.{NodeJob}
 use Rattle.embed_node.specs.declared.node_job.TheConstants.{STATE_AT, SPAN_STATE_AT}

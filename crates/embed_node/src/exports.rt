@@ -4,17 +4,17 @@
 ghost use Rattle.std.specs.Prelude.{◌≡◌};
 ghost use Rattle.embed_node.specs.Answers.{Answers, AnswersOfBytes, OnFault};
 ghost use Rattle.embed_node.specs.Calls.{IsClosed, WasClosed, IsReceived, IsUnreceived, HasWorked, HasNotWorked, HasTicked, IsHeldBack, HasSaved, HasNotSaved};
-ghost use Rattle.embed_node.specs.Giving.{IsTaken, IsUntaken, IsMade, IsUnmade, IsRead, IsUnread};
+ghost use Rattle.embed_node.specs.Results.{IsTaken, IsUntaken, IsMade, IsUnmade, IsRead, IsUnread};
 ghost use Rattle.embed_node.specs.NodeJob.{ticket_from, IsGiven, IsNotGiven, IsDone, IsNotDone};
-ghost use Rattle.embed_node.specs.Opening.{limits_from, AnswersOpening, AnswersRevival};
-ghost use Rattle.embed_node.specs.Standing.{IsStanding};
+ghost use Rattle.embed_node.specs.Lifetime.{limits_from, AnswersOpening, AnswersRevival};
+ghost use Rattle.embed_node.specs.Status.{IsStanding};
 
 use crate::fault::{code, code_of_bytes};
 use crate::handle::NodeHandle;
 use crate::node_job::NodeJob;
-use crate::opening::Limits;
-use crate::standing::NodeStanding;
-use crate::{calling, giving, node_job, opening, standing};
+use crate::lifetime::Limits;
+use crate::status::NodeStanding;
+use crate::{calls, results, node_job, lifetime, status};
 use process::Ticket;
 use std::alloc::Global;
 
@@ -42,7 +42,7 @@ pub extern "C" fn sblog_node_open(
         receipts,
         durable,
     };
-    code(opening::open(alloc, image, me, n, limits, node))
+    code(lifetime::open(alloc, image, me, n, limits, node))
 }
 
 /// Opens a process with the image file of its handler, from its kept state, in this incarnation. If
@@ -70,7 +70,7 @@ pub extern "C" fn sblog_node_revive(
         receipts,
         durable,
     };
-    let done = opening::revive(alloc, image, kept, incarnation, limits, node);
+    let done = lifetime::revive(alloc, image, kept, incarnation, limits, node);
     code_of_bytes(done, fault)
 }
 
@@ -79,7 +79,7 @@ pub extern "C" fn sblog_node_revive(
 pub extern "C" fn sblog_node_close(alloc: Global, node: &mut NodeHandle) -> u32
     ensures { Answers result node.old.process.value node.new.process.value IsClosed WasClosed }
 {
-    code(calling::close(alloc, node))
+    code(calls::close(alloc, node))
 }
 
 /// Hands the process a packet that arrived. If the bytes are not a packet, writes the number of
@@ -93,7 +93,7 @@ pub extern "C" fn sblog_node_receive(
 ) -> u32
     ensures { AnswersOfBytes result node.old.process.value node.new.process.value fault.old fault.new (IsReceived packet.now) (IsUnreceived packet.now) }
 {
-    code_of_bytes(calling::receive(alloc, node, packet), fault)
+    code_of_bytes(calls::receive(alloc, node, packet), fault)
 }
 
 /// Takes the first packet that waits: writes its bytes, its length, and its receiver.
@@ -108,7 +108,7 @@ pub extern "C" fn sblog_node_take(
     ensures taken { Answers result node.old.process.value node.new.process.value (IsTaken out.old out.new size.new to.new) (IsUntaken out.old out.new size.old size.new) }
     ensures kept { OnFault result (to.new ≡ to.old) }
 {
-    code(giving::take(alloc, node, out, size, to))
+    code(results::take(alloc, node, out, size, to))
 }
 
 /// Runs the handler on the message that was received, or on the next one of the replay.
@@ -116,7 +116,7 @@ pub extern "C" fn sblog_node_take(
 pub extern "C" fn sblog_node_work(alloc: Global, node: &mut NodeHandle) -> u32
     ensures { Answers result node.old.process.value node.new.process.value HasWorked HasNotWorked }
 {
-    code(calling::work(alloc, node))
+    code(calls::work(alloc, node))
 }
 
 /// Gives out the next call of the handler, to be made outside: writes its array, the length of
@@ -161,7 +161,7 @@ pub extern "C" fn sblog_node_done(
 pub extern "C" fn sblog_node_tick(alloc: Global, node: &mut NodeHandle) -> u32
     ensures { Answers result node.old.process.value node.new.process.value HasTicked IsHeldBack }
 {
-    code(calling::tick(alloc, node))
+    code(calls::tick(alloc, node))
 }
 
 /// Makes a checkpoint: writes its bytes, and their number. The node then waits until
@@ -175,7 +175,7 @@ pub extern "C" fn sblog_node_checkpoint(
 ) -> u32
     ensures { Answers result node.old.process.value node.new.process.value (IsMade out.old out.new size.new) (IsUnmade out.old out.new size.old size.new) }
 {
-    code(giving::checkpoint(alloc, node, out, size))
+    code(results::checkpoint(alloc, node, out, size))
 }
 
 /// Tells the process that its checkpoint is durable.
@@ -183,7 +183,7 @@ pub extern "C" fn sblog_node_checkpoint(
 pub extern "C" fn sblog_node_saved(alloc: Global, node: &mut NodeHandle) -> u32
     ensures { Answers result node.old.process.value node.new.process.value HasSaved HasNotSaved }
 {
-    code(calling::saved(alloc, node))
+    code(calls::saved(alloc, node))
 }
 
 /// Writes the status of the process.
@@ -196,7 +196,7 @@ pub extern "C" fn sblog_node_standing(
     ensures standing { Answers result node.old.process.value node.new.process.value (IsStanding out.new) WasClosed }
     ensures kept { OnFault result (out.new ≡ out.old) }
 {
-    code(standing::standing(alloc, node, out))
+    code(status::standing(alloc, node, out))
 }
 
 /// How many sends and outputs of its handler helpers refused in this incarnation with this code: 1
@@ -206,7 +206,7 @@ pub extern "C" fn sblog_node_standing(
 pub extern "C" fn sblog_node_refused(alloc: Global, node: &mut NodeHandle, code: u32) -> u64
     ensures { node.new.process.value ≡ node.old.process.value }
 {
-    standing::refused(alloc, node, code)
+    status::refused(alloc, node, code)
 }
 
 /// Writes the state that its handler left last, and its length in bytes.
@@ -219,5 +219,5 @@ pub extern "C" fn sblog_node_state(
 ) -> u32
     ensures { Answers result node.old.process.value node.new.process.value (IsRead out.old out.new size.new) (IsUnread out.old out.new size.old size.new) }
 {
-    code(giving::state(alloc, node, out, size))
+    code(results::state(alloc, node, out, size))
 }

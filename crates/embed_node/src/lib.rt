@@ -20,16 +20,16 @@
 //! ```
 #![tactic(auto)]
 
-mod calling;
+mod calls;
 mod exports;
 mod fault;
-mod giving;
+mod results;
 mod handle;
 mod laws;
 mod loose;
 mod node_job;
-mod opening;
+mod lifetime;
 mod outcome;
 mod output;
 mod parts;
-mod standing;
+mod status;

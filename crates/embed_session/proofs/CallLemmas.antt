@@ -7,8 +7,8 @@ use Rattle.world.specs.declared.answer.Answer.TheVariants.{Placed}
 use Rattle.world.specs.World.{World}
 use Rattle.world.specs.Bounds.{WIRE}
 use Rattle.world.specs.Answers.{MayAnswer}
-use Rattle.machine.specs.Stepping.{IsJobless, TakesNoResult}
-use Rattle.embed_session.specs.Inside.Calling.{HasKey}
+use Rattle.machine.specs.Dispatch.{IsJobless, TakesNoResult}
+use Rattle.embed_session.specs.Inside.Calls.{HasKey}
 
 -- such a call takes no result
 pub takes-none : (call : Call) → IsJobless call → TakesNoResult call

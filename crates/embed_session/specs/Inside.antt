@@ -1,4 +1,4 @@
 -- What the crate's own functions say to one another. No public contract reaches it.
 pub mod Held
-pub mod Loading
-pub mod Calling
+pub mod Loads
+pub mod Calls

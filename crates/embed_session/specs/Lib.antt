@@ -1,7 +1,7 @@
 pub mod Inside
 pub mod Places
 pub mod Session
-pub mod Opening
-pub mod Reading
+pub mod Lifetime
+pub mod Queries
 pub mod Entries
 pub mod Schedule

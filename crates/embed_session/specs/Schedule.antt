@@ -5,7 +5,7 @@ use Rattle.world.specs.declared.answer.Answer.{Answer}
 use Rattle.world.specs.declared.entry.Entry.{Entry}
 use Rattle.world.specs.declared.refusal.Refusal.{Refusal}
 use Rattle.world.specs.declared.refusal.Refusal.TheVariants.{Memory}
-use Rattle.machine.specs.Stepping.{job_of}
+use Rattle.machine.specs.Dispatch.{job_of}
 use Rattle.sessions.specs.Journal.{TheSession, entry, world_at}
 use Rattle.sessions.specs.Service.{KeepsPromises, Owes}
 use Rattle.embed_session.specs.declared.entry.Record.{Record}

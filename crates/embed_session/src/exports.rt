@@ -3,16 +3,16 @@
 
 ghost use Rattle.std.specs.Prelude.{◌≡◌, length};
 ghost use Rattle.embed_session.specs.Session.{Answers, IsCalled, IsClosed, IsDriven, IsHandedBack, IsHandedIn, IsUncalled, IsUndriven, NoneIsOpen, OnFault, Tells, WasClosed};
-ghost use Rattle.embed_session.specs.Opening.{IsOpened, IsUnopened};
+ghost use Rattle.embed_session.specs.Lifetime.{IsOpened, IsUnopened};
 ghost use Rattle.embed_session.specs.Entries.{AreEntriesFrom, IsEntryAt, IsNoEntry};
 ghost use Rattle.embed_session.specs.Places.{places_left};
 ghost use Rattle.embed_session.specs.Schedule.{IsReceived, IsUnreceived};
-ghost use Rattle.embed_session.specs.Reading.{IsNotStanding, IsReadOf, IsSaved, IsShown, IsStanding, IsState, IsTraced, IsUnreadOf, IsUnshown, IsUntraced, OfPromised, exact_number};
+ghost use Rattle.embed_session.specs.Queries.{IsNotStanding, IsReadOf, IsSaved, IsShown, IsStanding, IsState, IsTraced, IsUnreadOf, IsUnshown, IsUntraced, OfPromised, exact_number};
 
 use crate::entry::Record;
 use crate::fault::code;
 use crate::handle::SessionHandle;
-use crate::{calling, journal, opening, places, reading, schedule};
+use crate::{calls, journal, lifetime, places, queries, schedule};
 use std::alloc::Global;
 use world::Call;
 
@@ -27,7 +27,7 @@ pub extern "C" fn sblog_session_open(
 ) -> u32
     ensures { Answers result handle.old.session.value handle.new.session.value (IsOpened files.now lengths.now) (IsUnopened files.now lengths.now) }
 {
-    code(opening::open(alloc, files, lengths, handle))
+    code(lifetime::open(alloc, files, lengths, handle))
 }
 
 /// Closes a handle, and frees its session's memory.
@@ -35,7 +35,7 @@ pub extern "C" fn sblog_session_open(
 pub extern "C" fn sblog_session_close(alloc: Global, handle: &mut SessionHandle) -> u32
     ensures { Answers result handle.old.session.value handle.new.session.value IsClosed WasClosed }
 {
-    code(calling::close(alloc, handle))
+    code(calls::close(alloc, handle))
 }
 
 /// Hands in a payload of at most 256 bytes for a process, and writes the message's SSN. A feed
@@ -52,7 +52,7 @@ pub extern "C" fn sblog_session_input(
 ) -> u32
     ensures { Answers result handle.old.session.value handle.new.session.value (IsHandedIn to feed payload.now ssn.new) (IsHandedBack to feed payload.now ssn.old ssn.new) }
 {
-    code(calling::input(alloc, handle, to, feed, payload, ssn))
+    code(calls::input(alloc, handle, to, feed, payload, ssn))
 }
 
 /// Makes useful calls until there is none or `budget` were accepted, and writes how many were. If
@@ -66,7 +66,7 @@ pub extern "C" fn sblog_session_drive(
 ) -> u32
     ensures { Answers result handle.old.session.value handle.new.session.value (IsDriven budget accepted.new) (IsUndriven budget accepted.old accepted.new) }
 {
-    code(calling::drive(alloc, handle, budget, accepted))
+    code(calls::drive(alloc, handle, budget, accepted))
 }
 
 /// Puts a logged message on the wire, by its sender, its receiver and its SSN. Either of them may
@@ -83,7 +83,7 @@ pub extern "C" fn sblog_session_transmit(
     ensures { Answers result handle.old.session.value handle.new.session.value (IsCalled (Call.Transmit from to ssn) packet.new) (IsUncalled (Call.Transmit from to ssn) packet.old packet.new) }
 {
     let call = Call::Transmit { from, to, ssn };
-    code(calling::call(alloc, handle, call, packet))
+    code(calls::call(alloc, handle, call, packet))
 }
 
 /// Puts the packet with this key on the wire a second time, and writes the key of the copy.
@@ -97,7 +97,7 @@ pub extern "C" fn sblog_session_copy(
     ensures { Answers result handle.old.session.value handle.new.session.value (IsCalled (Call.Copy packet) copy.new) (IsUncalled (Call.Copy packet) copy.old copy.new) }
 {
     let key = packet as usize;
-    code(calling::call(alloc, handle, Call::Copy { key }, copy))
+    code(calls::call(alloc, handle, Call::Copy { key }, copy))
 }
 
 /// The wire loses the packet with this key.
@@ -107,7 +107,7 @@ pub extern "C" fn sblog_session_lose(alloc: Global, handle: &mut SessionHandle, 
 {
     let key = packet as usize;
     let mut number = 0;
-    code(calling::call(alloc, handle, Call::Lose { key }, &mut number))
+    code(calls::call(alloc, handle, Call::Lose { key }, &mut number))
 }
 
 /// Takes the packet with this key from the wire to its receiver. If it starts a job, it also calls
@@ -136,7 +136,7 @@ pub extern "C" fn sblog_session_checkpoint(
     ensures { Answers result handle.old.session.value handle.new.session.value (IsCalled (Call.Checkpoint process) covered.new) (IsUncalled (Call.Checkpoint process) covered.old covered.new) }
 {
     let call = Call::Checkpoint { process };
-    code(calling::call(alloc, handle, call, covered))
+    code(calls::call(alloc, handle, call, covered))
 }
 
 /// Each sender that is up drops its messages to a process that the process's checkpoint covers, or
@@ -151,7 +151,7 @@ pub extern "C" fn sblog_session_trim(
     ensures { Answers result handle.old.session.value handle.new.session.value (IsCalled (Call.Trim to) dropped.new) (IsUncalled (Call.Trim to) dropped.old dropped.new) }
 {
     let call = Call::Trim { to };
-    code(calling::call(alloc, handle, call, dropped))
+    code(calls::call(alloc, handle, call, dropped))
 }
 
 /// A process loses all but its checkpoint. Writes its new incarnation.
@@ -165,7 +165,7 @@ pub extern "C" fn sblog_session_crash(
     ensures { Answers result handle.old.session.value handle.new.session.value (IsCalled (Call.Crash process) incarnation.new) (IsUncalled (Call.Crash process) incarnation.old incarnation.new) }
 {
     let call = Call::Crash { process };
-    code(calling::call(alloc, handle, call, incarnation))
+    code(calls::call(alloc, handle, call, incarnation))
 }
 
 /// A process comes back. Writes how many messages it keeps. A drive replays them.
@@ -179,7 +179,7 @@ pub extern "C" fn sblog_session_recover(
     ensures { Answers result handle.old.session.value handle.new.session.value (IsCalled (Call.Recover process) kept.new) (IsUncalled (Call.Recover process) kept.old kept.new) }
 {
     let call = Call::Recover { process };
-    code(calling::call(alloc, handle, call, kept))
+    code(calls::call(alloc, handle, call, kept))
 }
 
 /// A process comes back though others aren't up (docs/PROTOCOL.md). Writes how many messages it
@@ -194,7 +194,7 @@ pub extern "C" fn sblog_session_recover_alone(
     ensures { Answers result handle.old.session.value handle.new.session.value (IsCalled (Call.RecoverAlone process) kept.new) (IsUncalled (Call.RecoverAlone process) kept.old kept.new) }
 {
     let call = Call::RecoverAlone { process };
-    code(calling::call(alloc, handle, call, kept))
+    code(calls::call(alloc, handle, call, kept))
 }
 
 /// Writes how many messages are in the state of a process, and the number of its phase.
@@ -208,7 +208,7 @@ pub extern "C" fn sblog_session_standing(
 ) -> u32
     ensures { Tells result handle.old.session.value handle.new.session.value (IsStanding process length.new phase.new) (IsNotStanding process length.old length.new phase.old phase.new) }
 {
-    code(reading::standing(alloc, handle, process, length, phase))
+    code(queries::standing(alloc, handle, process, length, phase))
 }
 
 /// Writes the state of a process, and its length in bytes.
@@ -222,7 +222,7 @@ pub extern "C" fn sblog_session_state(
 ) -> u32
     ensures { Tells result handle.old.session.value handle.new.session.value (IsReadOf process IsState out.old out.new size.new) (IsUnreadOf process IsState out.old out.new size.old size.new) }
 {
-    code(reading::state(alloc, handle, process, out, size))
+    code(queries::state(alloc, handle, process, out, size))
 }
 
 /// Writes the bytes of a process's latest checkpoint, and how many there are.
@@ -236,7 +236,7 @@ pub extern "C" fn sblog_session_saved(
 ) -> u32
     ensures { Tells result handle.old.session.value handle.new.session.value (IsReadOf process IsSaved out.old out.new size.new) (IsUnreadOf process IsSaved out.old out.new size.old size.new) }
 {
-    code(reading::saved(alloc, handle, process, out, size))
+    code(queries::saved(alloc, handle, process, out, size))
 }
 
 /// Writes an output that was shown, by its place from 0: its sender, its SSN, its bytes, and how
@@ -254,7 +254,7 @@ pub extern "C" fn sblog_session_shown(
     ensures shown { Tells result handle.old.session.value handle.new.session.value (IsShown place sender.new ssn.new out.old out.new size.new) (IsUnshown place out.old out.new size.old size.new) }
     ensures kept { OnFault result ((sender.new ≡ sender.old) × (ssn.new ≡ ssn.old)) }
 {
-    code(reading::shown(alloc, handle, place, sender, ssn, out, size))
+    code(queries::shown(alloc, handle, place, sender, ssn, out, size))
 }
 
 /// How many sends and outputs of a process's handler the helpers refused with this code: 1 for a
@@ -269,7 +269,7 @@ pub extern "C" fn sblog_session_refused(
 ) -> u64
     ensures { handle.new.session.value ≡ handle.old.session.value }
 {
-    reading::refused(alloc, handle, process, code)
+    queries::refused(alloc, handle, process, code)
 }
 
 /// Writes 1 if failures came one at a time, else 0.
@@ -281,7 +281,7 @@ pub extern "C" fn sblog_session_exact(
 ) -> u32
     ensures { Tells result handle.old.session.value handle.new.session.value (OfPromised (λ s. answer.new ≡ exact_number s)) (NoneIsOpen (answer.new ≡ answer.old)) }
 {
-    code(reading::exact(alloc, handle, answer))
+    code(queries::exact(alloc, handle, answer))
 }
 
 /// Writes the trace of the journal, and its length in bytes.
@@ -294,7 +294,7 @@ pub extern "C" fn sblog_session_trace(
 ) -> u32
     ensures { Tells result handle.old.session.value handle.new.session.value (IsTraced out.old out.new size.new) (IsUntraced out.old out.new size.old size.new) }
 {
-    code(reading::trace(alloc, handle, out, size))
+    code(queries::trace(alloc, handle, out, size))
 }
 
 /// Writes how many places the journal has left, without those that open jobs hold. A call takes

@@ -21,18 +21,18 @@
 //! ```
 #![tactic(auto)]
 
-mod calling;
+mod calls;
 mod entry;
 mod exports;
 mod fault;
 mod handle;
 mod journal;
 mod loose;
-mod opening;
+mod lifetime;
 mod output;
 mod parts;
 mod places;
-mod reading;
+mod queries;
 mod schedule;
 
 pub use entry::one_entry;

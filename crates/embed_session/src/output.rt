@@ -2,7 +2,7 @@
 
 ghost use Rattle.std.specs.Prelude.{◌≡◌, IfErr, OnOk};
 ghost use Rattle.embed_session.specs.declared.fault.Fault.TheVariants.{Room};
-ghost use Rattle.embed_session.specs.Reading.{IsCopied, IsUncopied};
+ghost use Rattle.embed_session.specs.Queries.{IsCopied, IsUncopied};
 
 use crate::fault::Fault;
 

@@ -7,10 +7,10 @@ use Rattle.cluster.specs.Cluster.{Cluster, is_well, takes}
 use Rattle.cluster.specs.Rules.{Act, Puts, May, MayPut, does, Run, after_run, IsNode}
 use Rattle.packets.specs.declared.packet.Body as bodies
 use Rattle.packets.specs.declared.packet.Packet.{Packet}
-use Rattle.outbox.specs.Outbox.{pushed}
-use Rattle.outbox.specs.declared.outbox.TheConstants.{OUTBOX}
+use Rattle.packets.specs.Outbox.{pushed}
+use Rattle.packets.specs.declared.outbox.TheConstants.{OUTBOX}
 use Rattle.gateway.specs.Gateway.{TheGateway, posts, packet_of}
-use Rattle.pages.specs.Says.{Says}
+use Rattle.packets.specs.Says.{Says}
 use Rattle.gateway.specs.Deeds.{IsByGateway}
 use Rattle.gateway.specs.Stands.{Stands, PutOut, Goes, Owes, Acts}
 

@@ -3,7 +3,7 @@ use Rattle.std.proofs.Common.{◌≡◌, List, [], ◌∷◌, Option, Some, None
 use Rattle.std.specs.List.{AllByRecursion}
 use Rattle.packets.specs.declared.packet.Packet.{Packet}
 use Rattle.cluster.specs.Cluster.{Cluster}
-use Rattle.outbox.specs.Outbox.{Pops}
+use Rattle.packets.specs.Outbox.{Pops}
 use Rattle.gateway.specs.Gateway.{TheGateway}
 use Rattle.gateway.specs.Stands.{Stands, PutOut, Takes}
 

@@ -5,7 +5,7 @@ use Rattle.packets.specs.declared.page.Entry.{Entry}
 use Rattle.packets.specs.declared.packet.Body.{Body}
 use Rattle.packets.specs.declared.packet.Body.TheVariants.{Delivery, Number, Acknowledgement, Ask, Told, Resume, Restored, Saved}
 use Rattle.packets.specs.declared.packet.Packet.{Packet}
-use Rattle.pages.specs.Pages.{entries_above, page_of}
+use Rattle.packets.specs.Pages.{entries_above, page_of}
 use Rattle.stores.specs.declared.peer.Logged.{Logged}
 use Rattle.stores.specs.declared.change.Output.{Output}
 use Rattle.stores.specs.declared.change.Change.TheVariants.{Numbered, Dropped, Heard, Forgotten, Shown}

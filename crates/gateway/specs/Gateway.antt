@@ -6,8 +6,8 @@ use Rattle.packets.specs.declared.packet.Body.TheVariants.{Delivery}
 use Rattle.packets.specs.declared.packet.Packet.{Packet}
 use Rattle.packets.specs.Packet.{in_range}
 use Rattle.packets.specs.Format.{HasRoom, Fits}
-use Rattle.outbox.specs.Outbox.{pushed}
-use Rattle.pages.specs.declared.page.TheConstants.{LEAST_PAGE}
+use Rattle.packets.specs.Outbox.{pushed}
+use Rattle.packets.specs.declared.log_pages.TheConstants.{LEAST_PAGE}
 use Rattle.stores.specs.declared.peer.Logged.{Logged}
 use Rattle.stores.specs.declared.change.Change.{Change}
 use Rattle.stores.specs.declared.change.Change.TheVariants.{Input, Taken}

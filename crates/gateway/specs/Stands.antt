@@ -12,7 +12,7 @@ use Rattle.stores.specs.declared.peer.Logged.{Logged}
 use Rattle.stores.specs.declared.change.Output.{Output}
 use Rattle.stores.specs.Peer.{ThePeer, no_entry}
 use Rattle.gateway.specs.Gateway.{TheGateway, peer_of}
-use Rattle.pages.specs.Says.{Says}
+use Rattle.packets.specs.Says.{Says}
 use Rattle.gateway.specs.Deeds.{IsByGateway}
 
 -- p sent a body that the packet says

@@ -11,9 +11,9 @@ ghost use Rattle.gateway.specs.Since.{Since, KeepsSince};
 
 use helpers::Payload;
 use limits::PROCESSES;
-use outbox::Outbox;
+use packets::Outbox;
 use packets::{Body, NUMBER_LIMIT, Packet};
-use pages::LEAST_PAGE;
+use packets::LEAST_PAGE;
 use std::alloc::{AllocError, Global};
 use std::marker::Model;
 use stores::{Change, Output, Store};

@@ -30,9 +30,9 @@
 
 mod bytes;
 mod gateway;
-mod receiving;
-mod reviving;
-mod telling;
+mod reception;
+mod revival;
+mod answers;
 mod written;
 
 pub use gateway::Gateway;

@@ -8,7 +8,7 @@ use indexmap::IndexMap;
 use scenario::{Order, Process, Scenario, Step};
 use std::alloc::{AllocError, Global};
 use std::fmt;
-use trace::name_at;
+use scenario::name_at;
 use world::{Call, PhaseName, Refusal};
 
 const FULL: &str = "the journal is full: do messages go round and round? drive fewer calls";

@@ -18,7 +18,7 @@ use Rattle.image_commands.specs.Check.{HasImage, IsUnaccepted}
 use Rattle.image_commands.specs.Fault.{fault_of_image, IsFaultOfScenario, FaultOf}
 use Rattle.image_commands.specs.Files.{Content}
 use Rattle.image_commands.specs.Inside.{HandlerFault, ImagesFault, IsPlainFault}
-use Rattle.image_commands.specs.Loading.{IsReadAs, IsLoadedAs, AreLoaded, AreRefused, IsScenarioWithImages, IsUnloadable}
+use Rattle.image_commands.specs.Loads.{IsReadAs, IsLoadedAs, AreLoaded, AreRefused, IsScenarioWithImages, IsUnloadable}
 use Rattle.image_commands.specs.declared.fault.Fault.{Fault}
 use Rattle.image_commands.specs.declared.fault.Fault.TheVariants as fault
 

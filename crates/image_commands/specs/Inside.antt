@@ -6,7 +6,7 @@ use Rattle.verifier.specs.declared.fault.ImageError.{ImageError}
 use Rattle.scenario.specs.declared.process.Process.{Process}
 use Rattle.image_commands.specs.Fault.{fault_of_image}
 use Rattle.image_commands.specs.Files.{Content}
-use Rattle.image_commands.specs.Loading.{AreRefused}
+use Rattle.image_commands.specs.Loads.{AreRefused}
 use Rattle.image_commands.specs.declared.fault.Fault.{Fault}
 use Rattle.image_commands.specs.declared.fault.Fault.TheVariants.{Usage, Memory, InputOutput}
 

@@ -1,14 +1,14 @@
 pub mod Asm
 pub mod Check
 pub mod Dis
-pub mod Ending
+pub mod Ends
 pub mod Explain
 pub mod Fault
 pub mod Files
 pub mod Hints
 pub mod Inside
 pub mod Judged
-pub mod Loading
+pub mod Loads
 pub mod Native
 pub mod OwnInput
 pub mod Pack

@@ -5,8 +5,8 @@ use Rattle.decode.specs.Encoding.{encoding}
 use Rattle.decode.specs.Refusal as decoding
 use Rattle.decode.specs.declared.insn.Insn.{Insn}
 use Rattle.images.specs.declared.file_form.FileForm.{FileForm}
-use Rattle.ordered_images.specs.Ordered.{IsFileOf}
-use Rattle.ordered_images.specs.declared.blocks.Blocks.{Blocks}
+use Rattle.block_order.specs.Ordered.{IsFileOf}
+use Rattle.block_order.specs.declared.blocks.Blocks.{Blocks}
 use Rattle.verifier.specs.declared.fault.HeaderFault.TheVariants.{SlotCount}
 use Rattle.image_commands.specs.declared.fault.Fault.{Fault}
 use Rattle.image_commands.specs.declared.fault.Fault.TheVariants.{Usage, Header, Decode, Verify, Assemble, Scenario, Memory, InputOutput}

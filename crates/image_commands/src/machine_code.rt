@@ -9,7 +9,7 @@ ghost use Rattle.image_commands.specs.Fault.{FaultOf};
 
 use crate::fault::Fault;
 use crate::files::Files;
-use crate::loading::load_handler;
+use crate::loader::load_handler;
 use crate::own_input::spare;
 use crate::site::Site;
 use span_native::compile_handler;

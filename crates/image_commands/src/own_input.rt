@@ -2,7 +2,7 @@
 
 ghost use Rattle.std.specs.Prelude.{◌≡◌, ◌≢◌, ℕ, List, IfErr, OnOk, true};
 ghost use Rattle.image_commands.specs.OwnInput.{IsOwnInput};
-ghost use Rattle.image_commands.specs.Loading.{IsImagePath};
+ghost use Rattle.image_commands.specs.Loads.{IsImagePath};
 
 use crate::fault::Fault;
 use crate::files::Files;

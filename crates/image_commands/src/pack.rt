@@ -1,7 +1,7 @@
 //! The command `pack`.
 
 ghost use Rattle.std.specs.Prelude.{◌≡◌, ◌≤◌, ℕ, IfErr, IfOk, List, OnErr, OnOk, take};
-ghost use Rattle.ordered_images.specs.declared.blocks.Blocks.{Blocks};
+ghost use Rattle.block_order.specs.declared.blocks.Blocks.{Blocks};
 ghost use Rattle.image_commands.specs.Files.{IsWritten, MakesFile};
 ghost use Rattle.image_commands.specs.Pack.{IsPacked, IsUnpacked};
 ghost use Rattle.image_commands.specs.Inside.{IsNoUsage};
@@ -14,7 +14,7 @@ use crate::site::Site;
 use decode::decode;
 use images::FileForm;
 use limits::{SLOTS, STATE_BYTES};
-use ordered_images::{Ordered, ordered_file};
+use block_order::{Ordered, ordered_file};
 use std::alloc::Global;
 use verifier::HeaderFault;
 

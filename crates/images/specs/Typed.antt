@@ -2,7 +2,7 @@
 use Rattle.std.specs.Prelude.{◌≡◌, ℕ, List}
 use Rattle.decode.specs.declared.insn.Insn.{Insn}
 use Rattle.decode.specs.Slots.{slots_of}
-use Rattle.span_calls.specs.Typing.{Table}
+use Rattle.spans.specs.Typing.{Table}
 use Rattle.span_verifier.specs.Typing.{IsTyped}
 
 -- the instructions, and the state's length

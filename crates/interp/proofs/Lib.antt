@@ -7,12 +7,12 @@ pub mod ArithmeticLemmas
 pub mod AccessLemmas
 pub mod Simulation
 pub mod HelperLemmas
-pub mod Counting
+pub mod Counts
 pub mod RunLemmas
 pub mod CallLemmas
 pub mod Parts
 pub mod Operations
 pub mod FlatCalls
-pub mod Fitting
+pub mod Fits
 pub mod Exits
 pub mod WordsKept

@@ -10,7 +10,7 @@ use Rattle.regtypes.specs.declared.frame.Frame.{Frame}
 use Rattle.regtypes.specs.declared.frame.Kind.{Kind}
 use Rattle.regtypes.specs.Flow.{exits, exits_by, flow_of}
 use Rattle.regtypes.specs.Frame.{kind_at}
-use Rattle.regtypes.specs.Leaving.{after, next, taken}
+use Rattle.regtypes.specs.Ways.{after, next, taken}
 use Rattle.regtypes.specs.Typing.{frame_at}
 use Rattle.listing.specs.declared.study.Study.{Study}
 use Rattle.listing.specs.Inside.Arrives.{LeadsTo}

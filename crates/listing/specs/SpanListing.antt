@@ -15,7 +15,7 @@ use Rattle.spans.specs.declared.kind.Kind.{Kind}
 use Rattle.spans.specs.declared.kind.Kind.TheVariants.{Unset, Num, Place}
 use Rattle.spans.specs.Access.{is_inside, whole_word}
 use Rattle.spans.specs.Frame.{Frame}
-use Rattle.spans.specs.Leaving.{operand_kind}
+use Rattle.spans.specs.Ways.{operand_kind}
 use Rattle.spans.specs.Narrowing.{SpanPair, opposite, shown}
 use Rattle.listing.specs.Listing.{texts_below, verdict_text}
 use Rattle.listing.specs.Reads.{is_read}

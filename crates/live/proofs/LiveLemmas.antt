@@ -15,7 +15,7 @@ use Rattle.sessions.specs.Seats.{TheSeat, IsWhole, answered_by, listed, new_seat
 use Rattle.sessions.specs.Shares as shared
 use Rattle.sessions.specs.declared.share.Share.{Share}
 use Rattle.workers.specs.Continues.{Continues, are_allowed}
-use Rattle.workers.specs.Running.{manned}
+use Rattle.workers.specs.Runs.{manned}
 use Rattle.workers.specs.Shares.{AreServed}
 use Rattle.live.specs.declared.ended.Ended.{Ended}
 use Rattle.live.specs.Inside.{AreFresh, HasMemory, ended_of}

@@ -2,13 +2,13 @@
 
 ghost use Rattle.std.specs.Prelude.{◌≡◌, ◌↔◌, ◌≤◌, ◌+◌, ◌++◌, All, IfOk, IsTrue, OnErr, OnOk, [], length, map, string_bytes};
 ghost use Rattle.handlers.specs.Image.{image_in};
-ghost use Rattle.machine.specs.Opening.{AreFew};
+ghost use Rattle.machine.specs.Openings.{AreFew};
 ghost use Rattle.scenario.specs.Process.{names_of};
 ghost use Rattle.sessions.specs.Journal.{IsLegal};
 ghost use Rattle.sessions.specs.Seats.{answered_by, new_seats};
 ghost use Rattle.sessions.specs.Shares.{answers_of};
 ghost use Rattle.workers.specs.Continues.{Continues};
-ghost use Rattle.workers.specs.Running.{CanRun, manned};
+ghost use Rattle.workers.specs.Runs.{CanRun, manned};
 ghost use Rattle.workers.specs.Shares.{AreServed};
 ghost use Rattle.live.specs.Inside.{HasMemory};
 ghost use Rattle.live.specs.Live.{IsLive};

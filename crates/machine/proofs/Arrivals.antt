@@ -28,13 +28,13 @@ use Rattle.theorems.proofs.PhaseLemmas.{up-length}
 use Rattle.theorems.proofs.RunLemmas.{run_to-is, run_to-more}
 use Rattle.machine.specs.Process.{TheProcess, idle_process, received, Acknowledges}
 use Rattle.machine.specs.Wire.{Puts}
-use Rattle.machine.specs.Arriving.{numbered, Records}
+use Rattle.machine.specs.Reception.{numbered, Records}
 use Rattle.machine.specs.Simulation.{TheMachine, process_at, log_at, gate_at, is_up_at, StandsAt, Keeps, Holds, Shows, Stands, Steps, sent_by}
 use Rattle.machine.specs.Mode.{IsNextAfter, is_live, held_by}
 use Rattle.machine.proofs.Updates.{put-is, set-is}
-use Rattle.machine.proofs.Standing.{wire-is, at_process, up_is, up_at, up-down, is_live-at, live-lost, live-busy, live-works, held-live, entry_at}
+use Rattle.machine.proofs.Status.{wire-is, at_process, up_is, up_at, up-down, is_live-at, live-lost, live-busy, live-works, held-live, entry_at}
 use Rattle.machine.proofs.Steps.{put-wire, shows-wire, step}
-use Rattle.machine.proofs.Releasing.{run_of-run_to, flags-set, holds-released}
+use Rattle.machine.proofs.Releases.{run_of-run_to, flags-set, holds-released}
 
 -- what is kept of p stands for this history, this phase and these acknowledged numbers, and for the rest as the world has it
 abbrev pub Stood : TheMachine → World → ℕ → List Message → Phase → (ℕ → Bool) → TheProcess → Type 0

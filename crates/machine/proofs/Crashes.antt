@@ -15,7 +15,7 @@ use Rattle.machine.specs.Process.{TheProcess, crashed}
 use Rattle.machine.specs.Outbox.{TheOutbox, empty_outbox}
 use Rattle.machine.specs.Fields.{IsSoundAt}
 use Rattle.machine.specs.Simulation.{TheMachine, Stands, StandsAt, Steps, process_at}
-use Rattle.machine.proofs.Standing.{at_process}
+use Rattle.machine.proofs.Status.{at_process}
 use Rattle.machine.proofs.Steps.{step}
 use Rattle.machine.proofs.OneProcess.{Same, shows-one}
 

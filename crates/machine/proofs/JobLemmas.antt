@@ -21,7 +21,7 @@ use Rattle.machine.specs.declared.mode.Mode.{Mode}
 use Rattle.machine.specs.declared.mode.Mode.TheVariants as modes
 use Rattle.machine.specs.Jobs.{Begins, Matches}
 use Rattle.machine.specs.Arrival.{HasCode, HasForm, IsOpen}
-use Rattle.machine.proofs.Standing.{at_process, down_is}
+use Rattle.machine.proofs.Status.{at_process, down_is}
 use Rattle.machine.proofs.Readings.{length-back, state-back}
 
 -- the elements of the second list follow those of the first

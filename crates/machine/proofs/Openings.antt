@@ -28,7 +28,7 @@ use Rattle.machine.specs.Outside.{empty_outside}
 use Rattle.machine.specs.Stable.{Saves, idle_saved}
 use Rattle.machine.specs.Simulation.{TheMachine, StandsAt, Keeps, Holds, Shows, Stands}
 use Rattle.machine.specs.Fields.{IsSoundAt, IsLogOf}
-use Rattle.machine.specs.Opening.{AreIdle}
+use Rattle.machine.specs.Openings.{AreIdle}
 
 idle-split : (n : ℕ) (images : List TheImage) (i : TheImage) (ps : List TheProcess) → AreIdle n images ps → (p : ℕ) (d : TheProcess) (e : TheImage) → p < suc (length images) → (b : Bool) → nat_lt p (length images) ≡ b
     → slice_index_or (ps ++ idle_process (suc (length images)) n i.len ∷ []) p d ≡ idle_process (suc p) n (slice_index_or (images ++ i ∷ []) p e).len

@@ -12,7 +12,7 @@ use Rattle.world.specs.Logs.{length_in, sent, run_of, run_to}
 use Rattle.machine.specs.Process.{TheProcess, idle_process}
 use Rattle.machine.specs.Outside.{is_taken}
 use Rattle.machine.specs.Simulation.{TheMachine, StandsAt, Keeps, Holds, Shows, process_at, log_at, gate_at, is_up_at, sent_by}
-use Rattle.machine.proofs.Standing.{is_up-phase_of}
+use Rattle.machine.proofs.Status.{is_up-phase_of}
 
 -- what a world has of one number
 pub record TheLife : Type 0 where

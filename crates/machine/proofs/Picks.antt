@@ -28,12 +28,12 @@ use Rattle.machine.specs.declared.mode.Mode.{Mode}
 use Rattle.machine.specs.declared.mode.Mode.TheVariants as modes
 use Rattle.machine.specs.Mode.{is_live, phase_of}
 use Rattle.machine.specs.Simulation.{TheMachine, StandsAt, Stands, process_at, log_at, is_up_at, IsTold}
-use Rattle.machine.specs.Sending.{busy, live, placing, released_at}
-use Rattle.machine.specs.Picking.{IsPick, ArePeers, next_ssn}
+use Rattle.machine.specs.Transmission.{busy, live, placing, released_at}
+use Rattle.machine.specs.Choice.{IsPick, ArePeers, next_ssn}
 use Rattle.machine.proofs.ReceiptLemmas.{senders, length-numbers, rsn_from-numbers}
 use Rattle.rsn.proofs.ReceiptLemmas.{numbers_from-above, numbers_from-within, flag-at}
 use Rattle.machine.proofs.NumberLemmas.{run_of-ends, rsn_from-none}
-use Rattle.machine.proofs.Standing.{wire-is, key-low, at_process, up_is, up_at, down_at, held-live, is_live-at, entry_at, released_is}
+use Rattle.machine.proofs.Status.{wire-is, key-low, at_process, up_is, up_at, down_at, held-live, is_live-at, entry_at, released_is}
 use Rattle.machine.proofs.Causes.{transmit-outside, transmit-same, transmit-rest}
 use Rattle.machine.proofs.ReplayCauses.{replay-outside, resync-outside}
 

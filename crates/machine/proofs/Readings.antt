@@ -19,8 +19,8 @@ use Rattle.machine.specs.Mode.{is_lost, held_by, phase_of}
 use Rattle.machine.specs.declared.mode.Mode.{Mode}
 use Rattle.machine.specs.declared.mode.Mode.TheVariants as modes
 use Rattle.machine.specs.Simulation.{TheMachine, StandsAt, Stands, process_at, log_at, gate_at}
-use Rattle.machine.specs.Reading.{ReceiptsStand, LogStands, GateStands}
-use Rattle.machine.proofs.Standing.{at_process, down_is, held_at, keeps_at, holds_at}
+use Rattle.machine.specs.Readings.{ReceiptsStand, LogStands, GateStands}
+use Rattle.machine.proofs.Status.{at_process, down_is, held_at, keeps_at, holds_at}
 use Rattle.machine.proofs.Openings.{replicate-at}
 
 -- no process has more messages in its state than in its history

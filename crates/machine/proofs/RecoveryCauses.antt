@@ -10,10 +10,10 @@ use Rattle.world.specs.Bounds.{any_below}
 use Rattle.world.specs.Refusals.{least, refusal_of, cause_of, one_if, others_up}
 use Rattle.machine.specs.Simulation.{TheMachine, Stands, process_at, is_up_at}
 use Rattle.machine.specs.Process.{TheProcess, idle_process}
-use Rattle.machine.specs.Sending.{busy}
-use Rattle.machine.specs.Recovering.{returning}
+use Rattle.machine.specs.Transmission.{busy}
+use Rattle.machine.specs.Recoveries.{returning}
 use Rattle.machine.specs.Mode.{is_live, is_lost}
-use Rattle.machine.proofs.Standing.{jobs, at_process, up_is, down_is, is_working-phase_of, is_busy-phase_of}
+use Rattle.machine.proofs.Status.{jobs, at_process, up_is, down_is, is_working-phase_of, is_busy-phase_of}
 
 -- a journal has no place for a call where its room is no more than the open jobs
 pub late : (room n : ℕ) → room ≤ n → nat_lt room (n + 1) ≡ true

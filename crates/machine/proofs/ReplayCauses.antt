@@ -12,8 +12,8 @@ use Rattle.machine.specs.declared.mode.Mode.{Mode}
 use Rattle.machine.specs.declared.mode.Mode.TheVariants as modes
 use Rattle.machine.specs.Mode.{phase_of, next_job, is_to_do, MayWork}
 use Rattle.machine.specs.Simulation.{TheMachine, Stands, process_at, is_up_at}
-use Rattle.machine.specs.Sending.{busy}
-use Rattle.machine.proofs.Standing.{jobs, at_process, up_is, is_working-phase_of}
+use Rattle.machine.specs.Transmission.{busy}
+use Rattle.machine.proofs.Status.{jobs, at_process, up_is, is_working-phase_of}
 use Rattle.machine.proofs.RecoveryCauses.{late, early}
 
 -- a process that replays has a message to replay

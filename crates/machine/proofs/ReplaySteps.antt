@@ -26,7 +26,7 @@ use Rattle.machine.specs.declared.mode.Mode.TheVariants as modes
 use Rattle.machine.specs.Simulation.{TheMachine, StandsAt, Keeps, Shows, Stands, Steps, Simulates, answering, process_at, log_at}
 use Rattle.machine.specs.Jobs.{Begins}
 use Rattle.machine.specs.Arrival.{IsOpen}
-use Rattle.machine.proofs.Standing.{at_process, keeps_at}
+use Rattle.machine.proofs.Status.{at_process, keeps_at}
 use Rattle.machine.proofs.JobLemmas.{slice_get-behind, opens-at, begun-matches}
 use Rattle.machine.proofs.Steps.{step}
 use Rattle.machine.proofs.OneProcess.{Same, shows-one}

@@ -28,15 +28,15 @@ use Rattle.machine.specs.declared.mode.Mode.{Mode}
 use Rattle.machine.specs.declared.mode.Mode.TheVariants as modes
 use Rattle.machine.specs.declared.mode.Peers.{Peers}
 use Rattle.machine.specs.Fields.{IsLogOf}
-use Rattle.machine.specs.Replaying.{ArePeersLeft}
+use Rattle.machine.specs.Replays.{ArePeersLeft}
 use Rattle.machine.specs.Simulation.{TheMachine, StandsAt, Keeps, Shows, Stands, Steps, process_at, log_at, is_up_at}
 use Rattle.machine.proofs.ReceiptLemmas.{senders, length-numbers, rsn_from-numbers}
 use Rattle.machine.proofs.NumberLemmas.{rsn_from-none}
-use Rattle.machine.proofs.Standing.{at_process, keeps_at, entry_at, held-live, is_live-at, rest-length}
+use Rattle.machine.proofs.Status.{at_process, keeps_at, entry_at, held-live, is_live-at, rest-length}
 use Rattle.machine.proofs.Steps.{step}
 use Rattle.machine.proofs.Crashes.{self-same}
 use Rattle.machine.proofs.Others.{TheLife, life, others, together, replaced, now_at, log_now, but-replaced, but-world, shows-calls, ShowsBut}
-use Rattle.machine.proofs.Settling.{IsCaughtUp, settled}
+use Rattle.machine.proofs.Settlement.{IsCaughtUp, settled}
 
 -- Peers
 

@@ -22,9 +22,9 @@ use Rattle.machine.specs.Wire.{Puts}
 use Rattle.machine.specs.Fields.{IsSound}
 use Rattle.machine.specs.declared.machine.Machine.TheInside.{Inside}
 use Rattle.machine.specs.Simulation.{TheMachine, Keeps, Shows, Stands, Steps, log_at, is_up_at}
-use Rattle.machine.proofs.Standing.{wire-is, down_at, payload_at, last_at}
+use Rattle.machine.proofs.Status.{wire-is, down_at, payload_at, last_at}
 use Rattle.machine.proofs.Steps.{put-wire, shows-wire, step}
-use Rattle.machine.proofs.Keeping.{later}
+use Rattle.machine.proofs.Preservation.{later}
 use Rattle.machine.proofs.KeepLemmas.{keeps-extended}
 use Rattle.machine.proofs.Arrivals.{dropped}
 

@@ -12,7 +12,7 @@ use Rattle.machine.specs.Outbox.{TheOutbox}
 use Rattle.machine.specs.Fields.{IsSoundAt, IsLogOf, IsSound}
 use Rattle.machine.specs.declared.machine.Machine.TheInside.{Inside}
 use Rattle.machine.proofs.Updates.{set-is}
-use Rattle.machine.proofs.Keeping.{later}
+use Rattle.machine.proofs.Preservation.{later}
 
 -- the process of this number, from 1, is sound
 pub sound_at : (m : Inside) → IsSound m → (p : ℕ) (d : TheProcess) (e : TheImage) → 0 < p → p ≤ length m.processes.items → IsSoundAt (length m.processes.items) p (slice_index_or (map image_in m.images.items) (p - 1) e).len m.calls (slice_index_or m.processes.items (p - 1) d)

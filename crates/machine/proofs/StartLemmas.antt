@@ -16,7 +16,7 @@ use Rattle.machine.specs.Simulation.{TheMachine, Stands, Simulates}
 use Rattle.machine.specs.Arrival.{answer_of, IsJobFor, IsJobOf}
 use Rattle.machine.specs.declared.arrival.Arrival.{Arrival}
 use Rattle.machine.specs.declared.arrival.Arrival.TheVariants as arrivals
-use Rattle.machine.specs.Stepping.{Opened, begun_by, job_of, job_in}
+use Rattle.machine.specs.Dispatch.{Opened, begun_by, job_of, job_in}
 
 -- an answer that starts a job is that of a message which does
 verdict-starts : (w : World) (key d n : ℕ) (m : Message) (v : Verdict) → ReceivesAs w key d m v (Started n) → (nat_lt 0 d && is_next v) ≡ true

@@ -29,24 +29,24 @@
 #![tactic(auto)]
 
 mod arrival;
-mod arriving;
+mod reception;
 mod jobs;
 mod machine;
 mod mail;
 mod mode;
 mod outbox;
 mod outside;
-mod picking;
+mod choice;
 mod process;
-mod recovering;
-mod replaying;
-mod saving;
-mod sending;
+mod recoveries;
+mod replays;
+mod checkpoints;
+mod transmission;
 mod stable;
-mod stepping;
+mod dispatch;
 mod wire;
 
 pub use arrival::{Arrival, Finished};
 pub use machine::Machine;
 pub use replay::{Done, Job};
-pub use stepping::Reply;
+pub use dispatch::Reply;

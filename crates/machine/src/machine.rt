@@ -6,9 +6,9 @@ ghost use Rattle.world.specs.Phases.{name_of, is_down};
 ghost use Rattle.world.specs.World.{World};
 ghost use Rattle.world.specs.Logs.{state_of, length_of};
 ghost use Rattle.machine.specs.Simulation.{Stands, process_at, log_at, is_up_at};
-ghost use Rattle.machine.specs.Sending.{live};
-ghost use Rattle.machine.specs.Opening.{Opens, AreIdle};
-ghost use Rattle.machine.specs.Reading.{ReceiptsStand, LogStands, GateStands};
+ghost use Rattle.machine.specs.Transmission.{live};
+ghost use Rattle.machine.specs.Openings.{Opens, AreIdle};
+ghost use Rattle.machine.specs.Readings.{ReceiptsStand, LogStands, GateStands};
 
 use crate::mode::Mode;
 use crate::outside::Outside;

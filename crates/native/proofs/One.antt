@@ -14,8 +14,8 @@ use Rattle.x86.specs.declared.instruction.Instr.{Instr}
 use Rattle.native.specs.declared.body.Body.{Body}
 use Rattle.native.specs.declared.body.Body.TheVariants.{Empty, One, Two, Three}
 use Rattle.native.specs.declared.saved.Saved.{Saved}
-use Rattle.native.specs.declared.opening.Opening.{Opening}
-use Rattle.native.specs.declared.opening.Opening.TheVariants as opening
+use Rattle.native.specs.declared.prologue.Opening.{Opening}
+use Rattle.native.specs.declared.prologue.Opening.TheVariants as opening
 use Rattle.native.specs.declared.task.Task.{Task}
 use Rattle.native.specs.declared.task.Task.TheVariants as task
 use Rattle.native.specs.Tasks.{is_apt}

@@ -24,7 +24,7 @@ use Rattle.regtypes.specs.declared.flow.Flow.{Flow}
 use Rattle.regtypes.specs.declared.flow.Flow.TheVariants as flow
 use Rattle.regtypes.specs.Frame.{kind_at, is_num, entry_frame, LeqKind}
 use Rattle.regtypes.specs.Flow.{flow_of, exits_by}
-use Rattle.regtypes.specs.Leaving.{after, given, next, taken}
+use Rattle.regtypes.specs.Ways.{after, given, next, taken}
 use Rattle.regtypes.specs.Rules.{is_unset, is_place, is_frame_pointer, has}
 use Rattle.regtypes.specs.Typing.{Table, frame_at, Enters, IsTyping, is_target}
 use Rattle.regtypes.specs.declared.form.Form.{Form}

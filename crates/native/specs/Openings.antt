@@ -2,8 +2,8 @@
 use Rattle.std.specs.Prelude.{List, [], ◌∷◌, ◌++◌}
 use Rattle.x86.specs.declared.instruction.Instr.{Instr}
 use Rattle.x86.specs.declared.instruction.Instr.TheVariants as instr
-use Rattle.native.specs.declared.opening.Opening.{Opening}
-use Rattle.native.specs.declared.opening.Opening.TheVariants as opening
+use Rattle.native.specs.declared.prologue.Opening.{Opening}
+use Rattle.native.specs.declared.prologue.Opening.TheVariants as opening
 use Rattle.native.specs.declared.saved.Saved.{Saved}
 use Rattle.native.specs.declared.task.Task.{Task}
 use Rattle.native.specs.Code.{clear, entering}

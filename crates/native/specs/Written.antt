@@ -4,8 +4,8 @@ use Rattle.decode.specs.declared.insn.Insn.{Insn}
 use Rattle.regtypes.specs.declared.image_form.ImageForm.{ImageForm}
 use Rattle.regtypes.specs.Typing.{Table}
 use Rattle.verifier.specs.Least.{IsLeastTyping}
-use Rattle.native.specs.declared.opening.Opening.{Opening}
-use Rattle.native.specs.declared.opening.Opening.TheVariants as opening
+use Rattle.native.specs.declared.prologue.Opening.{Opening}
+use Rattle.native.specs.declared.prologue.Opening.TheVariants as opening
 use Rattle.native.specs.declared.task.Task.{Task}
 use Rattle.native.specs.SlotTasks.{task_at, tasks_in}
 use Rattle.native.specs.Pends.{pends_in}

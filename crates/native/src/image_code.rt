@@ -14,7 +14,7 @@ ghost use Rattle.native.specs.Written.{IsCodeOf, IsLaidFrom, IsServed};
 use crate::apt::is_apt;
 use crate::body::clear;
 use crate::fusion::{is_covered, targets_of, task_at};
-use crate::opening::Opening;
+use crate::prologue::Opening;
 use crate::pends::pends_of;
 use crate::saved::{Saved, saved_for};
 use crate::sequence::write_all;

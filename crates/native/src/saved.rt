@@ -9,7 +9,7 @@ ghost use Rattle.native.specs.Saved as specs;
 ghost use Rattle.native.specs.Saved.{may_write};
 ghost use Rattle.native.specs.Tasks.{Includes, WritesWithin};
 
-use crate::opening::Opening;
+use crate::prologue::Opening;
 use crate::task::Task;
 use decode::Reg;
 use std::alloc::AllocError;

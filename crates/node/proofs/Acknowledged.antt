@@ -3,7 +3,7 @@ use Rattle.std.proofs.Common.{◌≡◌, ℕ, ◌+◌, ◌-◌, ◌≤◌, ◌<�
 use Rattle.std.specs.Prelude.{slice_index_or, not, ◌&&◌, ◌==◌, nat_lt, nat_le, if◌then◌else◌}
 use Rattle.std.proofs.lemmas.Bool.Decides.{nat_tests}
 use Rattle.node.specs.Node.{TheNode, counted}
-use Rattle.node.specs.Sending.{released}
+use Rattle.node.specs.Transmission.{released}
 use Rattle.node.specs.Calls.{acknowledged_by}
 use Rattle.node.proofs.Handed.{no-second}
 

@@ -17,7 +17,7 @@ use Rattle.packets.specs.declared.packet.Body.TheVariants as packets
 use Rattle.node.specs.Node.{TheNode, posts, tells, covered_of}
 use Rattle.node.specs.Stands.{Stands, HasReceived, Receives, Acts}
 use Rattle.node.proofs.Lists.{count-append, get-behind}
-use Rattle.node.proofs.Putting.{stands-takes, stands-well, posted}
+use Rattle.node.proofs.Puts.{stands-takes, stands-well, posted}
 use Rattle.node.proofs.Numbers.{length-numbers, rsn_from-numbers}
 
 -- the messages of q that it received: those that its checkpoint covers, and those behind

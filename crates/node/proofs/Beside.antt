@@ -13,7 +13,7 @@ use Rattle.node.specs.Stands.{Each, Stands, Goes, PutOut, actor}
 use Rattle.cluster.proofs.Settings.{does-count}
 use Rattle.node.specs.Beside.{AllStand, NodesRun}
 use Rattle.node.proofs.Lists.{all-more}
-use Rattle.node.proofs.Putting.{put-still}
+use Rattle.node.proofs.Puts.{put-still}
 
 -- of p the cluster d has what c has, and all that was put out in c
 pub record Same (c d : Cluster) (p : ℕ) : Type 0 where

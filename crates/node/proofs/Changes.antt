@@ -7,7 +7,7 @@ use Rattle.packets.specs.declared.packet.Body.{Body}
 use Rattle.node.specs.Queue.{TheQueue, is_kept, recorded, dropped_to, forgotten_above}
 use Rattle.node.specs.Node.{TheNode, Within, IsPeer, CanSay, log_at, posts, numbered}
 use Rattle.node.specs.Pages.{told_of, restored_of}
-use Rattle.node.specs.Asking.{heard_of, hears, asked_by, works_for, obeys, resumed_by}
+use Rattle.node.specs.Answers.{heard_of, hears, asked_by, works_for, obeys, resumed_by}
 use Rattle.node.specs.Calls.{recorded_by}
 use Rattle.packets.specs.declared.packet.Body.TheVariants.{Acknowledgement}
 use Rattle.node.proofs.Sendable.{IsSayable}

@@ -23,7 +23,7 @@ use Rattle.node.specs.Stands.{Stands, HasReceived, KeepsOf, IsShut, sent_by, Goe
 use Rattle.node.proofs.Lists.{count-append, get-behind}
 use Rattle.node.proofs.Logs.{length-push, changed-at, leading-bound, leading-push}
 use Rattle.node.proofs.Numbers.{InOrderFrom-push}
-use Rattle.node.proofs.Putting.{stands-takes, stands-well, posted, goes-on}
+use Rattle.node.proofs.Puts.{stands-takes, stands-well, posted, goes-on}
 
 append-append : {X : Type 0} (xs ys zs : List X) → xs ++ (ys ++ zs) ≡ (xs ++ ys) ++ zs
 append-append [] ys zs = refl

@@ -8,7 +8,7 @@ use Rattle.theorems.proofs.Tests.{both}
 use Rattle.packets.specs.declared.packet.Body.TheVariants.{Saved}
 use Rattle.node.specs.declared.node.TheConstants.{MOST_RECEIVED}
 use Rattle.node.specs.Node.{TheNode, Within, IsPeer, posts, tells, covered_of}
-use Rattle.node.specs.Asking.{heard_of}
+use Rattle.node.specs.Answers.{heard_of}
 use Rattle.node.specs.Calls.{delivered, takes_more}
 
 same-test : (a b y : ℕ) → y ≡ b → a ≡ y → (a == b) ≡ true

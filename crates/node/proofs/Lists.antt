@@ -2,8 +2,8 @@
 use Rattle.std.proofs.Common.{◌≡◌, ℕ, suc, ◌+◌, List, [], ◌∷◌, ◌++◌, length, subst, arith}
 use Rattle.std.specs.Prelude.{Some, slice_get, Bool, true, false, nat_lt, if◌then◌else◌}
 use Rattle.packets.specs.declared.packet.Packet.{Packet}
-use Rattle.outbox.specs.declared.outbox.TheConstants.{OUTBOX}
-use Rattle.outbox.specs.Outbox.{pushed}
+use Rattle.packets.specs.declared.outbox.TheConstants.{OUTBOX}
+use Rattle.packets.specs.Outbox.{pushed}
 use Rattle.world.specs.declared.message.Message.{Message}
 use Rattle.world.specs.History.{count_of}
 use Rattle.node.specs.Stands.{Each}

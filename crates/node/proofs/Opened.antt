@@ -12,8 +12,8 @@ use Rattle.node.specs.Queue.{TheQueue, no_queue}
 use Rattle.node.specs.Node.{TheNode, Within, log_at, new_node}
 use Rattle.node.specs.Stands.{Stands, BeginsWith}
 use Rattle.node.specs.Kept.{kept_of, resting, IsKeptOf}
-use Rattle.node.proofs.Opening.{stands-opened}
-use Rattle.node.proofs.Keeping.{kept-of, kept-still}
+use Rattle.node.proofs.Openings.{stands-opened}
+use Rattle.node.proofs.Preservation.{kept-of, kept-still}
 
 abbrev zeros : ℕ → List ℕ
 zeros n = replicate n 0

@@ -16,14 +16,14 @@ use Rattle.cluster.proofs.Settings.{does-count, does-handlers}
 use Rattle.cluster.proofs.Runs.{run-handlers}
 use Rattle.cluster.proofs.Promised.{nodes-keep}
 use Rattle.node.specs.Node.{TheNode}
-use Rattle.pages.specs.Says.{body_of, WasSaid}
+use Rattle.packets.specs.Says.{body_of, WasSaid}
 use Rattle.node.specs.Stands.{Each, Stands, Goes, PutOut, Acts, Handles, Answers, actor, job_of, payloads_to}
 use Rattle.node.specs.Beside.{AllStand}
 use Rattle.node.specs.Runs.{Answer, Answering, state_from, sends_from, handlers_of, System, new_system, Call, Gave, Handed, Worked, Ticked, Froze, Thawed, Acted, IsOne, CameFrom, IsGateway, IsAnswer, DoesIt, with_said, after_call, Calls, after_calls, CallsRun}
 use Rattle.node.proofs.Lists.{all-more}
-use Rattle.node.proofs.Putting.{put-still}
+use Rattle.node.proofs.Puts.{put-still}
 use Rattle.node.proofs.Beside.{same, all-stand, stands-still, count-after}
-use Rattle.node.proofs.Opening.{stands-opened}
+use Rattle.node.proofs.Openings.{stands-opened}
 use Rattle.node.proofs.Steps.{run-on, owes-at, on-goes, saves-goes}
 use Rattle.node.proofs.Outside.{SameOutside, outside-self, outside-still, may-too, outside-too}
 

@@ -14,13 +14,13 @@ use Rattle.cluster.specs.Cluster.{Cluster, seen}
 use Rattle.packets.specs.declared.packet.Body.TheVariants as packets
 use Rattle.node.specs.Queue.{TheQueue, payload_of, number_of, leading, released_by}
 use Rattle.node.specs.Node.{TheNode, log_at, tells, covered_of}
-use Rattle.node.specs.Sending.{delivers, sends, first_to_send, many_to_send, sends_on, run_at, freed, unlocked, released_to, released_below, released, resends, resent, is_told_at, renumbers, renumbered, ticked_below, ticked}
+use Rattle.node.specs.Transmission.{delivers, sends, first_to_send, many_to_send, sends_on, run_at, freed, unlocked, released_to, released_below, released, resends, resent, is_told_at, renumbers, renumbered, ticked_below, ticked}
 use Rattle.node.specs.Stands.{Stands, KeepsOf, IsShut, sent_by, freed_in, most_released, Acts}
 use Rattle.node.proofs.Lists.{get-behind}
 use Rattle.node.proofs.Logs.{changed-at, leading-bound, leading-split, leading-none}
-use Rattle.node.proofs.Putting.{stands-well, posted}
+use Rattle.node.proofs.Puts.{stands-well, posted}
 use Rattle.node.proofs.Arrivals.{tells-number}
-use Rattle.node.proofs.Recording.{sent-is}
+use Rattle.node.proofs.Records.{sent-is}
 use Rattle.node.proofs.Steps.{acts-self, acts-then, by-if}
 use Rattle.node.proofs.Commits.{long}
 

@@ -6,7 +6,7 @@ use Rattle.cluster.specs.Rules.{Act, Input, Puts, Starts, Shows, Works, Replays,
 use Rattle.node.specs.Node.{TheNode}
 use Rattle.node.specs.Stands.{Each, Stands, Goes, GoesOn, Owes, Acts, Saves, actor, own_act}
 use Rattle.node.proofs.Lists.{all-more}
-use Rattle.node.proofs.Putting.{stays}
+use Rattle.node.proofs.Puts.{stays}
 
 -- a run goes on
 pub run-on : (c : Cluster) (acts more : List Act) → Run c acts → Run (after_run c acts) more → Run c (acts ++ more) × (after_run c (acts ++ more) ≡ after_run (after_run c acts) more)

@@ -2,7 +2,7 @@
 use Rattle.std.proofs.Common.{◌≡◌, List, [], ◌∷◌, Option, Some, None, Result, Ok, Err, OnOk, IfOk, is_some, false, refl, ap, subst, ◌∙◌}
 use Rattle.packets.specs.declared.packet.Packet.{Packet}
 use Rattle.cluster.specs.Cluster.{Cluster}
-use Rattle.outbox.specs.Outbox.{Pops}
+use Rattle.packets.specs.Outbox.{Pops}
 use Rattle.node.specs.Node.{TheNode}
 use Rattle.node.specs.Stands.{Each, Stands, PutOut, Takes}
 

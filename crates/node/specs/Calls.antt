@@ -10,8 +10,8 @@ use Rattle.node.specs.declared.job.OpenJob.{OpenJob}
 use Rattle.node.specs.declared.job.Given.{Given}
 use Rattle.node.specs.Queue.{is_kept, dropped_to}
 use Rattle.node.specs.Node.{TheNode, log_at, posts, worked, number_of, numbered, counted, tells, covered_of}
-use Rattle.node.specs.Sending.{released}
-use Rattle.node.specs.Asking.{asked_by, resumed_by}
+use Rattle.node.specs.Transmission.{released}
+use Rattle.node.specs.Answers.{asked_by, resumed_by}
 
 -- whether the limits allow one message more
 abbrev pub takes_more : TheNode → Bool

@@ -10,7 +10,7 @@ use Rattle.packets.specs.Kept.{kept_in_range}
 use Rattle.node.specs.declared.node.TheConstants.{MOST_GIVEN, MOST_RECEIVED}
 use Rattle.node.specs.Queue.{TheQueue, no_queue, kept_queue}
 use Rattle.node.specs.Node.{TheNode, log_at}
-use Rattle.node.specs.Saving.{counts_from}
+use Rattle.node.specs.Checkpoints.{counts_from}
 use Rattle.node.specs.Stands.{Each, Stands, KeepsOf}
 
 -- ---- by peer

@@ -1,7 +1,7 @@
 -- The limits of a node
 use Rattle.std.specs.Prelude.{◌^◌, ◌<◌, ◌≤◌, false}
 use Rattle.rsn.specs.declared.receipts.TheConstants.{LIMIT}
-use Rattle.pages.specs.declared.page.TheConstants.{LEAST_PAGE}
+use Rattle.packets.specs.declared.log_pages.TheConstants.{LEAST_PAGE}
 use Rattle.node.specs.declared.limit.Limits.{Limits}
 use Rattle.node.specs.declared.limit.TheConstants.{PAGE, TICK}
 use Rattle.node.specs.declared.node.TheConstants.{WINDOW}

@@ -9,7 +9,7 @@ use Rattle.packets.specs.declared.packet.Packet.{Packet}
 use Rattle.packets.specs.Packet.{in_range}
 use Rattle.packets.specs.Format.{HasRoom, Fits}
 use Rattle.node.specs.Queue.{TheQueue, no_queue, appended, recorded}
-use Rattle.outbox.specs.Outbox.{pushed}
+use Rattle.packets.specs.Outbox.{pushed}
 use Rattle.node.specs.declared.limit.Limits.{Limits}
 use Rattle.node.specs.Limit.{AreAllowed}
 use Rattle.node.specs.declared.job.OpenJob.{OpenJob}

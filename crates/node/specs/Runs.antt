@@ -14,7 +14,7 @@ use Rattle.node.specs.declared.job.OpenJob.{OpenJob}
 use Rattle.node.specs.declared.job.Given.{Given}
 use Rattle.node.specs.Node.{TheNode, new_node}
 use Rattle.node.specs.Stands.{PutOut, Owes, Acts, Saves, Handles, Takes, IsHanded, job_of, payloads_to}
-use Rattle.pages.specs.Says.{body_of}
+use Rattle.packets.specs.Says.{body_of}
 use Rattle.node.specs.Beside.{AllStand}
 
 -- the state that a handler leaves, and the messages that it sends

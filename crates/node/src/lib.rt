@@ -27,7 +27,7 @@
 //! ```
 #![tactic(auto)]
 
-mod asking;
+mod answers;
 mod bytes;
 mod job;
 mod kept;
@@ -36,13 +36,13 @@ mod limit;
 mod node;
 mod page;
 mod queue;
-mod reading;
-mod receiving;
-mod returning;
-mod saving;
-mod sending;
-mod standing;
-mod working;
+mod queries;
+mod reception;
+mod reentry;
+mod checkpoints;
+mod transmission;
+mod status;
+mod commit;
 
 pub use job::{Given, OpenJob};
 pub use kept::MOST_KEPT;
@@ -51,7 +51,7 @@ pub use limit::{Limits, PAGE, TICK};
 pub use node::{MOST_GIVEN, MOST_RECEIVED, Node, WINDOW};
 pub use page::{PAIR_BYTES, RESTORED_BYTES};
 pub use queue::Queue;
-pub use reading::entries;
-pub use returning::Returned;
-pub use standing::{Stage, Standing};
-pub use working::log;
+pub use queries::entries;
+pub use reentry::Returned;
+pub use status::{Stage, Standing};
+pub use commit::log;

@@ -4,7 +4,7 @@ ghost use Rattle.std.specs.Prelude.{◌≡◌, ◌↔◌, IsTrue};
 ghost use Rattle.node.specs.Limit.{usual, AreAllowed};
 
 use crate::node::WINDOW;
-use pages::LEAST_PAGE;
+use packets::LEAST_PAGE;
 
 /// The size of the largest packet in bytes, by default.
 pub const PAGE: u16 = 60_000;

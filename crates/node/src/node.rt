@@ -11,7 +11,7 @@ ghost use Rattle.node.specs.Stands.{Stands, BeginsWith, Takes};
 use crate::job::OpenJob;
 use crate::limit::Limits;
 use crate::queue::Queue;
-use outbox::Outbox;
+use packets::Outbox;
 use packets::{Body, Packet};
 use rsn::Receipts;
 use std::alloc::{AllocError, Global};

@@ -10,7 +10,7 @@ use Rattle.packets.specs.declared.fault.PacketFault.{PacketFault}
 use Rattle.packets.specs.declared.fault.PacketFault.TheVariants.{Fields}
 use Rattle.packets.specs.Packet.{kind_of}
 use Rattle.packets.specs.Format.{long_bytes, IsLong, IsPayload, IsEntry, IsPair, IsPage, HasRoom, payload_bytes, entry_bytes, pair_bytes, page_bytes, body_bytes}
-use Rattle.packets.specs.Inside.Reading.{◌>>=◌, Reader, byte_at, number_at, payload_at, entry_at, pair_at, page_at, both, whole, body_at}
+use Rattle.packets.specs.Inside.Reader.{◌>>=◌, Reader, byte_at, number_at, payload_at, entry_at, pair_at, page_at, both, whole, body_at}
 use Rattle.packets.proofs.Codecs.{IsBytes, bind_ok, ok_is, done, Codec, byte_codec, word_codec, payload_codec, entry_codec, pair_codec, two_words, word_then, both_codec, page_codec, whole_found, whole_again, whole_fails, bind_err}
 
 -- what stands behind the words of a page: flags and entries

@@ -12,7 +12,7 @@ use Rattle.packets.specs.declared.page.Pair.{Pair}
 use Rattle.packets.specs.declared.fault.PacketFault.{PacketFault}
 use Rattle.packets.specs.declared.fault.PacketFault.TheVariants.{Fields}
 use Rattle.packets.specs.Format.{short_bytes, long_bytes, IsLong, IsPayload, IsEntry, IsPair, IsPage, payload_bytes, entry_bytes, pair_bytes, page_bytes}
-use Rattle.packets.specs.Inside.Reading.{◌>>=◌, Reader, bytes_at, byte_at, number_at, payload_at, both, times, page_at, entry_at, pair_at, whole}
+use Rattle.packets.specs.Inside.Reader.{◌>>=◌, Reader, bytes_at, byte_at, number_at, payload_at, both, times, page_at, entry_at, pair_at, whole}
 
 abbrev pub IsBytes : List ℕ → Type 0
 IsBytes bytes = (i : ℕ) → get_or bytes i 0 < 256

@@ -4,7 +4,7 @@ use Rattle.std.proofs.lemmas.List.{append-nil}
 use Rattle.packets.specs.declared.fault.PacketFault.{PacketFault}
 use Rattle.packets.specs.declared.fault.PacketError.{PacketError}
 use Rattle.packets.specs.declared.fault.PacketError.TheVariants as errors
-use Rattle.packets.specs.Inside.Reading.{◌>>=◌, Fails, times}
+use Rattle.packets.specs.Inside.Reader.{◌>>=◌, Fails, times}
 
 abbrev pub Field : Type 0 → Type 0
 Field A = List ℕ → Result (A × List ℕ) PacketFault

@@ -6,7 +6,7 @@ use Rattle.std.proofs.lemmas.List.{length-drop, drop-drop}
 use Rattle.byteorder.specs.Endian.{little_number}
 use Rattle.byteorder.specs.Numbers.{little_from-take}
 use Rattle.packets.specs.declared.fault.PacketFault.TheVariants.{Fields}
-use Rattle.packets.specs.Inside.Reading.{number_at, both, whole}
+use Rattle.packets.specs.Inside.Reader.{number_at, both, whole}
 
 -- what is left behind so many bytes, as a slice has it
 pub rest_is : (n : ℕ) (bytes : List ℕ) → take (length bytes - n) (drop n bytes) ≡ drop n bytes

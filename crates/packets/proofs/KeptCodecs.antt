@@ -3,11 +3,11 @@ use Rattle.std.proofs.Common.{◌≡◌, ℕ, ◌<◌, ◌^◌, List, ◌++◌, 
 use Rattle.std.specs.List.{flat_map, AllByRecursion}
 use Rattle.packets.specs.declared.kept.Kept.{Kept}
 use Rattle.packets.specs.declared.kept.KeptLog.{KeptLog}
-use Rattle.packets.specs.declared.kept_reading.KeptHead.{KeptHead}
+use Rattle.packets.specs.declared.kept_reader.KeptHead.{KeptHead}
 use Rattle.packets.specs.Format.{long_bytes, payload_bytes, IsLong, IsPayload}
 use Rattle.packets.specs.Kept.{word_bytes, log_bytes, kept_fields, IsKeptLog, KeptHasRoom}
-use Rattle.packets.specs.Inside.Reading.{◌>>=◌, Reader, bytes_at, number_at, payload_at, both, times, whole}
-use Rattle.packets.specs.Inside.KeptReading.{payloads_at, log_at, kept_of, kept_at}
+use Rattle.packets.specs.Inside.Reader.{◌>>=◌, Reader, bytes_at, number_at, payload_at, both, times, whole}
+use Rattle.packets.specs.Inside.KeptReader.{payloads_at, log_at, kept_of, kept_at}
 use Rattle.packets.proofs.Codecs.{IsBytes, bind_ok, ok_is, Codec, back_4, number_codec, word_codec, payload_codec, mapped_codec, both_codec, word_then, times_codec, counted_codec, bytes_codec, whole_found, whole_again}
 
 quad_codec : Codec ℕ (λ n. n < 256 ^ 4) (λ n. word_bytes n) (number_at 4)

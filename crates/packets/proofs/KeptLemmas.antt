@@ -8,7 +8,7 @@ use Rattle.std.proofs.lemmas.List.{take_at, drop_at, length-append}
 use Rattle.byteorder.specs.Endian.{little_bytes, little_number}
 use Rattle.byteorder.specs.Numbers.{length-bytes_low_first}
 use Rattle.packets.specs.declared.kept.Kept.{Kept}
-use Rattle.packets.specs.declared.kept_reading.KeptHead.{KeptHead}
+use Rattle.packets.specs.declared.kept_reader.KeptHead.{KeptHead}
 use Rattle.packets.specs.declared.fault.PacketFault.{PacketFault}
 use Rattle.packets.specs.declared.kept_fault.KeptFault.{KeptFault}
 use Rattle.packets.specs.declared.kept_fault.KeptFault.TheVariants.{Short, Magic, Checksum, Count, Own, State, Fields, Range}
@@ -19,7 +19,7 @@ use Rattle.packets.specs.Format.{short_bytes, long_bytes, checksum_bytes}
 use Rattle.packets.specs.Faults.{fields_of}
 use Rattle.packets.specs.Kept.{kept_magic, log_bytes, kept_fields, kept_unsealed, kept_bytes, kept_in_range, KeptFits, IsKept}
 use Rattle.packets.specs.KeptFaults.{kept_fault_number, state_length, SpellsKept, HasKeptFault, IsFirstKept, IsKeptReason, ReadsKept, IsOneKept}
-use Rattle.packets.specs.Inside.KeptReading.{and_then, GivesKept, kept_at, read_kept, kept_fields_at, kept_head_at, kept_reading}
+use Rattle.packets.specs.Inside.KeptReader.{and_then, GivesKept, kept_at, read_kept, kept_fields_at, kept_head_at, kept_reading}
 use Rattle.packets.proofs.Codecs.{IsBytes, IsBytes-drop, IsBytes-take, back_2, number_again}
 use Rattle.packets.proofs.WholeLemmas.{turned, turned_back, neither, either, count_wrong, eight, split_as, last_of, crc_fits}
 use Rattle.packets.proofs.KeptCodecs.{IsKeptBody, kept_found, kept_again_at}

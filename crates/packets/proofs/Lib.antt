@@ -7,3 +7,6 @@ pub mod BodyLemmas
 pub mod WholeLemmas
 pub mod KeptCodecs
 pub mod KeptLemmas
+pub mod PageLemmas
+pub mod Reports
+pub mod Ranges

@@ -19,7 +19,7 @@ use Rattle.packets.specs.Packet.{kind_number, kind_at, kind_of, in_range}
 use Rattle.packets.specs.Format.{magic, body_bytes, unsealed, packet_bytes, checksum_bytes, HasRoom, Fits, IsPacket}
 use Rattle.packets.specs.Faults.{fault_number, fields_of, Spells, HasFault, IsFirst, IsReason, Reads}
 use Rattle.packets.specs.Laws.{IsOnePacket}
-use Rattle.packets.specs.Inside.Reading.{◌>>=◌, Gives, body_at, fields_at, known, head_in_range, head_at, packet_of, reading}
+use Rattle.packets.specs.Inside.Reader.{◌>>=◌, Gives, body_at, fields_at, known, head_in_range, head_at, packet_of, reading}
 use Rattle.packets.proofs.Codecs.{IsBytes, IsBytes-drop, IsBytes-take, bind_ok, passed_ok, passed, err_is, bind_err, cond_err, done, ok_is, back_4, number_again}
 use Rattle.packets.proofs.BodyLemmas.{IsBody, body_found, body_again, body_fails}
 

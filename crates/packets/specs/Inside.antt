@@ -1,3 +1,3 @@
 -- Definitions for the crate's own functions. No public contract reaches them.
-pub mod Reading
-pub mod KeptReading
+pub mod Reader
+pub mod KeptReader

@@ -6,3 +6,6 @@ pub mod Kept
 pub mod KeptFaults
 pub mod Laws
 pub mod Inside
+pub mod Outbox
+pub mod Says
+pub mod Pages

@@ -1,7 +1,7 @@
 //! Reads the fields of a packet.
 
 ghost use Rattle.std.specs.Prelude.{◌≡◌, ◌≤◌, length, IfOk};
-ghost use Rattle.packets.specs.Inside.Reading.{Gives, bytes_at, byte_at, number_at, both, payload_at, entry_at, pair_at, times, page_at};
+ghost use Rattle.packets.specs.Inside.Reader.{Gives, bytes_at, byte_at, number_at, both, payload_at, entry_at, pair_at, times, page_at};
 
 use crate::fault::{PacketError, PacketFault};
 use crate::page::{Entry, Page, Pair};
@@ -89,7 +89,7 @@ pub fn three_of(bytes: &[u8]) -> Result<(u64, u64, u64, &[u8]), PacketError>
 }
 
 /// A payload after its length.
-#[tactic(auto, unfolding(crate::specs::Inside::Reading::payload_at))]
+#[tactic(auto, unfolding(crate::specs::Inside::Reader::payload_at))]
 pub fn payload_of(bytes: &[u8]) -> Result<(&[u8], &[u8]), PacketError>
     ensures exact { Gives (λ x. (x.0.now, x.1.now)) result (payload_at bytes.now) }
     ensures bound { IfOk result (λ x. length x.0.now ≤ PAYLOAD_BYTES) }
@@ -102,7 +102,7 @@ pub fn payload_of(bytes: &[u8]) -> Result<(&[u8], &[u8]), PacketError>
 }
 
 /// The number, the SSN and the payload of an entry, and the bytes after them.
-#[tactic(auto, unfolding(crate::specs::Inside::Reading::entry_at))]
+#[tactic(auto, unfolding(crate::specs::Inside::Reader::entry_at))]
 fn entry_of(bytes: &[u8]) -> Result<(u64, u64, &[u8], &[u8]), PacketError>
     ensures exact { Gives (λ x. (record { number = x.0; ssn = x.1; payload = x.2.now }, x.3.now)) result (entry_at bytes.now) }
     ensures bound { IfOk result (λ x. length x.2.now ≤ PAYLOAD_BYTES) }
@@ -113,7 +113,7 @@ fn entry_of(bytes: &[u8]) -> Result<(u64, u64, &[u8], &[u8]), PacketError>
 }
 
 /// The SSN and the number of a pair.
-#[tactic(auto, unfolding(crate::specs::Inside::Reading::pair_at))]
+#[tactic(auto, unfolding(crate::specs::Inside::Reader::pair_at))]
 fn pair_of(bytes: &[u8]) -> Result<(Pair, &[u8]), PacketError>
     ensures { Gives (λ x. (x.0, x.1.now)) result (pair_at bytes.now) }
 {
@@ -122,7 +122,7 @@ fn pair_of(bytes: &[u8]) -> Result<(Pair, &[u8]), PacketError>
 }
 
 /// A page of entries.
-#[tactic(auto, unfolding(crate::specs::Inside::Reading::page_at))]
+#[tactic(auto, unfolding(crate::specs::Inside::Reader::page_at))]
 pub fn entries_of(alloc: Global, bytes: &[u8]) -> Result<(Page<Entry>, &[u8]), PacketError>
     ensures { Gives (λ x. (x.0, x.1.now)) result (page_at entry_at bytes.now) }
 {
@@ -154,7 +154,7 @@ fn so_many_entries(
 }
 
 /// A page of pairs.
-#[tactic(auto, unfolding(crate::specs::Inside::Reading::page_at))]
+#[tactic(auto, unfolding(crate::specs::Inside::Reader::page_at))]
 pub fn pairs_of(alloc: Global, bytes: &[u8]) -> Result<(Page<Pair>, &[u8]), PacketError>
     ensures { Gives (λ x. (x.0, x.1.now)) result (page_at pair_at bytes.now) }
 {

@@ -1,7 +1,7 @@
 //! The first bytes of a packet.
 
 ghost use Rattle.std.specs.Prelude.{◌≡◌, ◌≤◌, length, IfOk};
-ghost use Rattle.packets.specs.Inside.Reading.{Gives, fields_at, head_at};
+ghost use Rattle.packets.specs.Inside.Reader.{Gives, fields_at, head_at};
 
 use crate::checksum::crc32c;
 use crate::fault::{PacketError, PacketFault};
@@ -28,7 +28,7 @@ pub struct Head {
 }
 
 /// The bytes of the fields, if magic and checksum are right.
-#[tactic(auto, unfolding(crate::specs::Inside::Reading::fields_at))]
+#[tactic(auto, unfolding(crate::specs::Inside::Reader::fields_at))]
 pub fn fields_of(bytes: &[u8]) -> Result<&[u8], PacketError>
     ensures exact { Gives (λ x. x.now) result (fields_at bytes.now) }
     ensures long { IfOk result (λ x. 12 ≤ length bytes.now) }
@@ -47,7 +47,7 @@ pub fn fields_of(bytes: &[u8]) -> Result<&[u8], PacketError>
 }
 
 /// Kind, the number of processes, from and to.
-#[tactic(auto, unfolding(crate::specs::Inside::Reading::head_at))]
+#[tactic(auto, unfolding(crate::specs::Inside::Reader::head_at))]
 pub fn head_of(bytes: &[u8]) -> Result<Head, PacketError>
     requires { 8 ≤ length bytes.now }
     ensures { Gives (λ x. x) result (head_at bytes.now) }

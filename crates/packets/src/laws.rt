@@ -10,11 +10,11 @@ ghost use Rattle.packets.specs.KeptFaults.{ReadsKept, IsOneKept};
 use crate::fault::PacketError;
 use crate::kept::Kept;
 use crate::kept_fault::KeptError;
-use crate::kept_reading::decode_kept;
-use crate::kept_writing::encode_kept;
+use crate::kept_reader::decode_kept;
+use crate::kept_writer::encode_kept;
 use crate::packet::Packet;
-use crate::reading::decode;
-use crate::writing::encode;
+use crate::reader::decode;
+use crate::writer::encode;
 use std::alloc::Global;
 
 /// Bytes are those of one packet at most.

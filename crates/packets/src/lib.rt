@@ -21,6 +21,27 @@
 //! [`decode_kept`] reads it, and the same holds of these bytes.
 //!
 //! Crate `stores` uses the fields and the checksum too.
+//!
+//! The outbox of a node or the gateway: packets that wait to be sent.
+//!
+//! An [`Outbox`] takes packets while it has room, and gives them back in the order in which they
+//! came. A packet that finds no room is lost, as any packet may be.
+//!
+//! ```text
+//! let mut out = Outbox::new(alloc)?;
+//! out.push(packet);
+//! while let Some(packet) = out.pop() {
+//!     send(packet);
+//! }
+//! ```
+//!
+//! The pages of a log that a node or the gateway tells to a recovering node, and the meaning of
+//! packets.
+//!
+//! A log's entries above an RSN are told in the order of their RSNs, and of their SSNs if these are
+//! the same. [`insert`] puts an entry in its place, and [`page_of`] takes as many of the first
+//! entries as fit a packet. `specs/Says` gives the meaning of a packet in the words of crate
+//! `cluster`: a page says every answer that agrees with it as far as the page goes.
 #![tactic(auto)]
 
 mod checksum;
@@ -30,15 +51,17 @@ mod head;
 mod kept;
 mod kept_fault;
 mod kept_fields;
-mod kept_reading;
-mod kept_writing;
+mod kept_reader;
+mod kept_writer;
 mod kind;
 mod laws;
+mod log_pages;
+mod outbox;
 mod packet;
 mod page;
-mod reading;
+mod reader;
 mod table;
-mod writing;
+mod writer;
 
 pub use checksum::crc32c;
 pub use fault::{PacketError, PacketFault};
@@ -46,13 +69,15 @@ pub use fields::{byte_of, payload_of, u32_of, u64_of};
 pub use head::{CHECKSUM_LEN, HEAD_LEN};
 pub use kept::{Kept, KeptLog};
 pub use kept_fault::{KeptError, KeptFault};
-pub use kept_reading::decode_kept;
-pub use kept_writing::{encode_kept, put_u32};
+pub use kept_reader::decode_kept;
+pub use kept_writer::{encode_kept, put_u32};
 pub use kind::Kind;
 pub use laws::{
     back_and_there, kept_again, one_kept, one_packet, same_bytes_again, there_and_back,
 };
+pub use log_pages::{ENTRY_BYTES, LEAST_PAGE, TOLD_BYTES, insert, page_of};
+pub use outbox::{OUTBOX, Outbox};
 pub use packet::{Body, NUMBER_LIMIT, Packet};
 pub use page::{Entry, Flags, Page, Pair};
-pub use reading::decode;
-pub use writing::{encode, put_checksum, put_payload, put_u64};
+pub use reader::decode;
+pub use writer::{encode, put_checksum, put_payload, put_u64};

@@ -8,7 +8,7 @@
 #![tactic(auto)]
 
 mod answer;
-mod calling;
+mod calls;
 mod misfit;
 mod page;
 mod parts;

@@ -4,7 +4,7 @@ ghost use Rattle.std.specs.Prelude.{◌≤◌, IfErr, IfOk, MatchResult};
 ghost use Rattle.page_calls.specs.Calls.{Answers, IsAnswered, IsNotCall, IsPut, IsNotPut, the_call};
 
 use crate::answer::Answer;
-use crate::calling::carry_out;
+use crate::calls::carry_out;
 use crate::misfit::Misfit;
 use crate::parts::{cut_bytes, cut_texts};
 use std::alloc::Global;

@@ -12,7 +12,7 @@ use Rattle.packets.specs.declared.page.Pair.{Pair}
 use Rattle.packets.specs.declared.kept.Kept.{Kept}
 use Rattle.packets.specs.declared.kept.KeptLog.{KeptLog}
 use Rattle.packets.specs.Kept.{IsKept, IsKeptLog}
-use Rattle.outbox.specs.declared.outbox.TheConstants.{OUTBOX}
+use Rattle.packets.specs.declared.outbox.TheConstants.{OUTBOX}
 use Rattle.rsn.specs.declared.receipts.TheConstants.{LIMIT}
 use Rattle.node.specs.declared.kept.TheConstants.{MOST_KEPT}
 use Rattle.node.specs.declared.node.TheConstants.{MOST_GIVEN, WINDOW}
@@ -23,32 +23,32 @@ use Rattle.node.specs.Limit.{AreAllowed}
 use Rattle.node.specs.Kept.{with_own, queue_of}
 use Rattle.node.specs.Queue.{TheQueue, no_queue}
 use Rattle.node.specs.Node.{TheNode, new_node}
-use Rattle.node.specs.Standing.{entries_kept}
+use Rattle.node.specs.Status.{entries_kept}
 use Rattle.node.specs.Calls as up
-use Rattle.node.specs.Sending as sending
-use Rattle.node.specs.Saving as saving
+use Rattle.node.specs.Transmission as sending
+use Rattle.node.specs.Checkpoints as saving
 use Rattle.recovery.specs.Own as own
 use Rattle.recovery.specs.Own.{TheOwn}
 use Rattle.recovery.specs.Collected.{none_told, with_page}
-use Rattle.recovery.specs.Collecting as collecting
-use Rattle.recovery.specs.Collecting.{TheCollecting}
+use Rattle.recovery.specs.Collection as collecting
+use Rattle.recovery.specs.Collection.{TheCollecting}
 use Rattle.recovery.specs.Moment.{Recovered}
-use Rattle.recovery.specs.Meeting as meeting
-use Rattle.recovery.specs.Entering as entering
-use Rattle.recovery.specs.Replaying as replaying
-use Rattle.recovery.specs.Replaying.{TheReplaying}
+use Rattle.recovery.specs.Overlap as meeting
+use Rattle.recovery.specs.Intake as entering
+use Rattle.recovery.specs.Replays as replaying
+use Rattle.recovery.specs.Replays.{TheReplaying}
 use Rattle.recovery.specs.Replayed.{TheReplayed}
-use Rattle.recovery.specs.StandsReplaying.{replayed_of}
-use Rattle.restoring.specs.Restoring as restoring
-use Rattle.restoring.specs.Restoring.{TheRestoring}
+use Rattle.recovery.specs.StandsAtReplay.{replayed_of}
+use Rattle.recovery.specs.Restoration as restoring
+use Rattle.recovery.specs.Restoration.{TheRestoring}
 use Rattle.process.specs.declared.course.Course.{Course}
 use Rattle.process.specs.declared.course.Course.TheVariants.{Up, Collecting, Replaying, Replayed, Restoring, Passing}
 use Rattle.process.specs.Process.{TheProcess}
-use Rattle.process.specs.Passing.{Recovers, Finishes, Begun, Returns, Passes}
+use Rattle.process.specs.Transitions.{Recovers, Finishes, Begun, Returns, Passes}
 use Rattle.process.specs.Calls.{Stays, IsHanded, Ticks, Takes, Freezes, FreezesAs, Thaws, is_frozen, is_storable, standing_at}
-use Rattle.process.specs.Working.{TakesIn, MayTakeIn}
+use Rattle.process.specs.Work.{TakesIn, MayTakeIn}
 use Rattle.process.specs.Bounds.{IsBounded, unacknowledged, waiting_of, NodeHolds, OwnHolds, ReceiptsHold, Holds}
-use Rattle.process.specs.Holding.{SavedDrops}
+use Rattle.process.specs.Holds.{SavedDrops}
 use Rattle.process.proofs.Holdings as logs
 use Rattle.process.proofs.Holdings.{kept, NoMore, either, entries, entries_more, entries_no_more}
 use Rattle.process.proofs.Bounds.{by-test, pushed-few, all-flags, Goes}

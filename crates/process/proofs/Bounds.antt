@@ -7,8 +7,8 @@ use Rattle.packets.specs.declared.packet.Body.{Body}
 use Rattle.packets.specs.declared.packet.Body.TheVariants as body
 use Rattle.packets.specs.Packet.{in_range}
 use Rattle.packets.specs.declared.packet.Packet.{Packet}
-use Rattle.outbox.specs.Outbox.{pushed}
-use Rattle.outbox.specs.declared.outbox.TheConstants.{OUTBOX}
+use Rattle.packets.specs.Outbox.{pushed}
+use Rattle.packets.specs.declared.outbox.TheConstants.{OUTBOX}
 use Rattle.rsn.specs.Receipts.{numbers_of, acknowledged_of, run_of}
 use Rattle.node.specs.declared.node.TheConstants.{MOST_RECEIVED}
 use Rattle.node.specs.declared.job.OpenJob.{OpenJob}
@@ -18,9 +18,9 @@ use Rattle.node.specs.Queue as queue
 use Rattle.node.specs.Node.{TheNode, log_at, posts, tells, numbered, counted, worked, number_of, covered_of}
 use Rattle.node.specs.Pages.{told_of, restored_of}
 use Rattle.node.specs.Calls as up
-use Rattle.node.specs.Asking as asking
-use Rattle.node.specs.Sending as sending
-use Rattle.node.specs.Saving as saving
+use Rattle.node.specs.Answers as asking
+use Rattle.node.specs.Transmission as sending
+use Rattle.node.specs.Checkpoints as saving
 use Rattle.process.specs.Bounds.{unacknowledged, NodeNumbers}
 use Rattle.process.proofs.Holdings.{either}
 

@@ -9,18 +9,18 @@ use Rattle.node.specs.declared.node.TheConstants.{MOST_GIVEN}
 use Rattle.node.specs.Queue.{TheQueue, dropped_to}
 use Rattle.node.specs.Node.{TheNode, log_at}
 use Rattle.node.specs.Calls as up
-use Rattle.node.specs.Standing.{entries_kept}
-use Rattle.recovery.specs.Replaying as replaying
-use Rattle.recovery.specs.Replaying.{TheReplaying}
-use Rattle.restoring.specs.Restoring as restoring
+use Rattle.node.specs.Status.{entries_kept}
+use Rattle.recovery.specs.Replays as replaying
+use Rattle.recovery.specs.Replays.{TheReplaying}
+use Rattle.recovery.specs.Restoration as restoring
 use Rattle.process.specs.declared.course.Course.{Course}
 use Rattle.process.specs.declared.course.Course.TheVariants.{Up, Collecting, Replaying, Replayed, Restoring, Passing}
 use Rattle.process.specs.Process.{TheProcess}
-use Rattle.process.specs.Passing.{Recovers, Finishes, Begun, Returns, Passes}
+use Rattle.process.specs.Transitions.{Recovers, Finishes, Begun, Returns, Passes}
 use Rattle.process.specs.Calls.{Calls, Stays, IsHanded, Ticks, Takes, Freezes, FreezesAs, Thaws, is_storable, standing_at}
-use Rattle.process.specs.Working.{TakesIn, MayTakeIn}
+use Rattle.process.specs.Work.{TakesIn, MayTakeIn}
 use Rattle.process.specs.Job.{TakesBack}
-use Rattle.process.specs.Holding.{entries_of, KeepsNoMore, sent_in, EntriesAreGiven, CoveredAreDropped}
+use Rattle.process.specs.Holds.{entries_of, KeepsNoMore, sent_in, EntriesAreGiven, CoveredAreDropped}
 use Rattle.process.proofs.Holdings as logs
 use Rattle.process.proofs.Holdings.{kept, NoMore, same, then_no_more, entries_more, entries_no_more}
 

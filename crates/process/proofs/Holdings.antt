@@ -17,18 +17,18 @@ use Rattle.rsn.specs.Receipts.{numbers_of, acknowledged_of, run_of}
 use Rattle.recovery.specs.Collected.{none_told, with_page}
 use Rattle.node.specs.Pages.{told_of, restored_of}
 use Rattle.node.specs.Calls as up
-use Rattle.node.specs.Asking as asking
-use Rattle.node.specs.Sending as sending
-use Rattle.node.specs.Saving as saving
-use Rattle.node.specs.Standing.{entries_kept}
+use Rattle.node.specs.Answers as asking
+use Rattle.node.specs.Transmission as sending
+use Rattle.node.specs.Checkpoints as saving
+use Rattle.node.specs.Status.{entries_kept}
 use Rattle.recovery.specs.Own as own
 use Rattle.recovery.specs.Own.{TheOwn}
-use Rattle.recovery.specs.Collecting as collecting
-use Rattle.recovery.specs.Collecting.{TheCollecting}
-use Rattle.recovery.specs.Meeting as meeting
-use Rattle.recovery.specs.Entering as entering
-use Rattle.restoring.specs.Restoring as restoring
-use Rattle.restoring.specs.Restoring.{TheRestoring}
+use Rattle.recovery.specs.Collection as collecting
+use Rattle.recovery.specs.Collection.{TheCollecting}
+use Rattle.recovery.specs.Overlap as meeting
+use Rattle.recovery.specs.Intake as entering
+use Rattle.recovery.specs.Restoration as restoring
+use Rattle.recovery.specs.Restoration.{TheRestoring}
 
 -- ---- logs
 

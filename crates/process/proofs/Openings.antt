@@ -10,10 +10,10 @@ use Rattle.node.specs.Stands.{Stands, BeginsWith}
 use Rattle.packets.specs.declared.kept.Kept.{Kept}
 use Rattle.packets.specs.Kept.{IsKept}
 use Rattle.recovery.specs.Own.{comes_back}
-use Rattle.recovery.specs.Collecting.{TheCollecting, revived}
+use Rattle.recovery.specs.Collection.{TheCollecting, revived}
 use Rattle.recovery.specs.Stands.{Revives}
 use Rattle.process.specs.declared.course.Course.TheVariants.{Up, Collecting}
-use Rattle.process.specs.Reviving.{IsOpened, IsRevived}
+use Rattle.process.specs.Revival.{IsOpened, IsRevived}
 
 pub opened : (image : AnyImage) (limits : Limits) (me count len : ℕ) (n : TheNode) → n ≡ new_node limits me count len → len ≡ state_of image → ((f : Handlers) → BeginsWith f me len → Stands n (opening count f) me)
     → IsOpened image limits me count (record { image = image; course = Up n })

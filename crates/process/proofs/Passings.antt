@@ -4,7 +4,7 @@ use Rattle.process.specs.declared.course.Held.{Held}
 use Rattle.process.specs.declared.course.Course.{Course}
 use Rattle.process.specs.declared.course.Course.TheVariants.{Up, Collecting, Replaying, Replayed, Restoring, Passing}
 use Rattle.process.specs.Process.{is_node}
-use Rattle.process.specs.Passing.{Passes, has_heard, is_held, IsHeld}
+use Rattle.process.specs.Transitions.{Passes, has_heard, is_held, IsHeld}
 
 pub passes-up : (c : Course) → is_node c ≡ true → Passes c c
 passes-up (Up n) e = record { told = Up n; ran = Up n; asks = Up n; recovers = refl; finishes = refl; begins = refl; returns = refl }

@@ -19,12 +19,12 @@ use Rattle.node.proofs.Lists.{all-pushed}
 use Rattle.recovery.specs.Own as own
 use Rattle.recovery.specs.Own.{TheOwn}
 use Rattle.recovery.specs.Collected.{TheCollected, none_told, with_page, last_number}
-use Rattle.recovery.specs.Collecting as collecting
-use Rattle.recovery.specs.Collecting.{TheCollecting, told_of}
-use Rattle.recovery.specs.Meeting as meeting
-use Rattle.recovery.specs.Entering as entering
-use Rattle.restoring.specs.Restoring as restoring
-use Rattle.restoring.specs.Restoring.{TheRestoring, above_of, has_answered}
+use Rattle.recovery.specs.Collection as collecting
+use Rattle.recovery.specs.Collection.{TheCollecting, told_of}
+use Rattle.recovery.specs.Overlap as meeting
+use Rattle.recovery.specs.Intake as entering
+use Rattle.recovery.specs.Restoration as restoring
+use Rattle.recovery.specs.Restoration.{TheRestoring, above_of, has_answered}
 use Rattle.process.specs.Packets.{is_brief, is_written}
 use Rattle.process.proofs.Holdings.{either}
 use Rattle.process.proofs.Bounds.{by-test, not-true}

@@ -12,7 +12,7 @@ use Rattle.packets.specs.declared.page.Pair.{Pair}
 use Rattle.packets.specs.declared.page.Flags.{Flags}
 use Rattle.node.specs.declared.node.TheConstants.{MOST_RECEIVED}
 use Rattle.recovery.specs.Collected.{last_number}
-use Rattle.restoring.specs.Restoring as restoring
+use Rattle.recovery.specs.Restoration as restoring
 
 -- ---- tests
 

@@ -9,17 +9,17 @@ use Rattle.node.specs.declared.job.Given.{Given}
 use Rattle.node.specs.Limit.{AreAllowed}
 use Rattle.node.specs.Node.{TheNode, new_node, IsPositive}
 use Rattle.node.specs.Kept.{comes_back}
-use Rattle.node.specs.Saving as saving
-use Rattle.recovery.specs.Collecting.{TheCollecting, revived}
+use Rattle.node.specs.Checkpoints as saving
+use Rattle.recovery.specs.Collection.{TheCollecting, revived}
 use Rattle.process.specs.declared.course.Course.{Course}
 use Rattle.process.specs.declared.course.Course.TheVariants.{Up, Collecting, Replaying, Replayed, Restoring, Passing}
 use Rattle.process.specs.Process.{is_settled}
-use Rattle.process.specs.Passing.{Recovers, Finishes, Begun, Returns, Passes}
+use Rattle.process.specs.Transitions.{Recovers, Finishes, Begun, Returns, Passes}
 use Rattle.process.specs.Calls.{IsHanded, Ticks, Takes, Freezes, Thaws}
-use Rattle.process.specs.Working.{TakesIn, MayTakeIn}
+use Rattle.process.specs.Work.{TakesIn, MayTakeIn}
 use Rattle.process.specs.Bounds.{IsWithin}
 use Rattle.process.proofs.Bounded as bounded
-use Rattle.process.proofs.Writing as writing
+use Rattle.process.proofs.Writes as writing
 
 -- ---- it is in some stage
 

@@ -12,9 +12,9 @@ use Rattle.node.specs.declared.job.OpenJob.{OpenJob}
 use Rattle.node.specs.declared.job.Given.{Given}
 use Rattle.node.specs.declared.node.TheConstants.{MOST_GIVEN}
 use Rattle.process.specs.Process.{TheProcess, state_of}
-use Rattle.process.specs.Working.{given_of, MayTakeIn, TakesIn, Works}
+use Rattle.process.specs.Work.{given_of, MayTakeIn, TakesIn, Works}
 use Rattle.process.specs.Job.{TheJob, IsAnswerTo, IsNext, IsCallOf, TakesBack}
-use Rattle.process.proofs.Giving.{may-take}
+use Rattle.process.proofs.Results.{may-take}
 
 -- what is given on the message that is next may be taken in
 pub may-take-back : (p : TheProcess) (j : OpenJob) (who : Who) (e : Emitted) (given : List Given) → IsNext p j who → given ≡ given_of who e → length given ≤ MOST_GIVEN → MayTakeIn p.course given

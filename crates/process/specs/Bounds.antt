@@ -2,17 +2,17 @@
 use Rattle.std.specs.Prelude.{◌≡◌, ℕ, suc, ◌+◌, ◌*◌, ◌<◌, ◌≤◌, List, [], ◌∷◌, length, is_some, Bool, true, false}
 use Rattle.rsn.specs.Receipts.{Received}
 use Rattle.rsn.specs.declared.receipts.TheConstants.{LIMIT}
-use Rattle.outbox.specs.declared.outbox.TheConstants.{OUTBOX}
+use Rattle.packets.specs.declared.outbox.TheConstants.{OUTBOX}
 use Rattle.node.specs.declared.kept.TheConstants.{MOST_KEPT}
 use Rattle.node.specs.declared.node.TheConstants.{MOST_GIVEN, WINDOW}
-use Rattle.node.specs.declared.standing.Standing.{Standing}
+use Rattle.node.specs.declared.status.Standing.{Standing}
 use Rattle.node.specs.Limit.{AreAllowed}
 use Rattle.node.specs.Node.{TheNode}
-use Rattle.node.specs.Standing.{entries_kept}
+use Rattle.node.specs.Status.{entries_kept}
 use Rattle.recovery.specs.Own.{TheOwn}
 use Rattle.process.specs.declared.course.Course.{Course}
 use Rattle.process.specs.declared.course.Course.TheVariants.{Up, Collecting, Replaying, Replayed, Restoring, Passing}
-use Rattle.process.specs.declared.reading.TheConstants.{MOST_STORED, MOST_ENTRIES}
+use Rattle.process.specs.declared.queries.TheConstants.{MOST_STORED, MOST_ENTRIES}
 use Rattle.process.specs.Process.{is_settled}
 use Rattle.process.specs.Packets.{Writes}
 

@@ -1,28 +1,28 @@
 -- The calls of a process: each is the call of its stage
 use Rattle.std.specs.Prelude.{◌≡◌, [], ◌∷◌, Option, Some, None, Bool, true, false, ◌&&◌, nat_lt}
 use Rattle.packets.specs.declared.packet.Packet.{Packet}
-use Rattle.node.specs.declared.standing.Standing.{Standing}
-use Rattle.node.specs.declared.standing.Stage.TheVariants as stage
+use Rattle.node.specs.declared.status.Standing.{Standing}
+use Rattle.node.specs.declared.status.Stage.TheVariants as stage
 use Rattle.node.specs.Calls as up
 use Rattle.node.specs.Stands as up_owes
-use Rattle.node.specs.Sending.{ticked}
+use Rattle.node.specs.Transmission.{ticked}
 use Rattle.node.specs.Node.{TheNode}
-use Rattle.node.specs.Standing.{entries_kept, standing_of}
+use Rattle.node.specs.Status.{entries_kept, standing_of}
 use Rattle.node.specs.declared.kept.TheConstants.{MOST_KEPT}
-use Rattle.node.specs.Saving as saving
-use Rattle.recovery.specs.Collecting as collecting
+use Rattle.node.specs.Checkpoints as saving
+use Rattle.recovery.specs.Collection as collecting
 use Rattle.recovery.specs.Stands as collecting_owes
-use Rattle.recovery.specs.Meeting as meeting
-use Rattle.recovery.specs.StandsReplaying as replaying_owes
+use Rattle.recovery.specs.Overlap as meeting
+use Rattle.recovery.specs.StandsAtReplay as replaying_owes
 use Rattle.recovery.specs.Replayed as replayed_owes
-use Rattle.recovery.specs.Reading.{collecting_standing, replaying_standing, replayed_standing}
-use Rattle.restoring.specs.Restoring as restoring
-use Rattle.restoring.specs.Stands as restoring_owes
-use Rattle.restoring.specs.Reading.{restoring_standing}
+use Rattle.recovery.specs.Queries.{collecting_standing, replaying_standing, replayed_standing}
+use Rattle.recovery.specs.Restoration as restoring
+use Rattle.recovery.specs.RestorationStands as restoring_owes
+use Rattle.recovery.specs.RestorationQueries.{restoring_standing}
 use Rattle.process.specs.declared.course.Course.{Course}
 use Rattle.process.specs.declared.course.Course.TheVariants.{Up, Collecting, Replaying, Replayed, Restoring, Passing}
 use Rattle.process.specs.Process.{TheProcess}
-use Rattle.process.specs.Passing.{Passes}
+use Rattle.process.specs.Transitions.{Passes}
 
 -- takes a packet
 abbrev pub IsHanded : Packet → Course → Course → Type 0

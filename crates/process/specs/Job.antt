@@ -19,9 +19,9 @@ use Rattle.process.specs.declared.call.Ticket.{Ticket}
 use Rattle.process.specs.declared.fault.Undone.{Undone}
 use Rattle.process.specs.declared.fault.Undone.TheVariants as why
 use Rattle.process.specs.Process.{TheProcess, state_of}
-use Rattle.process.specs.Passing.{Passes}
+use Rattle.process.specs.Transitions.{Passes}
 use Rattle.process.specs.Calls.{standing_at}
-use Rattle.process.specs.Working.{job_at, given_of, answer_to, TakesIn, Rests, Works}
+use Rattle.process.specs.Work.{job_at, given_of, answer_to, TakesIn, Rests, Works}
 
 -- which job it is; the image whose handler is called, the identity that it is called with, and the message and state
 pub record TheJob : Type 0 where

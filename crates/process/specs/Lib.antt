@@ -1,10 +1,10 @@
 pub mod Process
 pub mod Calls
-pub mod Passing
-pub mod Reviving
-pub mod Working
+pub mod Transitions
+pub mod Revival
+pub mod Work
 pub mod Packets
-pub mod Saving
+pub mod Checkpoints
 pub mod Job
 pub mod Bounds
-pub mod Holding
+pub mod Holds

@@ -9,8 +9,8 @@ use Rattle.packets.specs.Format.{IsPacket}
 use Rattle.node.specs.declared.node.TheConstants.{MOST_RECEIVED}
 use Rattle.node.specs.Stands.{Each}
 use Rattle.recovery.specs.Own.{TheOwn}
-use Rattle.recovery.specs.Collecting.{told_of}
-use Rattle.restoring.specs.Restoring.{above_of, has_answered}
+use Rattle.recovery.specs.Collection.{told_of}
+use Rattle.recovery.specs.Restoration.{above_of, has_answered}
 use Rattle.process.specs.declared.course.Course.{Course}
 use Rattle.process.specs.declared.course.Course.TheVariants.{Collecting, Replaying, Replayed, Restoring}
 use Rattle.process.specs.Process.{TheProcess, out_of}

@@ -2,11 +2,11 @@
 
 ghost use Rattle.std.specs.Prelude.{◌≡◌, true, false, IfOk, IfErr};
 ghost use Rattle.process.specs.Process.{is_node};
-ghost use Rattle.process.specs.Passing.{Recovers, Finishes, Begun, Returns, Passes, has_heard, has_run, is_held, IsHeld};
+ghost use Rattle.process.specs.Transitions.{Recovers, Finishes, Begun, Returns, Passes, has_heard, has_run, is_held, IsHeld};
 
 use node::Node;
 use recovery::{Cause, Collecting, Replayed, Replaying};
-use restoring::Restoring;
+use recovery::Restoring;
 use std::alloc::Global;
 
 /// A process in its stage.

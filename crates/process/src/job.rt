@@ -6,7 +6,7 @@ ghost use Rattle.process.specs.Job.{array_size, shown_by, IsLaid};
 
 use crate::call::{Call, Ticket};
 use crate::done::Done;
-use crate::laying::{lay_flat, lay_span, shown};
+use crate::layout::{lay_flat, lay_span, shown};
 use handlers::Handler;
 use helpers::{Effects, Who};
 use limits::MEMORY_BYTES;

@@ -1,6 +1,6 @@
 //! How much a process keeps.
 
-ghost use Rattle.process.specs.Holding.{EntriesAreGiven, CoveredAreDropped, SavedDrops};
+ghost use Rattle.process.specs.Holds.{EntriesAreGiven, CoveredAreDropped, SavedDrops};
 
 /// A process keeps more messages only if its handler runs: then as many more as it sends.
 pub fn entries_are_given()

@@ -26,19 +26,19 @@
 //! ```
 #![tactic(auto)]
 
-mod answering;
+mod exchange;
 mod call;
 mod course;
 mod done;
 mod fault;
-mod handing;
+mod traffic;
 mod job;
 mod laws;
-mod laying;
+mod layout;
 mod process;
-mod reading;
-mod saving;
-mod working;
+mod queries;
+mod checkpoints;
+mod work;
 
 pub use call::{Call, Ticket};
 pub use course::Course;
@@ -47,5 +47,5 @@ pub use fault::{Undone, Unrevived};
 pub use job::Job;
 pub use laws::{covered_are_dropped, entries_are_given, saved_drops};
 pub use process::Process;
-pub use reading::{MOST_ENTRIES, MOST_STORED};
+pub use queries::{MOST_ENTRIES, MOST_STORED};
 pub use recovery::Cause;

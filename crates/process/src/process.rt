@@ -6,7 +6,7 @@ ghost use Rattle.handlers.specs.Handler.{image_of};
 ghost use Rattle.node.specs.Limit.{AreAllowed};
 ghost use Rattle.packets.specs.Kept.{IsKept};
 ghost use Rattle.recovery.specs.Own.{comes_back};
-ghost use Rattle.process.specs.Reviving.{IsOpened, IsRevived, IsUnrevived, IsUnread};
+ghost use Rattle.process.specs.Revival.{IsOpened, IsRevived, IsUnrevived, IsUnread};
 
 use crate::course::Course;
 use crate::fault::Unrevived;

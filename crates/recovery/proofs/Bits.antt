@@ -2,7 +2,7 @@
 use Rattle.std.proofs.Common.{◌≡◌, ◌∙◌, sym, ℕ, zero, suc, ◌+◌, ◌*◌, ◌^◌, ◌<◌, ◌≤◌, Bool, true, false, ap, add-one, arith}
 use Rattle.std.specs.Prelude.{if◌then◌else◌}
 use Rattle.std.proofs.Math.Pow.{pow_mono}
-use Rattle.recovery.specs.Reading.{bits_of}
+use Rattle.recovery.specs.Queries.{bits_of}
 
 pub bits-next : (f : ℕ → Bool) (d : ℕ) → bits_of f (d + 1) ≡ bits_of f d + (if f d then 2 ^ d else 0)
 bits-next f d = ap (bits_of f) (add-one d)

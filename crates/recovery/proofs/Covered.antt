@@ -5,7 +5,7 @@ use Rattle.theorems.proofs.Changes.{at-itself}
 use Rattle.cluster.specs.Cluster.{Cluster, Dead}
 use Rattle.cluster.specs.Rules.{Act, Keeps, Dies, Opens, does}
 use Rattle.packets.specs.declared.kept.Kept.{Kept}
-use Rattle.node.proofs.Keeping.{kept-stays}
+use Rattle.node.proofs.Preservation.{kept-stays}
 use Rattle.recovery.specs.Stands.{IsKeptOf, StandsCollecting, own_act, GoesTo, Reopens}
 use Rattle.recovery.specs.Beside.{ComesBackAgain}
 use Rattle.recovery.proofs.Lists.{each-more}

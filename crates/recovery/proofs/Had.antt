@@ -14,14 +14,14 @@ use Rattle.cluster.specs.Promises.{RecoversAll, AllAcknowledged}
 use Rattle.cluster.proofs.Promised.{nodes-keep, nodes-recover, acknowledged-stay}
 use Rattle.node.specs.Stands.{job_of}
 use Rattle.node.proofs.Steps.{run-on}
-use Rattle.recovery.specs.Collecting.{TheCollecting}
+use Rattle.recovery.specs.Collection.{TheCollecting}
 use Rattle.recovery.specs.Stands.{StandsCollecting}
 use Rattle.recovery.specs.Plan.{has_all, MayRecover}
-use Rattle.recovery.specs.Replaying.{TheReplaying}
+use Rattle.recovery.specs.Replays.{TheReplaying}
 use Rattle.recovery.specs.Moment.{Recovered, HadReceived, KeepsWhatItHad}
 use Rattle.recovery.proofs.Moments.{by-cluster}
 use Rattle.recovery.proofs.Orders.{back-part}
-use Rattle.recovery.proofs.Planning.{recovering}
+use Rattle.recovery.proofs.Plans.{recovering}
 
 -- what it received then is what it keeps
 recovered-history : (c : Cluster) (p k : ℕ) → (does c (Recovers p k)).history p ≡ kept_by c p k

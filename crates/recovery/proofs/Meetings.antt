@@ -10,12 +10,12 @@ use Rattle.packets.specs.declared.packet.Body.TheVariants as packets
 use Rattle.packets.specs.declared.packet.Packet.{Packet}
 use Rattle.node.specs.Stands.{Each}
 use Rattle.recovery.specs.Own.{TheOwn, is_for}
-use Rattle.recovery.specs.Meeting.{heard_of, tells_loss, meets, asked_by, heard, handed}
-use Rattle.recovery.specs.Replaying.{TheReplaying}
+use Rattle.recovery.specs.Overlap.{heard_of, tells_loss, meets, asked_by, heard, handed}
+use Rattle.recovery.specs.Replays.{TheReplaying}
 use Rattle.recovery.specs.Replayed.{TheReplayed, Stays as ReplayedStays, StandsReplayed}
 use Rattle.recovery.specs.Stands.{IsSent}
-use Rattle.recovery.specs.StandsReplaying.{StandsReplaying, Stays}
-use Rattle.recovery.proofs.Posting.{loss-out, replaying-out, replayed-out}
+use Rattle.recovery.specs.StandsAtReplay.{StandsReplaying, Stays}
+use Rattle.recovery.proofs.Posts.{loss-out, replaying-out, replayed-out}
 
 -- a place with a flag is inside
 pub inside-off : (xs : List Bool) (i : ℕ) → slice_index_or xs i true ≡ false → i < length xs

@@ -15,14 +15,14 @@ use Rattle.cluster.specs.Rules.{Recovers, does, kept_by, goes_on, taken_back}
 use Rattle.node.specs.declared.job.OpenJob.{OpenJob}
 use Rattle.node.specs.Node.{log_at}
 use Rattle.node.specs.Stands.{HasReceived, KeepsOf, job_of}
-use Rattle.recovery.specs.Collecting.{TheCollecting}
+use Rattle.recovery.specs.Collection.{TheCollecting}
 use Rattle.recovery.specs.Stands.{HasOwn, StandsCollecting, GoesTo}
 use Rattle.recovery.specs.Plan.{has_all, told_under, IsPlan, Plans, MayRecover}
-use Rattle.recovery.specs.Replaying.{TheReplaying, receipts_of, is_over}
-use Rattle.recovery.specs.StandsReplaying.{StandsReplaying, IsInOrder, ComesBack, phase_of}
+use Rattle.recovery.specs.Replays.{TheReplaying, receipts_of, is_over}
+use Rattle.recovery.specs.StandsAtReplay.{StandsReplaying, IsInOrder, ComesBack, phase_of}
 use Rattle.recovery.proofs.Acts.{goes-one}
 use Rattle.recovery.proofs.Orders.{in-order-first, follows-in-order, senders-of, front-part, back-part}
-use Rattle.recovery.proofs.Planning.{recovering}
+use Rattle.recovery.proofs.Plans.{recovering}
 
 -- where it stands
 abbrev pub AtReplaying : TheReplaying → ℕ → Cluster → Type 0

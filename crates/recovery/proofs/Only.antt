@@ -4,8 +4,8 @@ use Rattle.world.specs.Phases.{Replaying, todo_of, has, is_replaying}
 use Rattle.cluster.specs.Parcels.{Body, Delivery, Number, Acknowledgement, Ask, Told, Resume, Restored, Saved}
 use Rattle.cluster.specs.Cluster.{Cluster, Live, Frozen, Dead, Collecting, is_well, takes}
 use Rattle.cluster.specs.Rules.{Input, Puts, Starts, Shows, Works, Replays, Records, Counts, Drops, Hears, Collects, Recovers, Obeys, Enters, Restores, Greets, Freezes, Keeps, Thaws, Dies, Opens, MayPut}
-use Rattle.recovery.specs.Replaying.{TheReplaying, is_over}
-use Rattle.recovery.specs.StandsReplaying.{StandsReplaying, IsReplay, OnlyReplays}
+use Rattle.recovery.specs.Replays.{TheReplaying, is_over}
+use Rattle.recovery.specs.StandsAtReplay.{StandsReplaying, IsReplay, OnlyReplays}
 
 module _ (n : TheReplaying) (c : Cluster) (p : ℕ) (s : StandsReplaying n c p) (left : is_over n ≡ false) where
   not-well : is_well c p ≡ true → ⊥

@@ -12,7 +12,7 @@ use Rattle.node.specs.Stands.{InOrderFrom, job_of}
 use Rattle.node.proofs.Lists.{count-append}
 use Rattle.node.proofs.Numbers.{InOrderFrom-same}
 use Rattle.recovery.specs.Plan.{Follows}
-use Rattle.recovery.specs.StandsReplaying.{IsInOrder}
+use Rattle.recovery.specs.StandsAtReplay.{IsInOrder}
 
 -- one message more of a sender, by the next count of it
 counted-more : (c : ℕ → ℕ) (m : Message) (s n : ℕ) (b : Bool) → (s == m.sender) ≡ b → (d : Bool) → (m.sender == s) ≡ d → c s + ((if d then 1 else 0) + n) ≡ (if b then suc (c m.sender) else c s) + n

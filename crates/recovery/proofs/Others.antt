@@ -11,12 +11,12 @@ use Rattle.node.specs.Stands.{HasReceived, actor}
 use Rattle.node.proofs.Lists.{all-more}
 use Rattle.node.proofs.Beside.{Same, same}
 use Rattle.recovery.specs.Own.{TheOwn}
-use Rattle.recovery.specs.Collecting.{TheCollecting}
-use Rattle.recovery.specs.Replaying.{TheReplaying, receipts_of}
+use Rattle.recovery.specs.Collection.{TheCollecting}
+use Rattle.recovery.specs.Replays.{TheReplaying, receipts_of}
 use Rattle.recovery.specs.Stands.{HasOwn, IsSent, StandsCollecting}
-use Rattle.recovery.specs.StandsReplaying.{StandsReplaying, phase_of}
+use Rattle.recovery.specs.StandsAtReplay.{StandsReplaying, phase_of}
 use Rattle.recovery.specs.Beside.{OthersStand, ReplayingStands}
-use Rattle.recovery.proofs.Posting.{sent-still}
+use Rattle.recovery.proofs.Posts.{sent-still}
 
 -- where the cluster has the same of it, what it has of its own is what the cluster has
 pub own-same : (o : TheOwn) (c d : Cluster) (p : ℕ) (h : List Message) (t u : ℕ → ℕ) (f g : ℕ → ℕ → Option ℕ) → Same c d p → ((k : ℕ) → t k ≡ u k) → ((k : ℕ) → f k ≡ g k) → HasOwn o c p h t f → HasOwn o d p h u g

@@ -10,7 +10,7 @@ use Rattle.packets.specs.Packet.{is_done}
 use Rattle.packets.specs.declared.page.Entry.{Entry}
 use Rattle.packets.specs.declared.page.Flags.{Flags}
 use Rattle.node.specs.Stands.{Each}
-use Rattle.pages.specs.Says.{told_end, first_told}
+use Rattle.packets.specs.Says.{told_end, first_told}
 use Rattle.recovery.specs.Collected.{TheCollected, last_number, with_page, none_told}
 use Rattle.recovery.specs.Stands.{reached, IsTold}
 use Rattle.recovery.proofs.Lists.{each-append, each-more}

@@ -4,10 +4,10 @@ use Rattle.cluster.specs.Cluster.{Cluster, Dead}
 use Rattle.cluster.specs.Rules.{Act, Dies, May, does, after_run, IsNode}
 use Rattle.packets.specs.declared.kept.Kept.{Kept}
 use Rattle.node.specs.Stands.{Each, actor}
-use Rattle.recovery.specs.Collecting.{TheCollecting}
+use Rattle.recovery.specs.Collection.{TheCollecting}
 use Rattle.recovery.specs.Stands.{StandsCollecting, IsKeptOf, Reopens, Revives}
-use Rattle.recovery.specs.Replaying.{TheReplaying}
-use Rattle.recovery.specs.StandsReplaying.{StandsReplaying}
+use Rattle.recovery.specs.Replays.{TheReplaying}
+use Rattle.recovery.specs.StandsAtReplay.{StandsReplaying}
 
 -- a process that collects still agrees with the cluster after the acts of another
 abbrev pub OthersStand : Type 0

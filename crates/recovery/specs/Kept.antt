@@ -7,7 +7,7 @@ use Rattle.node.specs.declared.limit.Limits.{Limits}
 use Rattle.node.specs.Node.{TheNode, Within}
 use Rattle.node.specs.Stands.{Each, Stands}
 use Rattle.node.specs.Kept.{kept_of, IsKeptOf}
-use Rattle.recovery.specs.Collecting.{revived}
+use Rattle.recovery.specs.Collection.{revived}
 use Rattle.recovery.specs.Stands.{StandsCollecting, Reopens}
 
 -- the checkpoint for which a node waits may become durable, and the node may die then: the process can come back from what the node wrote,

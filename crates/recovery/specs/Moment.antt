@@ -7,11 +7,11 @@ use Rattle.cluster.specs.Rules.{Act, Run, after_run}
 use Rattle.cluster.specs.Promises.{AllAcknowledged}
 use Rattle.node.specs.declared.job.OpenJob.{OpenJob}
 use Rattle.node.specs.Stands.{job_of}
-use Rattle.recovery.specs.Collecting.{TheCollecting}
+use Rattle.recovery.specs.Collection.{TheCollecting}
 use Rattle.recovery.specs.Stands.{StandsCollecting}
 use Rattle.recovery.specs.Plan.{has_all, Plans}
-use Rattle.recovery.specs.Replaying.{TheReplaying}
-use Rattle.recovery.specs.StandsReplaying.{IsInOrder}
+use Rattle.recovery.specs.Replays.{TheReplaying}
+use Rattle.recovery.specs.StandsAtReplay.{IsInOrder}
 
 -- it is the same process, keeps the messages of its plan, and has replayed none of them
 pub record Recovered (n : TheCollecting) (r : TheReplaying) : Type 0 where

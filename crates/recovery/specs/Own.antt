@@ -8,7 +8,7 @@ use Rattle.packets.specs.declared.kept.Kept.{Kept}
 use Rattle.node.specs.declared.limit.Limits.{Limits}
 use Rattle.node.specs.Limit.{AreAllowed}
 use Rattle.node.specs.Queue.{TheQueue, no_queue}
-use Rattle.outbox.specs.Outbox.{pushed}
+use Rattle.packets.specs.Outbox.{pushed}
 use Rattle.node.specs.declared.job.Given.{Given}
 use Rattle.node.specs.Node.{IsPositive, FromPeers, log_at, given_to}
 use Rattle.node.specs.declared.node.TheConstants.{MOST_GIVEN, MOST_RECEIVED}

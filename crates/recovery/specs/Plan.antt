@@ -10,9 +10,9 @@ use Rattle.rsn.specs.declared.receipts.TheConstants.{LIMIT}
 use Rattle.node.specs.declared.node.TheConstants.{MOST_RECEIVED}
 use Rattle.node.specs.Node.{IsPeer}
 use Rattle.node.specs.Stands.{Each, job_of}
-use Rattle.pages.specs.Says.{first_told}
+use Rattle.packets.specs.Says.{first_told}
 use Rattle.recovery.specs.Collected.{TheCollected}
-use Rattle.recovery.specs.Collecting.{TheCollecting, told_of}
+use Rattle.recovery.specs.Collection.{TheCollecting, told_of}
 use Rattle.recovery.specs.Stands.{StandsCollecting}
 
 -- each peer below d has told all

@@ -15,11 +15,11 @@ use Rattle.node.specs.Node.{log_at}
 use Rattle.node.specs.Stands.{Each, PutOut, KeepsOf, IsShut, sent_by}
 pub use Rattle.node.specs.Stands.{own_act, GoesTo}
 use Rattle.recovery.specs.Own.{TheOwn}
-use Rattle.recovery.specs.Meeting.{is_loss}
-use Rattle.pages.specs.Says.{WasSaid, first_told}
+use Rattle.recovery.specs.Overlap.{is_loss}
+use Rattle.packets.specs.Says.{WasSaid, first_told}
 pub use Rattle.node.specs.Kept.{IsKeptOf}
 use Rattle.recovery.specs.Collected.{TheCollected}
-use Rattle.recovery.specs.Collecting.{TheCollecting, told_of}
+use Rattle.recovery.specs.Collection.{TheCollecting, told_of}
 
 -- what the packet says was sent, unless it says that all is lost, which no packet of a cluster says
 abbrev pub IsSaid : List Parcel → ℕ → ℕ → Body → Type 0

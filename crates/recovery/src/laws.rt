@@ -3,7 +3,7 @@
 ghost use Rattle.recovery.specs.Beside.{OthersStand, ReplayingStands, ComesBackAgain};
 ghost use Rattle.recovery.specs.Kept.{WrittenRevives, KeptRevives};
 ghost use Rattle.recovery.specs.Moment.{KeepsWhatItHad};
-ghost use Rattle.recovery.specs.StandsReplaying.{OnlyReplays};
+ghost use Rattle.recovery.specs.StandsAtReplay.{OnlyReplays};
 
 /// A process that collects still agrees with the cluster after the acts of another.
 pub fn others_stand()

@@ -4,12 +4,12 @@ ghost use Rattle.std.specs.Prelude.{◌≡◌, ◌≤◌, ◌<◌, length, true,
 ghost use Rattle.node.specs.Stands.{Each};
 ghost use Rattle.recovery.specs.Plan.{has_all, Plans, Fits, Overruns};
 ghost use Rattle.recovery.specs.Moment.{Recovered};
-ghost use Rattle.recovery.specs.Replaying.{receipts_of};
-ghost use Rattle.recovery.specs.StandsReplaying.{ComesBack};
+ghost use Rattle.recovery.specs.Replays.{receipts_of};
+ghost use Rattle.recovery.specs.StandsAtReplay.{ComesBack};
 ghost use Rattle.recovery.specs.declared.moment.Cause.TheVariants.{TooMany};
 
-use crate::collecting::Collecting;
-use crate::replaying::Replaying;
+use crate::collection::Collecting;
+use crate::replays::Replaying;
 use node::OpenJob;
 use rsn::{LIMIT, Receipts, SENDERS};
 use std::alloc::{AllocError, Global};

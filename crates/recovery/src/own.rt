@@ -1,14 +1,14 @@
 //! The part of a recovering process that all its stages share.
 
 ghost use Rattle.std.specs.Prelude.{◌≡◌, ℕ, ◌≤◌, ◌+◌, ◌++◌, ◌^◌, length, map, true, false, Some, slice_get, slice_index_or, slice_set, IfOk, OnOk, OnErr};
-ghost use Rattle.outbox.specs.Outbox.{Pops};
+ghost use Rattle.packets.specs.Outbox.{Pops};
 ghost use Rattle.node.specs.Limit.{AreAllowed};
 ghost use Rattle.node.specs.Queue.{no_queue};
 ghost use Rattle.node.specs.Node.{IsPositive};
 ghost use Rattle.recovery.specs.Own.{posts, with_own, queue_of, comes_back, own_of, is_for, hears, learns, IsShort, MayGive, ran};
 
 use node::{Given, Limits, MOST_RECEIVED, Queue, log};
-use outbox::Outbox;
+use packets::Outbox;
 use packets::{Body, Flags, Kept, KeptLog, Packet};
 use std::alloc::{AllocError, Global};
 use std::marker::Model;

@@ -5,7 +5,7 @@ ghost use Rattle.node.specs.Node.{IsPeer};
 ghost use Rattle.node.specs.Stands.{job_of};
 ghost use Rattle.recovery.specs.Plan.{has_all, told_under, next_by, Plans, Fits, Overruns, Recovering};
 
-use crate::collecting::Collecting;
+use crate::collection::Collecting;
 use node::{MOST_RECEIVED, OpenJob};
 use std::alloc::{AllocError, Global};
 

@@ -1,7 +1,7 @@
 //! A process that has finished its replay.
 
 ghost use Rattle.std.specs.Prelude.{◌≡◌};
-ghost use Rattle.recovery.specs.Meeting.{handed};
+ghost use Rattle.recovery.specs.Overlap.{handed};
 ghost use Rattle.recovery.specs.Replayed.{IsReplayed, Stays};
 
 use crate::own::Own;

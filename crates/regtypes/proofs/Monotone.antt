@@ -23,7 +23,7 @@ use Rattle.regtypes.specs.declared.rule.Rule.{Rule}
 use Rattle.regtypes.specs.Frame.{kind_at, is_num, LeqKind, Leq}
 use Rattle.regtypes.specs.Attributes.{attributes_of}
 use Rattle.regtypes.specs.Rules.{is_unset, is_len, is_place, is_in_message, is_message, region_len, lie_inside, has_bytes, moved, is_near, is_sized, Argument, Number, Payload, Sized, arguments_of, takes, has, base_of, moved_of, reaches_out, moves_out, called, ends_without, Tests, first_broken, tests_by, tests_of}
-use Rattle.regtypes.specs.Leaving.{given, after_by, after, least_shown, shown, raised, IsMonotone}
+use Rattle.regtypes.specs.Ways.{given, after_by, after, least_shown, shown, raised, IsMonotone}
 use Rattle.regtypes.proofs.Parts.{LeqKinds, reads_unset, mixes, stores_in_message, takes_all, refuses, misgives, given_by, written_with, after_helper}
 use Rattle.regtypes.proofs.Order.{LeqKind-refl}
 

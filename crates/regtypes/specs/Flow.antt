@@ -6,7 +6,7 @@ use Rattle.decode.specs.Slots.{size_of}
 use Rattle.regtypes.specs.declared.frame.Frame.{Frame}
 use Rattle.regtypes.specs.declared.flow.Flow.{Flow}
 use Rattle.regtypes.specs.declared.flow.Flow.TheVariants.{Ends, Leaps, Forks, Falls}
-use Rattle.regtypes.specs.Leaving.{next, taken}
+use Rattle.regtypes.specs.Ways.{next, taken}
 
 -- distances count slots from the next slot (RFC 9669 section 4.3)
 abbrev pub flow_of : Insn → Flow

@@ -3,6 +3,6 @@ pub mod Form
 pub mod Flow
 pub mod Attributes
 pub mod Rules
-pub mod Leaving
+pub mod Ways
 pub mod Typing
 pub mod Inside

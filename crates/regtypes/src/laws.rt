@@ -1,6 +1,6 @@
 //! What holds of all frames and instructions.
 
-ghost use Rattle.regtypes.specs.Leaving.{IsMonotone};
+ghost use Rattle.regtypes.specs.Ways.{IsMonotone};
 
 /// The local rules are monotone: a frame that says more breaks no more rules, and leaves
 /// more on each way.

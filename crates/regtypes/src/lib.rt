@@ -24,7 +24,7 @@ mod frame;
 mod image_form;
 mod kinds;
 mod laws;
-mod leaving;
+mod ways;
 mod local;
 mod rule;
 
@@ -33,5 +33,5 @@ pub use flow::{Flow, flow_from};
 pub use frame::{Frame, Kind, Region, join, leq};
 pub use image_form::ImageForm;
 pub use laws::rules_are_monotone;
-pub use leaving::{Leaving, transfer};
+pub use ways::{Leaving, transfer};
 pub use rule::Rule;

@@ -24,19 +24,19 @@
 #![tactic(auto)]
 
 mod agreement;
-mod collecting;
+mod collection;
 mod done;
 mod job;
 mod plan;
-mod resyncing;
+mod resynchronization;
 mod spare;
 mod task;
 
 pub use agreement::{plan_is_gathered, same_is_found};
-pub use collecting::{collect, collect_from};
+pub use collection::{collect, collect_from};
 pub use done::Done;
 pub use job::Job;
 pub use plan::Plan;
-pub use resyncing::resync;
+pub use resynchronization::resync;
 pub use spare::Spare;
 pub use task::{Task, Ticket};

@@ -9,8 +9,8 @@ use Rattle.world.specs.Phases.{is_down, name_of}
 use Rattle.world.specs.Logs.{length_of, state_of}
 use Rattle.world.specs.Legal.{world_of}
 use Rattle.scenario.specs.Order.{process_text}
-use Rattle.trace.specs.Report.{exact_line, output_line, process_line}
-use Rattle.trace.specs.Trace.{trace_text}
+use Rattle.scenario.specs.Report.{exact_line, output_line, process_line}
+use Rattle.scenario.specs.Trace.{trace_text}
 use Rattle.sessions.specs.Journal.{is_exact_of}
 
 -- the state that a process shows: none while it is down

@@ -5,7 +5,7 @@ use indexmap::IndexMap;
 use scenario::Process;
 use sessions::Service;
 use std::alloc::{AllocError, Global};
-use trace::name_at;
+use scenario::name_at;
 
 /// Writes a line for each cause of which helpers refused sends or outputs of a process.
 fn push_causes(

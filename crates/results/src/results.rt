@@ -9,7 +9,7 @@ use indexmap::IndexMap;
 use scenario::Process;
 use sessions::{Service, copied};
 use std::alloc::{AllocError, Global};
-use trace::{name_at, push_exact, push_output, push_process, trace_text};
+use scenario::{name_at, push_exact, push_output, push_process, trace_text};
 use world::Message;
 
 /// Writes the line of a process.

@@ -3,7 +3,7 @@ use Rattle.std.proofs.Common.{◌≡◌, List, Err, refl}
 use Rattle.handlers.specs.Image.{TheImage}
 use Rattle.world.specs.declared.refusal.Refusal.{Refusal}
 use Rattle.world.specs.declared.refusal.Refusal.TheVariants as refusals
-use Rattle.machine.specs.Opening.{AreFew}
+use Rattle.machine.specs.Openings.{AreFew}
 use Rattle.sessions.specs.Service.{OpensAlone}
 
 -- few images are refused for want of memory alone

@@ -10,11 +10,11 @@ use Rattle.world.specs.declared.refusal.Refusal.TheVariants as refusals
 use Rattle.world.specs.Legal.{WStep}
 use Rattle.world.specs.Refusals.{cause_of}
 use Rattle.machine.specs.Arrival.{IsOpen, Told}
-use Rattle.machine.specs.Picking.{IsPick}
-use Rattle.machine.specs.Stepping.{job_of}
+use Rattle.machine.specs.Choice.{IsPick}
+use Rattle.machine.specs.Dispatch.{job_of}
 use Rattle.sessions.specs.Journal as journal
 use Rattle.sessions.specs.Journal.{IsOpenAt, Takes, TheSession, entry}
-use Rattle.sessions.specs.Driving.{Driven}
+use Rattle.sessions.specs.Driver.{Driven}
 use Rattle.sessions.specs.Service.{own_seat, Owes}
 use Rattle.runner.specs.Orders.{HoldsJob, AcceptsCall, BringsBack, IsDriven, MakesCall, Position, with_entry}
 use Rattle.runner.specs.Inside.{ComesTo, NoNumber, OnMemory}

@@ -10,13 +10,13 @@ use Rattle.world.specs.declared.refusal.Refusal.{Refusal}
 use Rattle.world.specs.declared.refusal.Refusal.TheVariants as refusals
 use Rattle.world.specs.Refusals.{cause_of, number_of}
 use Rattle.machine.specs.Task.{TheTask}
-use Rattle.machine.specs.Stepping.{job_of}
+use Rattle.machine.specs.Dispatch.{job_of}
 use Rattle.scenario.specs.declared.order.Order.{Order}
 use Rattle.scenario.specs.declared.order.Order.TheVariants as order
 use Rattle.scenario.specs.declared.scenario.Step.{Step}
 use Rattle.runner.specs.Orders.{CarriesOut, BringsBack, HoldsJob, MakesCall, Position, beginning, held_for, with_entry, without_job, world_at}
 use Rattle.results.specs.Results.{results_text}
-use Rattle.runner.specs.Telling.{IsTelling, style_in, told_text}
+use Rattle.runner.specs.Reports.{IsTelling, style_in, told_text}
 use Rattle.styles.specs.Style.{TheStyle}
 use Rattle.runner.specs.Inside.{AreNoted, ArePlayed, ArePlayedTo, IsNoted, IsPlayed, TheNotes}
 use Rattle.runner.specs.Run.{AreCarriedOut, CutsOff, IsCut, IsRun, Passage, RunsThrough, moments_of, passage, refused_lines, refused_text}

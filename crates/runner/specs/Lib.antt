@@ -1,6 +1,6 @@
 pub mod Orders
 pub mod Run
-pub mod Telling
+pub mod Reports
 pub mod Inside
 pub mod Rest
 pub mod Why

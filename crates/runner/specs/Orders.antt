@@ -14,10 +14,10 @@ use Rattle.world.specs.Legal.{WStep, world_of}
 use Rattle.world.specs.Refusals.{number_of, refusal_of}
 use Rattle.world.specs.World.{World}
 use Rattle.machine.specs.Arrival.{IsOpen}
-use Rattle.machine.specs.Picking.{IsPick}
-use Rattle.machine.specs.Stepping.{job_of}
+use Rattle.machine.specs.Choice.{IsPick}
+use Rattle.machine.specs.Dispatch.{job_of}
 use Rattle.sessions.specs.Journal.{entry}
-use Rattle.sessions.specs.Driving.{Drives}
+use Rattle.sessions.specs.Driver.{Drives}
 use Rattle.scenario.specs.declared.order.Order.{Order}
 use Rattle.scenario.specs.declared.order.Order.TheVariants as order
 use Rattle.results.specs.Word.{message_word}

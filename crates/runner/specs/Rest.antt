@@ -3,8 +3,8 @@ use Rattle.std.specs.Prelude.{◌≡◌}
 use Rattle.limits.specs.declared.TheConstants.{ENTRIES}
 use Rattle.world.specs.declared.phase.PhaseName.TheVariants as names
 use Rattle.world.specs.Phases.{name_of}
-use Rattle.machine.specs.Picking.{IsPick}
-use Rattle.sessions.specs.Driving.{IsDone}
+use Rattle.machine.specs.Choice.{IsPick}
+use Rattle.sessions.specs.Driver.{IsDone}
 use Rattle.sessions.specs.Journal.{TheSession, room_at, world_at}
 use Rattle.hints.specs.declared.rest.Rest.{Rest}
 use Rattle.hints.specs.declared.rest.Rest.TheVariants.{Down, Held, Next, Full, Nothing}

@@ -2,7 +2,7 @@
 
 ghost use Rattle.std.specs.Prelude.{◌≡◌, ◌++◌, IfOk, None, OnOk, drop, map, replicate};
 ghost use Rattle.handlers.specs.Image.{image_in};
-ghost use Rattle.machine.specs.Opening.{AreFew};
+ghost use Rattle.machine.specs.Openings.{AreFew};
 ghost use Rattle.runner.specs.Orders.{CarriesOut, world_at};
 ghost use Rattle.runner.specs.Inside.{AreNoted, IsNoted, notes_of, position_of};
 ghost use Rattle.runner.specs.Run.{IsChronicle, refused_moment, sent_by, sent_in};

@@ -15,19 +15,19 @@
 //! ```
 #![tactic(auto)]
 
-mod carrying;
+mod orders;
 mod chronicle;
 mod held;
-mod opening;
+mod setup;
 mod player;
 mod rest;
-mod running;
-mod telling;
+mod runs;
+mod styled_runs;
 mod why;
 
 pub use chronicle::{Chronicle, Moment, chronicle_of};
 pub use rest::rest_of;
 pub use results::push_results;
-pub use running::run;
-pub use telling::tell;
+pub use runs::run;
+pub use styled_runs::tell;
 pub use why::{keep_told, why_of};

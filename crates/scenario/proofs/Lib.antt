@@ -8,3 +8,4 @@ pub mod Lines
 pub mod Spellings
 pub mod OneScenario
 pub mod OneFault
+pub mod TraceLemmas

@@ -17,11 +17,11 @@ use Rattle.world.specs.Useful.{is_free, is_useful, may_call}
 use Rattle.world.specs.Legal.{world_after}
 use Rattle.world.proofs.Runs.{world_after-append}
 use Rattle.machine.specs.Arrival.{Told}
-use Rattle.machine.specs.Picking.{IsPick, IsMove}
-use Rattle.machine.specs.Stepping.{TakesNoResult, job_of}
+use Rattle.machine.specs.Choice.{IsPick, IsMove}
+use Rattle.machine.specs.Dispatch.{TakesNoResult, job_of}
 use Rattle.sessions.specs.Seats.{TheSeat}
 use Rattle.sessions.specs.Journal.{TheSession, world_at, room_at, entry, Adds}
-use Rattle.sessions.specs.Driving.{Drives, Advances}
+use Rattle.sessions.specs.Driver.{Drives, Advances}
 
 -- any seat may make a call that is picked
 pub may-pick : (w : World) (room worker : ℕ) (call : Call) → IsPick w room call → may_call w worker call ≡ true

@@ -9,8 +9,8 @@ use Rattle.world.specs.Phases.{is_down}
 use Rattle.world.specs.World.{World}
 use Rattle.world.specs.Logs.{sent, is_entry}
 use Rattle.machine.specs.Simulation.{TheMachine, Stands, log_at}
-use Rattle.machine.specs.Reading.{LogStands}
-use Rattle.machine.proofs.Standing.{entry_at, payload_at}
+use Rattle.machine.specs.Readings.{LogStands}
+use Rattle.machine.proofs.Status.{entry_at, payload_at}
 use Rattle.sessions.specs.Logged.{are_two, logged}
 
 -- of two that aren't the same

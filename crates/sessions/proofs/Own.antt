@@ -13,13 +13,13 @@ use Rattle.world.specs.Calls.{after}
 use Rattle.world.specs.Refusals.{refusal_of, cause_of}
 use Rattle.world.specs.Useful.{may_call}
 use Rattle.machine.specs.Simulation.{TheMachine, Stands, Steps}
-use Rattle.machine.specs.Stepping.{Opened}
+use Rattle.machine.specs.Dispatch.{Opened}
 use Rattle.machine.specs.Arrival.{IsJobOf}
 use Rattle.machine.specs.declared.arrival.Arrival.{Arrival}
 use Rattle.machine.specs.declared.arrival.Arrival.TheVariants.{Started, Duplicate, Early, Shown, ShownBefore, Numbered, Acknowledged, Stale, Unreachable}
 use Rattle.sessions.specs.Seats.{TheSeat}
 use Rattle.sessions.specs.Journal.{TheSession, HandsOut, entry, answered_more, Adds}
-use Rattle.sessions.specs.Driving.{Starts}
+use Rattle.sessions.specs.Driver.{Starts}
 use Rattle.sessions.specs.Service.{seat_of, OwesAs, Returns}
 use Rattle.sessions.specs.Fields.{IsSession}
 use Rattle.sessions.proofs.Steps.{Accepts, accepted, here, refused, session, returns-to}

@@ -16,7 +16,7 @@ use Rattle.world.specs.Calls.{after, arrive, finish, recover, keep, ready, peers
 use Rattle.world.specs.Answers.{MayAnswer, Finishes, Keeps, Receives}
 use Rattle.world.specs.Refusals.{least, refusal_of, causes, starts, one_if}
 use Rattle.world.proofs.Counts.{count_below-same, count_below-put}
-use Rattle.machine.specs.Stepping.{TakesNoResult}
+use Rattle.machine.specs.Dispatch.{TakesNoResult}
 use Rattle.machine.proofs.StartLemmas.{started-starts}
 
 -- a refusal that isn't told: no cause holds

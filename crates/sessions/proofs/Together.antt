@@ -10,7 +10,7 @@ use Rattle.machine.specs.declared.arrival.Arrival.TheVariants.{Started, Duplicat
 use Rattle.machine.specs.declared.arrival.Finished.{Finished}
 use Rattle.sessions.specs.Seats.{TheSeat}
 use Rattle.sessions.specs.Journal.{TheSession, Adds, HandsOut, Takes, answered_more, entry}
-use Rattle.sessions.specs.Driving.{Advances, Driven}
+use Rattle.sessions.specs.Driver.{Advances, Driven}
 use Rattle.sessions.specs.Service.{seat_of, OwesAs}
 
 -- a session of this service, with these seats at hand

@@ -7,7 +7,7 @@ use Rattle.world.specs.declared.answer.Answer.{Answer}
 use Rattle.world.specs.declared.answer.Answer.TheVariants.{Kept}
 use Rattle.world.specs.declared.refusal.Refusal.{Refusal}
 use Rattle.world.specs.declared.refusal.Refusal.TheVariants.{NoSuchProcess, Memory}
-use Rattle.machine.specs.Opening.{AreFew}
+use Rattle.machine.specs.Openings.{AreFew}
 use Rattle.theorems.specs.Orphans.{NoOrphan, ShownBegin}
 use Rattle.sessions.specs.Seats.{TheSeat}
 use Rattle.sessions.specs.Journal.{TheSession, Adds, IsExact, IsLegal, ReturnsTo, world_at}

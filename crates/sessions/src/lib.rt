@@ -34,10 +34,10 @@
 //! ```
 #![tactic(auto)]
 
-mod driving;
+mod driver;
 mod journal;
 mod named_call;
-mod reading;
+mod queries;
 mod refused;
 mod seat;
 mod seat_call;

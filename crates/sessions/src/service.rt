@@ -4,9 +4,9 @@ ghost use Rattle.std.specs.Prelude.{◌≡◌, ◌≤◌, IfOk, [], true, length
 ghost use Rattle.handlers.specs.Image.{image_in};
 ghost use Rattle.world.specs.Useful.{may_call};
 ghost use Rattle.machine.specs.Simulation.{answering};
-ghost use Rattle.machine.specs.Stepping.{TakesNoResult, answer_in};
+ghost use Rattle.machine.specs.Dispatch.{TakesNoResult, answer_in};
 ghost use Rattle.sessions.specs.Journal.{Takes, world_at};
-ghost use Rattle.sessions.specs.Driving.{StartsJob};
+ghost use Rattle.sessions.specs.Driver.{StartsJob};
 ghost use Rattle.sessions.specs.Service.{OpensAlone, Owes, OwesAs, Returns, own_seat, seat_of};
 
 use crate::journal::Journal;

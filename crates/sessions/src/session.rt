@@ -4,9 +4,9 @@ ghost use Rattle.std.specs.Prelude.{◌≡◌, ◌↔◌, ◌+◌, ◌≤◌, If
 ghost use Rattle.handlers.specs.Image.{image_in};
 ghost use Rattle.world.specs.Useful.{may_call};
 ghost use Rattle.machine.specs.Simulation.{answering};
-ghost use Rattle.machine.specs.Stepping.{TakesNoResult, answer_in};
-ghost use Rattle.machine.specs.Picking.{IsPick, IsMove};
-ghost use Rattle.sessions.specs.Driving.{Driven, IsQuiet, Makes, StartsJob};
+ghost use Rattle.machine.specs.Dispatch.{TakesNoResult, answer_in};
+ghost use Rattle.machine.specs.Choice.{IsPick, IsMove};
+ghost use Rattle.sessions.specs.Driver.{Driven, IsQuiet, Makes, StartsJob};
 ghost use Rattle.sessions.specs.Seats.{AreSeats, IsWhole, answered_by, new_seats, seat_at};
 ghost use Rattle.sessions.specs.Service.{Returns, alone};
 ghost use Rattle.sessions.specs.Shares.{answers_of};

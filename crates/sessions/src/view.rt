@@ -4,7 +4,7 @@ ghost use Rattle.std.specs.Prelude.{◌≡◌, ◌≤◌, [], true, false, lengt
 ghost use Rattle.world.specs.Phases.{name_of, is_down};
 ghost use Rattle.world.specs.Bounds.{open_jobs};
 ghost use Rattle.world.specs.Logs.{state_of, length_of};
-ghost use Rattle.machine.specs.Saving.{IsSavedOf};
+ghost use Rattle.machine.specs.Checkpoints.{IsSavedOf};
 ghost use Rattle.theorems.specs.Kept.{HasKept};
 ghost use Rattle.theorems.specs.Orphans.{NoOrphan, ShownBegin};
 ghost use Rattle.sessions.specs.Journal.{IsExact, IsLegal, is_exact, world_at};

@@ -17,8 +17,8 @@ use Rattle.helpers.specs.declared.effects.Who.{Who}
 use Rattle.helpers.specs.Effects.{Emitted}
 use Rattle.helpers.specs.Helpers.{send, output}
 use Rattle.dense.specs.Acts.{Act, Puts, Writes, Leaps, Answers}
-use Rattle.span_calls.specs.Concrete.{array_size, operand_word, address}
-use Rattle.span_calls.specs.Typing.{target}
+use Rattle.spans.specs.Concrete.{array_size, operand_word, address}
+use Rattle.spans.specs.Typing.{target}
 use Rattle.span_steps.specs.Acts.{insn_act, IsReached}
 use Rattle.span_steps.specs.Machine.{machine}
 use Rattle.native.specs.declared.task.Task.TheVariants as task

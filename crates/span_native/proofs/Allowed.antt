@@ -26,7 +26,7 @@ use Rattle.spans.specs.declared.kind.Kind.{Kind}
 use Rattle.spans.specs.declared.kind.Kind.TheVariants.{Unset, Num, Place}
 use Rattle.spans.specs.declared.span.Span.{Span}
 use Rattle.spans.specs.Frame.{Frame, is_num}
-use Rattle.spans.specs.Leaving.{Leaves, Ways, from_span}
+use Rattle.spans.specs.Ways.{Leaves, Ways, from_span}
 use Rattle.span_verifier.specs.Rules.{frame_pointer_rule}
 use Rattle.native.specs.declared.task.Task.TheVariants as task
 use Rattle.native.specs.Tasks.{holds_word, is_word, is_read, is_apt}

@@ -3,7 +3,7 @@ use Rattle.std.proofs.Common.{◌≡◌, ℕ, ◌<◌, List, length, refl, ◌�
 use Rattle.std.specs.Prelude.{slice_index, slice_set}
 use Rattle.std.proofs.lemmas.List.{get_or-set_other, set_comm, length-set}
 use Rattle.helpers.specs.Effects.{Emitted}
-use Rattle.dense.specs.declared.performing.Next.{Next}
+use Rattle.dense.specs.declared.execution.Next.{Next}
 use Rattle.dense.specs.Acts.{Act, Puts, Writes, Leaps, Answers, Ends, Nothing, Does}
 
 -- the words with 0 for r10

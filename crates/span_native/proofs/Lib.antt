@@ -5,6 +5,6 @@ pub mod Acts
 pub mod Allowed
 pub mod Spared
 pub mod Locked
-pub mod Standing
+pub mod Status
 pub mod SpanNative
 pub mod AnyForm

@@ -21,11 +21,11 @@ use Rattle.spans.specs.Configuration.{Value, Number, At, Configuration, IsConfig
 use Rattle.spans.specs.Memory.{are_numbers, index_in, is_word, load, patched_cells, store, write_at}
 use Rattle.spans.specs.Access.{region_size}
 use Rattle.spans.specs.Step.{Outcome, Goes, Leaps, Ends, Fault, answers, branches, ends_with, from_number, gives_value, goes_on, operand_value, result_value, step, taken_by}
-use Rattle.spans.specs.Leaving.{alu_form}
+use Rattle.spans.specs.Ways.{alu_form}
 use Rattle.span_verifier.specs.Rules.{frame_pointer_rule}
-use Rattle.span_calls.specs.Concrete.{array_size}
-use Rattle.span_calls.specs.Showing.{Shows, ShowsWord}
-use Rattle.span_calls.specs.Typing.{Table}
+use Rattle.spans.specs.Concrete.{array_size}
+use Rattle.spans.specs.Shows.{Shows, ShowsWord}
+use Rattle.spans.specs.Typing.{Table}
 use Rattle.span_steps.specs.Machine.{machine}
 use Rattle.span_native.proofs.Allowed.{alu_written, some_none}
 

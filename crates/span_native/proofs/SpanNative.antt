@@ -8,23 +8,23 @@ use Rattle.helpers.specs.declared.effects.Who.{Who}
 use Rattle.helpers.specs.Effects.{Emitted}
 use Rattle.interp.specs.Words.{AreBytes}
 use Rattle.x86.specs.Machine.{State, Runs}
-use Rattle.span_calls.specs.Concrete.{array_size}
+use Rattle.spans.specs.Concrete.{array_size}
 use Rattle.images.specs.Typed.{IsTypable}
-use Rattle.native.specs.declared.opening.Opening.TheVariants as opening
+use Rattle.native.specs.declared.prologue.Opening.TheVariants as opening
 use Rattle.native.specs.Correct.{IsCalled}
 use Rattle.native.specs.Needs.{saved_in}
 use Rattle.native.specs.Openings.{saved_for}
 use Rattle.native.specs.Pends.{pends_in}
 use Rattle.native.specs.Saved.{may_write}
 use Rattle.native.specs.Written.{IsServed}
-use Rattle.native.proofs.Ending.{opening_words, opening_is, opening_small, entered_by, enters_by, agrees_by}
-use Rattle.native.proofs.Following.{follows}
-use Rattle.native.proofs.Keeping.{added_may}
+use Rattle.native.proofs.Ends.{opening_words, opening_is, opening_small, entered_by, enters_by, agrees_by}
+use Rattle.native.proofs.Successors.{follows}
+use Rattle.native.proofs.Preservation.{added_may}
 use Rattle.native.proofs.Native.{laid_in, begins_in, tails_in, entry_in}
 use Rattle.span_native.specs.Correct.{IsSpanNative}
 use Rattle.span_native.specs.SpanTasks.{tasks_in}
 use Rattle.span_native.proofs.Blind.{blind}
-use Rattle.span_native.proofs.Standing.{Begun, Stand, Leaves, calls, stands}
+use Rattle.span_native.proofs.Status.{Begun, Stand, Leaves, calls, stands}
 
 bytes_below : (xs : List ℕ) → AreBytes xs → (a : ℕ) → slice_index xs a < 256
 bytes_below [] h a = omega arith

@@ -10,7 +10,7 @@ use Rattle.decode.specs.declared.insn.Size.{Size}
 use Rattle.decode.specs.Encoding.{Fits, bytes_in, loaded}
 use Rattle.helpers.specs.declared.effects.Who.{Who}
 use Rattle.helpers.specs.Effects.{Emitted}
-use Rattle.span_calls.specs.Concrete.{array_size, address}
+use Rattle.spans.specs.Concrete.{array_size, address}
 use Rattle.span_steps.specs.Acts.{IsReached}
 use Rattle.native.specs.declared.task.Task.{Task}
 use Rattle.native.specs.declared.task.Task.TheVariants as task

@@ -8,8 +8,8 @@ use Rattle.decode.specs.declared.insn.Reg.{Reg}
 use Rattle.decode.specs.declared.insn.Size.{Size}
 use Rattle.decode.specs.declared.insn.SignedSize.{SignedSize}
 use Rattle.decode.specs.Slots.{insn_at}
-use Rattle.span_calls.specs.Concrete.{array_size}
-use Rattle.span_calls.specs.Typing.{target}
+use Rattle.spans.specs.Concrete.{array_size}
+use Rattle.spans.specs.Typing.{target}
 use Rattle.native.specs.declared.task.Task.{Task}
 use Rattle.native.specs.declared.task.Task.TheVariants as task
 use Rattle.native.specs.Tasks.{position_by}

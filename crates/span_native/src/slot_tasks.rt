@@ -3,7 +3,7 @@
 ghost use Rattle.std.specs.Prelude.{◌≡◌, ◌==◌, ◌≤◌, ◌<◌, IfOk, length};
 ghost use Rattle.limits.specs.declared.TheConstants.{SLOTS};
 ghost use Rattle.decode.specs.declared.insn.Insn.TheVariants as insn;
-ghost use Rattle.span_calls.specs.Concrete.{array_size};
+ghost use Rattle.spans.specs.Concrete.{array_size};
 ghost use Rattle.span_native.specs.SpanTasks as specs;
 
 use decode::{Insn, Operand, Reg, SignedSize, Size};

@@ -6,7 +6,7 @@ use Rattle.decode.specs.declared.insn.Reg.{Reg}
 use Rattle.decode.specs.declared.insn.Width.{Width}
 use Rattle.decode.specs.declared.insn.Width.TheVariants.{W32}
 use Rattle.decode.specs.declared.insn.Operand.TheVariants as operand
-use Rattle.spans.specs.Leaving.{Computes, alu_form}
+use Rattle.spans.specs.Ways.{Computes, alu_form}
 
 -- with an immediate every operation but three computes a word
 pub other_imm : (op : AluOp) (width : Width) (z : ℤ) → (op ≡ alu.Mov → ⊥) → (op ≡ alu.Add → ⊥) → (op ≡ alu.Sub → ⊥) → Computes op width ≡ alu_form op width (operand.Imm z)

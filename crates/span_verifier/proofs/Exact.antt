@@ -24,11 +24,11 @@ use Rattle.spans.specs.Span.{whole}
 use Rattle.spans.specs.Narrowing.{opposite}
 use Rattle.spans.specs.Frame.{Frame, is_num, is_set, with_kind}
 use Rattle.spans.specs.Access.{AreNumbers, IsReadable, IsWritable, MayLoad, MayStore, is_inside, is_reached, whole_word}
-use Rattle.spans.specs.Leaving.{AluForm, Copies, Sums, Moves, Sets, Computes, alu_form, operand_kind, result_kind, from_span, extended_span, moved_reach, way, Ways, Gives, HasPayload, HasSized, HasArguments}
+use Rattle.spans.specs.Ways.{AluForm, Copies, Sums, Moves, Sets, Computes, alu_form, operand_kind, result_kind, from_span, extended_span, moved_reach, way, Ways, Gives, HasPayload, HasSized, HasArguments}
 use Rattle.spans.proofs.Tests.{parts}
 use Rattle.spans.proofs.Access.{reaches}
 use Rattle.span_verifier.specs.Rules.{lesser, unless, number_rule, value_rule, alu_rule, words_rule, read_rule, load_rule, write_rule, store_rule, argument_rule, payload_rule, sized_rule, call_rule, exit_rule}
-use Rattle.span_verifier.specs.Leaving.{gives, compares}
+use Rattle.span_verifier.specs.Ways.{gives, compares}
 use Rattle.span_verifier.specs.Exactness.{IsExact}
 
 -- ---- two rules

@@ -17,7 +17,7 @@ use Rattle.spans.specs.declared.kind.Kind.{Kind}
 use Rattle.spans.specs.declared.kind.Kind.TheVariants.{Unset, Num, Place}
 use Rattle.spans.specs.Frame.{Frame, IsFrame, IsKind, Leq, LeqKind, at_place, entry_frame, with_kind}
 use Rattle.spans.specs.Frame as spans
-use Rattle.spans.specs.Leaving.{behind_helper}
+use Rattle.spans.specs.Ways.{behind_helper}
 use Rattle.spans.proofs.Order.{LeqKind-refl}
 use Rattle.span_verifier.specs.FlatFrames.{read_cell, read_frame, read_kind}
 use Rattle.span_verifier.specs.FlatLaws.{IsOrderKept}

@@ -17,7 +17,7 @@ use Rattle.spans.specs.declared.kind.Reach.{Reach}
 use Rattle.spans.specs.Span.{whole}
 use Rattle.spans.specs.Frame.{Frame, IsKind, Leq, LeqKind, at_place, is_num, is_set}
 use Rattle.spans.specs.Access.{AreNumbers, IsReadable, IsWritable, MayLoad, MayStore, is_inside, is_reached, loaded_kind, region_size, stored_frame, whole_word, wiped, word_kind, written_frame}
-use Rattle.spans.specs.Leaving.{HasPayload, HasSized}
+use Rattle.spans.specs.Ways.{HasPayload, HasSized}
 use Rattle.spans.proofs.Tests.{both}
 use Rattle.spans.proofs.Access.{whole_word-is_reached}
 use Rattle.spans.proofs.Order.{LeqKind-refl, Leq-refl}

@@ -28,7 +28,7 @@ use Rattle.regtypes.specs.declared.frame.Frame.{Frame as FlatFrame}
 use Rattle.regtypes.specs.Frame.{kind_at, is_num as is_flat_num}
 use Rattle.regtypes.specs.Attributes.{register_of}
 use Rattle.regtypes.specs.Rules.{arguments_of, first_broken, has, is_in_message, is_near, is_place, is_unset, moved, tests_of}
-use Rattle.regtypes.specs.Leaving.{next, taken}
+use Rattle.regtypes.specs.Ways.{next, taken}
 use Rattle.regtypes.specs.declared.rule.Rule.TheVariants.{V4}
 use Rattle.regtypes.proofs.Monotone.{not_false}
 use Rattle.regtypes.proofs.RuleLemmas.{rules_of}
@@ -40,7 +40,7 @@ use Rattle.spans.specs.Span.{Within, one, span, whole}
 use Rattle.spans.specs.Narrowing.{SpanPair, opposite, shown, where_met}
 use Rattle.spans.specs.Frame.{Frame, IsFrame, IsKind, Leq, LeqKind, at_place, is_num, with_kind}
 use Rattle.spans.specs.Access.{MayLoad, MayStore, loaded_kind, stored_frame}
-use Rattle.spans.specs.Leaving.{AluForm, Copies, Sums, Moves, Sets, Computes, HasArguments, Leaves, LeqWay, Ways, alu_form, extended_span, from_span, moved_kind, moved_span, narrowed_frame, operand_kind, result_kind, set_kind, way}
+use Rattle.spans.specs.Ways.{AluForm, Copies, Sums, Moves, Sets, Computes, HasArguments, Leaves, LeqWay, Ways, alu_form, extended_span, from_span, moved_kind, moved_span, narrowed_frame, operand_kind, result_kind, set_kind, way}
 use Rattle.spans.proofs.Closed.{closed}
 use Rattle.spans.proofs.Monotone.{operand-is}
 use Rattle.spans.proofs.Narrowing.{WithinWay, where_met-inside}

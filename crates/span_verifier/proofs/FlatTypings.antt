@@ -10,18 +10,18 @@ use Rattle.regtypes.specs.declared.image_form.ImageForm.{ImageForm}
 use Rattle.regtypes.specs.declared.frame.Frame.{Frame as FlatFrame}
 use Rattle.regtypes.specs.Flow.{exits, flow_of}
 use Rattle.regtypes.specs.Frame.{entry_frame as flat_entry}
-use Rattle.regtypes.specs.Leaving.{next, taken}
+use Rattle.regtypes.specs.Ways.{next, taken}
 use Rattle.regtypes.specs.Rules.{first_broken, tests_of}
 use Rattle.regtypes.specs.Typing.{Table as FlatTable, IsTyping, Enters as FlatEnters, flow_tests, frame_at}
 use Rattle.regtypes.proofs.Monotone.{both_pass}
 use Rattle.regtypes.proofs.Typings.{typing_keeps, typing_leads, within}
 use Rattle.spans.specs.Frame.{Frame, entry_frame}
-use Rattle.spans.specs.Leaving.{LeqWay}
+use Rattle.spans.specs.Ways.{LeqWay}
 use Rattle.spans.proofs.Order.{Leq-trans}
-use Rattle.span_verifier.specs.Leaving.{ways}
+use Rattle.span_verifier.specs.Ways.{ways}
 use Rattle.span_verifier.specs.Rules.{frame_pointer_rule, frame_rule}
 use Rattle.span_verifier.proofs.Exact.{exact, neither}
-use Rattle.span_calls.specs.Typing.{Enters, IsAllowed, target}
+use Rattle.spans.specs.Typing.{Enters, IsAllowed, target}
 use Rattle.span_verifier.specs.Inside.Pass.{AreFitting}
 use Rattle.span_verifier.specs.Typing.{IsPlaced, IsTyped}
 use Rattle.span_verifier.proofs.Slots.{are_fitting, later}

@@ -14,14 +14,14 @@ use Rattle.spans.specs.declared.kind.Reach.{Reach}
 use Rattle.spans.specs.declared.kind.Kind.{Kind}
 use Rattle.spans.specs.declared.kind.Kind.TheVariants.{Unset, Num, Place}
 use Rattle.spans.specs.Frame.{Frame, IsFrame, Leq, LeqKind}
-use Rattle.spans.specs.Leaving.{LeqWay}
+use Rattle.spans.specs.Ways.{LeqWay}
 use Rattle.spans.proofs.Order.{Leq-refl, Leq-trans}
 use Rattle.spans.proofs.Monotone.{monotone}
 use Rattle.span_verifier.specs.Rules.{broken_rule, frame_pointer_rule, frame_rule}
 use Rattle.span_verifier.proofs.Exact.{both, exact}
-use Rattle.span_calls.specs.Typing.{Table, IsAllowed, IsTyping, target}
-use Rattle.span_calls.specs.Typing as calls
-use Rattle.span_calls.proofs.Entry.{calls-shown}
+use Rattle.spans.specs.Typing.{Table, IsAllowed, IsTyping, target}
+use Rattle.spans.specs.Typing as calls
+use Rattle.spans.proofs.CallEntry.{calls-shown}
 use Rattle.span_verifier.specs.Form.{Below, IsForm}
 use Rattle.span_verifier.specs.Typing.{IsPlaced, broken_at, span_form, IsTyped}
 use Rattle.span_verifier.specs.Laws.{AreTypedCallsShown, AreTypings, IsOneRefusal}

@@ -1,7 +1,7 @@
 pub mod KindLemmas
 pub mod Exact
 pub mod Ones
-pub mod Wiping
+pub mod Erasure
 pub mod Words
 pub mod Stores
 pub mod Layouts

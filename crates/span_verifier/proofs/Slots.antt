@@ -19,11 +19,11 @@ use Rattle.regtypes.proofs.Monotone.{none_holds, not_false}
 use Rattle.regtypes.proofs.Typings.{within}
 use Rattle.spans.specs.declared.cells.Cells.{Cells}
 use Rattle.spans.specs.Frame.{Frame, kind_at}
-use Rattle.spans.specs.Leaving.{Ways}
+use Rattle.spans.specs.Ways.{Ways}
 use Rattle.spans.proofs.Tests.{parts}
-use Rattle.span_calls.specs.Typing.{target}
+use Rattle.spans.specs.Typing.{target}
 use Rattle.decode.specs.Distance.{distance}
-use Rattle.span_verifier.specs.Leaving.{ways}
+use Rattle.span_verifier.specs.Ways.{ways}
 use Rattle.span_verifier.specs.Transfer.{frame_of}
 use Rattle.span_verifier.specs.Layout.{Follows}
 use Rattle.span_verifier.specs.Inside.Pass.{AreFitting, IsWayWithin}

@@ -11,15 +11,15 @@ use Rattle.regtypes.proofs.Typings.{within}
 use Rattle.regtypes.proofs.Monotone.{both_none}
 use Rattle.spans.specs.Frame.{Frame, IsFrame, Leq, joined}
 use Rattle.spans.specs.Laws.{IsWay}
-use Rattle.spans.specs.Leaving.{Leaves, Ways}
+use Rattle.spans.specs.Ways.{Leaves, Ways}
 use Rattle.spans.proofs.Order.{Leq-refl, is-least-join}
 use Rattle.spans.proofs.Entry.{entered}
 use Rattle.spans.proofs.Closed.{closed}
 use Rattle.span_verifier.specs.Rules.{broken_rule, frame_pointer_rule, frame_rule}
-use Rattle.span_verifier.specs.Leaving.{ways}
+use Rattle.span_verifier.specs.Ways.{ways}
 use Rattle.span_verifier.proofs.Exact.{exact, neither}
-use Rattle.span_calls.specs.Typing.{Table, IsAllowed, target}
-use Rattle.span_calls.specs.Typing as calls
+use Rattle.spans.specs.Typing.{Table, IsAllowed, target}
+use Rattle.spans.specs.Typing as calls
 use Rattle.span_verifier.specs.Form.{Below}
 use Rattle.span_verifier.specs.Layout.{Follows}
 use Rattle.span_verifier.specs.Least.{IsLeast, StopsAt}

@@ -5,7 +5,7 @@ use Rattle.spans.specs.declared.kind.Kind.{Kind}
 use Rattle.spans.specs.declared.kind.Kind.TheVariants.{Unset, Num, Place}
 use Rattle.spans.specs.Frame.{Frame, IsKind}
 use Rattle.span_verifier.specs.Rules.{store_rule}
-use Rattle.span_verifier.specs.Leaving.{StaysInside}
+use Rattle.span_verifier.specs.Ways.{StaysInside}
 use Rattle.span_verifier.proofs.Exact.{may-store}
 
 -- a store in the stack that breaks no rule lies inside

@@ -10,7 +10,7 @@ use Rattle.spans.specs.declared.kind.Kind.TheVariants.{Unset, Num}
 use Rattle.spans.specs.Span.{span}
 use Rattle.spans.specs.Frame.{WithinReach, kind_at}
 use Rattle.spans.specs.Access.{is_inside, whole_word}
-use Rattle.spans.specs.Leaving.{behind_helper}
+use Rattle.spans.specs.Ways.{behind_helper}
 use Rattle.spans.proofs.Access.{whole_word-is_reached}
 use Rattle.span_verifier.proofs.KindLemmas.{Filled, filled_all}
 use Rattle.span_verifier.proofs.Exact.{reached-within}

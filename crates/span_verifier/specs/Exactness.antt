@@ -2,9 +2,9 @@
 use Rattle.std.specs.Prelude.{◌≡◌, ℕ, None}
 use Rattle.decode.specs.declared.insn.Insn.{Insn}
 use Rattle.spans.specs.Frame.{Frame}
-use Rattle.spans.specs.Leaving.{Ways, Leaves}
+use Rattle.spans.specs.Ways.{Ways, Leaves}
 use Rattle.span_verifier.specs.Rules.{frame_rule}
-use Rattle.span_verifier.specs.Leaving.{ways}
+use Rattle.span_verifier.specs.Ways.{ways}
 
 -- if no rule that needs a frame is broken, these ways leave; and if any leave, none is broken, and they are these
 abbrev pub IsExact : Type 0

@@ -11,7 +11,7 @@ use Rattle.spans.specs.Span.{span, whole}
 use Rattle.spans.specs.declared.kind.Kind.{Kind}
 use Rattle.spans.specs.declared.kind.Kind.TheVariants.{Unset, Num, Place}
 use Rattle.spans.specs.Frame.{Frame, at_place}
-use Rattle.span_calls.specs.Typing.{Table}
+use Rattle.spans.specs.Typing.{Table}
 
 -- a number is any word, the message's length is a word up to 256, and a place is only that place
 abbrev pub read_kind : FlatKind → Kind

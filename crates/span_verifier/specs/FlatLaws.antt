@@ -9,13 +9,13 @@ use Rattle.regtypes.specs.declared.image_form.ImageForm.{ImageForm}
 use Rattle.regtypes.specs.declared.frame.Frame.{Frame as FlatFrame}
 use Rattle.regtypes.specs.Frame.{Leq as FlatLeq}
 use Rattle.regtypes.specs.Rules.{first_broken, tests_of}
-use Rattle.regtypes.specs.Leaving.{next, taken}
+use Rattle.regtypes.specs.Ways.{next, taken}
 use Rattle.regtypes.specs.Typing.{Table as FlatTable, IsTyping}
 use Rattle.spans.specs.Frame.{Leq}
-use Rattle.spans.specs.Leaving.{LeqWay}
-use Rattle.span_calls.specs.Typing.{Table}
+use Rattle.spans.specs.Ways.{LeqWay}
+use Rattle.spans.specs.Typing.{Table}
 use Rattle.span_verifier.specs.Rules.{broken_rule}
-use Rattle.span_verifier.specs.Leaving.{ways}
+use Rattle.span_verifier.specs.Ways.{ways}
 use Rattle.span_verifier.specs.Form.{Below}
 use Rattle.span_verifier.specs.Typing.{IsTyped, span_form}
 use Rattle.span_verifier.specs.Verdict.{IsLeastTyping}

@@ -6,9 +6,9 @@ use Rattle.decode.specs.Slots.{insn_at}
 use Rattle.regtypes.specs.declared.rule.Rule.{Rule}
 use Rattle.spans.specs.Frame.{Frame}
 use Rattle.spans.specs.Configuration.{entry}
-use Rattle.span_calls.specs.Concrete.{array_size, concrete_entry}
-use Rattle.span_calls.specs.Typing.{Table, IsTyping}
-use Rattle.span_calls.specs.Calls.{Request, Replies, call_from, concrete_call_from, ShowsLast}
+use Rattle.spans.specs.Concrete.{array_size, concrete_entry}
+use Rattle.spans.specs.Typing.{Table, IsTyping}
+use Rattle.spans.specs.Calls.{Request, Replies, call_from, concrete_call_from, ShowsLast}
 use Rattle.span_verifier.specs.Form.{IsForm}
 use Rattle.span_verifier.specs.Typing.{IsPlaced, IsTyped, span_form}
 use Rattle.span_verifier.specs.Verdict.{IsRefused}

@@ -1,5 +1,5 @@
 pub mod Rules
-pub mod Leaving
+pub mod Ways
 pub mod Exactness
 pub mod Transfer
 pub mod Form

@@ -18,7 +18,7 @@ use Rattle.spans.specs.declared.kind.Kind.{Kind}
 use Rattle.spans.specs.declared.kind.Kind.TheVariants.{Unset, Num, Place}
 use Rattle.spans.specs.Frame.{Frame}
 use Rattle.spans.specs.Access.{is_inside, whole_word, is_reached}
-use Rattle.spans.specs.Leaving.{AluForm, Copies, Sums, Moves, Sets, Computes, alu_form, operand_kind, moved_reach}
+use Rattle.spans.specs.Ways.{AluForm, Copies, Sums, Moves, Sets, Computes, alu_form, operand_kind, moved_reach}
 
 -- the lesser of two rules, if both are broken
 abbrev pub lesser : Option Rule → Option Rule → Option Rule

@@ -5,10 +5,10 @@ use Rattle.decode.specs.declared.insn.Insn.{Insn}
 use Rattle.regtypes.specs.declared.rule.Rule.{Rule}
 use Rattle.spans.specs.declared.cells.Cells.{Cells}
 use Rattle.spans.specs.Frame.{Frame, kind_at}
-use Rattle.spans.specs.Leaving.{Ways}
-use Rattle.span_verifier.specs.declared.leaving.Leaving.{Leaving}
+use Rattle.spans.specs.Ways.{Ways}
+use Rattle.span_verifier.specs.declared.ways.Leaving.{Leaving}
 use Rattle.span_verifier.specs.Rules.{broken_rule}
-use Rattle.span_verifier.specs.Leaving.{ways}
+use Rattle.span_verifier.specs.Ways.{ways}
 
 -- an array of kinds as a frame
 abbrev pub frame_of : Cells → Frame

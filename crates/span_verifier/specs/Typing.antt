@@ -13,7 +13,7 @@ use Rattle.spans.specs.declared.cells.Cells.{Cells}
 use Rattle.spans.specs.Frame.{Frame, IsFrame, Leq, entry_frame}
 use Rattle.span_verifier.specs.Transfer.{frame_of}
 use Rattle.span_verifier.specs.Rules.{frame_pointer_rule, broken_rule}
-use Rattle.span_calls.specs.Typing.{Table, IsAllowed}
+use Rattle.spans.specs.Typing.{Table, IsAllowed}
 use Rattle.span_verifier.specs.Form.{Form}
 use Rattle.span_verifier.specs.Least.{TypesBelow}
 

@@ -4,11 +4,11 @@ use Rattle.decode.specs.declared.insn.Insn.{Insn}
 use Rattle.decode.specs.Slots.{slots_of}
 use Rattle.regtypes.specs.declared.rule.Rule.{Rule}
 use Rattle.regtypes.specs.declared.rule.Rule.TheVariants.{V2}
-use Rattle.span_calls.specs.Typing.{Table}
+use Rattle.spans.specs.Typing.{Table}
 use Rattle.span_verifier.specs.Least.{IsLeast, StopsAt}
 use Rattle.span_verifier.specs.declared.fault.VerifyError.{VerifyError}
 use Rattle.span_verifier.specs.declared.fault.VerifyError.TheVariants.{Memory, Fault}
-use Rattle.span_verifier.specs.declared.framing.Frames.{Frames}
+use Rattle.span_verifier.specs.declared.pass.Frames.{Frames}
 use Rattle.span_verifier.specs.Typing.{span_form, IsTyped, table_of}
 
 -- the least typing

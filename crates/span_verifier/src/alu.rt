@@ -5,7 +5,7 @@ ghost use Rattle.decode.specs.Encoding.{extension_offset, extension_width};
 ghost use Rattle.operations.specs.Words.{bits_of};
 ghost use Rattle.span_verifier.specs.Rules.{alu_rule};
 ghost use Rattle.spans.specs.Frame.{IsKind, kind_at};
-ghost use Rattle.spans.specs.Leaving.{alu_form, extended_span, from_span, from_spans, low_span, operand_kind, result_kind};
+ghost use Rattle.spans.specs.Ways.{alu_form, extended_span, from_span, from_spans, low_span, operand_kind, result_kind};
 ghost use Rattle.spans.specs.Span.{result_span, whole as whole_span};
 
 use crate::results::{result, whole};

@@ -3,7 +3,7 @@
 ghost use Rattle.std.specs.Prelude.{◌≡◌, ◌==◌, nat_lt, if◌then◌else◌};
 ghost use Rattle.span_verifier.specs.Rules.{call_rule, payload_rule, sized_rule};
 ghost use Rattle.spans.specs.Frame.{kind_at};
-ghost use Rattle.spans.specs.Leaving.{behind_helper};
+ghost use Rattle.spans.specs.Ways.{behind_helper};
 ghost use Rattle.spans.specs.Span.{span};
 
 use crate::access::{is_inside, words_rule};

@@ -2,7 +2,7 @@
 
 ghost use Rattle.std.specs.Prelude.{◌≡◌, ◌≤◌, ◌<◌, ◌*◌, ◌≤ℤ◌, true};
 ghost use Rattle.span_verifier.specs.Rules.{load_rule, read_rule, store_rule, write_rule};
-ghost use Rattle.span_verifier.specs.Leaving.{StaysInside};
+ghost use Rattle.span_verifier.specs.Ways.{StaysInside};
 ghost use Rattle.spans.specs.Access.{is_inside, loaded_kind, stored_frame, whole_word, word_kind, written_frame};
 ghost use Rattle.spans.specs.Frame.{kind_at, with_kind};
 ghost use Rattle.spans.specs.Span.{whole};

@@ -5,7 +5,7 @@ ghost use Rattle.operations.specs.Words.{bits_of};
 ghost use Rattle.span_verifier.specs.Rules.{move_rule, near_rule, sum_rule};
 ghost use Rattle.spans.specs.Frame.{IsKind};
 ghost use Rattle.spans.specs.Span.{IsSpan};
-ghost use Rattle.spans.specs.Leaving.{low_span, moved_kind, moved_reach, moved_span, near_place, summed_kind};
+ghost use Rattle.spans.specs.Ways.{low_span, moved_kind, moved_reach, moved_span, near_place, summed_kind};
 
 use crate::distance::{changed, further};
 use crate::results::{bounded, result, whole};

@@ -24,13 +24,13 @@ use Rattle.spans.specs.Span.{IsSpan, Span, bounded, one, ones, result_span, span
 use Rattle.spans.specs.Narrowing.{SpanPair, is_one, not_negative, opposite, shown, swapped, unless_empty, where_at_most, where_less, where_met, where_signed}
 use Rattle.spans.specs.Frame.{Frame, IsFrame, IsKind, Kind, Num, Place, Reach, Unset, with_kind}
 use Rattle.spans.specs.Access.{is_reached, loaded_kind, stored_frame, whole_word, wiped, word_kind, written_frame}
-use Rattle.spans.specs.Leaving.{AluForm, Computes, Copies, Gives, Moves, Sets, Sums, Ways, alu_form, behind_helper, extended_span, from_span, from_spans, low_span, moved_kind, moved_reach, moved_span, narrowed_frame, near_place, operand_kind, result_kind, set_kind, summed_kind}
+use Rattle.spans.specs.Ways.{AluForm, Computes, Copies, Gives, Moves, Sets, Sums, Ways, alu_form, behind_helper, extended_span, from_span, from_spans, low_span, moved_kind, moved_reach, moved_span, narrowed_frame, near_place, operand_kind, result_kind, set_kind, summed_kind}
 use Rattle.spans.specs.Laws.{IsClosed, IsWay}
 use Rattle.spans.proofs.Tests.{parts}
-use Rattle.spans.proofs.Growing.{powers, quotients, ones-below}
+use Rattle.spans.proofs.Growth.{powers, quotients, ones-below}
 use Rattle.spans.proofs.Narrowing.{WithinWay, where_met-inside}
 use Rattle.spans.proofs.Monotone.{low_span-is, operand-is}
-use Rattle.spans.proofs.Fitting.{size-is}
+use Rattle.spans.proofs.Fits.{size-is}
 
 -- ---- spans
 

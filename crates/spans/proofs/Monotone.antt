@@ -24,11 +24,11 @@ use Rattle.spans.specs.Span.{IsSpan, Span, Within, one, result_span, span, whole
 use Rattle.spans.specs.Narrowing.{SpanPair, opposite, shown, where_met}
 use Rattle.spans.specs.Frame.{Frame, IsFrame, IsKind, Kind, Leq, LeqKind, Num, Place, Reach, Unset, WithinReach, with_kind}
 use Rattle.spans.specs.Access.{is_inside, is_reached, loaded_kind, region_size, stored_frame}
-use Rattle.spans.specs.Leaving.{AluForm, Computes, Copies, Gives, HasArguments, HasPayload, HasSized, LeqWay, Moves, Sets, Sums, Ways, alu_form, behind_helper, extended_span, from_span, from_spans, low_span, moved_kind, moved_reach, moved_span, narrowed_frame, near_place, operand_kind, result_kind, set_kind, summed_kind, way}
+use Rattle.spans.specs.Ways.{AluForm, Computes, Copies, Gives, HasArguments, HasPayload, HasSized, LeqWay, Moves, Sets, Sums, Ways, alu_form, behind_helper, extended_span, from_span, from_spans, low_span, moved_kind, moved_reach, moved_span, narrowed_frame, near_place, operand_kind, result_kind, set_kind, summed_kind, way}
 use Rattle.spans.specs.Laws.{IsMonotone}
 use Rattle.spans.proofs.Tests.{parts, both}
 use Rattle.spans.proofs.Order.{within-refl}
-use Rattle.spans.proofs.Growing.{by_tests, bounded-grows, powers, in_whole, result_span-grows}
+use Rattle.spans.proofs.Growth.{by_tests, bounded-grows, powers, in_whole, result_span-grows}
 use Rattle.spans.proofs.Narrowing.{WithinWay, where_met-narrows, where_met-inside}
 use Rattle.spans.proofs.Access.{is_inside-grows, numbers-grow, num-grows, with_kind-grows, reaches, reached_by, loads-grow, stores-grow}
 

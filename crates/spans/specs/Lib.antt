@@ -2,8 +2,16 @@ pub mod Span
 pub mod Narrowing
 pub mod Frame
 pub mod Access
-pub mod Leaving
+pub mod Ways
 pub mod Configuration
 pub mod Memory
 pub mod Step
 pub mod Laws
+pub mod Concrete
+pub mod Shows
+pub mod Typing
+pub mod Calls
+pub mod Within
+pub mod Slices
+pub mod Worked
+pub mod CallLaws

@@ -3,7 +3,7 @@ use Rattle.std.proofs.Common.{◌≡◌, ℕ, ◌<◌, ◌^◌, List, [], ◌∷
 use Rattle.std.specs.List.{flat_map, AllByRecursion}
 use Rattle.packets.specs.Format.{long_bytes, payload_bytes, IsLong, IsPayload}
 use Rattle.packets.specs.Kept.{word_bytes}
-use Rattle.packets.specs.Inside.Reading.{◌>>=◌, Reader, byte_at, number_at, payload_at, both, times, whole}
+use Rattle.packets.specs.Inside.Reader.{◌>>=◌, Reader, byte_at, number_at, payload_at, both, times, whole}
 use Rattle.packets.proofs.Codecs.{IsBytes, bind_ok, ok_is, Codec, back_4, number_codec, byte_codec, payload_codec, mapped_codec, both_codec, word_then, times_codec, counted_codec, whole_found, whole_again}
 use Rattle.stores.specs.declared.change.Output.{Output}
 use Rattle.stores.specs.declared.stored.StoredEntry.{StoredEntry}
@@ -12,7 +12,7 @@ use Rattle.stores.specs.declared.stored.StoredLog.{StoredLog}
 use Rattle.stores.specs.declared.stored.Stored.{Stored}
 use Rattle.stores.specs.Format.{head_bytes, entry_bytes, log_bytes, output_bytes, stored_bytes}
 use Rattle.stores.specs.Faults.{IsHead, IsEntry, IsLog, IsOutputRoom, StoredHasRoom}
-use Rattle.stores.specs.Inside.Reading.{head_at, entry_at, entries_at, log_at, output_at, outputs_at, stored_of, stored_at}
+use Rattle.stores.specs.Inside.Reader.{head_at, entry_at, entries_at, log_at, output_at, outputs_at, stored_of, stored_at}
 
 -- a number of four bytes
 pub quad_codec : Codec ℕ (λ n. n < 256 ^ 4) (λ n. word_bytes n) (number_at 4)

@@ -19,7 +19,7 @@ use Rattle.stores.specs.declared.store_fault.StoreFault.{StoreFault}
 use Rattle.stores.specs.declared.store_fault.StoreFault.TheVariants.{Short, Magic, Checksum, Count, Zeros, Fields, Range}
 use Rattle.stores.specs.Format.{store_magic, head_bytes, log_bytes, output_bytes, stored_bytes, stored_unsealed, sealed_bytes}
 use Rattle.stores.specs.Faults.{StoredHasRoom, stored_in_range, store_fault_number, three_of, SpellsStored, HasStoreFault, IsFirstFault}
-use Rattle.stores.specs.Inside.Reading.{and_then, stored_at, read_stored, store_fields_at, count_at, store_reading}
+use Rattle.stores.specs.Inside.Reader.{and_then, stored_at, read_stored, store_fields_at, count_at, store_reading}
 use Rattle.stores.proofs.StoredCodecs.{IsStoredBody, stored_found, stored_again}
 
 -- ---- steps

@@ -11,10 +11,10 @@ ghost use Rattle.stores.specs.Laws.{AreLater};
 use crate::changes::decode_changes;
 use crate::changes_fault::ChangesError;
 use crate::fault::ApplyError;
-use crate::reading::decode_store;
+use crate::reader::decode_store;
 use crate::store::Store;
 use crate::store_fault::StoreError;
-use crate::writing::encode_store;
+use crate::writer::encode_store;
 use std::alloc::{AllocError, Global};
 use thiserror::Error;
 

@@ -25,11 +25,11 @@ mod fault;
 mod fields;
 mod laws;
 mod peer;
-mod reading;
+mod reader;
 mod store;
 mod store_fault;
 mod stored;
-mod writing;
+mod writer;
 
 pub use change::{Change, Output};
 pub use changes::{decode_changes, encode_changes};
@@ -39,7 +39,7 @@ pub use laws::{
     LaterError, changes_join, later_bytes, one_list, one_store, same_bytes_again, store_again,
 };
 pub use peer::{Logged, Peer};
-pub use reading::decode_store;
+pub use reader::decode_store;
 pub use store::Store;
 pub use store_fault::{StoreError, StoreFault};
-pub use writing::encode_store;
+pub use writer::encode_store;

@@ -11,7 +11,7 @@ use crate::style::Style;
 use indexmap::IndexMap;
 use scenario::Process;
 use std::alloc::AllocError;
-use trace::name_at;
+use scenario::name_at;
 
 /// The value of a field.
 #[derive(Clone, Copy, Debug)]

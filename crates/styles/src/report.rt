@@ -2,13 +2,13 @@
 
 ghost use Rattle.std.specs.Prelude.{◌≡◌, ◌++◌, OnOk, string_bytes};
 ghost use Rattle.scenario.specs.Hex.{hex_text};
-ghost use Rattle.trace.specs.Report.{phase_text};
+ghost use Rattle.scenario.specs.Report.{phase_text};
 ghost use Rattle.styles.specs.Lines.{exact_text, output_text, process_text, quoted, counted, refused_text};
 ghost use Rattle.styles.specs.Style.{style_of};
 
 use crate::style::Style;
 use std::alloc::AllocError;
-use trace::Hex;
+use scenario::Hex;
 use world::PhaseName;
 
 /// The word of a phase.
@@ -82,7 +82,7 @@ impl Style<'_> {
         ensures { OnOk result (string_bytes out.new ≡ string_bytes out.old ++ process_text (style_of self.entry) name.now phase length state.now) }
     {
         if !self.json {
-            return trace::push_process(out, name, phase, length, state);
+            return scenario::push_process(out, name, phase, length, state);
         }
         push_quoted(out, "{", "process", name)?;
         push_quoted(out, ",", "phase", phase_word(phase))?;
@@ -103,7 +103,7 @@ impl Style<'_> {
         ensures { OnOk result (string_bytes out.new ≡ string_bytes out.old ++ output_text (style_of self.entry) name.now ssn payload.now) }
     {
         if !self.json {
-            return trace::push_output(out, name, ssn, payload);
+            return scenario::push_output(out, name, ssn, payload);
         }
         push_quoted(out, "{", "output", name)?;
         push_counted(out, "ssn", ssn)?;
@@ -116,7 +116,7 @@ impl Style<'_> {
         ensures { OnOk result (string_bytes out.new ≡ string_bytes out.old ++ exact_text (style_of self.entry) exact) }
     {
         if !self.json {
-            return trace::push_exact(out, exact);
+            return scenario::push_exact(out, exact);
         }
         writeln!(out, "{{\"exact\":{exact}}}")
     }

@@ -6,7 +6,7 @@ use Rattle.cli.specs.Asks.{AsksFor}
 use Rattle.image_commands.specs.Fault.{status_of, Tells}
 use Rattle.image_commands.specs.Files.{Content, Sameness}
 use Rattle.image_commands.specs.Hints.{command_in, has_hints}
-use Rattle.image_commands.specs.Ending.{HasFault, IsEnd, IsHalf}
+use Rattle.image_commands.specs.Ends.{HasFault, IsEnd, IsHalf}
 use Rattle.image_commands.specs.declared.fault.Fault.{Fault}
 use Rattle.image_commands.specs.declared.fault.Fault.TheVariants.{Memory}
 use Rattle.tracer.specs.Inside.{EndsShort}

@@ -1,11 +1,11 @@
 -- How many processes a scenario has.
 use Rattle.std.proofs.Common.{ℕ, List, arith}
 use Rattle.handlers.specs.Image.{TheImage}
-use Rattle.machine.specs.Opening.{AreFew}
+use Rattle.machine.specs.Openings.{AreFew}
 use Rattle.scenario.specs.declared.order.Allowed.{Allowed}
 use Rattle.scenario.specs.declared.scenario.Scenario.{Scenario}
 use Rattle.image_commands.specs.Files.{Content}
-use Rattle.image_commands.specs.Loading.{IsLoadedAs}
+use Rattle.image_commands.specs.Loads.{IsLoadedAs}
 use Rattle.image_commands.proofs.LoadLemmas.{as_many, one_or_more}
 
 -- a session can have them

@@ -7,7 +7,7 @@ use Rattle.runner.specs.Run.{IsChronicle}
 use Rattle.scenario.specs.declared.order.Allowed.TheVariants.{All}
 use Rattle.scenario.specs.declared.scenario.Scenario.{Scenario}
 use Rattle.image_commands.specs.Files.{Content}
-use Rattle.image_commands.specs.Loading.{IsScenarioWithImages}
+use Rattle.image_commands.specs.Loads.{IsScenarioWithImages}
 
 -- the bytes are a scenario, and its orders lead with the images of its processes to a run with a picture of this text: of all packets, or of
 -- messages alone

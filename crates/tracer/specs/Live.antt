@@ -7,7 +7,7 @@ use Rattle.scenario.specs.Process.{names_of}
 use Rattle.scenario.specs.declared.order.Allowed.TheVariants.{Inputs}
 use Rattle.scenario.specs.declared.scenario.Scenario.{Scenario}
 use Rattle.image_commands.specs.Files.{Content}
-use Rattle.image_commands.specs.Loading.{IsScenarioWithImages}
+use Rattle.image_commands.specs.Loads.{IsScenarioWithImages}
 
 -- the bytes are a scenario of inputs, and so many workers, each with this budget, leave this text of it with the images of its processes
 pub record IsLiveText (content : Content) (workers budget : ℕ) (bytes text : List ℕ) : Type 0 where

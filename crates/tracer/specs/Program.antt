@@ -4,7 +4,7 @@ use Rattle.std.specs.Io.KnownBytes.{Appends}
 use Rattle.std.specs.String.{string_bytes}
 use Rattle.cli.specs.Asks.{AsksFor, IsRefusal, own_input_text, Order, Run, Tell, Live, Draw, Check, Explain, Why, Asm, Pack, Dis, Native}
 use Rattle.cli.specs.declared.refusal.Refusal.TheVariants as refusal
-use Rattle.ordered_images.specs.declared.blocks.Blocks.{Blocks}
+use Rattle.block_order.specs.declared.blocks.Blocks.{Blocks}
 use Rattle.rule_pages.specs.Page.{page_text}
 use Rattle.scenario.specs.Scenario.{IsScenario}
 use Rattle.scenario.specs.declared.order.Allowed.TheVariants.{All, Inputs}
@@ -18,7 +18,7 @@ use Rattle.image_commands.specs.Files.{Content, IsWritten, Sameness}
 use Rattle.image_commands.specs.Hints.{command_in, has_hints}
 use Rattle.image_commands.specs.Native.{IsMachineCode}
 use Rattle.image_commands.specs.Pack.{IsPacked, IsUnpacked}
-use Rattle.image_commands.specs.Loading.{IsImagePath, IsUnloadable}
+use Rattle.image_commands.specs.Loads.{IsImagePath, IsUnloadable}
 use Rattle.image_commands.specs.declared.fault.Fault.{Fault}
 use Rattle.image_commands.specs.declared.fault.Fault.TheVariants.{Usage, Memory, InputOutput}
 use Rattle.tracer.specs.Draw.{IsDrawn}

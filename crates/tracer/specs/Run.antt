@@ -6,7 +6,7 @@ use Rattle.scenario.specs.Process.{names_of}
 use Rattle.scenario.specs.declared.order.Allowed.TheVariants.{All}
 use Rattle.scenario.specs.declared.scenario.Scenario.{Scenario}
 use Rattle.image_commands.specs.Files.{Content}
-use Rattle.image_commands.specs.Loading.{IsScenarioWithImages}
+use Rattle.image_commands.specs.Loads.{IsScenarioWithImages}
 
 -- the bytes are a scenario, whose run with the images of its processes has this text
 pub record IsRunText (content : Content) (bytes text : List ℕ) : Type 0 where

@@ -1,12 +1,12 @@
 -- The command `run` in another style (docs/FORMATS.md, "Other ways to print a run").
 use Rattle.std.specs.Prelude.{ℕ, Bool, List}
 use Rattle.handlers.specs.Image.{TheImage}
-use Rattle.runner.specs.Telling.{IsTelling}
+use Rattle.runner.specs.Reports.{IsTelling}
 use Rattle.scenario.specs.Process.{names_of}
 use Rattle.scenario.specs.declared.order.Allowed.TheVariants.{All}
 use Rattle.scenario.specs.declared.scenario.Scenario.{Scenario}
 use Rattle.image_commands.specs.Files.{Content}
-use Rattle.image_commands.specs.Loading.{IsScenarioWithImages}
+use Rattle.image_commands.specs.Loads.{IsScenarioWithImages}
 
 -- the bytes are a scenario, whose run with the images of its processes has this text: in JSON or not, and with names or not
 pub record IsToldText (content : Content) (json named : Bool) (bytes text : List ℕ) : Type 0 where

@@ -17,10 +17,10 @@
 //! ```
 #![tactic(auto)]
 
-mod drawing;
-mod living;
+mod draw;
+mod live_runs;
 mod program;
-mod telling;
+mod styled_runs;
 
 pub use image_commands::{Accepted, Failure, Fault, Files, Reason, Stream, Usage, Written};
 pub use program::{sblog, sblog_alone};

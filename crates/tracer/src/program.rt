@@ -7,9 +7,9 @@ ghost use Rattle.image_commands.specs.declared.fault.Fault.TheVariants.{Memory};
 ghost use Rattle.tracer.specs.Inside.{EndsShort, IsWriteFault};
 ghost use Rattle.tracer.specs.Program.{IsAnswer, IsAnswered, IsCause, IsDone, IsFault, IsHalfPrinted, IsShort, IsTold, Leaves};
 
-use crate::drawing::draw_scenario;
-use crate::living::live_scenario;
-use crate::telling::tell_scenario;
+use crate::draw::draw_scenario;
+use crate::live_runs::live_scenario;
+use crate::styled_runs::tell_scenario;
 use cli::{Request, parse_words};
 use hints::command_words;
 use image_commands::{

@@ -14,7 +14,7 @@ use Rattle.regtypes.specs.declared.frame.Frame.{Frame}
 use Rattle.regtypes.specs.declared.rule.Rule.{Rule}
 use Rattle.regtypes.specs.Frame.{entry_frame, Leq}
 use Rattle.regtypes.specs.Rules.{Tests, first_broken, tests_of}
-use Rattle.regtypes.specs.Leaving.{shown, next, taken}
+use Rattle.regtypes.specs.Ways.{shown, next, taken}
 use Rattle.decode.specs.declared.insn.Insn.TheVariants.{Alu, MovSx, Neg, End, Jump, JumpLong, JumpIf, Call, Exit, Load, LoadSx, StoreReg, StoreImm, Wide}
 use Rattle.regtypes.specs.declared.flow.Flow.{Flow}
 use Rattle.regtypes.specs.declared.flow.Flow.TheVariants.{Ends, Leaps, Forks, Falls}

@@ -5,4 +5,4 @@ pub mod Places
 pub mod RuleLemmas
 pub mod OpsWithin
 pub mod Translated
-pub mod Sparing
+pub mod Spares

@@ -16,24 +16,24 @@
 //! ```
 #![tactic(auto)]
 
-mod compiling;
+mod compilation;
 mod fault;
-mod framing;
+mod pass;
 mod header;
 mod image;
-mod judging;
+mod judgement;
 mod laws;
 mod layout;
-mod loading;
-mod storing;
-mod translating;
-mod verifying;
+mod loader;
+mod writer;
+mod translation;
+mod verification;
 
 pub use fault::{HeaderFault, ImageError, VerifyError};
-pub use framing::{Frames, frames_of};
+pub use pass::{Frames, frames_of};
 pub use header::{FileHeader, header_at};
 pub use image::Image;
 pub use laws::{file_refusals_are_one, refusals_are_one};
-pub use loading::{load, parts};
-pub use storing::file;
-pub use verifying::{verify, verify_form};
+pub use loader::{load, parts};
+pub use writer::file;
+pub use verification::{verify, verify_form};

@@ -5,7 +5,7 @@ use Rattle.std.proofs.lemmas.List.{get_or-set_other}
 use Rattle.std.proofs.lemmas.List.Sums.{sum_by-append}
 use Rattle.limits.specs.declared.TheConstants.{SEATS, WORKERS}
 use Rattle.sessions.specs.Seats.{TheSeat, IsWhole, answered_by, listed, seat_at, seats_from}
-use Rattle.workers.specs.Running.{manned, unmanned}
+use Rattle.workers.specs.Runs.{manned, unmanned}
 
 -- they depend on the places of their workers alone
 seats_from-same : (xs ys : List (Option TheSeat)) (k n : ℕ) → ((j : ℕ) → k ≤ j → j < k + n → seat_at xs j ≡ seat_at ys j) → seats_from xs k n ≡ seats_from ys k n

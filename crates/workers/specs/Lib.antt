@@ -1,3 +1,3 @@
 pub mod Shares
 pub mod Continues
-pub mod Running
+pub mod Runs

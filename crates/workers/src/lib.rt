@@ -18,19 +18,19 @@
 //! ```
 #![tactic(auto)]
 
-mod closing;
-mod feeding;
-mod running;
+mod end;
+mod feed;
+mod runs;
 mod shared;
 mod turn;
 mod turnstile;
-mod working;
+mod work;
 
-pub use closing::{Closed, close};
-pub use feeding::Item;
-pub use running::{RunError, run};
+pub use end::{Closed, close};
+pub use feed::Item;
+pub use runs::{RunError, run};
 pub use sessions::{Done, End, Job, Share};
 pub use shared::Shared;
 pub use turn::Turn;
 pub use turnstile::{Open, Turnstile};
-pub use working::worker;
+pub use work::worker;

@@ -4,7 +4,7 @@ use Rattle.checkpoint.specs.declared.form.Form.TheVariants.{Second}
 use Rattle.checkpoint.specs.declared.fault.SavedFault.{SavedFault}
 use Rattle.checkpoint.specs.Saved.{TheSaved}
 use Rattle.checkpoint.specs.Format.{IsCheckpoint}
-use Rattle.checkpoint.specs.Reading.{reading}
+use Rattle.checkpoint.specs.Reader.{reading}
 
 -- the process that was read; an empty one for bytes that are no checkpoint
 abbrev pub read_of : Result TheSaved SavedFault → TheSaved

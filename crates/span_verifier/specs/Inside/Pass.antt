@@ -7,11 +7,11 @@ use Rattle.decode.specs.Slots.{insn_at, size_of}
 use Rattle.regtypes.specs.declared.rule.Rule.{Rule}
 use Rattle.spans.specs.declared.cells.Cells.{Cells}
 use Rattle.spans.specs.Frame.{Frame, joined, entry_frame}
-use Rattle.spans.specs.Leaving.{Ways}
-use Rattle.span_calls.specs.Typing.{Table, target}
-use Rattle.span_verifier.specs.declared.leaving.Leaving.{Leaving}
+use Rattle.spans.specs.Ways.{Ways}
+use Rattle.spans.specs.Typing.{Table, target}
+use Rattle.span_verifier.specs.declared.ways.Leaving.{Leaving}
 use Rattle.span_verifier.specs.Transfer.{frames_of}
-use Rattle.span_verifier.specs.Leaving.{ways}
+use Rattle.span_verifier.specs.Ways.{ways}
 use Rattle.span_verifier.specs.Least.{IsLeast, StopsAt}
 use Rattle.span_verifier.specs.Typing.{broken_at, span_form, table_of}
 

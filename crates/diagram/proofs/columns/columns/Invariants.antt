@@ -1,6 +1,6 @@
 use Rattle.std.proofs.Common.{◌≡◌, fold, take}
 use Rattle.diagram.specs.Columns.{behind, unmoved}
-use Rattle.diagram.specs.Standing.{run_of, standing_of}
+use Rattle.diagram.specs.Moments.{run_of, standing_of}
 use Rattle.diagram.proofs.columns.columns.Given as goal
 
 abbrev pub invariant-loop-moment : goal.invariant-loop-moment

@@ -6,7 +6,7 @@ use Rattle.interp.specs.Flat.{part, Holds, entry_in}
 use Rattle.interp.proofs.FlatCalls.{filled_with}
 use Rattle.embed.specs.Arrays.{flat_image}
 use Rattle.embed.specs.Calls.{IsReported, AreReported}
-use Rattle.embed.proofs.Calls.{Reported, none_reported, reported_more, all_reported}
+use Rattle.embed.proofs.CallLemmas.{Reported, none_reported, reported_more, all_reported}
 use Rattle.embed.proofs.array.call_each.Goals as goal
 
 pub calls-init : goal.calls-init

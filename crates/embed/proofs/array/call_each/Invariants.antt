@@ -1,7 +1,7 @@
 use Rattle.regtypes.specs.declared.frame.Region.TheVariants.{State}
 use Rattle.interp.specs.Flat.{part, IsSpent}
 use Rattle.embed.specs.Arrays.{flat_image}
-use Rattle.embed.proofs.Calls.{Reported}
+use Rattle.embed.proofs.CallLemmas.{Reported}
 use Rattle.embed.proofs.array.call_each.Given as goal
 
 abbrev pub invariant-calls : goal.invariant-calls

@@ -42,9 +42,9 @@ use Rattle.embed.specs.contracts.handler.Handler.{the_row}
 use Rattle.embed.specs.contracts.loose.Loose as loose
 use Rattle.embed.proofs.Lent.{tested}
 use Rattle.embed.proofs.Loosened.{both, loose_good, loose_in}
-use Rattle.embed.specs.contracts.opening.close as of
-use Rattle.embed.proofs.opening.close.Symbol.{name as #close}
-use Rattle.embed.proofs.opening.close.Met as of_thm
+use Rattle.embed.specs.contracts.lifetime.close as of
+use Rattle.embed.proofs.lifetime.close.Symbol.{name as #close}
+use Rattle.embed.proofs.lifetime.close.Met as of_thm
 use Rattle.embed.specs.contracts.handles.sblog_close.Key.{name as key}
 use Rattle.embed.specs.contracts.handles.sblog_close as f
 use Rattle.embed.proofs.handles.sblog_close.Statement as stated

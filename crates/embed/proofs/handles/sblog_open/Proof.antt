@@ -33,10 +33,10 @@ use Rattle.std.specs.contracts.alloc.Global as heap
 use Rattle.std.proofs.alloc.Global.TheLaws as heap_laws
 use Rattle.handlers.specs.Image.{TheImage}
 use Rattle.embed.specs.Handles.{owns_image, Opens}
-use Rattle.embed.specs.contracts.opening.Opened as opened
+use Rattle.embed.specs.contracts.lifetime.Opened as opened
 use Rattle.embed.proofs.OpenedValue.{opened_out, ptr_good, word_good}
-use Rattle.embed.specs.contracts.opening.open as callee
-use Rattle.embed.proofs.opening.open.Met.{met}
+use Rattle.embed.specs.contracts.lifetime.open as callee
+use Rattle.embed.proofs.lifetime.open.Met.{met}
 use Rattle.embed.specs.contracts.handles.sblog_open as f
 use Rattle.embed.proofs.handles.sblog_open.Statement.{statement}
 use Rattle.embed.proofs.handles.sblog_open.Code as code

@@ -46,9 +46,9 @@ use Rattle.helpers.specs.declared.effects.Who.{Who}
 use Rattle.embed.proofs.Lent.{given_slice, slice_left, tested}
 use Rattle.handlers.specs.Image.{TheImage}
 use Rattle.embed.specs.contracts.handler.Handler.{the_row}
-use Rattle.embed.specs.contracts.running.run as of
-use Rattle.embed.proofs.running.run.Symbol.{name as #call}
-use Rattle.embed.proofs.running.run.Met as of_thm
+use Rattle.embed.specs.contracts.runs.run as of
+use Rattle.embed.proofs.runs.run.Symbol.{name as #call}
+use Rattle.embed.proofs.runs.run.Met as of_thm
 use Rattle.embed.specs.contracts.handles.sblog_run.Key.{name as key}
 use Rattle.embed.specs.contracts.handles.sblog_run as f
 use Rattle.embed.proofs.handles.sblog_run.Statement as stated

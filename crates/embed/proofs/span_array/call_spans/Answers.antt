@@ -3,7 +3,7 @@ use Rattle.std.specs.Prelude.{slice_range}
 use Rattle.span_interp.specs.CallArray.{HoldsEntry, state_in}
 use Rattle.embed.specs.Arrays.{span_image}
 use Rattle.embed.specs.Calls.{IsReported, AreReported}
-use Rattle.embed.proofs.Calls.{Reported, none_reported, reported_more, all_reported}
+use Rattle.embed.proofs.CallLemmas.{Reported, none_reported, reported_more, all_reported}
 use Rattle.embed.proofs.SpanRuns.{none_left}
 use Rattle.embed.proofs.span_array.call_spans.Goals as goal
 

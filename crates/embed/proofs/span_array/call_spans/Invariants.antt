@@ -1,6 +1,6 @@
 use Rattle.span_interp.specs.CallArray.{IsLeft, state_in}
 use Rattle.embed.specs.Arrays.{span_image}
-use Rattle.embed.proofs.Calls.{Reported}
+use Rattle.embed.proofs.CallLemmas.{Reported}
 use Rattle.embed.proofs.span_array.call_spans.Given as goal
 
 abbrev pub invariant-calls : goal.invariant-calls

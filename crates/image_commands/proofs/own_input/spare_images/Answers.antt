@@ -4,7 +4,7 @@ use Rattle.std.specs.Map.Iter.{deref_pair}
 use Rattle.std.specs.Option.{option_map}
 use Rattle.std.specs.Prelude.{slice_get}
 use Rattle.image_commands.specs.OwnInput.{IsOwnInput}
-use Rattle.image_commands.specs.Loading.{IsImagePath}
+use Rattle.image_commands.specs.Loads.{IsImagePath}
 use Rattle.image_commands.proofs.FaultLemmas.{becomes, own_input_of}
 use Rattle.image_commands.proofs.own_input.spare_images.Goals as goal
 

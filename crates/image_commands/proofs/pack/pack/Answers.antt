@@ -1,5 +1,5 @@
 use Rattle.std.proofs.Common.{◌≡◌, ◌≤◌, arith, inr, length, refl, rules, subst}
-use Rattle.ordered_images.specs.Ordered.{IsFileOf}
+use Rattle.block_order.specs.Ordered.{IsFileOf}
 use Rattle.verifier.specs.ImageFile.{IsUnwritten}
 use Rattle.decode.specs.Encoding.{encoding}
 use Rattle.image_commands.specs.Pack.{IsPacked, IsUnpacked}

@@ -1,6 +1,6 @@
 use Rattle.std.proofs.Common.{◌≡◌, ℕ, List, refl, subst}
 use Rattle.decode.specs.declared.insn.Insn.{Insn}
-use Rattle.span_verifier.specs.declared.framing.Frames.{Frames}
+use Rattle.span_verifier.specs.declared.pass.Frames.{Frames}
 use Rattle.span_verifier.specs.Typing.{table_of}
 use Rattle.span_verifier.specs.Verdict.{IsFramesOf}
 use Rattle.images.specs.Typed.{IsTypable}

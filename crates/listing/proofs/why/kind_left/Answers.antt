@@ -6,7 +6,7 @@ use Rattle.regtypes.specs.declared.frame.Frame.{Frame}
 use Rattle.regtypes.specs.declared.frame.Kind.{Kind}
 use Rattle.regtypes.specs.Flow.{flow_of}
 use Rattle.regtypes.specs.Frame.{kind_at}
-use Rattle.regtypes.specs.Leaving.{after}
+use Rattle.regtypes.specs.Ways.{after}
 use Rattle.regtypes.specs.Typing.{frame_at}
 use Rattle.listing.specs.Inside.Arrives.{LeadsTo}
 use Rattle.listing.specs.Why.{Leaves}

@@ -5,7 +5,7 @@ use Rattle.handlers.specs.Image.{image_in}
 use Rattle.sessions.specs.Journal.{TheSession}
 use Rattle.sessions.specs.Seats.{IsWhole}
 use Rattle.scenario.specs.Process.{names_of}
-use Rattle.workers.specs.Running.{CanRun}
+use Rattle.workers.specs.Runs.{CanRun}
 use Rattle.live.specs.Inside.{ended_of}
 use Rattle.live.proofs.LiveLemmas.{Leave, live_by, whole_new}
 use Rattle.live.proofs.run.live_in.Goals as goal

@@ -5,7 +5,7 @@ use Rattle.interp.specs.Words.{AreBytes}
 use Rattle.x86.specs.Machine.{Flags, Word, value}
 use Rattle.native.specs.Correct.{IsCalled}
 use Rattle.native.specs.Worked.{called}
-use Rattle.native.proofs.Telling.{le_word}
+use Rattle.native.proofs.Reports.{le_word}
 use Rattle.native.proofs.rows.calls_can_be_made.Goals as goal
 
 module _ (who : Who) (m : ℕ) (word : ℕ → ℕ) (long : List ℕ) (flags : Flags) (mem : List ℕ) (steps : ℕ) (rest : List ℕ) (len : m ≤ PAYLOAD_BYTES) (fits : (r : ℕ) → word r < 2 ^ 64) where

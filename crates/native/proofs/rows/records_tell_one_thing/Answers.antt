@@ -1,4 +1,4 @@
-use Rattle.native.proofs.Telling.{tells_one}
+use Rattle.native.proofs.Reports.{tells_one}
 use Rattle.native.proofs.rows.records_tell_one_thing.Goals as goal
 
 pub returns : goal.returns

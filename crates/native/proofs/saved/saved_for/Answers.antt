@@ -1,4 +1,4 @@
-use Rattle.native.proofs.Keeping.{saves_more}
+use Rattle.native.proofs.Preservation.{saves_more}
 use Rattle.native.proofs.saved.saved_for.Goals as goal
 
 pub returns-in-Placed-clause-all : goal.returns-in-Placed-clause-all

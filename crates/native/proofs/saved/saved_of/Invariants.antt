@@ -1,4 +1,4 @@
-use Rattle.native.proofs.Keeping.{KeptTo}
+use Rattle.native.proofs.Preservation.{KeptTo}
 use Rattle.native.proofs.saved.saved_of.Given as goal
 
 abbrev pub invariant-loop-task : goal.invariant-loop-task

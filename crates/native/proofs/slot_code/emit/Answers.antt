@@ -6,7 +6,7 @@ use Rattle.native.specs.Tasks.{is_apt}
 use Rattle.native.specs.Code.{Emits, Serves, IsBalanced}
 use Rattle.native.specs.Laid.{Fuses, ServesBy}
 use Rattle.native.specs.SlotTasks.{task_at}
-use Rattle.native.proofs.Fusing.{fused_balanced}
+use Rattle.native.proofs.FusionLemmas.{fused_balanced}
 use Rattle.native.proofs.slot_code.emit.Goals as goal
 
 pub returns-in-Some : goal.returns-in-Some

@@ -1,4 +1,4 @@
-use Rattle.node.proofs.Keeping.{kept-stays}
+use Rattle.node.proofs.Preservation.{kept-stays}
 use Rattle.node.proofs.laws.kept_stays.Goals as goal
 
 pub returns : goal.returns

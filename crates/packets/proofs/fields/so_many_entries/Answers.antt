@@ -1,7 +1,7 @@
 use Rattle.std.proofs.Common.{◌≡◌, ℕ, List, ◌++◌, ◌∷◌, [], ap, ◌∙◌}
 use Rattle.std.proofs.lemmas.Result.{err_from_is_err_and}
 use Rattle.packets.specs.declared.page.Entry.{Entry}
-use Rattle.packets.specs.Inside.Reading.{entry_at, times}
+use Rattle.packets.specs.Inside.Reader.{entry_at, times}
 use Rattle.packets.proofs.Counted.{goes_on, ends, is_done}
 use Rattle.packets.proofs.fields.so_many_entries.Goals as goal
 

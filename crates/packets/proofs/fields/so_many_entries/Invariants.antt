@@ -1,5 +1,5 @@
 use Rattle.std.proofs.Common.{◌≡◌, ◌-◌}
-use Rattle.packets.specs.Inside.Reading.{entry_at, times}
+use Rattle.packets.specs.Inside.Reader.{entry_at, times}
 use Rattle.packets.proofs.Counted.{with_front}
 use Rattle.packets.proofs.fields.so_many_entries.Given as goal
 

@@ -1,5 +1,5 @@
 use Rattle.std.proofs.lemmas.Result.{err_from_is_err_and}
-use Rattle.packets.specs.Inside.Reading.{pair_at, times}
+use Rattle.packets.specs.Inside.Reader.{pair_at, times}
 use Rattle.packets.proofs.Counted.{goes_on, ends, is_done}
 use Rattle.packets.proofs.fields.so_many_pairs.Goals as goal
 

@@ -1,5 +1,5 @@
 use Rattle.std.proofs.Common.{◌≡◌, ◌-◌}
-use Rattle.packets.specs.Inside.Reading.{pair_at, times}
+use Rattle.packets.specs.Inside.Reader.{pair_at, times}
 use Rattle.packets.proofs.Counted.{with_front}
 use Rattle.packets.proofs.fields.so_many_pairs.Given as goal
 

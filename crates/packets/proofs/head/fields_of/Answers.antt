@@ -5,7 +5,7 @@ use Rattle.std.proofs.lemmas.Bool.{le-ltb, eq-eqb}
 use Rattle.byteorder.specs.Endian.{little_number}
 use Rattle.packets.specs.Checksum.{crc32c}
 use Rattle.packets.specs.Format.{magic}
-use Rattle.packets.specs.Inside.Reading.{fields_at}
+use Rattle.packets.specs.Inside.Reader.{fields_at}
 use Rattle.packets.proofs.head.fields_of.Goals as goal
 
 pub returns-clause-exact : goal.returns-clause-exact

@@ -1,4 +1,4 @@
-use Rattle.recovery.proofs.Writing.{kept-revives}
+use Rattle.recovery.proofs.Writes.{kept-revives}
 use Rattle.recovery.proofs.laws.kept_revives.Goals as goal
 
 pub returns : goal.returns

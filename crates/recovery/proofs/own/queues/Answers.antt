@@ -1,7 +1,7 @@
 use Rattle.std.proofs.Common.{◌≡◌, ◌+◌, List, subst}
 use Rattle.std.specs.Prelude.{Some, slice_get}
 use Rattle.packets.specs.declared.kept.KeptLog.{KeptLog}
-use Rattle.recovery.proofs.Keeping.{get-taken, get-dropped}
+use Rattle.recovery.proofs.Preservation.{get-taken, get-dropped}
 use Rattle.recovery.proofs.own.queues.Goals as goal
 
 pub add-requires : goal.add-requires

@@ -1,6 +1,6 @@
 use Rattle.std.proofs.Common.{◌≡◌, length}
 use Rattle.spans.specs.Frame.{kind_at}
-use Rattle.span_verifier.proofs.Wiping.{Wiped}
+use Rattle.span_verifier.proofs.Erasure.{Wiped}
 use Rattle.span_verifier.proofs.access.wiped.Given as goal
 
 abbrev pub invariant-loop-cell : goal.invariant-loop-cell

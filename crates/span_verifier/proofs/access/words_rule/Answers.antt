@@ -1,7 +1,7 @@
 use Rattle.std.proofs.Common.{sym, ap, ◌∙◌, w16, to_z, of_z}
 use Rattle.spans.specs.Frame.{kind_at}
 use Rattle.span_verifier.specs.Rules.{lesser}
-use Rattle.span_verifier.proofs.Wiping.{words_none, words_one, words_skip}
+use Rattle.span_verifier.proofs.Erasure.{words_none, words_one, words_skip}
 use Rattle.span_verifier.proofs.access.words_rule.Goals as goal
 use Rattle.span_verifier.proofs.access.words_rule.Goals.{then-is_reached, else-is_reached}
 

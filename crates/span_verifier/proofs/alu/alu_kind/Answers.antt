@@ -6,7 +6,7 @@ use Rattle.decode.specs.declared.insn.Operand.{Operand}
 use Rattle.decode.specs.declared.insn.Operand.TheVariants as operand
 use Rattle.spans.specs.declared.kind.Kind.{Kind}
 use Rattle.spans.specs.declared.kind.Kind.TheVariants.{Unset}
-use Rattle.spans.specs.Leaving.{AluForm, Computes, alu_form, result_kind}
+use Rattle.spans.specs.Ways.{AluForm, Computes, alu_form, result_kind}
 use Rattle.span_verifier.proofs.AluForms.{half_sum, other_imm, other_reg}
 use Rattle.span_verifier.proofs.alu.alu_kind.Goals as goal
 use Rattle.span_verifier.proofs.alu.alu_kind.Goals.{in_default-2-via-in-Add+in_default, in_default-2-via-in_default}

@@ -6,7 +6,7 @@ use Rattle.decode.specs.declared.insn.Operand.{Operand}
 use Rattle.decode.specs.declared.insn.Operand.TheVariants as operand
 use Rattle.regtypes.specs.declared.rule.Rule.{Rule}
 use Rattle.spans.specs.declared.kind.Kind.{Kind}
-use Rattle.spans.specs.Leaving.{AluForm, Computes, alu_form}
+use Rattle.spans.specs.Ways.{AluForm, Computes, alu_form}
 use Rattle.span_verifier.specs.Rules.{alu_rule, lesser, number_rule}
 use Rattle.span_verifier.proofs.AluForms.{half_sum, other_imm, other_reg}
 use Rattle.span_verifier.proofs.alu.alu_rule.Goals as goal

@@ -6,7 +6,7 @@ use Rattle.operations.specs.Words.{bits_of}
 use Rattle.spans.specs.declared.kind.Kind.{Kind}
 use Rattle.spans.specs.declared.kind.Kind.TheVariants.{Unset, Num}
 use Rattle.spans.specs.Frame.{IsKind}
-use Rattle.spans.specs.Leaving.{from_spans, low_span}
+use Rattle.spans.specs.Ways.{from_spans, low_span}
 use Rattle.spans.specs.declared.span.Span.{Span}
 use Rattle.spans.specs.Span.{IsSpan, result_span}
 use Rattle.spans.proofs.Monotone.{low_span-is}

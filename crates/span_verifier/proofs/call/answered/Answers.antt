@@ -1,7 +1,7 @@
 use Rattle.std.proofs.Common.{◌≡◌, ◌∙◌, subst, arith}
 use Rattle.std.proofs.lemmas.List.{length-set}
 use Rattle.spans.specs.Frame.{kind_at}
-use Rattle.spans.specs.Leaving.{behind_helper}
+use Rattle.spans.specs.Ways.{behind_helper}
 use Rattle.span_verifier.proofs.KindLemmas.{Filled, filled_more}
 use Rattle.span_verifier.proofs.Words.{answered_all}
 use Rattle.span_verifier.proofs.call.answered.Goals as goal

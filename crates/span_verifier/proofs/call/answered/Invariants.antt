@@ -1,6 +1,6 @@
 use Rattle.std.proofs.Common.{◌≡◌, length}
 use Rattle.spans.specs.Frame.{kind_at}
-use Rattle.spans.specs.Leaving.{behind_helper}
+use Rattle.spans.specs.Ways.{behind_helper}
 use Rattle.span_verifier.proofs.KindLemmas.{Filled}
 use Rattle.span_verifier.proofs.call.answered.Given as goal
 

@@ -1,4 +1,4 @@
-use Rattle.spans.proofs.Fitting.{preserves}
+use Rattle.spans.proofs.Fits.{preserves}
 use Rattle.spans.proofs.laws.steps_fit.Goals as goal
 
 pub returns : goal.returns

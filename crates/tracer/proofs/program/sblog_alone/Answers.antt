@@ -1,7 +1,7 @@
 use Rattle.std.proofs.Common.{ℕ, List, inl, inr, map, string_bytes, subst}
 use Rattle.std.specs.Io.KnownBytes.{Appends}
 use Rattle.image_commands.specs.Hints.{AreHints}
-use Rattle.image_commands.specs.Ending.{IsEnd, IsHalf}
+use Rattle.image_commands.specs.Ends.{IsEnd, IsHalf}
 use Rattle.tracer.proofs.EndLemmas.{cut_of, done_of, kept_of, told_of}
 use Rattle.tracer.proofs.program.sblog_alone.Goals as goal
 

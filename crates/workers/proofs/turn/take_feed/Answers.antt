@@ -1,7 +1,7 @@
 use Rattle.std.proofs.Common.{refl}
 use Rattle.world.specs.declared.call.Call.TheVariants.{Input}
 use Rattle.world.specs.declared.answer.Answer.TheVariants.{Logged}
-use Rattle.workers.proofs.Continuing.{continues-one}
+use Rattle.workers.proofs.Continuation.{continues-one}
 use Rattle.workers.proofs.turn.take_feed.Goals as goal
 
 pub returns-in-Ok-clause-session : goal.returns-in-Ok-clause-session

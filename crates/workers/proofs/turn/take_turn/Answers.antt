@@ -3,7 +3,7 @@ use Rattle.sessions.specs.Journal.{room_at, world_at}
 use Rattle.sessions.specs.Seats.{TheSeat}
 use Rattle.sessions.proofs.Driven.{may-pick}
 use Rattle.workers.specs.Continues.{Continues}
-use Rattle.workers.proofs.Continuing.{continues-one, continues-then}
+use Rattle.workers.proofs.Continuation.{continues-one, continues-then}
 use Rattle.workers.proofs.turn.take_turn.Goals as goal
 
 pub returns-clause-session : goal.returns-clause-session

@@ -2,7 +2,7 @@ use Rattle.std.proofs.Common.{refl, subst, sym}
 use Rattle.gateway.specs.Gateway.{TheGateway}
 use Rattle.gateway.specs.Stands.{Acts}
 use Rattle.gateway.specs.Since.{Since}
-use Rattle.gateway.proofs.Changing.{goes-asked}
+use Rattle.gateway.proofs.Changes.{goes-asked}
 use Rattle.gateway.proofs.gateway.Gateway.changes.Goals as goal
 
 pub returns-clause-since : goal.returns-clause-since

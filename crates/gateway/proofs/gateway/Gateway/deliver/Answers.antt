@@ -3,7 +3,7 @@ use Rattle.limits.specs.declared.TheConstants.{PAYLOAD_BYTES}
 use Rattle.stores.specs.Peer.{ThePeer, is_kept}
 use Rattle.stores.specs.Store.{peer_at}
 use Rattle.gateway.specs.Gateway.{TheGateway, peer_of}
-use Rattle.gateway.proofs.Keeping.{kept-within}
+use Rattle.gateway.proofs.Preservation.{kept-within}
 use Rattle.gateway.proofs.Sendable.{delivery-fits}
 use Rattle.gateway.proofs.gateway.Gateway.deliver.Goals as goal
 

@@ -3,7 +3,7 @@ use Rattle.gateway.specs.Gateway.{TheGateway}
 use Rattle.gateway.specs.Stands.{Acts}
 use Rattle.gateway.specs.Since.{KeepsSince}
 use Rattle.gateway.proofs.Views.{on-ok, on-ok-two}
-use Rattle.gateway.proofs.Sending.{putting-in}
+use Rattle.gateway.proofs.Transmission.{putting-in}
 use Rattle.gateway.proofs.Since.{since-input}
 use Rattle.gateway.proofs.gateway.Gateway.input.Goals as goal
 

@@ -1,7 +1,7 @@
 use Rattle.std.proofs.Common.{rules, ◌≡◌, [], replicate}
 use Rattle.stores.specs.Peer.{no_peer}
 use Rattle.stores.specs.Store.{TheStore}
-use Rattle.gateway.proofs.Opening.{stands-opened}
+use Rattle.gateway.proofs.Openings.{stands-opened}
 use Rattle.gateway.proofs.gateway.Gateway.open.Goals as goal
 
 pub returns-clause-stands : goal.returns-clause-stands

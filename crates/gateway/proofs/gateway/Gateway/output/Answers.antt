@@ -3,7 +3,7 @@ use Rattle.gateway.specs.Gateway.{TheGateway}
 use Rattle.gateway.specs.Stands.{Acts}
 use Rattle.gateway.specs.Since.{KeepsSince}
 use Rattle.gateway.proofs.Views.{on-ok}
-use Rattle.gateway.proofs.Sending.{handing-out}
+use Rattle.gateway.proofs.Transmission.{handing-out}
 use Rattle.gateway.proofs.Since.{since-output}
 use Rattle.gateway.proofs.gateway.Gateway.output.Goals as goal
 

@@ -3,7 +3,7 @@ use Rattle.gateway.specs.Gateway.{TheGateway}
 use Rattle.gateway.specs.Stands.{IsHanded}
 use Rattle.gateway.specs.Since.{KeepsSince}
 use Rattle.gateway.proofs.Views.{on-ok}
-use Rattle.gateway.proofs.Handing.{handed-so}
+use Rattle.gateway.proofs.Handover.{handed-so}
 use Rattle.gateway.proofs.Since.{since-handed}
 use Rattle.gateway.proofs.gateway.Gateway.receive.Goals as goal
 

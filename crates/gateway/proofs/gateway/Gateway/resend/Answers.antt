@@ -4,7 +4,7 @@ use Rattle.std.proofs.lemmas.Grind.{common_steps}
 use Rattle.stores.specs.Peer.{ThePeer, number_of, last_of}
 use Rattle.stores.specs.Store.{peer_at}
 use Rattle.gateway.specs.Gateway.{TheGateway, peer_of, delivers, delivers_each, resent, unnumbered}
-use Rattle.gateway.proofs.Sending.{resent-some, resent-none}
+use Rattle.gateway.proofs.Transmission.{resent-some, resent-none}
 use Rattle.gateway.proofs.gateway.Gateway.resend.Goals as goal
 use Rattle.gateway.proofs.gateway.Gateway.resend.Goals.{then-is_none, else-is_none}
 

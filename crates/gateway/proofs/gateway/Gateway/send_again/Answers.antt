@@ -1,6 +1,6 @@
 use Rattle.std.proofs.Common.{ap, ◌∙◌, ◌+◌}
 use Rattle.gateway.specs.Gateway.{TheGateway, resent}
-use Rattle.gateway.proofs.Sending.{store-resent, ticked-more}
+use Rattle.gateway.proofs.Transmission.{store-resent, ticked-more}
 use Rattle.gateway.proofs.gateway.Gateway.send_again.Goals as goal
 
 pub loop-before-preserved : goal.loop-before-preserved

@@ -1,6 +1,6 @@
 use Rattle.std.proofs.Common.{◌≡◌, []}
 use Rattle.gateway.specs.Written.{Waits}
-use Rattle.gateway.proofs.Taking.{some-of, takes-first}
+use Rattle.gateway.proofs.Intake.{some-of, takes-first}
 use Rattle.gateway.proofs.gateway.Gateway.take_bytes.Goals as goal
 
 pub returns-clause-some : goal.returns-clause-some

@@ -2,7 +2,7 @@ use Rattle.std.proofs.Common.{subst, sym}
 use Rattle.gateway.specs.Gateway.{TheGateway}
 use Rattle.gateway.specs.Stands.{Acts}
 use Rattle.gateway.specs.Since.{KeepsSince}
-use Rattle.gateway.proofs.Sending.{ticking}
+use Rattle.gateway.proofs.Transmission.{ticking}
 use Rattle.gateway.proofs.Since.{since-ticked}
 use Rattle.gateway.proofs.gateway.Gateway.tick.Goals as goal
 

@@ -9,8 +9,8 @@ use Rattle.machine.specs.Process.{TheProcess, idle_process, received, IsSaved}
 use Rattle.machine.specs.Mode.{is_live, is_lost}
 use Rattle.machine.specs.Fields.{view_of, AreCarried, IsLogOf, IsSoundAt}
 use Rattle.machine.specs.Simulation.{TheMachine, Steps, process_at, is_up_at}
-use Rattle.machine.proofs.Standing.{is_live-at, live-lost}
-use Rattle.machine.proofs.Checkpoints.{checkpoint-step, saved-sound}
+use Rattle.machine.proofs.Status.{is_live-at, live-lost}
+use Rattle.machine.proofs.CheckpointLemmas.{checkpoint-step, saved-sound}
 use Rattle.machine.proofs.Soundness.{sound_at, sound-set, some-of}
 use Rattle.machine.proofs.machine.Machine.checkpoint.Goals as goal
 

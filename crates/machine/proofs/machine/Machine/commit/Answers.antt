@@ -16,12 +16,12 @@ use Rattle.machine.specs.Wire.{Puts}
 use Rattle.machine.specs.Simulation.{TheMachine, Stands, Steps, process_at}
 use Rattle.machine.specs.Fields.{AreCarried, IsLogOf, IsSoundAt}
 use Rattle.machine.specs.Arrival.{IsOpen}
-use Rattle.machine.proofs.Standing.{is_live-at}
+use Rattle.machine.proofs.Status.{is_live-at}
 use Rattle.machine.proofs.JobLemmas.{opens}
 use Rattle.machine.proofs.Soundness.{sound_at, sound-set}
-use Rattle.machine.proofs.Keeping.{carried-put, keys-put}
-use Rattle.machine.proofs.Finishing.{sizes, sound, room, sound-committed}
-use Rattle.machine.proofs.Committing.{committed, is_open}
+use Rattle.machine.proofs.Preservation.{carried-put, keys-put}
+use Rattle.machine.proofs.Completion.{sizes, sound, room, sound-committed}
+use Rattle.machine.proofs.Commitment.{committed, is_open}
 use Rattle.machine.proofs.machine.Machine.commit.Goals as goal
 
 moved : (P : TheMachine → ℕ → ℕ → Type 0) {u v : TheMachine} {p q r n : ℕ} → u ≡ v → p ≡ q → r ≡ n → P v q n → P u p r

@@ -8,7 +8,7 @@ use Rattle.world.specs.Refusals.{refusal_of}
 use Rattle.machine.specs.Wire.{Puts}
 use Rattle.machine.specs.Simulation.{TheMachine, Stands}
 use Rattle.machine.specs.Fields.{view_of, IsCarried}
-use Rattle.machine.proofs.Keeping.{keys-put, sound-wire}
+use Rattle.machine.proofs.Preservation.{keys-put, sound-wire}
 use Rattle.machine.proofs.Sendings.{copied}
 use Rattle.machine.proofs.machine.Machine.copy.Goals as goal
 use Rattle.machine.proofs.machine.Machine.copy.Goals.{In_ok-new}

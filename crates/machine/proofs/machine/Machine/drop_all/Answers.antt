@@ -1,5 +1,5 @@
 use Rattle.std.proofs.Common.{arith, ◌≡◌, ◌+◌, suc, length, ap, ◌∙◌}
-use Rattle.machine.specs.Saving.{dropped_by, dropped_to, trimmed_to, without_covered}
+use Rattle.machine.specs.Checkpoints.{dropped_by, dropped_to, trimmed_to, without_covered}
 use Rattle.machine.specs.Simulation.{TheMachine}
 use Rattle.machine.proofs.Trims.{width-to}
 use Rattle.machine.proofs.machine.Machine.drop_all.Goals as goal

@@ -1,6 +1,6 @@
 use Rattle.std.proofs.Common.{◌≡◌, ◌≤◌, ◌+◌, ◌*◌, suc, length}
 use Rattle.limits.specs.declared.TheConstants.{SENDS}
-use Rattle.machine.specs.Saving.{dropped_to, trimmed_to}
+use Rattle.machine.specs.Checkpoints.{dropped_to, trimmed_to}
 use Rattle.machine.proofs.machine.Machine.drop_all.Given as goal
 
 abbrev pub invariant-loop-s : goal.invariant-loop-s

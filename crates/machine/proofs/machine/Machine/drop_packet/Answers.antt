@@ -1,7 +1,7 @@
 use Rattle.std.proofs.Common.{arith, ◌<◌, subst, sym, length}
 use Rattle.limits.specs.declared.TheConstants.{ENTRIES}
 use Rattle.machine.specs.Simulation.{TheMachine}
-use Rattle.machine.proofs.Keeping.{later, carried-put, keys-gone}
+use Rattle.machine.proofs.Preservation.{later, carried-put, keys-gone}
 use Rattle.machine.proofs.machine.Machine.drop_packet.Goals as goal
 
 pub invariant_of-self : goal.invariant_of-self

@@ -1,8 +1,8 @@
 use Rattle.std.proofs.Common.{◌≡◌, ◌≤◌, ◌++◌, length, map, take, drop, ap, ◌∙◌, arith}
 use Rattle.std.proofs.lemmas.List.{append-nil, drop_all, take_all}
 use Rattle.machine.specs.Process.{unnumbered_at}
-use Rattle.machine.proofs.Forgetting.{walked}
-use Rattle.machine.proofs.Restoring.{forgotten-sound}
+use Rattle.machine.proofs.Losses.{walked}
+use Rattle.machine.proofs.Restoration.{forgotten-sound}
 use Rattle.machine.proofs.machine.Machine.forget_after.Goals as goal
 
 pub loop-process-preserved : goal.loop-process-preserved

@@ -2,7 +2,7 @@ use Rattle.std.proofs.Common.{◌≡◌, subst, sym, ap, ◌∙◌}
 use Rattle.send_gate.specs.Gate.{TheGate}
 use Rattle.machine.specs.Process.{TheProcess}
 use Rattle.machine.specs.Simulation.{gate_at}
-use Rattle.machine.specs.Reading.{GateStands}
+use Rattle.machine.specs.Readings.{GateStands}
 use Rattle.machine.proofs.Readings.{gate-stands}
 use Rattle.machine.proofs.machine.Machine.gate.Goals as goal
 

@@ -3,7 +3,7 @@ use Rattle.world.specs.World.{World}
 use Rattle.world.specs.History.{count_of}
 use Rattle.world.specs.Answers.{judge, verdict_of}
 use Rattle.machine.specs.Simulation.{TheMachine, Stands}
-use Rattle.machine.proofs.Standing.{judged_at, judged_outside, verdict-known, verdict-next, verdict-ahead}
+use Rattle.machine.proofs.Status.{judged_at, judged_outside, verdict-known, verdict-next, verdict-ahead}
 use Rattle.machine.proofs.ReceiptLemmas.{judged-numbered}
 use Rattle.machine.proofs.machine.Machine.judge.Goals as goal
 use Rattle.machine.proofs.machine.Machine.judge.Goals.{After-shown_of-shown}

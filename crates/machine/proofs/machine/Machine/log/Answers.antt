@@ -4,7 +4,7 @@ use Rattle.std.proofs.lemmas.Bool.Decides.{nat_tests}
 use Rattle.sender_log.specs.Log.{TheLog}
 use Rattle.machine.specs.Process.{TheProcess}
 use Rattle.machine.specs.Simulation.{log_at}
-use Rattle.machine.specs.Reading.{LogStands}
+use Rattle.machine.specs.Readings.{LogStands}
 use Rattle.machine.proofs.Readings.{log-stands}
 use Rattle.machine.proofs.machine.Machine.log.Goals as goal
 

@@ -6,7 +6,7 @@ use Rattle.world.specs.World.{World}
 use Rattle.world.specs.Refusals.{refusal_of}
 use Rattle.machine.specs.Simulation.{TheMachine, Stands}
 use Rattle.machine.specs.Fields.{view_of}
-use Rattle.machine.proofs.Keeping.{keys-gone, sound-wire}
+use Rattle.machine.proofs.Preservation.{keys-gone, sound-wire}
 use Rattle.machine.proofs.Sendings.{lost}
 use Rattle.machine.proofs.machine.Machine.lose.Goals as goal
 

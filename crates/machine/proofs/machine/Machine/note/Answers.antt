@@ -7,11 +7,11 @@ use Rattle.world.specs.Answers.{target_of}
 use Rattle.machine.specs.Process.{TheProcess}
 use Rattle.machine.specs.Wire.{Puts}
 use Rattle.machine.specs.Fields.{IsCarried}
-use Rattle.machine.specs.Arriving.{Drops}
+use Rattle.machine.specs.Reception.{Drops}
 use Rattle.machine.specs.Simulation.{TheMachine, Steps, process_at, is_up_at}
 use Rattle.machine.proofs.Arrivals.{number-past, number-unlogged, noted, records-else}
-use Rattle.machine.proofs.Keeping.{later, carried-put, keys-put}
-use Rattle.machine.proofs.Standing.{key-low}
+use Rattle.machine.proofs.Preservation.{later, carried-put, keys-put}
+use Rattle.machine.proofs.Status.{key-low}
 use Rattle.machine.proofs.machine.Machine.note.Goals as goal
 use Rattle.machine.proofs.machine.Machine.note.Goals.{In-Number}
 

@@ -2,7 +2,7 @@
 use Rattle.std.proofs.Common.{◌≡◌, ℕ, ◌<◌, ◌≤◌, length, false}
 use Rattle.std.specs.Prelude.{slice_index_or}
 use Rattle.limits.specs.declared.TheConstants.{PARTIES}
-use Rattle.machine.specs.Replaying.{is_left}
+use Rattle.machine.specs.Replays.{is_left}
 use Rattle.machine.proofs.machine.Machine.peers_left.Given as goal
 
 abbrev pub invariant-loop-q : goal.invariant-loop-q

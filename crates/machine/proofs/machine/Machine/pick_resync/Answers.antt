@@ -1,6 +1,6 @@
 use Rattle.std.proofs.Common.{ℕ, arith}
 use Rattle.world.specs.declared.call.Call.TheVariants.{Resync as ResyncWith}
-use Rattle.machine.specs.Picking.{IsPick}
+use Rattle.machine.specs.Choice.{IsPick}
 use Rattle.machine.proofs.Picks.{resync-nowhere, upto-more}
 use Rattle.machine.proofs.machine.Machine.pick_resync.Goals as goal
 

@@ -2,7 +2,7 @@ use Rattle.std.proofs.Common.{ℕ, ◌<◌}
 use Rattle.world.specs.declared.call.Call.TheVariants.{Resync as ResyncWith}
 use Rattle.world.specs.World.{World}
 use Rattle.machine.specs.Simulation.{Stands}
-use Rattle.machine.specs.Picking.{IsPick}
+use Rattle.machine.specs.Choice.{IsPick}
 use Rattle.machine.proofs.machine.Machine.pick_resync.Given as goal
 
 abbrev pub invariant-loop-process : goal.invariant-loop-process

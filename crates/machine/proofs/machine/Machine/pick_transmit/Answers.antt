@@ -4,7 +4,7 @@ use Rattle.std.proofs.lemmas.Bool.Decides.{nat_tests}
 use Rattle.std.proofs.lemmas.Grind.{common_steps}
 use Rattle.limits.specs.declared.TheConstants.{PACKETS}
 use Rattle.machine.specs.Simulation.{TheMachine}
-use Rattle.machine.specs.Picking.{ArePeers, NoneWanted}
+use Rattle.machine.specs.Choice.{ArePeers, NoneWanted}
 use Rattle.machine.proofs.Picks.{pick-peers, pick-placed, useful-pick, none-is}
 use Rattle.machine.proofs.machine.Machine.pick_transmit.Goals as goal
 

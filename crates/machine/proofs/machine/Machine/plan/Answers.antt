@@ -7,7 +7,7 @@ use Rattle.sender_log.specs.Log.{TheLog}
 use Rattle.replay.specs.Plan.{ThePlan, IsPlan, found, lent}
 use Rattle.machine.specs.Outbox.{TheOutbox}
 use Rattle.machine.specs.Process.{TheProcess}
-use Rattle.machine.specs.Recovering.{logs_of}
+use Rattle.machine.specs.Recoveries.{logs_of}
 use Rattle.machine.proofs.machine.Machine.plan.Goals as goal
 
 -- one log more is lent

@@ -6,11 +6,11 @@ use Rattle.world.specs.declared.answer.Answer.TheVariants.{Kept}
 use Rattle.checkpoint.specs.Saved.{TheSaved, receipts_again}
 use Rattle.machine.specs.Outbox.{outbox_again}
 use Rattle.machine.specs.Process.{restored}
-use Rattle.machine.specs.Recovering.{SettlesAt, forgotten, recovery_of}
+use Rattle.machine.specs.Recoveries.{SettlesAt, forgotten, recovery_of}
 use Rattle.machine.specs.Simulation.{TheMachine, Steps, process_at}
 use Rattle.machine.proofs.Others.{replaced}
-use Rattle.machine.proofs.Restoring.{kept-saved, back-settles, back-shown, back-sound, count-sound}
-use Rattle.machine.proofs.Returning.{replays, settles, within_then}
+use Rattle.machine.proofs.Restoration.{kept-saved, back-settles, back-shown, back-sound, count-sound}
+use Rattle.machine.proofs.Returns.{replays, settles, within_then}
 use Rattle.machine.proofs.machine.Machine.put_back.Goals as goal
 use Rattle.machine.proofs.machine.Machine.put_back.Goals.{then-is_whole, else-is_whole}
 

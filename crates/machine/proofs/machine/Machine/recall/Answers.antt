@@ -8,13 +8,13 @@ use Rattle.replay.specs.Task.{TheTask, MayCall, IsAnswer, answer_of}
 use Rattle.replay.specs.Plan.{ThePlan}
 use Rattle.machine.specs.Process.{received, Recalls}
 use Rattle.machine.specs.Mode.{is_replayed}
-use Rattle.machine.specs.Recovering.{SettlesAt}
+use Rattle.machine.specs.Recoveries.{SettlesAt}
 use Rattle.machine.specs.Fields.{view_of}
 use Rattle.machine.specs.Simulation.{TheMachine, Steps}
 use Rattle.machine.proofs.JobLemmas.{opens}
-use Rattle.machine.proofs.Restoring.{count-sound}
-use Rattle.machine.proofs.Finishing.{sizes, sound, fits-at, next-of, undone-sound, undone-view, replays-at, recalled-sound, recalled-settles, recalled-view, recalls-at, mode-then}
-use Rattle.machine.proofs.Recalling.{works, goes-on, settles}
+use Rattle.machine.proofs.Restoration.{count-sound}
+use Rattle.machine.proofs.Completion.{sizes, sound, fits-at, next-of, undone-sound, undone-view, replays-at, recalled-sound, recalled-settles, recalled-view, recalls-at, mode-then}
+use Rattle.machine.proofs.Recall.{works, goes-on, settles}
 use Rattle.machine.proofs.machine.Machine.recall.Goals as goal
 use Rattle.machine.proofs.machine.Machine.recall.Goals.{in-Some, in_default}
 

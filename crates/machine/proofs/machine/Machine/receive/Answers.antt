@@ -15,8 +15,8 @@ use Rattle.machine.specs.Arrival.{IsOpen}
 use Rattle.machine.specs.Simulation.{TheMachine, Stands, Steps, process_at}
 use Rattle.machine.proofs.Arrivals.{early, started, again}
 use Rattle.machine.proofs.JobLemmas.{opens, begun-matches}
-use Rattle.machine.proofs.Keeping.{later, carried-put, keys-put}
-use Rattle.machine.proofs.Standing.{key-low}
+use Rattle.machine.proofs.Preservation.{later, carried-put, keys-put}
+use Rattle.machine.proofs.Status.{key-low}
 use Rattle.machine.proofs.machine.Machine.receive.Goals as goal
 
 pub invariant_of-self-in-Duplicate : goal.invariant_of-self-in-Duplicate

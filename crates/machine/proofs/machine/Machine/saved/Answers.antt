@@ -7,7 +7,7 @@ use Rattle.checkpoint.specs.Saved.{TheSaved}
 use Rattle.machine.specs.Process.{TheProcess, idle_process}
 use Rattle.machine.specs.Stable.{Saves}
 use Rattle.machine.specs.Simulation.{TheMachine, process_at}
-use Rattle.machine.proofs.Standing.{at_process}
+use Rattle.machine.proofs.Status.{at_process}
 use Rattle.machine.proofs.Soundness.{sound_at, some-of}
 use Rattle.machine.proofs.machine.Machine.saved.Goals as goal
 

@@ -10,7 +10,7 @@ use Rattle.machine.specs.Wire.{Puts}
 use Rattle.machine.specs.Fields.{view_of, IsLogOf}
 use Rattle.machine.specs.Simulation.{TheMachine, Steps}
 use Rattle.machine.proofs.Arrivals.{early, shown, shown_before}
-use Rattle.machine.proofs.Keeping.{later, carried-put, keys-gone}
+use Rattle.machine.proofs.Preservation.{later, carried-put, keys-gone}
 use Rattle.machine.proofs.machine.Machine.show.Goals as goal
 
 pub invariant_of-self-in-Next : goal.invariant_of-self-in-Next

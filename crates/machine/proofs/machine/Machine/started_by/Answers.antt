@@ -1,7 +1,7 @@
 use Rattle.std.proofs.Common.{◌≡◌, ◌≤◌, length, true, refl, arith, sym, ◌∙◌}
 use Rattle.std.specs.Prelude.{nat_lt}
 use Rattle.std.proofs.lemmas.Bool.Decides.{nat_tests}
-use Rattle.machine.proofs.Standing.{up_at}
+use Rattle.machine.proofs.Status.{up_at}
 use Rattle.machine.proofs.machine.Machine.started_by.Goals as goal
 
 pub returns-in-Next-clause-value : goal.returns-in-Next-clause-value

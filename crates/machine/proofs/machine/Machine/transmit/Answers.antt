@@ -11,9 +11,9 @@ use Rattle.world.specs.World.{World}
 use Rattle.world.specs.Refusals.{refusal_of}
 use Rattle.machine.specs.Wire.{Puts}
 use Rattle.machine.specs.Simulation.{TheMachine, Stands, log_at}
-use Rattle.machine.specs.Sending.{MayLeave}
+use Rattle.machine.specs.Transmission.{MayLeave}
 use Rattle.machine.specs.Fields.{view_of, IsCarried}
-use Rattle.machine.proofs.Keeping.{keys-put, sound-wire}
+use Rattle.machine.proofs.Preservation.{keys-put, sound-wire}
 use Rattle.machine.proofs.Sendings.{transmitted}
 use Rattle.machine.proofs.machine.Machine.transmit.Goals as goal
 use Rattle.machine.proofs.machine.Machine.transmit.Goals.{In_ok-key}

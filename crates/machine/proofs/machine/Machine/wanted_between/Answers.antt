@@ -5,7 +5,7 @@ use Rattle.world.specs.declared.call.Call.TheVariants.{Transmit}
 use Rattle.world.specs.World.{World}
 use Rattle.world.specs.Useful.{is_useful}
 use Rattle.machine.specs.Simulation.{Stands}
-use Rattle.machine.specs.Picking.{next_ssn}
+use Rattle.machine.specs.Choice.{next_ssn}
 use Rattle.machine.proofs.Picks.{if_none, outside-next, useful-wanted}
 use Rattle.machine.proofs.machine.Machine.wanted_between.Goals as goal
 use Rattle.machine.proofs.machine.Machine.wanted_between.Goals.{Else-is_wanted}

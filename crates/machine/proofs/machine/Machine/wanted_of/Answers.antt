@@ -2,7 +2,7 @@ use Rattle.std.proofs.Common.{◌≡◌, ℕ, ◌<◌, ◌+◌, Bool, true, fals
 use Rattle.std.specs.Prelude.{◌==◌}
 use Rattle.std.proofs.lemmas.Bool.Decides.{nat_tests}
 use Rattle.machine.specs.Simulation.{TheMachine}
-use Rattle.machine.specs.Picking.{ArePeers, NoneWanted}
+use Rattle.machine.specs.Choice.{ArePeers, NoneWanted}
 use Rattle.machine.proofs.machine.Machine.wanted_of.Goals as goal
 use Rattle.machine.proofs.machine.Machine.wanted_of.Goals.{then-to-from-via-then-to-from, then-to-from-via-else-to-from+then-not-is_up-2}
 

@@ -1,5 +1,5 @@
 use Rattle.std.proofs.Common.{ℕ, ◌<◌}
-use Rattle.machine.specs.Picking.{ArePeers, NoneWanted}
+use Rattle.machine.specs.Choice.{ArePeers, NoneWanted}
 use Rattle.machine.proofs.machine.Machine.wanted_of.Given as goal
 
 abbrev pub invariant-loop-to : goal.invariant-loop-to

@@ -1,7 +1,7 @@
 use Rattle.std.proofs.Common.{subst, sym}
 use Rattle.node.specs.Node.{TheNode}
 use Rattle.node.specs.Stands.{Acts}
-use Rattle.node.proofs.Freezing.{freezes}
+use Rattle.node.proofs.Freezes.{freezes}
 use Rattle.node.proofs.node.Node.checkpoint.Goals as goal
 
 pub returns-clause-acts : goal.returns-clause-acts

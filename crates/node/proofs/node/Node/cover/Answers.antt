@@ -1,9 +1,9 @@
 use Rattle.std.proofs.Common.{◌≡◌, [], length, slice_index_or, ap, ◌∙◌, arith}
 use Rattle.rsn.specs.Receipts.{Received}
 use Rattle.rsn.proofs.ReceiptLemmas.{numbers_from-bound}
-use Rattle.node.specs.Saving.{counts_from}
-use Rattle.node.proofs.Freezing.{counts-length, counts-within}
-use Rattle.node.proofs.Counting.{counted-all}
+use Rattle.node.specs.Checkpoints.{counts_from}
+use Rattle.node.proofs.Freezes.{counts-length, counts-within}
+use Rattle.node.proofs.Counts.{counted-all}
 use Rattle.node.proofs.node.Node.cover.Goals as goal
 
 pub count-requires-clause-room : goal.count-requires-clause-room

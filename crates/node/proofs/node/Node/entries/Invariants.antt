@@ -1,5 +1,5 @@
 use Rattle.std.proofs.Common.{◌≡◌, take}
-use Rattle.node.specs.Standing.{entries_kept}
+use Rattle.node.specs.Status.{entries_kept}
 use Rattle.node.proofs.node.Node.entries.Given as goal
 
 abbrev pub invariant-loop-log : goal.invariant-loop-log

@@ -6,7 +6,7 @@ use Rattle.node.specs.Queue.{TheQueue}
 use Rattle.node.specs.declared.job.Given.{Given}
 use Rattle.node.specs.Node.{TheNode, OfPeer, given_to, log_at}
 use Rattle.node.proofs.Logs.{length-push, given-length, given-room}
-use Rattle.node.proofs.Counting.{from-more}
+use Rattle.node.proofs.Counts.{from-more}
 use Rattle.std.proofs.Common.{◌≤◌, ◌*◌, ◌^◌, sym}
 use Rattle.node.specs.declared.node.TheConstants.{MOST_GIVEN, MOST_RECEIVED}
 use Rattle.node.specs.contracts.node.Node.{the_view}

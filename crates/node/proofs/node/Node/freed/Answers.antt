@@ -1,7 +1,7 @@
 use Rattle.std.proofs.Common.{◌≡◌, ◌+◌, refl, ap, ◌∙◌}
 use Rattle.node.specs.contracts.node.Node.{the_view}
 use Rattle.node.specs.Node.{TheNode}
-use Rattle.node.specs.Sending.{freed}
+use Rattle.node.specs.Transmission.{freed}
 use Rattle.node.proofs.node.Node.freed.Goals as goal
 
 pub returns-then-self : goal.returns-then-self

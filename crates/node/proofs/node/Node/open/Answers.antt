@@ -2,7 +2,7 @@ use Rattle.std.proofs.Common.{subst, sym}
 use Rattle.node.specs.Node.{TheNode, Within}
 use Rattle.cluster.specs.Cluster.{opening}
 use Rattle.node.specs.Stands.{Stands}
-use Rattle.node.proofs.Opening.{stands-opened}
+use Rattle.node.proofs.Openings.{stands-opened}
 use Rattle.node.proofs.Begun.{within-begun, same-begun}
 use Rattle.node.proofs.node.Node.open.Goals as goal
 

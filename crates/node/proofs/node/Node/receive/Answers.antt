@@ -1,7 +1,7 @@
 use Rattle.std.proofs.Common.{subst, sym}
 use Rattle.node.specs.Node.{TheNode, Within}
 use Rattle.node.specs.Stands.{IsHanded}
-use Rattle.node.proofs.Handing.{handed-so}
+use Rattle.node.proofs.Handover.{handed-so}
 use Rattle.node.proofs.Views.{on-ok}
 use Rattle.node.proofs.node.Node.receive.Goals as goal
 

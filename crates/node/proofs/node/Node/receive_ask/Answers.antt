@@ -1,7 +1,7 @@
 use Rattle.std.proofs.Common.{rules, ◌≡◌, false, arith}
 use Rattle.std.specs.Prelude.{nat_lt}
 use Rattle.std.proofs.lemmas.Grind.{common_steps}
-use Rattle.node.specs.Asking.{heard_of}
+use Rattle.node.specs.Answers.{heard_of}
 use Rattle.node.proofs.Changes.{hearer-says, told-above}
 use Rattle.node.proofs.node.Node.receive_ask.Goals as goal
 

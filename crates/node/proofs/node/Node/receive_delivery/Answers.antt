@@ -3,7 +3,7 @@ use Rattle.std.specs.Prelude.{is_some, Some}
 use Rattle.rsn.specs.Receipts.{numbers_of}
 use Rattle.node.specs.contracts.node.Node.{the_view}
 use Rattle.node.specs.Node.{TheNode, IsPeer, covered_of}
-use Rattle.node.specs.Asking.{heard_of}
+use Rattle.node.specs.Answers.{heard_of}
 use Rattle.node.specs.Calls.{takes_more}
 use Rattle.node.proofs.Changes.{has-place, there-is}
 use Rattle.node.proofs.Sendable.{can-say, saved-fits}

@@ -4,7 +4,7 @@ use Rattle.std.proofs.lemmas.List.{length-set}
 use Rattle.node.specs.contracts.node.Node.{the_view}
 use Rattle.node.specs.Queue.{no_queue, recorded, is_kept}
 use Rattle.node.specs.Node.{TheNode, IsPeer, log_at}
-use Rattle.node.specs.Asking.{heard_of}
+use Rattle.node.specs.Answers.{heard_of}
 use Rattle.node.proofs.Sendable.{can-say, acknowledgement-fits}
 use Rattle.packets.specs.declared.packet.Body.TheVariants.{Acknowledgement}
 use Rattle.node.proofs.Changes.{has-place, there-is, no-longer, same-logs, within-still, stale-number, dropped-number, takes-number}

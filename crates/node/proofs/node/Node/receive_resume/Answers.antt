@@ -1,8 +1,8 @@
 use Rattle.std.proofs.Common.{rules, arith, false, ◌≡◌, ◌<◌, length}
 use Rattle.node.specs.contracts.node.Node.{the_view}
 use Rattle.node.specs.Node.{TheNode}
-use Rattle.node.specs.Asking.{heard_of}
-use Rattle.node.specs.Asking.{works_for}
+use Rattle.node.specs.Answers.{heard_of}
+use Rattle.node.specs.Answers.{works_for}
 use Rattle.std.proofs.lemmas.Grind.{common_steps}
 use Rattle.node.proofs.Changes.{has-place, there-is, obeyer-says, restored-above}
 use Rattle.node.proofs.node.Node.receive_resume.Goals as goal

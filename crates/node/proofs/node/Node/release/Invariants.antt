@@ -1,5 +1,5 @@
 use Rattle.std.proofs.Common.{◌≡◌}
-use Rattle.node.specs.Sending.{released_below}
+use Rattle.node.specs.Transmission.{released_below}
 use Rattle.node.proofs.node.Node.release.Given as goal
 
 abbrev pub invariant-loop-to : goal.invariant-loop-to

@@ -1,10 +1,10 @@
 use Rattle.std.proofs.Common.{rules, ◌≡◌, ◌<◌, ◌+◌, ◌-◌, length, true, false, refl, sym, ap, ◌∙◌, subst, arith}
 use Rattle.std.proofs.lemmas.Grind.{common_steps}
 use Rattle.node.specs.Node.{TheNode, tells, covered_of}
-use Rattle.node.specs.Sending.{renumbers, is_told_at}
+use Rattle.node.specs.Transmission.{renumbers, is_told_at}
 use Rattle.node.proofs.Sendings.{OnlyPosts, only-then, renumbers-step}
 use Rattle.rsn.specs.Receipts.{numbers_of}
-use Rattle.node.proofs.Posting.{posts-peer, posts-covered, posts-known, beyond-covered, told-place, told-all, told-most}
+use Rattle.node.proofs.Posts.{posts-peer, posts-covered, posts-known, beyond-covered, told-place, told-all, told-most}
 use Rattle.node.proofs.node.Node.renumber.Goals as goal
 use Rattle.node.proofs.node.Node.renumber.Goals.{then-not-is_told_at, else-not-is_told_at}
 

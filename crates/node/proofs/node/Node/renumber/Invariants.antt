@@ -1,5 +1,5 @@
 use Rattle.std.proofs.Common.{◌≡◌, ◌-◌}
-use Rattle.node.specs.Sending.{renumbers, renumbered}
+use Rattle.node.specs.Transmission.{renumbers, renumbered}
 use Rattle.node.proofs.Sendings.{OnlyPosts}
 use Rattle.node.proofs.node.Node.renumber.Given as goal
 

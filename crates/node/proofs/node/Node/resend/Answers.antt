@@ -3,9 +3,9 @@ use Rattle.std.specs.Prelude.{is_none}
 use Rattle.std.proofs.lemmas.Grind.{common_steps}
 use Rattle.node.specs.Queue.{number_of}
 use Rattle.node.specs.Node.{TheNode, log_at}
-use Rattle.node.specs.Sending.{delivers, resends}
+use Rattle.node.specs.Transmission.{delivers, resends}
 use Rattle.node.proofs.Sendings.{OnlyPosts, only-then, resends-step}
-use Rattle.node.proofs.Posting.{sent-all, sent-most}
+use Rattle.node.proofs.Posts.{sent-all, sent-most}
 use Rattle.node.proofs.node.Node.resend.Goals as goal
 use Rattle.node.proofs.node.Node.resend.Goals.{then-is_none, else-is_none}
 

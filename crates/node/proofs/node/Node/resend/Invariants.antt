@@ -1,5 +1,5 @@
 use Rattle.std.proofs.Common.{◌≡◌, ◌-◌}
-use Rattle.node.specs.Sending.{resends, resent}
+use Rattle.node.specs.Transmission.{resends, resent}
 use Rattle.node.proofs.Sendings.{OnlyPosts}
 use Rattle.node.proofs.node.Node.resend.Given as goal
 

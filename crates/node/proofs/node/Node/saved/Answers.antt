@@ -1,7 +1,7 @@
 use Rattle.std.proofs.Common.{subst, sym}
 use Rattle.node.specs.Node.{TheNode, Within}
 use Rattle.node.specs.Stands.{Saves}
-use Rattle.node.proofs.Freezing.{saves}
+use Rattle.node.proofs.Freezes.{saves}
 use Rattle.node.proofs.Views.{on-ok}
 use Rattle.node.proofs.node.Node.saved.Goals as goal
 

@@ -1,6 +1,6 @@
 use Rattle.std.proofs.Common.{◌≡◌, ◌≢◌, sym, ap, ◌∙◌, arith}
 use Rattle.node.specs.Node.{TheNode}
-use Rattle.node.proofs.Freezing.{only-says}
+use Rattle.node.proofs.Freezes.{only-says}
 use Rattle.node.proofs.node.Node.say_covered.Goals as goal
 
 pub say-requires : goal.say-requires

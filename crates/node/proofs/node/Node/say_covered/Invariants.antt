@@ -1,5 +1,5 @@
 use Rattle.std.proofs.Common.{◌≡◌}
-use Rattle.node.specs.Saving.{says_below}
+use Rattle.node.specs.Checkpoints.{says_below}
 use Rattle.node.proofs.node.Node.say_covered.Given as goal
 
 abbrev pub invariant-loop-to : goal.invariant-loop-to

@@ -3,7 +3,7 @@ use Rattle.std.specs.Prelude.{nat_lt, nat_le}
 use Rattle.std.proofs.lemmas.Bool.Decides.{nat_tests}
 use Rattle.node.specs.Queue.{TheQueue, is_kept}
 use Rattle.node.specs.Node.{TheNode, log_at}
-use Rattle.node.specs.Sending.{first_to_send, many_to_send}
+use Rattle.node.specs.Transmission.{first_to_send, many_to_send}
 use Rattle.node.proofs.Sendings.{only-sends}
 use Rattle.node.proofs.node.Node.send.Goals as goal
 

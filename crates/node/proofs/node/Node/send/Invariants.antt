@@ -1,5 +1,5 @@
 use Rattle.std.proofs.Common.{◌≡◌}
-use Rattle.node.specs.Sending.{sends}
+use Rattle.node.specs.Transmission.{sends}
 use Rattle.node.proofs.node.Node.send.Given as goal
 
 abbrev pub invariant-loop-sent : goal.invariant-loop-sent

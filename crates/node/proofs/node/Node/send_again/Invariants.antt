@@ -1,5 +1,5 @@
 use Rattle.std.proofs.Common.{◌≡◌}
-use Rattle.node.specs.Sending.{ticked_below}
+use Rattle.node.specs.Transmission.{ticked_below}
 use Rattle.node.proofs.node.Node.send_again.Given as goal
 
 abbrev pub invariant-loop-to : goal.invariant-loop-to

@@ -1,7 +1,7 @@
 use Rattle.std.proofs.Common.{◌≡◌, ◌+◌, true, sym, ap, ◌∙◌, rules}
 use Rattle.node.specs.Node.{TheNode}
-use Rattle.node.specs.Sending.{released}
-use Rattle.node.specs.Saving.{thawed, says_below}
+use Rattle.node.specs.Transmission.{released}
+use Rattle.node.specs.Checkpoints.{thawed, says_below}
 use Rattle.node.proofs.node.Node.thaw.Goals as goal
 
 pub returns-clause-waited : goal.returns-clause-waited

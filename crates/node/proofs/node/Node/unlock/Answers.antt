@@ -4,7 +4,7 @@ use Rattle.std.proofs.lemmas.List.{length-set}
 use Rattle.node.specs.contracts.node.Node.{the_view}
 use Rattle.node.specs.Queue.{TheQueue, no_queue, released_by}
 use Rattle.node.specs.Node.{TheNode, log_at}
-use Rattle.node.specs.Sending.{freed, unlocked}
+use Rattle.node.specs.Transmission.{freed, unlocked}
 use Rattle.node.proofs.Changes.{has-place, there-is, no-longer, same-logs, within-still}
 use Rattle.node.proofs.node.Node.unlock.Goals as goal
 

@@ -1,7 +1,7 @@
 use Rattle.std.proofs.Common.{subst, sym}
 use Rattle.node.specs.Node.{TheNode, Within}
 use Rattle.node.specs.Stands.{Owes, Handles}
-use Rattle.node.proofs.Handing.{worked-so}
+use Rattle.node.proofs.Handover.{worked-so}
 use Rattle.node.proofs.Views.{on-ok}
 use Rattle.node.proofs.node.Node.work.Goals as goal
 

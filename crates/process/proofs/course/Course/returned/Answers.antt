@@ -1,8 +1,8 @@
 use Rattle.std.proofs.Common.{◌≡◌, true, sym, subst}
-use Rattle.restoring.specs.Restoring.{is_up}
+use Rattle.recovery.specs.Restoration.{is_up}
 use Rattle.process.specs.declared.course.Course.{Course}
 use Rattle.process.specs.declared.course.Course.TheVariants.{Up}
-use Rattle.process.specs.Passing.{Returns}
+use Rattle.process.specs.Transitions.{Returns}
 use Rattle.process.proofs.course.Course.returned.Goals as goal
 
 pub returns-else-not-is_up : goal.returns-else-not-is_up

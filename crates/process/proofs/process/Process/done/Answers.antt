@@ -3,7 +3,7 @@ use Rattle.std.proofs.lemmas.Grind.{common_steps}
 use Rattle.std.specs.Box.{box_value}
 use Rattle.interp.specs.HandlerCall.{Handled}
 use Rattle.node.specs.declared.node.TheConstants.{MOST_GIVEN}
-use Rattle.process.specs.Working.{given_of}
+use Rattle.process.specs.Work.{given_of}
 use Rattle.process.specs.Job.{IsNext, IsCallOf, IsAnswerTo, TakesBack}
 use Rattle.process.proofs.Workings.{may-take-back, works-as}
 use Rattle.process.proofs.process.Process.done.Goals as goal

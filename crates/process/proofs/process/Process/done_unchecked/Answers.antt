@@ -1,7 +1,7 @@
 use Rattle.std.proofs.Common.{rules, ◌≡◌, ◌≤◌, length, arith}
 use Rattle.std.proofs.lemmas.Grind.{common_steps}
 use Rattle.node.specs.declared.node.TheConstants.{MOST_GIVEN}
-use Rattle.process.specs.Working.{given_of}
+use Rattle.process.specs.Work.{given_of}
 use Rattle.process.specs.Job.{IsNext}
 use Rattle.process.proofs.Workings.{may-take-back}
 use Rattle.process.proofs.process.Process.done_unchecked.Goals as goal

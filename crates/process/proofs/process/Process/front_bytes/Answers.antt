@@ -3,7 +3,7 @@ use Rattle.std.proofs.lemmas.Grind.{common_steps}
 use Rattle.packets.specs.declared.packet.Packet.{Packet}
 use Rattle.process.specs.Process.{is_node, out_of}
 use Rattle.process.proofs.Rooms.{written-fits}
-use Rattle.process.proofs.Writing.{first-written}
+use Rattle.process.proofs.Writes.{first-written}
 use Rattle.process.proofs.process.Process.front_bytes.Goals as goal
 
 pub written-requires-in-Some-front : goal.written-requires-in-Some-front

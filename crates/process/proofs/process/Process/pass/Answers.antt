@@ -2,7 +2,7 @@ use Rattle.std.proofs.Common.{rules, ◌≡◌, true, false, refl, subst, arith}
 use Rattle.std.proofs.lemmas.Grind.{common_steps}
 use Rattle.process.specs.Process.{TheProcess, is_node}
 use Rattle.process.specs.Calls.{Stays}
-use Rattle.process.specs.Passing.{Passes, is_held}
+use Rattle.process.specs.Transitions.{Passes, is_held}
 use Rattle.process.proofs.Passings.{passes-up, up-is-free}
 use Rattle.process.proofs.process.Process.pass.Goals as goal
 

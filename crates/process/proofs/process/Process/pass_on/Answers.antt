@@ -1,5 +1,5 @@
 use Rattle.std.proofs.Common.{subst}
-use Rattle.process.specs.Passing.{Passes}
+use Rattle.process.specs.Transitions.{Passes}
 use Rattle.process.proofs.Within as within
 use Rattle.process.proofs.process.Process.pass_on.Goals as goal
 

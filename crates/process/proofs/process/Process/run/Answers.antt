@@ -7,7 +7,7 @@ use Rattle.handlers.specs.Answer.{answer_by}
 use Rattle.handlers.specs.Handler.{image_of}
 use Rattle.node.specs.declared.node.TheConstants.{MOST_GIVEN}
 use Rattle.process.specs.Process.{TheProcess, state_of}
-use Rattle.process.specs.Working.{given_of, Works}
+use Rattle.process.specs.Work.{given_of, Works}
 use Rattle.process.specs.Job.{IsNext, TakesBack}
 use Rattle.process.proofs.Workings.{may-take-back, works}
 use Rattle.process.proofs.process.Process.run.Goals as goal

@@ -2,7 +2,7 @@ use Rattle.std.proofs.Common.{rules, arith}
 use Rattle.std.proofs.lemmas.Grind.{common_steps}
 use Rattle.process.specs.Job.{TakesBack}
 use Rattle.process.proofs.Courses.{few_more}
-use Rattle.process.specs.Working.{TakesIn, MayTakeIn}
+use Rattle.process.specs.Work.{TakesIn, MayTakeIn}
 use Rattle.process.proofs.Within as within
 use Rattle.process.proofs.process.Process.take_back.Goals as goal
 

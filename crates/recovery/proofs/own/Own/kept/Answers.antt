@@ -5,7 +5,7 @@ use Rattle.std.proofs.lemmas.List.{length-set, length-replicate, length-map}
 use Rattle.packets.specs.declared.kept.KeptLog.{KeptLog}
 use Rattle.node.specs.Queue.{no_queue}
 use Rattle.recovery.specs.Own.{with_own, queue_of}
-use Rattle.recovery.proofs.Keeping.{can-come, log-room, own-long, counts-low, from-own}
+use Rattle.recovery.proofs.Preservation.{can-come, log-room, own-long, counts-low, from-own}
 use Rattle.recovery.proofs.own.Own.kept.Goals as goal
 
 pub queues-requires-clause-room : goal.queues-requires-clause-room

@@ -2,7 +2,7 @@ use Rattle.std.proofs.Common.{◌≡◌, ◌+◌, ℕ, length, sym, ap, ◌∙�
 use Rattle.std.specs.List.{AllByRecursion}
 use Rattle.node.specs.Node.{IsPeer}
 use Rattle.recovery.specs.Own.{TheOwn}
-use Rattle.recovery.specs.Meeting.{handed}
+use Rattle.recovery.specs.Overlap.{handed}
 use Rattle.recovery.specs.Replayed.{TheReplayed, Stays}
 use Rattle.recovery.proofs.Meetings.{replayed-stays}
 use Rattle.recovery.proofs.replayed.Replayed.receive.Goals as goal

@@ -1,7 +1,7 @@
 use Rattle.std.proofs.Common.{sym, subst}
 use Rattle.std.specs.Prelude.{None}
-use Rattle.machine.specs.Stepping.{job_of}
-use Rattle.sessions.specs.Driving.{Starts}
+use Rattle.machine.specs.Dispatch.{job_of}
+use Rattle.sessions.specs.Driver.{Starts}
 use Rattle.sessions.specs.Journal.{world_at}
 use Rattle.runner.specs.Inside.{position_of}
 use Rattle.runner.specs.Orders.{MakesCall}

@@ -2,7 +2,7 @@ use Rattle.std.proofs.Common.{◌+◌, ◌*◌, ◌≤◌, length, take}
 use Rattle.std.specs.Prelude.{string_bytes, string_capacity, string_len}
 use Rattle.runner.specs.Inside.{ArePlayed, position_of}
 use Rattle.runner.proofs.player.Player.play.Given as goal
-use Rattle.runner.specs.declared.running.TheConstants.{LINE_BYTES}
+use Rattle.runner.specs.declared.runs.TheConstants.{LINE_BYTES}
 
 abbrev pub invariant-loop-step : goal.invariant-loop-step
 invariant-loop-step l = record {

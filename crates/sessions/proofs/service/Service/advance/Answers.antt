@@ -2,9 +2,9 @@ use Rattle.std.proofs.Common.{ℕ, sym, subst}
 use Rattle.std.specs.Prelude.{Option}
 use Rattle.machine.specs.Task.{TheTask}
 use Rattle.machine.specs.Arrival.{IsOpen}
-use Rattle.machine.specs.Stepping.{job_of}
+use Rattle.machine.specs.Dispatch.{job_of}
 use Rattle.sessions.specs.Journal.{room_at, world_at}
-use Rattle.sessions.specs.Driving.{Advances, Starts}
+use Rattle.sessions.specs.Driver.{Advances, Starts}
 use Rattle.sessions.specs.Service.{seat_of}
 use Rattle.sessions.proofs.Driven.{told-memory, advance-one, may-pick}
 use Rattle.sessions.proofs.service.Service.advance.Goals as goal

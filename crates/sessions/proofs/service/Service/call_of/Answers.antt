@@ -4,10 +4,10 @@ use Rattle.std.proofs.lemmas.Result.{err_from_is_err_and}
 use Rattle.limits.specs.declared.TheConstants.{ENTRIES}
 use Rattle.world.specs.Legal.{is_single}
 use Rattle.machine.specs.Simulation.{answering}
-use Rattle.machine.specs.Stepping.{answer_in, job_of}
+use Rattle.machine.specs.Dispatch.{answer_in, job_of}
 use Rattle.world.specs.Useful.{may_call}
 use Rattle.sessions.specs.Journal.{TheSession, entry, is_exact_of, world_at}
-use Rattle.sessions.specs.Driving.{Starts}
+use Rattle.sessions.specs.Driver.{Starts}
 use Rattle.sessions.proofs.Rooms.{room-of}
 use Rattle.sessions.proofs.Steps.{caused, here}
 use Rattle.sessions.proofs.Steps as steps

@@ -2,7 +2,7 @@ use Rattle.std.proofs.Common.{◌≡◌, ℕ, ◌+◌, sym, ap, ◌∙◌, subst
 use Rattle.std.specs.Prelude.{None, Result, Err}
 use Rattle.std.proofs.lemmas.Result.{err_from_is_err_and}
 use Rattle.world.specs.declared.refusal.Refusal.{Refusal}
-use Rattle.sessions.specs.Driving.{Driven}
+use Rattle.sessions.specs.Driver.{Driven}
 use Rattle.sessions.proofs.Driven.{advance-more}
 use Rattle.sessions.specs.Service.{seat_of}
 use Rattle.sessions.proofs.service.Service.drive_of.Goals as goal

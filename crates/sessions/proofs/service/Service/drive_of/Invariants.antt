@@ -1,6 +1,6 @@
 use Rattle.std.proofs.Common.{◌-◌}
 use Rattle.std.specs.Prelude.{None}
-use Rattle.sessions.specs.Driving.{Advances}
+use Rattle.sessions.specs.Driver.{Advances}
 use Rattle.sessions.specs.Service.{seat_of}
 use Rattle.sessions.proofs.service.Service.drive_of.Given as goal
 

@@ -1,6 +1,6 @@
 use Rattle.std.proofs.Common.{◌≡◌, sym, subst, ◌∙◌}
 use Rattle.world.specs.Bounds.{open_jobs}
-use Rattle.machine.proofs.Standing.{jobs}
+use Rattle.machine.proofs.Status.{jobs}
 use Rattle.sessions.specs.Journal.{TheSession, world_at}
 use Rattle.sessions.proofs.Steps.{here}
 use Rattle.sessions.proofs.service.Service.open_jobs.Goals as goal

@@ -1,10 +1,10 @@
 use Rattle.std.proofs.Common.{◌≡◌, ◌-◌, length, subst}
 use Rattle.std.specs.Prelude.{IfNone, IfSome}
 use Rattle.limits.specs.declared.TheConstants.{ENTRIES}
-use Rattle.machine.specs.Picking.{IsPick}
+use Rattle.machine.specs.Choice.{IsPick}
 use Rattle.machine.proofs.Picks.{if_none, if_some}
 use Rattle.sessions.specs.Journal.{TheSession, world_at, room_at}
-use Rattle.sessions.specs.Driving.{IsQuiet}
+use Rattle.sessions.specs.Driver.{IsQuiet}
 use Rattle.sessions.proofs.Driven.{takes-none}
 use Rattle.sessions.proofs.Steps.{here}
 use Rattle.sessions.proofs.service.Service.pick.Goals as goal

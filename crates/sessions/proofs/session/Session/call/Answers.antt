@@ -3,7 +3,7 @@ use Rattle.std.specs.Prelude.{Err, Ok}
 use Rattle.std.proofs.lemmas.Result.{err_from_is_err_and}
 use Rattle.world.specs.Useful.{may_call}
 use Rattle.machine.specs.Simulation.{answering}
-use Rattle.machine.specs.Stepping.{answer_in}
+use Rattle.machine.specs.Dispatch.{answer_in}
 use Rattle.sessions.specs.Journal.{TheSession, world_at}
 use Rattle.sessions.specs.Service.{OwesAs, seat_of}
 use Rattle.sessions.proofs.Together.{accepts, grew, refuses}

@@ -1,6 +1,6 @@
 use Rattle.std.proofs.Common.{◌-◌, length, subst, ◌∙◌}
 use Rattle.sessions.specs.Journal.{answered_more}
-use Rattle.sessions.specs.Driving.{Driven}
+use Rattle.sessions.specs.Driver.{Driven}
 use Rattle.sessions.specs.Service.{seat_of}
 use Rattle.sessions.proofs.Together.{drives}
 use Rattle.sessions.proofs.session.Session.drive.Goals as goal

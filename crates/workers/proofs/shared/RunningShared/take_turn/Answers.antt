@@ -1,5 +1,5 @@
 use Rattle.workers.specs.Continues.{Continues}
-use Rattle.workers.proofs.Continuing.{allowed-of, begins-of, continues-on}
+use Rattle.workers.proofs.Continuation.{allowed-of, begins-of, continues-on}
 use Rattle.workers.proofs.shared.RunningShared.take_turn.Goals as goal
 
 pub invariant_of-self : goal.invariant_of-self

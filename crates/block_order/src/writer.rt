@@ -1,0 +1,142 @@
+//! Code to image files, with its blocks in another order if that helps.
+
+ghost use Rattle.std.specs.Prelude.{◌<◌, ◌≤◌, ◌↔◌, IfErr, IfOk, IsTrue, length};
+ghost use Rattle.std.specs.List.{AllByRecursion};
+ghost use Rattle.decode.specs.Encoding.{Fits};
+ghost use Rattle.decode.specs.Slots.{slots, slots_of};
+ghost use Rattle.images.specs.ImageFile.{IsFile};
+ghost use Rattle.images.specs.declared.file_form.FileForm.TheVariants.{Sbi3};
+ghost use Rattle.verifier.specs.ImageFile.{IsUnwritten};
+ghost use Rattle.block_order.specs.Order.{IsForward, IsMoved, IsOrder};
+ghost use Rattle.block_order.specs.Ordered.{BreaksV1, IsOrdered};
+
+use crate::blocks::Blocks;
+use crate::order::{Order, order_blocks};
+use crate::arrangement::Placed;
+use decode::Insn;
+use images::{FileForm, file};
+use limits::{SLOTS, STATE_BYTES};
+use regtypes::Rule;
+use span_verifier::{VerifyError, verify};
+use std::alloc::{AllocError, Global};
+use verifier::ImageError;
+
+/// An image file, and what was done with the blocks of its code.
+#[derive(Debug, Drop)]
+pub struct Ordered {
+    pub bytes: Vec<u8>,
+    pub blocks: Blocks,
+}
+
+/// Whether the verifier of form 3 refuses code by V1: a jump doesn't lead to a later slot of it.
+fn breaks_v1(alloc: Global, code: &[Insn], state_len: u16) -> Result<bool, AllocError>
+    requires slots { length (slots_of code.now) ≤ SLOTS }
+    requires fits { AllByRecursion Fits code.now }
+    ensures { IfOk result (λ yes. IsTrue yes ↔ BreaksV1 code.now state_len) }
+{
+    match verify(alloc, code, state_len) {
+        Ok(_) => Ok(false),
+        Err(VerifyError::Fault { rule, .. }) => Ok(rule == Rule::V1),
+        Err(VerifyError::Memory) => Err(AllocError),
+    }
+}
+
+/// The file of form 3 of code in another order.
+fn moved_file(
+    alloc: Global,
+    code: &[Insn],
+    state_len: u16,
+    placed: &Placed,
+) -> Result<Ordered, ImageError>
+    requires state { state_len ≤ STATE_BYTES }
+    requires some { 0 < slots code.now }
+    requires short { slots code.now ≤ SLOTS }
+    requires breaks { BreaksV1 code.now state_len }
+    requires back { ¬ IsForward code.now }
+    requires moved { IsMoved code.now placed.now }
+    ensures written { IfOk result (IsOrdered Sbi3 code.now state_len) }
+    ensures refused { IfErr result (IsUnwritten code.now) }
+{
+    match file(alloc, FileForm::Sbi3, placed.insns.as_slice(), state_len) {
+        Ok(bytes) => Ok(Ordered {
+            bytes,
+            blocks: Blocks::Moved,
+        }),
+        Err(e) => Err(e),
+    }
+}
+
+/// The file of form 3 of code that V1 refuses, by the result for the order of its blocks.
+fn file_in(
+    alloc: Global,
+    code: &[Insn],
+    state_len: u16,
+    bytes: Vec<u8>,
+    order: Order,
+) -> Result<Ordered, ImageError>
+    requires state { state_len ≤ STATE_BYTES }
+    requires file { IsFile Sbi3 code.now state_len bytes.items }
+    requires breaks { BreaksV1 code.now state_len }
+    requires order { IsOrder code.now order }
+    ensures written { IfOk result (IsOrdered Sbi3 code.now state_len) }
+    ensures refused { IfErr result (IsUnwritten code.now) }
+{
+    let blocks = match order {
+        Order::Forward => Blocks::Kept,
+        Order::Moved(placed) => return moved_file(alloc, code, state_len, &placed),
+        Order::Loops { from, to } => Blocks::Loops { from, to },
+        Order::Unknown => Blocks::Unknown,
+    };
+    Ok(Ordered { bytes, blocks })
+}
+
+/// The file of form 3; `bytes` is the file of the code as given.
+fn span_file(
+    alloc: Global,
+    code: &[Insn],
+    state_len: u16,
+    bytes: Vec<u8>,
+) -> Result<Ordered, ImageError>
+    requires state { state_len ≤ STATE_BYTES }
+    requires file { IsFile Sbi3 code.now state_len bytes.items }
+    ensures written { IfOk result (IsOrdered Sbi3 code.now state_len) }
+    ensures refused { IfErr result (IsUnwritten code.now) }
+{
+    match breaks_v1(alloc, code, state_len) {
+        Ok(true) => {}
+        Ok(false) => {
+            return Ok(Ordered {
+                bytes,
+                blocks: Blocks::Kept,
+            });
+        }
+        Err(_) => return Err(ImageError::Memory),
+    }
+    match order_blocks(alloc, code) {
+        Ok(order) => file_in(alloc, code, state_len, bytes, order),
+        Err(_) => Err(ImageError::Memory),
+    }
+}
+
+/// The image file of this form, of code with a state of this length, at most 1,024 bytes. In form 3, if V1 refuses the
+/// code and an order is found in which each jump goes forward, the blocks are in that order; all other code is as
+/// given.
+pub fn ordered_file(
+    alloc: Global,
+    form: FileForm,
+    code: &[Insn],
+    state_len: u16,
+) -> Result<Ordered, ImageError>
+    requires { state_len ≤ STATE_BYTES }
+    ensures written { IfOk result (IsOrdered form code.now state_len) }
+    ensures refused { IfErr result (IsUnwritten code.now) }
+{
+    let bytes = file(alloc, form, code, state_len)?;
+    match form {
+        FileForm::Sbi3 => span_file(alloc, code, state_len, bytes),
+        _ => Ok(Ordered {
+            bytes,
+            blocks: Blocks::Kept,
+        }),
+    }
+}

@@ -1,0 +1,273 @@
+-- Each step leaves it so
+use Rattle.std.proofs.Common.{◌≡◌, ◌≢◌, inl, inr, ℕ, zero, suc, ◌+◌, ◌<◌, ◌≤◌, List, ◌∷◌, length, Bool, true, false, refl, sym, ap, ◌∙◌, subst, arith}
+use Rattle.std.specs.Prelude.{◌⊎◌, Option, Some, None, ◌==◌, ◌&&◌, nat_lt, if◌then◌else◌}
+use Rattle.std.proofs.lemmas.Bool.Decides.{nat_tests}
+use Rattle.world.specs.declared.message.Message.{Message}
+use Rattle.world.specs.World.{World, put}
+use Rattle.world.specs.Logs.{sent, is_entry}
+use Rattle.world.specs.History.{nth}
+use Rattle.world.specs.Plan.{first_below, logged_as, message_of}
+use Rattle.theorems.proofs.Changes.{choose}
+use Rattle.cluster.specs.Parcels.{Body, Delivery, Number, Acknowledgement, Ask, Told, Resume, Restored, Saved, Parcel, parcel, In}
+use Rattle.cluster.specs.Cluster.{Stage, Live, Frozen, Dead, Collecting, Collected, Cluster, seen, runs, is_well}
+use Rattle.cluster.specs.Rules.{Act, Input, Puts, Starts, Shows, Works, Replays, Records, Counts, Drops, Hears, Collects, Recovers, Obeys, Enters, Restores, Greets, Freezes, Keeps, Thaws, Dies, Opens, IsAll, MayPut, May, does, with_page, put2}
+use Rattle.cluster.proofs.Facts.{choose2, well-is, takes-well, takes-is, true-not-false}
+use Rattle.cluster.proofs.Growth.{either-way}
+use Rattle.cluster.specs.Overlap.{Acts, Meets, Loses, Leaves}
+use Rattle.cluster.specs.Exact.{Flagged, flagged, Said, Telling, Takes, Meeting, Losing, Leaving, MayStep, lost_after, also_said, said_after, step}
+use Rattle.cluster.proofs.Ages.{On, is_some, at_stage, has_told, Knows, Later, Fine, Real, Aged, known-on, later-on, aged-on}
+use Rattle.cluster.proofs.DurableTurns.{put2-same, is_opening, on-deed, plain-deed}
+
+-- a log has no entry behind some number
+pub log-ends : (w : World) (p q n : ℕ) → (b : ℕ) × ((m : ℕ) → b < m → first_below (logged_as w p m q) n ≡ None)
+log-ends w p q zero = (0, λ m l. refl)
+log-ends w p q (suc n) = more (log-ends w p q n) (w.numbers q p n) refl
+  where
+    more : (b : ℕ) × ((m : ℕ) → b < m → first_below (logged_as w p m q) n ≡ None) → (o : Option ℕ) → w.numbers q p n ≡ o → (b : ℕ) × ((m : ℕ) → b < m → first_below (logged_as w p m q) (suc n) ≡ None)
+    more r None e = (r.0, λ m l. rw (r.1 m l, e) (off (is_entry w q p n) (message_of q n (nth (sent w q p) n))))
+      where
+        off : (x : Bool) (o : Option Message) → (if x && false then o else None) ≡ None
+        off true o = refl
+        off false o = refl
+    more r (Some k) e = (r.0 + k, λ m l. let f : (k == m) ≡ false = grind (arith, nat_tests) in rw (r.1 m (omega arith), e, f) (off (is_entry w q p n) (message_of q n (nth (sent w q p) n))))
+      where
+        off : (x : Bool) (o : Option Message) → (if x && false then o else None) ≡ None
+        off true o = refl
+        off false o = refl
+
+module _ (born : ℕ → ℕ) (now : ℕ) (s : Telling) (h : Aged born now s) where
+  -- what is put out
+  fine-put : (p d : ℕ) (x : Body) → p ≤ s.cluster.count → MayPut s.cluster p d x → Fine born s.cluster p d x
+  fine-put p d (Delivery i ssn x) l may = tt
+  fine-put p d (Number i ssn k) l may = tt
+  fine-put p d (Acknowledgement i k) l may = tt
+  fine-put p d (Ask i k) l may = ((some p may.0, l), let e : i ≡ s.cluster.stored p = may.1 in omega arith)
+    where
+      some : (p : ℕ) → s.cluster.stage p ≡ Collecting → 0 < p
+      some zero e = absurd (true-not-false (ap runs h.plain.gateway.0) (ap runs e))
+      some (suc p) e = omega arith
+  fine-put p d (Told i j k u f) l may =
+      let a : s.cluster.heard p d ≤ s.cluster.stored d = h.plain.low p d in
+      let b : i ≡ s.cluster.heard p d = may.1 in
+      let e : j ≡ s.cluster.stored p = may.2 ∙ h.plain.settled p (well-is s.cluster p may.0).0 in
+      let r = log-ends (seen s.cluster) d p (suc (length (sent (seen s.cluster) p d))) in
+      ((omega arith), (omega arith), (r.0, λ m l a g. may.4 m a g ∙ r.1 m l), λ g. inl (sym b ∙ g, e))
+  fine-put p d (Resume i k r) l may = tt
+  fine-put p d (Restored i j n r u f) l may = let e : j ≡ s.cluster.stored p = may.4 ∙ h.plain.settled p (well-is s.cluster p may.0).0 in omega arith
+  fine-put p d (Saved n) l may = tt
+
+  fine : (p d : ℕ) (x : Body) → In (parcel p d x) s.cluster.parcels → (p ≢ d) × Fine born s.cluster p d x
+  fine = h.parcels
+
+  -- so what is under way after an act was so before, or is fine
+  one-more : (d : Cluster) (p q : ℕ) (x : Body) → p ≢ q → Fine born d p q x → (a b : ℕ) (y : Body) → In (parcel a b y) (parcel p q x ∷ s.cluster.parcels) → In (parcel a b y) s.cluster.parcels ⊎ ((a ≢ b) × Fine born d a b y)
+  one-more d p q x n f a b y (inl e) = let P : Parcel → Type 0 = λ z. (z.from ≢ z.to) × Fine born d z.from z.to z.body in inr (subst P (sym e) (n, f))
+  one-more d p q x n f a b y (inr i) = inl i
+
+  abbrev Under : Cluster → Type 0
+  Under d = (p q : ℕ) (x : Body) → In (parcel p q x) d.parcels → In (parcel p q x) s.cluster.parcels ⊎ ((p ≢ q) × Fine born d p q x)
+
+  under-act : (a : Act) → May s.cluster a → Under (does s.cluster a)
+  under-act (Input d x) may = λ p q y i. inl i
+  under-act (Puts p d x) may = one-more s.cluster p d x may.2 (fine-put p d x may.0 may.3)
+  under-act (Starts p d i ssn x) may = λ p q y i. inl i
+  under-act (Shows p i ssn x) may = λ p q y i. inl i
+  under-act (Works p m) may = λ p q y i. inl i
+  under-act (Replays p j) may = either-way (nat_lt (s.cluster.saved p + suc j) (length (s.cluster.history p))) _ _ Under (λ p q y i. inl i) (λ p q y i. inl i)
+  under-act (Records r t i ssn k) may = one-more s.cluster t r (Acknowledgement i k) (λ e. (fine r t (Number i ssn k) may.0).0 (sym e)) tt
+  under-act (Counts t r i k) may = λ p q y i. inl i
+  under-act (Drops d t m) may = λ p q y i. inl i
+  under-act (Hears p q i k) may = λ p q y i. inl i
+  under-act (Collects q p i j k u f) may = λ p q y i. inl i
+  under-act (Recovers p k) may = either-way (nat_lt (s.cluster.saved p) k) _ _ Under (λ p q y i. inl i) (λ p q y i. inl i)
+  under-act (Obeys p q i k r) may = λ p q y i. inl i
+  under-act (Enters q p i j m r u f) may = λ p q y i. inl i
+  under-act (Restores q p i j m r f) may = λ p q y i. inl i
+  under-act (Greets p i j m r f) may = λ p q y i. inl i
+  under-act (Freezes p) may = λ p q y i. inl i
+  under-act (Keeps p) may = λ p q y i. inl i
+  under-act (Thaws p) may = λ p q y i. inl i
+  under-act (Dies p) may = λ p q y i. inl i
+  under-act (Opens p n) may = λ p q y i. inl i
+
+  -- and what is said of it
+  abbrev AreSaid : Cluster → List Flagged → Type 0
+  AreSaid d said = (y : Flagged) → Said y said → y.lost ≡ false → Said y s.said ⊎ Real born d y.packet.from y.packet.to y.packet.body
+
+  one-said : (d : Cluster) (z : Flagged) → (z.lost ≡ false → Real born d z.packet.from z.packet.to z.packet.body) → AreSaid d (z ∷ s.said)
+  one-said d z r y (inl e) f = let P : Flagged → Type 0 = λ w. w.lost ≡ false → Real born d w.packet.from w.packet.to w.packet.body in inr (subst P (sym e) r f)
+  one-said d z r y (inr i) f = inl i
+
+  said-put : (p d : ℕ) (x : Body) → MayPut s.cluster p d x → AreSaid s.cluster (also_said s p d x)
+  said-put p d (Delivery i ssn x) may = λ y i e. inl i
+  said-put p d (Number i ssn k) may = λ y i e. inl i
+  said-put p d (Acknowledgement i k) may = λ y i e. inl i
+  said-put p d (Ask i k) may = λ y i e. inl i
+  said-put p d (Told i j k u f) may =
+      let a : s.cluster.heard p d ≤ s.cluster.stored d = h.plain.low p d in
+      let b : i ≡ s.cluster.heard p d = may.1 in
+      one-said s.cluster (flagged (parcel p d (Told i j k u f)) (s.exact p) false) (λ _. ((omega arith), λ _. inl may.0))
+  said-put p d (Resume i k r) may = λ y i e. inl i
+  said-put p d (Restored i j n r u f) may = one-said s.cluster (flagged (parcel p d (Restored i j n r u f)) (s.exact p) false) (λ _. tt)
+  said-put p d (Saved n) may = λ y i e. inl i
+
+  said-act : (a : Act) → May s.cluster a → AreSaid (does s.cluster a) (said_after s a)
+  said-act (Puts p d x) may = said-put p d x may.3
+  said-act (Input d x) may = λ y i e. inl i
+  said-act (Starts p d i ssn x) may = λ y i e. inl i
+  said-act (Shows p i ssn x) may = λ y i e. inl i
+  said-act (Works p m) may = λ y i e. inl i
+  said-act (Replays p j) may = λ y i e. inl i
+  said-act (Records r t i ssn k) may = λ y i e. inl i
+  said-act (Counts t r i k) may = λ y i e. inl i
+  said-act (Drops d t m) may = λ y i e. inl i
+  said-act (Hears p q i k) may = λ y i e. inl i
+  said-act (Collects q p i j k u f) may = λ y i e. inl i
+  said-act (Recovers p k) may = λ y i e. inl i
+  said-act (Obeys p q i k r) may = λ y i e. inl i
+  said-act (Enters q p i j m r u f) may = λ y i e. inl i
+  said-act (Restores q p i j m r f) may = λ y i e. inl i
+  said-act (Greets p i j m r f) may = λ y i e. inl i
+  said-act (Freezes p) may = λ y i e. inl i
+  said-act (Keeps p) may = λ y i e. inl i
+  said-act (Thaws p) may = λ y i e. inl i
+  said-act (Dies p) may = λ y i e. inl i
+  said-act (Opens p n) may = λ y i e. inl i
+
+  -- a node that has an answer had it before, or takes it
+  abbrev IsPage : Act → ℕ → ℕ → Type 0
+  IsPage (Collects q p i j k u f) a b = (a ≡ p) × (b ≡ q)
+  IsPage x a b = ⊥
+
+  abbrev Was : Act → Cluster → Type 0
+  Was a d = (p q : ℕ) → q ≤ s.cluster.count → p ≢ q → has_told d p q ≡ true → (has_told s.cluster p q ≡ true) ⊎ IsPage a p q
+
+  was-stage : (a : Act) (p : ℕ) (x : Stage) → ((b : Bool) → at_stage x b ≡ true → at_stage (s.cluster.stage p) b ≡ true) → Was a (record s.cluster { stage = put s.cluster.stage p x })
+  was-stage a p x t = λ i j l n e. choose p (λ i b. at_stage (if b then x else s.cluster.stage i) (is_some (s.cluster.told i j)) ≡ true → (at_stage (s.cluster.stage i) (is_some (s.cluster.told i j)) ≡ true) ⊎ IsPage a i j) (λ f. inl (t _ f)) (λ i _ f. inl f) i e
+
+  was-recovers : (p k : ℕ) → May s.cluster (Recovers p k) → Was (Recovers p k) (record s.cluster { stage = put s.cluster.stage p Live; told = put s.cluster.told p (λ _. None) })
+  was-recovers p k may = λ i j l n e.
+      let none : ℕ → Option Collected = λ _. None in
+      choose p (λ i b. i ≢ j → at_stage (if b then Live else s.cluster.stage i) (is_some ((if b then none else s.cluster.told i) j)) ≡ true → (at_stage (s.cluster.stage i) (is_some (s.cluster.told i j)) ≡ true) ⊎ IsPage (Recovers p k) i j)
+      (λ m f. inl (let w = whole (s.cluster.told p j) (may.2 j l (λ g. m (sym g))) in rw (may.1, w) refl)) (λ i _ m f. inl f) i n e
+    where
+      whole : (t : Option Collected) → IsAll t → is_some t ≡ true
+      whole None a = absurd (a)
+      whole (Some t) a = refl
+
+  was-act : (a : Act) → May s.cluster a → Was a (does s.cluster a)
+  was-act (Puts p d x) may = λ i j l n e. inl e
+  was-act (Input d x) may = λ i j l n e. inl e
+  was-act (Starts p d i ssn x) may = λ i j l n e. inl e
+  was-act (Shows p i ssn x) may = λ i j l n e. inl e
+  was-act (Works p m) may = λ i j l n e. inl e
+  was-act (Replays p j) may = either-way (nat_lt (s.cluster.saved p + suc j) (length (s.cluster.history p))) _ _ (Was (Replays p j)) (λ i j l n e. inl e) (λ i j l n e. inl e)
+  was-act (Records r t i ssn k) may = λ i j l n e. inl e
+  was-act (Counts t r i k) may = λ i j l n e. inl e
+  was-act (Drops d t m) may = λ i j l n e. inl e
+  was-act (Hears p q i k) may = λ x y l n e. choose2 q p (λ a b t. at_stage (s.cluster.stage a) (is_some (if t then None else s.cluster.told a b)) ≡ true → (at_stage (s.cluster.stage a) (is_some (s.cluster.told a b)) ≡ true) ⊎ IsPage (Hears p q i k) a b)
+      (λ f. inl (less (s.cluster.stage q) (is_some (s.cluster.told q p)) f)) (λ a b _ f. inl f) x y e
+    where
+      less : (x : Stage) (b : Bool) → at_stage x false ≡ true → at_stage x b ≡ true
+      less Live b e = refl
+      less Frozen b e = refl
+      less Dead b e = e
+      less Collecting b e = absurd (cc)
+  was-act (Collects q p i j k u f) may = λ x y l n e. choose2 p q (λ a b t. at_stage (s.cluster.stage a) (is_some (if t then Some (with_page (s.cluster.told p q) k u f) else s.cluster.told a b)) ≡ true → (at_stage (s.cluster.stage a) (is_some (s.cluster.told a b)) ≡ true) ⊎ ((a ≡ p) × (b ≡ q)))
+      (λ f. inr (refl, refl)) (λ a b _ f. inl f) x y e
+  was-act (Recovers p k) may = either-way (nat_lt (s.cluster.saved p) k) _ _ (Was (Recovers p k)) (was-recovers p k may) (was-recovers p k may)
+  was-act (Obeys p q i k r) may = λ i j l n e. inl e
+  was-act (Enters q p i j m r u f) may = λ i j l n e. inl e
+  was-act (Restores q p i j m r f) may = λ i j l n e. inl e
+  was-act (Greets p i j m r f) may = λ i j l n e. inl e
+  was-act (Freezes p) may = was-stage (Freezes p) p Frozen (λ b _. let t = takes-is s.cluster p may.1 in rw t.0 refl)
+  was-act (Keeps p) may = λ i j l n e. inl e
+  was-act (Thaws p) may = was-stage (Thaws p) p Live (λ b _. rw may.1 refl)
+  was-act (Dies p) may = was-stage (Dies p) p Dead (λ b e. absurd (let z : false ≡ true = e in cc))
+  was-act (Opens p n) may = λ i j l n e.
+      let none : ℕ → Option Collected = λ _. None in
+      choose p (λ i b. at_stage (if b then Collecting else s.cluster.stage i) (is_some ((if b then none else s.cluster.told i) j)) ≡ true → (at_stage (s.cluster.stage i) (is_some (s.cluster.told i j)) ≡ true) ⊎ ⊥) (λ f. absurd (let z : false ≡ true = f in cc)) (λ i _ f. inl f) i e
+
+  -- what it lost it lost before, while it isn't up
+  abbrev Lost : Act → Bool → Cluster → Type 0
+  Lost a lost d = (p q : ℕ) → has_told d p q ≡ true → is_well d p ≡ false → lost_after s.lost lost a p q ≡ false → (s.lost p q ≡ false) ⊎ IsPage a p q
+
+  lost-act : (lost : Bool) (a : Act) → is_opening a ≡ false → May s.cluster a → Lost a lost (does s.cluster a)
+  lost-act lost (Puts p d x) n may = λ p q e w f. inl f
+  lost-act lost (Input d x) n may = λ p q e w f. inl f
+  lost-act lost (Starts p d i ssn x) n may = λ p q e w f. inl f
+  lost-act lost (Shows p i ssn x) n may = λ p q e w f. inl f
+  lost-act lost (Works p m) n may = λ p q e w f. inl f
+  lost-act lost (Replays p j) n may = λ p q e w f. inl f
+  lost-act lost (Records r t i ssn k) n may = λ p q e w f. inl f
+  lost-act lost (Counts t r i k) n may = λ p q e w f. inl f
+  lost-act lost (Drops d t m) n may = λ p q e w f. inl f
+  lost-act lost (Hears p q i k) n may = λ x y e w f. choose2 q p (λ a b t. at_stage (s.cluster.stage a) (is_some (if t then None else s.cluster.told a b)) ≡ true → is_well s.cluster a ≡ false → (if t then false else s.lost a b) ≡ false → (s.lost a b ≡ false) ⊎ ⊥)
+      (λ e w f. absurd (off e w)) (λ a b _ e w f. inl f) x y e w f
+    where
+      off : at_stage (s.cluster.stage q) false ≡ true → is_well s.cluster q ≡ false → ⊥
+      off e w = elim may.2 [ inl t ↦ true-not-false (takes-well s.cluster q t) w | inr g ↦ true-not-false e (ap (λ x. at_stage x false) g) ]
+  lost-act lost (Collects q p i j k u g) n may = λ x y e w f. choose2 p q (λ a b t. (if t then lost else s.lost a b) ≡ false → (s.lost a b ≡ false) ⊎ ((a ≡ p) × (b ≡ q))) (λ f. inr (refl, refl)) (λ a b _ f. inl f) x y f
+  lost-act lost (Recovers p k) n may = λ p q e w f. inl f
+  lost-act lost (Obeys p q i k r) n may = λ p q e w f. inl f
+  lost-act lost (Enters q p i j m r u g) n may = λ p q e w f. inl f
+  lost-act lost (Restores q p i j m r g) n may = λ p q e w f. inl f
+  lost-act lost (Greets p i j m r g) n may = λ p q e w f. inl f
+  lost-act lost (Freezes p) n may = λ p q e w f. inl f
+  lost-act lost (Keeps p) n may = λ p q e w f. inl f
+  lost-act lost (Thaws p) n may = λ p q e w f. inl f
+  lost-act lost (Dies p) n may = λ p q e w f. inl f
+  lost-act lost (Opens p n) m may = absurd (cc)
+
+  -- a page that is taken
+  page-knows : (a : Act) → May s.cluster a → On s.cluster (does s.cluster a) → (p q : ℕ) → IsPage a p q → Knows born (does s.cluster a) p q
+  page-knows (Collects r t i j k u f) may o p q g =
+      let known : Knows born (does s.cluster (Collects r t i j k u f)) t r =
+      elim ((fine r t (Told i j k u f) may.0).1.3 may.2) [ inl e ↦ inl (known-on born s.cluster (does s.cluster (Collects r t i j k u f)) o t r e.0, put2-same s.cluster.heard t r j ∙ e.1) | inr l ↦ inr l ] in
+      let P : ℕ → Type 0 = λ x. Knows born (does s.cluster (Collects r t i j k u f)) x q in
+      let Q : ℕ → Type 0 = λ y. Knows born (does s.cluster (Collects r t i j k u f)) t y in
+      subst P (sym g.0) (subst Q (sym g.1) known)
+  page-knows a may o p q g = absurd (g)
+
+  page-later : (exact lost : Bool) (a : Act) → MayStep s (Takes exact lost a) → On s.cluster (does s.cluster a) → (p q : ℕ) → IsPage a p q → lost_after s.lost lost a p q ≡ false → Later born (does s.cluster a) p q
+  page-later exact lost (Collects r t i j k u f) may o p q g e =
+      let P : ℕ → Type 0 = λ x. Later born (does s.cluster (Collects r t i j k u f)) x q in
+      let Q : ℕ → Type 0 = λ y. Later born (does s.cluster (Collects r t i j k u f)) t y in
+      let R : ℕ → Type 0 = λ x. put2 s.lost t r lost x q ≡ false in
+      let S : ℕ → Type 0 = λ y. put2 s.lost t r lost t y ≡ false in
+      let none : lost ≡ false = sym (put2-same s.lost t r lost) ∙ subst S g.1 (subst R g.0 e) in
+      let real = h.said (flagged (parcel r t (Told i j k u f)) exact lost) may.1 none in
+      subst P (sym g.0) (subst Q (sym g.1) (later-on born s.cluster (does s.cluster (Collects r t i j k u f)) o t r (real.1 may.0.2)))
+  page-later exact lost a may o p q g e = absurd (g)
+
+  pub takes-aged : (exact lost : Bool) (a : Act) → is_opening a ≡ false → MayStep s (Takes exact lost a) → Aged born now (step s (Takes exact lost a))
+  takes-aged exact lost a n may =
+      let o : On s.cluster (does s.cluster a) = on-deed born s.cluster h.plain h.parcels (Acts a) n may.0 in
+      aged-on born now s (step s (Takes exact lost a)) h o (plain-deed born s.cluster h.plain h.parcels (Acts a) n may.0) (under-act a may.0) (said-act a may.0)
+      (λ p q l m e. elim (was-act a may.0 p q l m e) [ inl f ↦ inl f | inr g ↦ inr (page-knows a may.0 o p q g) ])
+      (λ p q l m e w f. elim (lost-act lost a n may.0 p q e w f) [
+        | inl v ↦ elim (was-act a may.0 p q l m e) [ inl u ↦ inl (u, v) | inr g ↦ inr (page-later exact lost a may o p q g f) ]
+        | inr g ↦ inr (page-later exact lost a may o p q g f)
+      ])
+
+  pub meets-aged : (q p i k : ℕ) → MayStep s (Meeting q p i k) → Aged born now (step s (Meeting q p i k))
+  meets-aged q p i k may =
+      aged-on born now s (step s (Meeting q p i k)) h (on-deed born s.cluster h.plain h.parcels (Meets q p i k) refl may) (plain-deed born s.cluster h.plain h.parcels (Meets q p i k) refl may)
+      (λ a b y i. inl i) (λ y i e. inl i) (λ a b l m e. inl e) (λ a b l m e w f. inl (e, f))
+
+  pub loses-aged : (q p i j k : ℕ) → MayStep s (Losing q p i j k) → Aged born now (step s (Losing q p i j k))
+  loses-aged q p i j k may =
+      let n : p ≢ q = (fine p q (Ask i k) may.0).0 in
+      let a : s.cluster.heard q p ≤ s.cluster.stored p = h.plain.low q p in
+      let b : i ≡ s.cluster.heard q p = may.1 in
+      let e : j ≡ s.cluster.stored q = elim may.2 [ inl r ↦ r.1 ∙ h.plain.settled q (ap runs r.0.0) | inr r ↦ r.1 ] in
+      aged-on born now s (step s (Losing q p i j k)) h (on-deed born s.cluster h.plain h.parcels (Loses q p i j k) refl may) (plain-deed born s.cluster h.plain h.parcels (Loses q p i j k) refl may)
+      (one-more s.cluster q p (Told i j k None (λ _. None)) (λ f. n (sym f)) ((omega arith), (omega arith), (0, λ m l g r. refl), λ g. inl (sym b ∙ g, e)))
+      (one-said s.cluster (flagged (parcel q p (Told i j k None (λ _. None))) false true) (λ f. absurd (let z : true ≡ false = f in cc)))
+      (λ a b l m e. inl e) (λ a b l m e w f. inl (e, f))
+
+  pub leaves-aged : (p q : ℕ) → MayStep s (Leaving p q) → Aged born now (step s (Leaving p q))
+  leaves-aged p q may =
+      aged-on born now s (step s (Leaving p q)) h (on-deed born s.cluster h.plain h.parcels (Leaves p q) refl may.0) (plain-deed born s.cluster h.plain h.parcels (Leaves p q) refl may.0)
+      (λ a b y i. inl i) (λ y i e. inl i) (λ a b l m e. inl e)
+      (λ a b l m e w f. inl (e, f))

@@ -1,0 +1,179 @@
+-- What the way back of nodes rests on, along each run of the whole rules: which of two lives began later
+use Rattle.std.proofs.Common.{◌≡◌, ◌≢◌, inl, inr, ℕ, ◌<◌, ◌≤◌, length, Bool, true, false, refl, sym, ap, ◌∙◌, arith}
+use Rattle.std.specs.Prelude.{◌⊎◌, [], ◌∷◌, Option, Some, None}
+use Rattle.world.specs.declared.message.Message.{Message}
+use Rattle.world.specs.Phases.{Phase, Up, Busy, Down, Replaying, Resync}
+use Rattle.cluster.specs.Parcels.{Body, Delivery, Number, Acknowledgement, Ask, Told, Resume, Restored, Saved, parcel, In, reaches}
+use Rattle.cluster.specs.Cluster.{Stage, Live, Frozen, Dead, Collecting, Collected, Cluster, runs, is_well}
+use Rattle.cluster.specs.Rules.{IsNode}
+use Rattle.cluster.specs.Exact.{Telling, Flagged, Said}
+use Rattle.cluster.proofs.Sane.{Low, Todo}
+
+-- a phase that a node is in
+abbrev pub IsSound : Phase → Type 0
+IsSound Up = Unit {0}
+IsSound (Busy m) = Unit {0}
+IsSound Down = ⊥
+IsSound (Replaying j w a) = (w ≡ false) × (a ≡ false)
+IsSound (Resync []) = ⊥
+IsSound (Resync (q ∷ qs)) = Unit {0}
+
+-- behind some number a page of those above k has no entry
+abbrev pub Ends : ℕ → Option ℕ → (ℕ → Option Message) → Type 0
+Ends k u f = (b : ℕ) × ((m : ℕ) → b < m → k < m → reaches u m ≡ true → f m ≡ None)
+
+abbrev pub IsEnding : Option Collected → Type 0
+IsEnding None = Unit {0}
+IsEnding (Some t) = (b : ℕ) × ((m : ℕ) → b < m → reaches t.upto m ≡ true → t.entries m ≡ None)
+
+-- what each node has, whatever the others do
+abbrev pub Plain : Cluster → Type 0
+Plain c =
+    record {
+      low : Low c;
+      begun : 0 < c.stored 0;
+      settled : (p : ℕ) → runs (c.stage p) ≡ true → c.life p ≡ c.stored p;
+      gateway : (c.stage 0 ≡ Live) × (c.greeted 0 ≡ true) × (c.phase 0 ≡ Up);
+      sound : (p : ℕ) → IsSound (c.phase p);
+      todo : Todo c;
+      within : (p : ℕ) → c.saved p ≤ length (c.history p);
+      ends : (p q : ℕ) → IsEnding (c.told p q);
+      own : (p : ℕ) → c.told p p ≡ None;
+    }
+
+-- where none is opened: incarnations stay, more was heard, those that were up are so or dead, and the dead are
+abbrev pub On : Cluster → Cluster → Type 0
+On c d =
+    record {
+      count : d.count ≡ c.count;
+      stored : (p : ℕ) → d.stored p ≡ c.stored p;
+      heard : (p q : ℕ) → c.heard p q ≤ d.heard p q;
+      low : Low d;
+      well : (p : ℕ) → is_well c p ≡ true → (is_well d p ≡ true) ⊎ (d.stage p ≡ Dead);
+      dead : (p : ℕ) → c.stage p ≡ Dead → d.stage p ≡ Dead;
+    }
+
+abbrev pub is_some : Option Collected → Bool
+is_some None = false
+is_some (Some t) = true
+
+abbrev pub at_stage : Stage → Bool → Bool
+at_stage Live b = true
+at_stage Frozen b = true
+at_stage Dead b = false
+at_stage Collecting b = b
+
+-- p has an answer of q in its present life: it collects and has a page of it, or has collected
+abbrev pub has_told : Cluster → ℕ → ℕ → Bool
+has_told c p q = at_stage (c.stage p) (is_some (c.told p q))
+
+-- by the time at which each node's life began
+module _ (born : ℕ → ℕ) where
+  -- p has heard of q's life, and q of p's; or q's began after p's
+  abbrev pub Knows : Cluster → ℕ → ℕ → Type 0
+  Knows c p q = ((c.heard q p ≡ c.stored p) × (c.heard p q ≡ c.stored q)) ⊎ (born p < born q)
+
+  -- q is up, or dead, or its life began after p's
+  abbrev pub Later : Cluster → ℕ → ℕ → Type 0
+  Later c p q = (is_well c q ≡ true) ⊎ ((c.stage q ≡ Dead) ⊎ (born p < born q))
+
+  -- what packets of p to d speak of
+  abbrev pub Fine : Cluster → ℕ → ℕ → Body → Type 0
+  Fine c p d (Delivery i ssn x) = Unit {0}
+  Fine c p d (Number i ssn k) = Unit {0}
+  Fine c p d (Acknowledgement i k) = Unit {0}
+  Fine c p d (Ask i k) = IsNode c p × (i ≤ c.stored p)
+  Fine c p d (Told i j k u f) = (i ≤ c.stored d) × (j ≤ c.stored p) × Ends k u f × (i ≡ c.stored d → ((c.heard p d ≡ c.stored d) × (j ≡ c.stored p)) ⊎ (born d < born p))
+  Fine c p d (Resume i k s) = Unit {0}
+  Fine c p d (Restored i j n s u f) = j ≤ c.stored p
+  Fine c p d (Saved n) = Unit {0}
+
+  -- and a Told in which nothing is lost is of one that was up in its receiver's life
+  abbrev pub Real : Cluster → ℕ → ℕ → Body → Type 0
+  Real c p d (Delivery i ssn x) = Unit {0}
+  Real c p d (Number i ssn k) = Unit {0}
+  Real c p d (Acknowledgement i k) = Unit {0}
+  Real c p d (Ask i k) = Unit {0}
+  Real c p d (Told i j k u f) = (i ≤ c.stored d) × (i ≡ c.stored d → Later c d p)
+  Real c p d (Resume i k s) = Unit {0}
+  Real c p d (Restored i j n s u f) = Unit {0}
+  Real c p d (Saved n) = Unit {0}
+
+  -- as of this time
+  pub record Aged (now : ℕ) (s : Telling) : Type 0 where
+    pub past : (p : ℕ) → born p ≤ now
+    pub plain : Plain s.cluster
+    pub parcels : (p d : ℕ) (x : Body) → In (parcel p d x) s.cluster.parcels → (p ≢ d) × Fine s.cluster p d x
+    pub said : (y : Flagged) → Said y s.said → y.lost ≡ false → Real s.cluster y.packet.from y.packet.to y.packet.body
+    pub knows : (p q : ℕ) → q ≤ s.cluster.count → p ≢ q → has_told s.cluster p q ≡ true → Knows s.cluster p q
+    -- of those that p asked and has no loss of, while it isn't up
+    pub later : (p q : ℕ) → q ≤ s.cluster.count → p ≢ q → has_told s.cluster p q ≡ true → is_well s.cluster p ≡ false → s.lost p q ≡ false → Later s.cluster p q
+
+  module _ (c d : Cluster) (o : On c d) where
+    pub known-on : (p q : ℕ) → c.heard q p ≡ c.stored p → d.heard q p ≡ d.stored p
+    known-on p q e = let a : d.stored p ≡ c.stored p = o.stored p in let b : c.heard q p ≤ d.heard q p = o.heard q p in let l : d.heard q p ≤ d.stored p = o.low q p in omega arith
+
+    pub knows-on : (p q : ℕ) → Knows c p q → Knows d p q
+    knows-on p q k = elim k [ inl e ↦ inl (known-on p q e.0, known-on q p e.1) | inr l ↦ inr l ]
+
+    pub later-on : (p q : ℕ) → Later c p q → Later d p q
+    later-on p q k = elim k [ inl w ↦ elim (o.well q w) [ inl v ↦ inl v | inr e ↦ inr (inl e) ] | inr r ↦ elim r [ inl e ↦ inr (inl (o.dead q e)) | inr l ↦ inr (inr l) ] ]
+
+    pub fine-on : (p q : ℕ) (x : Body) → Fine c p q x → Fine d p q x
+    fine-on p q (Delivery i ssn x) f = tt
+    fine-on p q (Number i ssn k) f = tt
+    fine-on p q (Acknowledgement i k) f = tt
+    fine-on p q (Ask i k) f =
+        let a : d.stored p ≡ c.stored p = o.stored p in
+        let n : d.count ≡ c.count = o.count in
+        let b : p ≤ c.count = f.0.1 in
+        let l : i ≤ c.stored p = f.1 in
+        ((f.0.0, omega arith), omega arith)
+    fine-on p q (Told i j k u g) f =
+        let a : d.stored p ≡ c.stored p = o.stored p in
+        let b : d.stored q ≡ c.stored q = o.stored q in
+        let l : i ≤ c.stored q = f.0 in
+        let m : j ≤ c.stored p = f.1 in
+        ((omega arith), (omega arith), f.2, λ e. elim (f.3 (e ∙ b)) [ inl h ↦ inl (known-on q p h.0, h.1 ∙ sym a) | inr h ↦ inr h ])
+    fine-on p q (Resume i k s) f = tt
+    fine-on p q (Restored i j n s u g) f = let a : d.stored p ≡ c.stored p = o.stored p in let l : j ≤ c.stored p = f in omega arith
+    fine-on p q (Saved n) f = tt
+
+    pub real-on : (p q : ℕ) (x : Body) → Real c p q x → Real d p q x
+    real-on p q (Delivery i ssn x) f = tt
+    real-on p q (Number i ssn k) f = tt
+    real-on p q (Acknowledgement i k) f = tt
+    real-on p q (Ask i k) f = tt
+    real-on p q (Told i j k u g) f =
+        let b : d.stored q ≡ c.stored q = o.stored q in
+        let l : i ≤ c.stored q = f.0 in
+        ((omega arith), λ e. later-on q p (f.1 (e ∙ b)))
+    real-on p q (Resume i k s) f = tt
+    real-on p q (Restored i j n s u g) f = tt
+    real-on p q (Saved n) f = tt
+
+  -- so all of it goes on, with what is new
+  pub aged-on : (now : ℕ) (s t : Telling) → Aged now s → On s.cluster t.cluster → Plain t.cluster
+      → ((p d : ℕ) (x : Body) → In (parcel p d x) t.cluster.parcels → In (parcel p d x) s.cluster.parcels ⊎ ((p ≢ d) × Fine t.cluster p d x))
+      → ((y : Flagged) → Said y t.said → y.lost ≡ false → Said y s.said ⊎ Real t.cluster y.packet.from y.packet.to y.packet.body)
+      → ((p q : ℕ) → q ≤ s.cluster.count → p ≢ q → has_told t.cluster p q ≡ true → (has_told s.cluster p q ≡ true) ⊎ Knows t.cluster p q)
+      → ((p q : ℕ) → q ≤ s.cluster.count → p ≢ q → has_told t.cluster p q ≡ true → is_well t.cluster p ≡ false → t.lost p q ≡ false → ((has_told s.cluster p q ≡ true) × (s.lost p q ≡ false)) ⊎ Later t.cluster p q)
+      → Aged now t
+  aged-on now s t h o plain parcels said knows later =
+      record {
+        past = h.past;
+        plain = plain;
+        parcels = λ p d x i. elim (parcels p d x i) [ inl e ↦ let f = h.parcels p d x e in (f.0, fine-on s.cluster t.cluster o p d x f.1) | inr f ↦ f ];
+        said = λ y i e. elim (said y i e) [ inl f ↦ real-on s.cluster t.cluster o y.packet.from y.packet.to y.packet.body (h.said y f e) | inr f ↦ f ];
+        knows = λ p q l n e. let m : q ≤ s.cluster.count = (let c : t.cluster.count ≡ s.cluster.count = o.count in omega arith) in elim (knows p q m n e) [ inl f ↦ knows-on s.cluster t.cluster o p q (h.knows p q m n f) | inr f ↦ f ];
+        later = λ p q l n e w f.
+            let m : q ≤ s.cluster.count = (let c : t.cluster.count ≡ s.cluster.count = o.count in omega arith) in
+            elim (later p q m n e w f) [ inl g ↦ later-on s.cluster t.cluster o p q (h.later p q m n g.0 (un p q e w) g.1) | inr g ↦ g ];
+      }
+    where
+      un : (p q : ℕ) → has_told t.cluster p q ≡ true → is_well t.cluster p ≡ false → is_well s.cluster p ≡ false
+      un p q e w = split (is_well s.cluster p) refl
+        where
+          split : (b : Bool) → is_well s.cluster p ≡ b → is_well s.cluster p ≡ false
+          split false f = f
+          split true f = elim (o.well p f) [ inl v ↦ absurd (cc) | inr d ↦ absurd (let z : false ≡ true = sym (ap (λ x. at_stage x (is_some (t.cluster.told p q))) d) ∙ e in cc) ]

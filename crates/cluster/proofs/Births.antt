@@ -1,0 +1,219 @@
+-- And so does a node that is opened, whose life is the latest; and the opening of a cluster
+use Rattle.std.proofs.Common.{◌≡◌, ◌≢◌, inl, inr, ℕ, suc, ◌+◌, ◌<◌, ◌≤◌, List, [], ◌∷◌, Bool, true, false, refl, sym, ap, ◌∙◌, subst, arith}
+use Rattle.std.specs.Prelude.{◌⊎◌, Option, None, ◌==◌, ◌&&◌, if◌then◌else◌}
+use Rattle.std.proofs.lemmas.Bool.Decides.{nat_tests}
+use Rattle.world.specs.Handlers.{Handlers}
+use Rattle.world.specs.Phases.{is_up}
+use Rattle.world.specs.World.{put}
+use Rattle.theorems.proofs.Changes.{choose, at-itself}
+use Rattle.cluster.specs.Parcels.{Body, Delivery, Number, Acknowledgement, Ask, Told, Resume, Restored, Saved}
+use Rattle.cluster.specs.Cluster.{Collecting, Collected, runs, is_well}
+use Rattle.cluster.specs.Rules.{Act, Opens, May, does}
+use Rattle.cluster.proofs.Facts.{true-not-false}
+use Rattle.cluster.specs.Exact.{Telling, starts, Step, Takes, Meeting, Losing, Leaving, MayStep, step, Steps, after_steps}
+use Rattle.cluster.proofs.Ages.{IsEnding, Plain, is_some, at_stage, has_told, Later, Fine, Real, Aged}
+use Rattle.cluster.proofs.DurableTurns.{put-other, is_opening}
+use Rattle.cluster.proofs.Age.{takes-aged, meets-aged, loses-aged, leaves-aged}
+
+pub put-same : {X : Type 0} (f : ℕ → X) (p : ℕ) (x : X) → put f p x p ≡ x
+put-same f p x = at-itself p (λ b. (if b then x else f p) ≡ x) refl
+
+module _ (born : ℕ → ℕ) (now : ℕ) (s : Telling) (h : Aged born now s) (r n : ℕ) (may : May s.cluster (Opens r n)) where
+  newest : (p : ℕ) → p ≢ r → put born r (suc now) p < put born r (suc now) r
+  newest p m = let a : born p ≤ now = h.past p in let b : put born r (suc now) p ≡ born p = put-other born r (suc now) p m in let e : put born r (suc now) r ≡ suc now = put-same born r (suc now) in omega arith
+
+  stored-r : (does s.cluster (Opens r n)).stored r ≡ suc (n + s.cluster.stored r)
+  stored-r = put-same s.cluster.stored r (suc (n + s.cluster.stored r))
+
+  more : (p : ℕ) → s.cluster.stored p ≤ (does s.cluster (Opens r n)).stored p
+  more = choose r (λ j b. s.cluster.stored j ≤ (if b then suc (n + s.cluster.stored r) else s.cluster.stored j)) (omega arith) (λ j _. omega arith)
+
+  plain : Plain (does s.cluster (Opens r n))
+  plain =
+      let none : ℕ → Option Collected = λ _. None in
+      let gate : 0 ≢ r = (λ e. let l : 0 < r = may.0.0 in omega arith) in
+      record {
+        low = λ a b. choose r (λ j t. (if t then (λ (q : ℕ). if q == 0 then 1 else 0) else s.cluster.heard j) b ≤ (does s.cluster (Opens r n)).stored b)
+            (let x : (if b == 0 then 1 else 0) ≤ s.cluster.stored b = one b (b == 0) refl in let y : s.cluster.stored b ≤ (does s.cluster (Opens r n)).stored b = more b in omega arith)
+            (λ j _. let x : s.cluster.heard j b ≤ s.cluster.stored b = h.plain.low j b in let y : s.cluster.stored b ≤ (does s.cluster (Opens r n)).stored b = more b in omega arith) a;
+        begun = let x : 0 < s.cluster.stored 0 = h.plain.begun in let y : s.cluster.stored 0 ≤ (does s.cluster (Opens r n)).stored 0 = more 0 in omega arith;
+        settled = choose r (λ j b. runs (if b then Collecting else s.cluster.stage j) ≡ true → s.cluster.life j ≡ (if b then suc (n + s.cluster.stored r) else s.cluster.stored j)) (λ e. absurd (let z : false ≡ true = e in cc)) (λ j _. h.plain.settled j);
+        gateway = (put-other s.cluster.stage r Collecting 0 gate ∙ h.plain.gateway.0, h.plain.gateway.1, h.plain.gateway.2);
+        sound = h.plain.sound;
+        todo = h.plain.todo;
+        within = h.plain.within;
+        ends = λ j q. choose r (λ j b. IsEnding ((if b then none else s.cluster.told j) q)) tt (λ j _. h.plain.ends j q) j;
+        own = choose r (λ j b. (if b then none else s.cluster.told j) j ≡ None) refl (λ j _. h.plain.own j);
+      }
+    where
+      one : (x : ℕ) (t : Bool) → (x == 0) ≡ t → (if t then 1 else 0) ≤ s.cluster.stored x
+      one x true e = let same : 0 ≡ x = grind (arith, nat_tests) in let P : ℕ → Type 0 = λ i. 1 ≤ s.cluster.stored i in let m : 0 < s.cluster.stored 0 = h.plain.begun in subst P same (let k : 1 ≤ s.cluster.stored 0 = omega arith in k)
+      one x false e = omega arith
+
+  -- of two others all is as before
+  stored-same : (p : ℕ) → p ≢ r → (does s.cluster (Opens r n)).stored p ≡ s.cluster.stored p
+  stored-same p m = put-other s.cluster.stored r (suc (n + s.cluster.stored r)) p m
+
+  heard-same : (p q : ℕ) → p ≢ r → (does s.cluster (Opens r n)).heard p q ≡ s.cluster.heard p q
+  heard-same p q m = ap (λ (f : ℕ → ℕ). f q) (put-other s.cluster.heard r (λ q. if q == 0 then 1 else 0) p m)
+
+  less-same : (p q : ℕ) → p ≢ r → q ≢ r → born p < born q → put born r (suc now) p < put born r (suc now) q
+  less-same p q m o l = let a : put born r (suc now) p ≡ born p = put-other born r (suc now) p m in let b : put born r (suc now) q ≡ born q = put-other born r (suc now) q o in omega arith
+
+  known-same : (p q : ℕ) → p ≢ r → q ≢ r → s.cluster.heard q p ≡ s.cluster.stored p → (does s.cluster (Opens r n)).heard q p ≡ (does s.cluster (Opens r n)).stored p
+  known-same p q m o e = heard-same q p o ∙ e ∙ sym (stored-same p m)
+
+  is : (p : ℕ) → (p ≡ r) ⊎ (p ≢ r)
+  is p = split (p == r) refl
+    where
+      split : (b : Bool) → (p == r) ≡ b → (p ≡ r) ⊎ (p ≢ r)
+      split true e = inl (grind (arith, nat_tests))
+      split false e = inr (grind (arith, nat_tests))
+
+  -- the life that a packet of before is for isn't r's
+  not-now : (i q : ℕ) → i ≤ s.cluster.stored q → i ≡ (does s.cluster (Opens r n)).stored q → q ≢ r
+  not-now i q l e f =
+      let P : ℕ → Type 0 = λ x. (i ≤ s.cluster.stored x) × (i ≡ (does s.cluster (Opens r n)).stored x) in
+      let t = subst P f (l, e) in
+      let a : i ≤ s.cluster.stored r = t.0 in
+      let b : i ≡ (does s.cluster (Opens r n)).stored r = t.1 in
+      let g : (does s.cluster (Opens r n)).stored r ≡ suc (n + s.cluster.stored r) = stored-r in
+      omega arith
+
+  later-same : (p q : ℕ) → p ≢ r → Later born s.cluster p q → Later (put born r (suc now)) (does s.cluster (Opens r n)) p q
+  later-same p q m l = elim (is q) [
+    | inl e ↦ (let P : ℕ → Type 0 = λ x. put born r (suc now) p < put born r (suc now) x in inr (inr (subst P (sym e) (newest p m))))
+    | inr o ↦ elim l [
+      | inl w ↦ inl (let e : put s.cluster.stage r Collecting q ≡ s.cluster.stage q = put-other s.cluster.stage r Collecting q o in rw e w)
+      | inr k ↦ elim k [ inl e ↦ inr (inl (put-other s.cluster.stage r Collecting q o ∙ e)) | inr l ↦ inr (inr (less-same p q m o l)) ]
+    ]
+  ]
+
+  fine-same : (p q : ℕ) (x : Body) → Fine born s.cluster p q x → Fine (put born r (suc now)) (does s.cluster (Opens r n)) p q x
+  fine-same p q (Delivery i ssn x) f = tt
+  fine-same p q (Number i ssn k) f = tt
+  fine-same p q (Acknowledgement i k) f = tt
+  fine-same p q (Ask i k) f = let a : s.cluster.stored p ≤ (does s.cluster (Opens r n)).stored p = more p in let l : i ≤ s.cluster.stored p = f.1 in (f.0, omega arith)
+  fine-same p q (Told i j k u g) f =
+      let a : s.cluster.stored p ≤ (does s.cluster (Opens r n)).stored p = more p in
+      let b : s.cluster.stored q ≤ (does s.cluster (Opens r n)).stored q = more q in
+      let l : i ≤ s.cluster.stored q = f.0 in
+      let m : j ≤ s.cluster.stored p = f.1 in (
+        (omega arith),
+        (omega arith),
+        f.2,
+        λ e.
+            let o : q ≢ r = not-now i q l e in
+            elim (is p) [
+              | inl z ↦ (let P : ℕ → Type 0 = λ x. put born r (suc now) q < put born r (suc now) x in inr (subst P (sym z) (newest q o)))
+              | inr z ↦ elim (f.3 (e ∙ stored-same q o)) [ inl v ↦ inl (known-same q p o z v.0, v.1 ∙ sym (stored-same p z)) | inr v ↦ inr (less-same q p o z v) ]
+            ],
+      )
+  fine-same p q (Resume i k s) f = tt
+  fine-same p q (Restored i j m t u g) f = let a : s.cluster.stored p ≤ (does s.cluster (Opens r n)).stored p = more p in let l : j ≤ s.cluster.stored p = f in omega arith
+  fine-same p q (Saved m) f = tt
+
+  real-same : (p q : ℕ) (x : Body) → Real born s.cluster p q x → Real (put born r (suc now)) (does s.cluster (Opens r n)) p q x
+  real-same p q (Delivery i ssn x) f = tt
+  real-same p q (Number i ssn k) f = tt
+  real-same p q (Acknowledgement i k) f = tt
+  real-same p q (Ask i k) f = tt
+  real-same p q (Told i j k u g) f =
+      let b : s.cluster.stored q ≤ (does s.cluster (Opens r n)).stored q = more q in
+      let l : i ≤ s.cluster.stored q = f.0 in
+      ((omega arith), λ e. let o : q ≢ r = not-now i q l e in later-same q p o (f.1 (e ∙ stored-same q o)))
+  real-same p q (Resume i k s) f = tt
+  real-same p q (Restored i j m t u g) f = tt
+  real-same p q (Saved m) f = tt
+
+  -- whoever has an answer isn't r
+  told-before : (p q : ℕ) → has_told (does s.cluster (Opens r n)) p q ≡ true → (p ≢ r) × (has_told s.cluster p q ≡ true)
+  told-before p q e = elim (is p) [
+    | inl z ↦ absurd (
+        let none : ℕ → Option Collected = λ _. None in
+        let P : ℕ → Type 0 = λ x. has_told (does s.cluster (Opens r n)) x q ≡ true in
+        let f : has_told (does s.cluster (Opens r n)) r q ≡ true = subst P z e in
+        let g : has_told (does s.cluster (Opens r n)) r q ≡ false = at-itself r (λ b. at_stage (if b then Collecting else s.cluster.stage r) (is_some ((if b then none else s.cluster.told r) q)) ≡ false) refl in
+        true-not-false f g)
+    | inr m ↦
+        let none : ℕ → Option Collected = λ _. None in
+        let a : put s.cluster.stage r Collecting p ≡ s.cluster.stage p = put-other s.cluster.stage r Collecting p m in
+        let b : put s.cluster.told r none p ≡ s.cluster.told p = put-other s.cluster.told r none p m in
+        (m, sym (ap (λ x. at_stage x (is_some (s.cluster.told p q))) a) ∙ sym (ap (λ (x : ℕ → Option Collected). at_stage (put s.cluster.stage r Collecting p) (is_some (x q))) b) ∙ e)
+  ]
+
+  pub opens-aged : (exact lost : Bool) → Aged (put born r (suc now)) (suc now) (step s (Takes exact lost (Opens r n)))
+  opens-aged exact lost =
+      record {
+        past = choose r (λ j b. (if b then suc now else born j) ≤ suc now) (omega arith) (λ j _. let a : born j ≤ now = h.past j in omega arith);
+        plain = plain;
+        parcels = λ p q x i. let f = h.parcels p q x i in (f.0, fine-same p q x f.1);
+        said = λ y i e. real-same y.packet.from y.packet.to y.packet.body (h.said y i e);
+        knows = λ p q l m e. let t = told-before p q e in elim (is q) [
+          | inl z ↦ (let P : ℕ → Type 0 = λ x. put born r (suc now) p < put born r (suc now) x in inr (subst P (sym z) (newest p t.0)))
+          | inr z ↦ elim (h.knows p q l m t.1) [ inl v ↦ inl (known-same p q t.0 z v.0, known-same q p z t.0 v.1) | inr v ↦ inr (less-same p q t.0 z v) ]
+        ];
+        later = λ p q l m e w f.
+            let t = told-before p q e in
+            let g : put s.cluster.stage r Collecting p ≡ s.cluster.stage p = put-other s.cluster.stage r Collecting p t.0 in
+            let u : is_well s.cluster p ≡ false = sym (ap (λ x. runs x && (s.cluster.greeted p && is_up (s.cluster.phase p))) g) ∙ w in
+            let none : ℕ → Bool = λ _. false in
+            let v : s.lost p q ≡ false = sym (ap (λ (x : ℕ → Bool). x q) (put-other s.lost r none p t.0)) ∙ f in
+            later-same p q t.0 (h.later p q l m t.1 u v);
+      }
+
+-- whether a step is that a node is opened
+abbrev pub begins : Step → Bool
+begins (Takes exact lost a) = is_opening a
+begins x = false
+
+pub step-aged : (born : ℕ → ℕ) (now : ℕ) (s : Telling) (x : Step) → begins x ≡ false → Aged born now s → MayStep s x → Aged born now (step s x)
+step-aged born now s (Takes exact lost a) n h may = takes-aged born now s h exact lost a n may
+step-aged born now s (Meeting q p i k) n h may = meets-aged born now s h q p i k may
+step-aged born now s (Losing q p i j k) n h may = loses-aged born now s h q p i j k may
+step-aged born now s (Leaving p q) n h may = leaves-aged born now s h p q may
+
+-- at some time, with lives that began at some time
+abbrev pub Orderly : Telling → Type 0
+Orderly s = (born : ℕ → ℕ) × (now : ℕ) × Aged born now s
+
+pub orderly-step : (s : Telling) (x : Step) → Orderly s → MayStep s x → Orderly (step s x)
+orderly-step s (Takes exact lost a) h may = split a may
+  where
+    split : (b : Act) → MayStep s (Takes exact lost b) → Orderly (step s (Takes exact lost b))
+    split (Opens r n) m = (put h.0 r (suc h.1), suc h.1, opens-aged h.0 h.1 s h.2 r n m.0 exact lost)
+    split b m = (h.0, h.1, takes-aged h.0 h.1 s h.2 exact lost b refl m)
+orderly-step s (Meeting q p i k) h may = (h.0, h.1, meets-aged h.0 h.1 s h.2 q p i k may)
+orderly-step s (Losing q p i j k) h may = (h.0, h.1, loses-aged h.0 h.1 s h.2 q p i j k may)
+orderly-step s (Leaving p q) h may = (h.0, h.1, leaves-aged h.0 h.1 s h.2 p q may)
+
+starts-orderly : (n : ℕ) (f : Handlers) (durable : ℕ → Bool) → Orderly (starts n f durable)
+starts-orderly n f durable = (
+  (λ _. 0),
+  0,
+  record {
+    past = λ p. omega arith;
+    plain = record {
+      low = λ q p. omega arith;
+      begun = omega arith;
+      settled = λ p _. refl;
+      gateway = (refl, refl, refl);
+      sound = λ p. tt;
+      todo = λ p q e. absurd (let z : false ≡ true = e in cc);
+      within = λ p. omega arith;
+      ends = λ p q. tt;
+      own = λ p. refl;
+    };
+    parcels = λ p d x i. absurd (i);
+    said = λ y i e. absurd (i);
+    knows = λ p q l m e. inl (refl, refl);
+    later = λ p q l m e w f. absurd (let z : true ≡ false = w in cc);
+  },
+)
+
+run-orderly : (s : Telling) (xs : List Step) → Orderly s → Steps s xs → Orderly (after_steps s xs)
+run-orderly s [] h r = h
+run-orderly s (x ∷ xs) h r = run-orderly (step s x) xs (orderly-step s x h r.0) r.1
+
+pub always-orderly : (n : ℕ) (f : Handlers) (durable : ℕ → Bool) (xs : List Step) → Steps (starts n f durable) xs → Orderly (after_steps (starts n f durable) xs)
+always-orderly n f durable xs r = run-orderly (starts n f durable) xs (starts-orderly n f durable) r

@@ -1,0 +1,220 @@
+-- Nodes that collect are told by all, also by those that come back themselves, and recover
+use Rattle.std.proofs.Common.{◌≡◌, ◌≢◌, inl, inr, ℕ, ◌≤◌, [], Bool, true, false, refl, sym, ap, ◌∙◌, subst, arith}
+use Rattle.std.specs.Prelude.{◌⊎◌, Option, Some, None, ◌&&◌, ◌==◌, nat_lt, if◌then◌else◌}
+use Rattle.std.proofs.lemmas.Bool.Decides.{nat_tests}
+use Rattle.world.specs.declared.message.Message.{Message}
+use Rattle.world.specs.Phases.{Phase, Up, Busy, Down, Replaying, Resync, is_up}
+use Rattle.theorems.proofs.Changes.{choose}
+use Rattle.theorems.proofs.Tests.{not-below}
+use Rattle.cluster.specs.Parcels.{Body, Ask, Told, parcel, In}
+use Rattle.cluster.specs.Cluster.{Live, Collecting, Collected, runs, is_well, takes}
+use Rattle.cluster.specs.Rules.{Puts, Hears, Collects, IsNode, Asks, IsAll, entry_of, with_page, put2}
+use Rattle.cluster.proofs.Facts.{true-not-false}
+use Rattle.cluster.specs.Overlap.{restores_anew}
+use Rattle.cluster.specs.Exact.{flagged, Said, Telling, Step, Takes, Meeting, Losing, MayStep, step}
+use Rattle.cluster.specs.Return.{CanGo}
+use Rattle.cluster.proofs.DurableTurns.{put2-same}
+use Rattle.cluster.proofs.Births.{Orderly, orderly-step}
+use Rattle.cluster.proofs.WakeUps.{go-first, go-on, AllReady}
+
+put2-row : {X : Type 0} (f : ℕ → ℕ → X) (a b : ℕ) (x : X) (r c : ℕ) → r ≢ a → put2 f a b x r c ≡ f r c
+put2-row f a b x r c n = let m : (r == a) ≡ false = grind (arith, nat_tests) in rw m refl
+
+put2-column : {X : Type 0} (f : ℕ → ℕ → X) (a b : ℕ) (x : X) (r c : ℕ) → c ≢ b → put2 f a b x r c ≡ f r c
+put2-column {X} f a b x r c n = let m : (c == b) ≡ false = grind (arith, nat_tests) in let o : ((r == a) && (c == b)) ≡ false = rw m (off (r == a)) in rw o refl
+  where
+    off : (t : Bool) → (t && false) ≡ false
+    off true = refl
+    off false = refl
+
+anew-up : (x : Phase) (p : ℕ) → is_up (restores_anew x p) ≡ false
+anew-up Up p = refl
+anew-up (Busy m) p = refl
+anew-up Down p = refl
+anew-up (Replaying j w a) p = refl
+anew-up (Resync rs) p = refl
+
+-- of two nodes that differ: q has heard of the life in which p asks
+abbrev Heard : ℕ → ℕ → ℕ → Telling → Telling → Type 0
+Heard p q k s u =
+    record {
+      orderly : Orderly u;
+      count : u.cluster.count ≡ s.cluster.count;
+      stage : (r : ℕ) → u.cluster.stage r ≡ s.cluster.stage r;
+      ready : AllReady u.cluster;
+      heard : u.cluster.heard q p ≡ u.cluster.stored p;
+      told : (r : ℕ) → u.cluster.told p r ≡ s.cluster.told p r;
+      asked : In (parcel p q (Ask (u.cluster.stored p) k)) u.cluster.parcels;
+      asks : Asks (u.cluster.saved p) (u.cluster.told p q) k;
+    }
+
+-- q has told p all
+abbrev pub Answered : ℕ → ℕ → Telling → Telling → Type 0
+Answered p q s u =
+    record {
+      orderly : Orderly u;
+      count : u.cluster.count ≡ s.cluster.count;
+      stage : (r : ℕ) → u.cluster.stage r ≡ s.cluster.stage r;
+      ready : AllReady u.cluster;
+      whole : IsAll (u.cluster.told p q);
+      told : (r : ℕ) → r ≢ q → u.cluster.told p r ≡ s.cluster.told p r;
+    }
+
+module _ (p q : ℕ) (ne : q ≢ p) where
+  module _ (s : Telling) (h : Orderly s) (node : IsNode s.cluster p) (a : q ≤ s.cluster.count) (ready : AllReady s.cluster) (coll : s.cluster.stage p ≡ Collecting) where
+    abbrev ask : ℕ → Step
+    ask k = Takes true false (Puts p q (Ask (s.cluster.stored p) k))
+
+    abbrev asked : ℕ → Telling
+    asked k = step s (Takes true false (Puts p q (Ask (s.cluster.stored p) k)))
+
+    hear : (k : ℕ) → Asks (s.cluster.saved p) (s.cluster.told p q) k → CanGo s (Heard p q k s)
+    hear k asks = go-first s (Heard p q k s) (ask k) may refl (split (nat_lt (s.cluster.heard q p) (s.cluster.stored p)) refl)
+      where
+        may : MayStep s (Takes true false (Puts p q (Ask (s.cluster.stored p) k)))
+        may = ((node.1, a, (λ e. ne (sym e)), (coll, refl, asks)), tt)
+
+        g : Orderly (step s (Takes true false (Puts p q (Ask (s.cluster.stored p) k))))
+        g = orderly-step s (Takes true false (Puts p q (Ask (s.cluster.stored p) k))) h may
+
+        -- it hears that
+        hears : nat_lt (s.cluster.heard q p) (s.cluster.stored p) ≡ true → (takes s.cluster q ≡ true) ⊎ (s.cluster.stage q ≡ Collecting) → CanGo (asked k) (Heard p q k s)
+        hears e t =
+            let x : Step = Takes true false (Hears p q (s.cluster.stored p) k) in
+            let m : MayStep (step s (Takes true false (Puts p q (Ask (s.cluster.stored p) k)))) (Takes true false (Hears p q (s.cluster.stored p) k)) = ((inl refl, grind (arith, nat_tests), t), tt) in
+            go-first (asked k) (Heard p q k s) (Takes true false (Hears p q (s.cluster.stored p) k)) m refl (
+              [],
+              tt,
+              tt,
+              record {
+                orderly = orderly-step (asked k) (Takes true false (Hears p q (s.cluster.stored p) k)) g m;
+                count = refl;
+                stage = λ r. refl;
+                ready = ready;
+                heard = put2-same s.cluster.heard q p (s.cluster.stored p);
+                told = λ r. put2-row s.cluster.told q p None p r (λ z. ne (sym z));
+                asked = inl refl;
+                asks = let P : Option Collected → Type 0 = λ x. Asks (s.cluster.saved p) x k in subst P (sym (put2-row s.cluster.told q p None p q (λ z. ne (sym z)))) asks;
+              },
+            )
+
+        -- or, as it comes back itself, meets p
+        meets : nat_lt (s.cluster.heard q p) (s.cluster.stored p) ≡ true → s.cluster.stage q ≡ Live → is_well s.cluster q ≡ false → CanGo (asked k) (Heard p q k s)
+        meets e live un =
+            let m : MayStep (step s (Takes true false (Puts p q (Ask (s.cluster.stored p) k)))) (Meeting q p (s.cluster.stored p) k) = (inl refl, (live, un), grind (arith, nat_tests)) in
+            go-first (asked k) (Heard p q k s) (Meeting q p (s.cluster.stored p) k) m refl (
+              [],
+              tt,
+              tt,
+              record {
+                orderly = orderly-step (asked k) (Meeting q p (s.cluster.stored p) k) g m;
+                count = refl;
+                stage = λ r. refl;
+                ready = choose q (λ j b. j ≤ s.cluster.count → (s.cluster.stage j ≡ Collecting) ⊎ ((s.cluster.stage j ≡ Live)
+                    × ((runs (s.cluster.stage j) && (s.cluster.greeted j && is_up (if b then restores_anew (s.cluster.phase q) p else s.cluster.phase j))) ≡ true → (if b then restores_anew (s.cluster.phase q) p else s.cluster.phase j) ≡ Up)))
+                    (λ _. inr (live, λ w. absurd (down (runs (s.cluster.stage q)) (s.cluster.greeted q) (is_up (restores_anew (s.cluster.phase q) p)) (anew-up (s.cluster.phase q) p) w))) (λ j _. ready j);
+                heard = put2-same s.cluster.heard q p (s.cluster.stored p);
+                told = λ r. refl;
+                asked = inl refl;
+                asks = asks;
+              },
+            )
+          where
+            down : (x y z : Bool) → z ≡ false → (x && (y && z)) ≡ true → ⊥
+            down true true z e w = true-not-false w e
+            down true false z e w = true-not-false w refl
+            down false y z e w = true-not-false w refl
+
+        split : (b : Bool) → nat_lt (s.cluster.heard q p) (s.cluster.stored p) ≡ b → CanGo (asked k) (Heard p q k s)
+        split false e =
+            let low : s.cluster.heard q p ≤ s.cluster.stored p = h.2.plain.low q p in
+            let l : s.cluster.stored p ≤ s.cluster.heard q p = not-below (s.cluster.heard q p) (s.cluster.stored p) e in
+            ([], tt, tt, record { orderly = g; count = refl; stage = λ r. refl; ready = ready; heard = omega arith; told = λ r. refl; asked = inl refl; asks = asks })
+        split true e = elim (ready q a) [ inl c ↦ hears e (inr c) | inr w ↦ awake w.0 (takes s.cluster q) refl ]
+          where
+            awake : s.cluster.stage q ≡ Live → (b : Bool) → takes s.cluster q ≡ b → CanGo (asked k) (Heard p q k s)
+            awake live true t = hears e (inl t)
+            awake live false t =
+                let same : is_well s.cluster q ≡ takes s.cluster q = rw live refl in
+                meets e live (same ∙ t)
+
+    -- a page is collected
+    collect : (i j k : ℕ) (f : ℕ → Option Message) (exact lost : Bool) → In (parcel q p (Told i j k None f)) s.cluster.parcels → Said (flagged (parcel q p (Told i j k None f)) exact lost) s.said
+        → i ≡ s.cluster.stored p → s.cluster.heard p q ≤ j → Asks (s.cluster.saved p) (s.cluster.told p q) k → CanGo s (Answered p q s)
+    collect i j k f exact lost there said e low asks =
+        let x : Step = Takes exact lost (Collects q p i j k None f) in
+        let m : MayStep s (Takes exact lost (Collects q p i j k None f)) = ((there, coll, e, low, asks), said) in
+        go-first s (Answered p q s) (Takes exact lost (Collects q p i j k None f)) m refl (
+          [],
+          tt,
+          tt,
+          record {
+            orderly = orderly-step s (Takes exact lost (Collects q p i j k None f)) h m;
+            count = refl;
+            stage = λ r. refl;
+            ready = ready;
+            whole = let P : Option Collected → Type 0 = λ t. IsAll t in subst P (sym (put2-same s.cluster.told p q (Some (with_page (s.cluster.told p q) k None f)))) refl;
+            told = λ r n. put2-column s.cluster.told p q (Some (with_page (s.cluster.told p q) k None f)) p r n;
+          },
+        )
+
+  module _ (s : Telling) (h : Orderly s) (node : IsNode s.cluster p) (a : q ≤ s.cluster.count) (ready : AllReady s.cluster) (coll : s.cluster.stage p ≡ Collecting) where
+    -- q tells what its log holds where it is up, and else that it lost that
+    tells : (k : ℕ) → s.cluster.heard q p ≡ s.cluster.stored p → In (parcel p q (Ask (s.cluster.stored p) k)) s.cluster.parcels → Asks (s.cluster.saved p) (s.cluster.told p q) k → CanGo s (Answered p q s)
+    tells k e there asks = elim (ready q a) [ inl c ↦ loses (s.cluster.stored q) (inr (c, refl)) (h.2.plain.low p q) | inr w ↦ split w.0 (is_well s.cluster q) refl ]
+      where
+        loses : (j : ℕ) → (((s.cluster.stage q ≡ Live) × (is_well s.cluster q ≡ false)) × (j ≡ s.cluster.life q)) ⊎ ((s.cluster.stage q ≡ Collecting) × (j ≡ s.cluster.stored q)) → s.cluster.heard p q ≤ j → CanGo s (Answered p q s)
+        loses j back low =
+            let m : MayStep s (Losing q p (s.cluster.stored p) j k) = (there, sym e, back) in
+            go-first s (Answered p q s) (Losing q p (s.cluster.stored p) j k) m refl
+            (collect (step s (Losing q p (s.cluster.stored p) j k)) (orderly-step s (Losing q p (s.cluster.stored p) j k) h m) node a ready coll (s.cluster.stored p) j k (λ _. None) false true (inl refl) (inl refl) refl low asks)
+
+        split : s.cluster.stage q ≡ Live → (b : Bool) → is_well s.cluster q ≡ b → CanGo s (Answered p q s)
+        split live b f =
+            let l : s.cluster.heard p q ≤ s.cluster.stored q = h.2.plain.low p q in
+            let o : s.cluster.life q ≡ s.cluster.stored q = h.2.plain.settled q (ap runs live) in
+            one b f (omega arith)
+          where
+            one : (b : Bool) → is_well s.cluster q ≡ b → s.cluster.heard p q ≤ s.cluster.life q → CanGo s (Answered p q s)
+            one false f low = loses (s.cluster.life q) (inl ((live, f), refl)) low
+            one true f low =
+                let x : Body = Told (s.cluster.stored p) (s.cluster.life q) k None (entry_of s.cluster q p) in
+                let m : MayStep s (Takes true false (Puts q p (Told (s.cluster.stored p) (s.cluster.life q) k None (entry_of s.cluster q p)))) =
+                ((a, node.1, ne, (f, sym e, refl, (λ v z. absurd (let y : None ≡ Some v = z in cc)), (λ m _ _. refl))), tt) in
+                go-first s (Answered p q s) (Takes true false (Puts q p (Told (s.cluster.stored p) (s.cluster.life q) k None (entry_of s.cluster q p)))) m refl
+                (collect (step s (Takes true false (Puts q p (Told (s.cluster.stored p) (s.cluster.life q) k None (entry_of s.cluster q p)))))
+                (orderly-step s (Takes true false (Puts q p (Told (s.cluster.stored p) (s.cluster.life q) k None (entry_of s.cluster q p)))) h m) node a ready coll
+                (s.cluster.stored p) (s.cluster.life q) k (entry_of s.cluster q p) (s.exact q) false (inl refl) (inl refl) refl low asks)
+
+  -- so p asks it
+  module _ (s : Telling) (h : Orderly s) (node : IsNode s.cluster p) (a : q ≤ s.cluster.count) (ready : AllReady s.cluster) (coll : s.cluster.stage p ≡ Collecting) where
+    asks-for : (k : ℕ) → Asks (s.cluster.saved p) (s.cluster.told p q) k → CanGo s (Answered p q s)
+    asks-for k asks =
+        go-on s (Heard p q k s) (Answered p q s) (hear s h node a ready coll k asks) (λ u r.
+        let same : u.cluster.count ≡ s.cluster.count = r.count in
+        let there : IsNode u.cluster p = (node.0, (let l : p ≤ s.cluster.count = node.1 in omega arith)) in
+        go-on u (Answered p q u) (Answered p q s) (tells u r.orderly there (omega arith) r.ready (r.stage p ∙ coll) k r.heard r.asked r.asks) (λ t v. (
+          [],
+          tt,
+          tt,
+          record {
+            orderly = v.orderly;
+            count = v.count ∙ r.count;
+            stage = λ x. v.stage x ∙ r.stage x;
+            ready = v.ready;
+            whole = v.whole;
+            told = λ x n. v.told x n ∙ r.told x;
+          },
+        )))
+
+    -- whatever it has told so far
+    pub asks-one : CanGo s (Answered p q s)
+    asks-one = split (s.cluster.told p q) refl
+      where
+        page : (x : Collected) → s.cluster.told p q ≡ Some x → (u : Option ℕ) → x.upto ≡ u → CanGo s (Answered p q s)
+        page x e None f = ([], tt, tt, record { orderly = h; count = refl; stage = λ r. refl; ready = ready; whole = let P : Option Collected → Type 0 = λ y. IsAll y in subst P (sym e) f; told = λ r n. refl })
+        page x e (Some v) f = asks-for v (let P : Option Collected → Type 0 = λ y. Asks (s.cluster.saved p) y v in subst P (sym e) f)
+
+        split : (x : Option Collected) → s.cluster.told p q ≡ x → CanGo s (Answered p q s)
+        split None e = asks-for (s.cluster.saved p) (let P : Option Collected → Type 0 = λ y. Asks (s.cluster.saved p) y (s.cluster.saved p) in subst P (sym e) refl)
+        split (Some x) e = page x e x.upto refl

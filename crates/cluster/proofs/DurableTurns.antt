@@ -1,0 +1,410 @@
+-- Each deed but that a node is opened goes on so
+use Rattle.std.proofs.Common.{◌≡◌, ◌≢◌, inl, inr, ℕ, suc, ◌+◌, ◌<◌, ◌≤◌, List, [], ◌∷◌, ◌++◌, length, Bool, true, false, refl, sym, ap, ◌∙◌, subst, arith, length-append}
+use Rattle.std.specs.Prelude.{◌⊎◌, Option, Some, None, ◌==◌, ◌&&◌, ◌||◌, nat_lt, nat_le, if◌then◌else◌}
+use Rattle.std.proofs.lemmas.Bool.Decides.{nat_tests}
+use Rattle.world.specs.declared.message.Message.{Message}
+use Rattle.world.specs.Phases.{Phase, Up, Busy, Down, Replaying, Resync, is_up, todo_of, has, without}
+use Rattle.world.specs.World.{put}
+use Rattle.world.specs.Calls.{phase_with, peers}
+use Rattle.theorems.proofs.Changes.{choose, elsewhere}
+use Rattle.cluster.specs.Parcels.{Body, Ask, Told, Restored, parcel, In}
+use Rattle.cluster.specs.Cluster.{Stage, Live, Frozen, Dead, Collecting, Collected, Cluster, seen, runs, is_well}
+use Rattle.cluster.specs.Rules.{Act, Input, Puts, Starts, Shows, Works, Replays, Records, Counts, Drops, Hears, Collects, Recovers, Obeys, Enters, Restores, Greets, Freezes, Keeps, Thaws, Dies, Opens, IsNode, May, does, message, with_page, kept_by, put2}
+use Rattle.cluster.proofs.Facts.{choose2, well-is, is-well, takes-is, true-not-false}
+use Rattle.cluster.proofs.Growth.{either-way}
+use Rattle.cluster.specs.Overlap.{Deed, Acts, Meets, Loses, Leaves, Might, restores_anew, goes}
+use Rattle.cluster.proofs.Sane.{Low, todo-turn, todo-with, peers-nodes, without-less}
+use Rattle.cluster.proofs.Ages.{IsSound, Ends, IsEnding, Plain, On, Fine}
+
+pub put-other : {X : Type 0} (f : ℕ → X) (p : ℕ) (x : X) (q : ℕ) → q ≢ p → put f p x q ≡ f q
+put-other f p x q ne = elsewhere p (λ j b. (if b then x else f j) ≡ f j) (λ j. refl) q ne
+
+pub put2-same : {X : Type 0} (f : ℕ → ℕ → X) (a b : ℕ) (x : X) → put2 f a b x a b ≡ x
+put2-same f a b x = let m : (a == a) ≡ true = grind (arith, nat_tests) in let n : (b == b) ≡ true = grind (arith, nat_tests) in rw (m, n) refl
+
+sound-with : (ps : List ℕ) → IsSound (phase_with ps)
+sound-with [] = tt
+sound-with (p ∷ ps) = tt
+
+module _ (c : Cluster) where
+  sound-turn : (p : ℕ) (x : Phase) → IsSound x → ((j : ℕ) → IsSound (c.phase j)) → (j : ℕ) → IsSound (put c.phase p x j)
+  sound-turn p x s h = choose p (λ j b. IsSound (if b then x else c.phase j)) s (λ j _. h j)
+
+  -- p turns to another phase; it wasn't up before, or is so after it
+  well-turn : (p : ℕ) (x : Phase) → (is_up (c.phase p) ≡ true → is_up x ≡ true) → (q : ℕ) → is_well c q ≡ true → (is_well (record c { phase = put c.phase p x }) q ≡ true) ⊎ (c.stage q ≡ Dead)
+  well-turn p x up = choose p (λ j b. is_well c j ≡ true → ((runs (c.stage j) && (c.greeted j && is_up (if b then x else c.phase j))) ≡ true) ⊎ (c.stage j ≡ Dead))
+      (λ w. let t = well-is c p w in let u : is_up x ≡ true = up t.2 in inl (rw (t.0, t.1, u) refl)) (λ j _ w. inl w)
+
+  on-turn : (p : ℕ) (x : Phase) → Low c → (is_up (c.phase p) ≡ true → is_up x ≡ true) → On c (record c { phase = put c.phase p x })
+  on-turn p x l up = record { count = refl; stored = λ p. refl; heard = λ p q. omega arith; low = l; well = well-turn p x up; dead = λ p e. e }
+
+  plain-turn : (p : ℕ) (x : Phase) → 0 ≢ p → IsSound x → ((q : ℕ) → has (todo_of x) q ≡ true → IsNode c q × (q ≢ p)) → Plain c → Plain (record c { phase = put c.phase p x })
+  plain-turn p x n s t h =
+      record {
+        low = h.low;
+        begun = h.begun;
+        settled = h.settled;
+        gateway = (h.gateway.0, h.gateway.1, put-other c.phase p x 0 n ∙ h.gateway.2);
+        sound = sound-turn p x s h.sound;
+        todo = todo-turn c p x t h.todo;
+        within = h.within;
+        ends = h.ends;
+        own = h.own;
+      }
+
+  pub low-hears : (a b i : ℕ) → Low c → i ≤ c.stored b → Low (record c { heard = put2 c.heard a b i })
+  low-hears a b i l n = choose2 a b (λ x y t. (if t then i else c.heard x y) ≤ c.stored y) n (λ x y _. l x y)
+
+  -- more was heard
+  on-hears : (a b i : ℕ) → Low c → c.heard a b ≤ i → i ≤ c.stored b → On c (record c { heard = put2 c.heard a b i })
+  on-hears a b i l m n =
+      record {
+        count = refl;
+        stored = λ p. refl;
+        heard = choose2 a b (λ x y t. c.heard x y ≤ (if t then i else c.heard x y)) m (λ x y _. omega arith);
+        low = low-hears a b i l n;
+        well = λ p w. inl w;
+        dead = λ p e. e;
+      }
+
+  on-same : Low c → On c c
+  on-same l = record { count = refl; stored = λ p. refl; heard = λ p q. omega arith; low = l; well = λ p w. inl w; dead = λ p e. e }
+
+  not-gate : (p : ℕ) → IsNode c p → 0 ≢ p
+  not-gate p n e = let l : 0 < p = n.0 in omega arith
+
+  not-up : (p q : ℕ) → has (todo_of (c.phase p)) q ≡ true → is_up (c.phase p) ≡ false
+  not-up p q e = split (c.phase p) e
+    where
+      split : (x : Phase) → has (todo_of x) q ≡ true → is_up x ≡ false
+      split Up e = absurd (cc)
+      split (Busy m) e = absurd (cc)
+      split Down e = refl
+      split (Replaying j w a) e = refl
+      split (Resync qs) e = refl
+
+  -- who restores numbers isn't the gateway
+  restores-gate : (p q : ℕ) → Plain c → has (todo_of (c.phase p)) q ≡ true → 0 ≢ p
+  restores-gate p q h e z =
+      let u : is_up (c.phase p) ≡ false = not-up p q e in
+      let P : ℕ → Type 0 = λ i. is_up (c.phase i) ≡ true in
+      true-not-false (subst P z (ap is_up h.gateway.2)) u
+
+  stage-gate : (p : ℕ) (x : Stage) → 0 ≢ p → Plain c → put c.stage p x 0 ≡ Live
+  stage-gate p x n h = put-other c.stage p x 0 n ∙ h.gateway.0
+
+  -- p turns to another stage
+  well-stage : (p : ℕ) (x : Stage) → runs x ≡ true → (q : ℕ) → is_well c q ≡ true → (is_well (record c { stage = put c.stage p x }) q ≡ true) ⊎ (put c.stage p x q ≡ Dead)
+  well-stage p x r = choose p (λ j b. is_well c j ≡ true → ((runs (if b then x else c.stage j) && (c.greeted j && is_up (c.phase j))) ≡ true) ⊎ ((if b then x else c.stage j) ≡ Dead))
+      (λ w. let t = well-is c p w in inl (rw (r, t.1, t.2) refl)) (λ j _ w. inl w)
+
+  on-stage : (p : ℕ) (x : Stage) → Low c → runs x ≡ true → c.stage p ≢ Dead → On c (record c { stage = put c.stage p x })
+  on-stage p x l r n =
+      record {
+        count = refl;
+        stored = λ p. refl;
+        heard = λ p q. omega arith;
+        low = l;
+        well = well-stage p x r;
+        dead = choose p (λ j b. c.stage j ≡ Dead → (if b then x else c.stage j) ≡ Dead) (λ e. absurd (n e)) (λ j _ e. e);
+      }
+
+  settled-stage : (p : ℕ) (x : Stage) → (runs x ≡ true → c.life p ≡ c.stored p) → Plain c → (q : ℕ) → runs (put c.stage p x q) ≡ true → c.life q ≡ c.stored q
+  settled-stage p x s h = choose p (λ j b. runs (if b then x else c.stage j) ≡ true → c.life j ≡ c.stored j) s (λ j _. h.settled j)
+
+  plain-stage : (p : ℕ) (x : Stage) → 0 ≢ p → (runs x ≡ true → c.life p ≡ c.stored p) → Plain c → Plain (record c { stage = put c.stage p x })
+  plain-stage p x n s h =
+      record {
+        low = h.low;
+        begun = h.begun;
+        settled = settled-stage p x s h;
+        gateway = (stage-gate p x n h, h.gateway.1, h.gateway.2);
+        sound = h.sound;
+        todo = h.todo;
+        within = h.within;
+        ends = h.ends;
+        own = h.own;
+      }
+
+  un-own : (a b : ℕ) (o : Option Collected) → a ≢ b → ((p : ℕ) → c.told p p ≡ None) → (x : ℕ) → put2 c.told a b o x x ≡ None
+  un-own a b o n h x = choose2 a b (λ x y t. x ≡ y → (if t then o else c.told x y) ≡ None) (λ e. absurd (n e)) (λ x y _ e. let P : ℕ → Type 0 = λ z. c.told x z ≡ None in subst P e (h x)) x x refl
+
+  told-ends : (a b : ℕ) (o : Option Collected) → IsEnding o → ((p q : ℕ) → IsEnding (c.told p q)) → (x y : ℕ) → IsEnding (put2 c.told a b o x y)
+  told-ends a b o e h = choose2 a b (λ x y t. IsEnding (if t then o else c.told x y)) e (λ x y _. h x y)
+
+  page-ends : (o : Option Collected) (k : ℕ) (u : Option ℕ) (f : ℕ → Option Message) → Ends k u f → IsEnding (Some (with_page o k u f))
+  page-ends o k u f e = (e.0 + k, λ m l r. let t : nat_le m k ≡ false = grind (arith, nat_tests) in let v : f m ≡ None = e.1 m (omega arith) (omega arith) r in rw t v)
+
+-- whether a node is opened
+abbrev pub is_opening : Act → Bool
+is_opening (Opens p n) = true
+is_opening a = false
+
+abbrev pub opens : Deed → Bool
+opens (Acts a) = is_opening a
+opens e = false
+
+abbrev is_collecting : Stage → Bool
+is_collecting Collecting = true
+is_collecting x = false
+
+abbrev is_frozen : Stage → Bool
+is_frozen Frozen = true
+is_frozen x = false
+
+module _ (born : ℕ → ℕ) (c : Cluster) (h : Plain c) (fine : (p d : ℕ) (x : Body) → In (parcel p d x) c.parcels → (p ≢ d) × Fine born c p d x) where
+  replaying-up : (p j : ℕ) (x : Phase) → c.phase p ≡ Replaying j false false → is_up (c.phase p) ≡ true → is_up x ≡ true
+  replaying-up p j x e u = absurd (true-not-false u (ap is_up e))
+
+  on-recovers : (p k : ℕ) (x : Phase) → c.stage p ≡ Collecting → On c (record c { stage = put c.stage p Live; greeted = put c.greeted p false; phase = put c.phase p x })
+  on-recovers p k x e =
+      record {
+        count = refl;
+        stored = λ p. refl;
+        heard = λ p q. omega arith;
+        low = h.low;
+        well = choose p (λ j b. is_well c j ≡ true → ((runs (if b then Live else c.stage j) && ((if b then false else c.greeted j) && is_up (if b then x else c.phase j))) ≡ true) ⊎ ((if b then Live else c.stage j) ≡ Dead))
+            (λ w. absurd (true-not-false (well-is c p w).0 (ap runs e))) (λ j _ w. inl w);
+        dead = choose p (λ j b. c.stage j ≡ Dead → (if b then Live else c.stage j) ≡ Dead) (λ f. absurd (true-not-false (ap is_collecting e) (ap is_collecting f))) (λ j _ f. f);
+      }
+
+  pub on-act : (a : Act) → is_opening a ≡ false → May c a → On c (does c a)
+  on-act (Input d x) n may = on-same c h.low
+  on-act (Puts p d x) n may = on-same c h.low
+  on-act (Starts p d i ssn x) n may = on-turn c d (Busy (message p ssn x)) h.low (λ _. refl)
+  on-act (Shows p i ssn x) n may = on-same c h.low
+  on-act (Works p m) n may = on-turn c p Up h.low (λ _. refl)
+  on-act (Replays p j) n may = either-way (nat_lt (c.saved p + suc j) (length (c.history p))) _ _ (On c)
+      (on-turn c p (Replaying (suc j) false false) h.low (replaying-up p j (Replaying (suc j) false false) may.2))
+      (on-turn c p (phase_with (peers (seen c) p false)) h.low (replaying-up p j (phase_with (peers (seen c) p false)) may.2))
+  on-act (Records r s i ssn k) n may = on-same c h.low
+  on-act (Counts s r i k) n may = on-same c h.low
+  on-act (Drops d s m) n may = on-same c h.low
+  on-act (Hears p q i k) n may = let l : c.heard q p < i = may.1 in on-hears c q p i h.low (omega arith) (fine p q (Ask i k) may.0).1.1
+  on-act (Collects q p i j k u f) n may = on-hears c p q j h.low may.3 (fine q p (Told i j k u f) may.0).1.1
+  on-act (Recovers p k) n may = either-way (nat_lt (c.saved p) k) _ _ (On c) (on-recovers p k (Replaying 0 false false) may.1) (on-recovers p k (phase_with (peers (seen c) p false)) may.1)
+  on-act (Obeys p q i k s) n may = on-same c h.low
+  on-act (Enters q p i j m s u f) n may = on-hears c p q j h.low may.6 (fine q p (Restored i j m s (Some u) f) may.0).1
+  on-act (Restores q p i j m s f) n may =
+      let o = on-hears c p q j h.low may.6 (fine q p (Restored i j m s None f) may.0).1 in
+      let x : Phase = phase_with (without (todo_of (c.phase p)) q) in
+      record { count = refl; stored = λ p. refl; heard = o.heard; low = o.low; well = well-turn c p x (λ u. absurd (true-not-false u (not-up c p q may.4))); dead = λ p e. e }
+  on-act (Greets p i j m s f) n may =
+      record {
+        count = refl;
+        stored = λ p. refl;
+        heard = λ p q. omega arith;
+        low = h.low;
+        well = choose p (λ j b. is_well c j ≡ true → ((runs (c.stage j) && ((if b then true else c.greeted j) && is_up (c.phase j))) ≡ true) ⊎ (c.stage j ≡ Dead))
+            (λ w. let t = well-is c p w in inl (rw (t.0, t.2) refl)) (λ j _ w. inl w);
+        dead = λ p e. e;
+      }
+  on-act (Freezes p) n may = on-stage c p Frozen h.low refl (λ e. absurd (true-not-false (ap runs (takes-is c p may.1).0) (ap runs e)))
+  on-act (Keeps p) n may = on-same c h.low
+  on-act (Thaws p) n may = on-stage c p Live h.low refl (λ e. absurd (true-not-false (ap runs may.1) (ap runs e)))
+  on-act (Dies p) n may =
+      record {
+        count = refl;
+        stored = λ p. refl;
+        heard = λ p q. omega arith;
+        low = h.low;
+        well = choose p (λ j b. is_well c j ≡ true → ((runs (if b then Dead else c.stage j) && (c.greeted j && is_up (c.phase j))) ≡ true) ⊎ ((if b then Dead else c.stage j) ≡ Dead)) (λ w. inr refl) (λ j _ w. inl w);
+        dead = choose p (λ j b. c.stage j ≡ Dead → (if b then Dead else c.stage j) ≡ Dead) (λ e. refl) (λ j _ e. e);
+      }
+  on-act (Opens p m) n may = absurd (cc)
+
+  plain-recovers : (p k : ℕ) (x : Phase) → May c (Recovers p k) → IsSound x → ((q : ℕ) → has (todo_of x) q ≡ true → IsNode c q × (q ≢ p))
+      → Plain (record c { stage = put c.stage p Live; life = put c.life p (c.stored p); history = put c.history p (kept_by c p k); greeted = put c.greeted p false; told = put c.told p (λ _. None); phase = put c.phase p x })
+  plain-recovers p k x may s t =
+      let n : 0 ≢ p = not-gate c p may.0 in
+      let long : length (kept_by c p k) ≡ k = may.4 in
+      let within : c.saved p ≤ k = may.3 in
+      let none : ℕ → Option Collected = λ _. None in
+      record {
+        low = h.low;
+        begun = h.begun;
+        settled = choose p (λ j b. runs (if b then Live else c.stage j) ≡ true → (if b then c.stored p else c.life j) ≡ c.stored j) (λ _. refl) (λ j _. h.settled j);
+        gateway = (stage-gate c p Live n h, put-other c.greeted p false 0 n ∙ h.gateway.1, put-other c.phase p x 0 n ∙ h.gateway.2);
+        sound = sound-turn c p x s h.sound;
+        todo = todo-turn c p x t h.todo;
+        within = choose p (λ j b. c.saved j ≤ length (if b then kept_by c p k else c.history j)) (omega arith) (λ j _. h.within j);
+        ends = λ j q. choose p (λ j b. IsEnding ((if b then none else c.told j) q)) tt (λ j _. h.ends j q) j;
+        own = choose p (λ j b. (if b then none else c.told j) j ≡ None) refl (λ j _. h.own j);
+      }
+
+  peers-todo : (p q : ℕ) → has (todo_of (phase_with (peers (seen c) p false))) q ≡ true → IsNode c q × (q ≢ p)
+  peers-todo p = todo-with c p (peers (seen c) p false) (peers-nodes c p)
+
+  rest-todo : (p r q : ℕ) → has (todo_of (phase_with (without (todo_of (c.phase p)) r))) q ≡ true → IsNode c q × (q ≢ p)
+  rest-todo p r = todo-with c p (without (todo_of (c.phase p)) r) (λ q e. h.todo p q (without-less (todo_of (c.phase p)) r q e))
+
+  none-todo : (p : ℕ) (x : Phase) → todo_of x ≡ [] → (q : ℕ) → has (todo_of x) q ≡ true → IsNode c q × (q ≢ p)
+  none-todo p x e q t = absurd (let z : false ≡ true = sym (ap (λ xs. has xs q) e) ∙ t in cc)
+
+  pub plain-act : (a : Act) → is_opening a ≡ false → May c a → Plain (does c a)
+  plain-act (Input d x) n may = h
+  plain-act (Puts p d x) n may = h
+  plain-act (Starts p d i ssn x) n may = plain-turn c d (Busy (message p ssn x)) (not-gate c d may.1) tt (none-todo d (Busy (message p ssn x)) refl) h
+  plain-act (Shows p i ssn x) n may = h
+  plain-act (Works p m) n may =
+      let g = plain-turn c p Up (not-gate c p may.0) tt (none-todo p Up refl) h in
+      let longer : length (c.history p ++ m ∷ []) ≡ length (c.history p) + 1 = length-append _ _ in
+      let l : c.saved p ≤ length (c.history p) = h.within p in
+      record {
+        low = g.low;
+        begun = g.begun;
+        settled = g.settled;
+        gateway = g.gateway;
+        sound = g.sound;
+        todo = g.todo;
+        within = choose p (λ j b. c.saved j ≤ length (if b then c.history p ++ m ∷ [] else c.history j)) (omega arith) (λ j _. h.within j);
+        ends = g.ends;
+        own = g.own;
+      }
+  plain-act (Replays p j) n may = either-way (nat_lt (c.saved p + suc j) (length (c.history p))) _ _ Plain
+      (plain-turn c p (Replaying (suc j) false false) (not-gate c p may.0) (refl, refl) (none-todo p (Replaying (suc j) false false) refl) h)
+      (plain-turn c p (phase_with (peers (seen c) p false)) (not-gate c p may.0) (sound-with _) (peers-todo p) h)
+  plain-act (Records r s i ssn k) n may = h
+  plain-act (Counts s r i k) n may = h
+  plain-act (Drops d s m) n may = h
+  plain-act (Hears p q i k) n may =
+      let f = fine p q (Ask i k) may.0 in
+      record {
+        low = low-hears c q p i h.low f.1.1;
+        begun = h.begun;
+        settled = h.settled;
+        gateway = h.gateway;
+        sound = h.sound;
+        todo = h.todo;
+        within = h.within;
+        ends = told-ends c q p None tt h.ends;
+        own = un-own c q p None (λ e. f.0 (sym e)) h.own;
+      }
+  plain-act (Collects q p i j k u f) n may =
+      let t = fine q p (Told i j k u f) may.0 in
+      record {
+        low = low-hears c p q j h.low t.1.1;
+        begun = h.begun;
+        settled = h.settled;
+        gateway = h.gateway;
+        sound = h.sound;
+        todo = h.todo;
+        within = h.within;
+        ends = told-ends c p q (Some (with_page (c.told p q) k u f)) (page-ends c (c.told p q) k u f t.1.2) h.ends;
+        own = un-own c p q _ (λ e. t.0 (sym e)) h.own;
+      }
+  plain-act (Recovers p k) n may = either-way (nat_lt (c.saved p) k) _ _ Plain
+      (plain-recovers p k (Replaying 0 false false) may (refl, refl) (none-todo p (Replaying 0 false false) refl)) (plain-recovers p k (phase_with (peers (seen c) p false)) may (sound-with _) (peers-todo p))
+  plain-act (Obeys p q i k s) n may = h
+  plain-act (Enters q p i j m s u f) n may =
+      record {
+        low = low-hears c p q j h.low (fine q p (Restored i j m s (Some u) f) may.0).1;
+        begun = h.begun;
+        settled = h.settled;
+        gateway = h.gateway;
+        sound = h.sound;
+        todo = h.todo;
+        within = h.within;
+        ends = h.ends;
+        own = h.own;
+      }
+  plain-act (Restores q p i j m s f) n may =
+      let g = plain-turn c p (phase_with (without (todo_of (c.phase p)) q)) (restores-gate c p q h may.4) (sound-with _) (rest-todo p q) h in
+      record {
+        low = low-hears c p q j h.low (fine q p (Restored i j m s None f) may.0).1;
+        begun = g.begun;
+        settled = g.settled;
+        gateway = g.gateway;
+        sound = g.sound;
+        todo = g.todo;
+        within = g.within;
+        ends = g.ends;
+        own = g.own;
+      }
+  plain-act (Greets p i j m s f) n may =
+      record {
+        low = h.low;
+        begun = h.begun;
+        settled = h.settled;
+        gateway = (h.gateway.0, choose p (λ j b. j ≡ 0 → (if b then true else c.greeted j) ≡ true) (λ _. refl) (λ j _ e. let P : ℕ → Type 0 = λ i. c.greeted i ≡ true in subst P (sym e) h.gateway.1) 0 refl, h.gateway.2);
+        sound = h.sound;
+        todo = h.todo;
+        within = h.within;
+        ends = h.ends;
+        own = h.own;
+      }
+  plain-act (Freezes p) n may = plain-stage c p Frozen (not-gate c p may.0) (λ _. h.settled p (ap runs (takes-is c p may.1).0)) h
+  plain-act (Keeps p) n may =
+      record {
+        low = h.low;
+        begun = h.begun;
+        settled = h.settled;
+        gateway = h.gateway;
+        sound = h.sound;
+        todo = h.todo;
+        within = choose p (λ j b. (if b then length (c.history p) else c.saved j) ≤ length (c.history j)) (omega arith) (λ j _. h.within j);
+        ends = h.ends;
+        own = h.own;
+      }
+  plain-act (Thaws p) n may = plain-stage c p Live (not-gate c p may.0) (λ _. h.settled p (ap runs may.1)) h
+  plain-act (Dies p) n may = plain-stage c p Dead (not-gate c p may.0) (λ e. absurd (let z : false ≡ true = e in cc)) h
+  plain-act (Opens p m) n may = absurd (cc)
+
+  -- and so do nodes that meet
+  joined : (xs : List ℕ) (p q : ℕ) → has (p ∷ without xs p) q ≡ true → (q ≡ p) ⊎ (has xs q ≡ true)
+  joined xs p q e = split (q == p) refl e
+    where
+      split : (b : Bool) → (q == p) ≡ b → (b || has (without xs p) q) ≡ true → (q ≡ p) ⊎ (has xs q ≡ true)
+      split true f e = inl (grind (arith, nat_tests))
+      split false f e = inr (without-less xs p q e)
+
+  anew : (x : Phase) (p q : ℕ) → has (todo_of (restores_anew x p)) q ≡ true → (q ≡ p) ⊎ (has (todo_of x) q ≡ true)
+  anew Up p q e = joined [] p q e
+  anew (Busy m) p q e = joined [] p q e
+  anew Down p q e = joined [] p q e
+  anew (Replaying j w a) p q e = inr e
+  anew (Resync qs) p q e = joined qs p q e
+
+  anew-sound : (x : Phase) (p : ℕ) → IsSound x → IsSound (restores_anew x p)
+  anew-sound Up p s = tt
+  anew-sound (Busy m) p s = tt
+  anew-sound Down p s = tt
+  anew-sound (Replaying j w a) p s = s
+  anew-sound (Resync qs) p s = tt
+
+  un-gate : (p : ℕ) → is_well c p ≡ false → 0 ≢ p
+  un-gate p w e =
+      let P : ℕ → Type 0 = λ i. is_well c i ≡ false in
+      let z : is_well c 0 ≡ false = subst P (sym e) w in
+      true-not-false (is-well c 0 (ap runs h.gateway.0) h.gateway.1 (ap is_up h.gateway.2)) z
+
+  meets-well : (q : ℕ) (x : Phase) → is_well c q ≡ false → (r : ℕ) → is_well c r ≡ true → (is_well (record c { phase = put c.phase q x }) r ≡ true) ⊎ (c.stage r ≡ Dead)
+  meets-well q x un = choose q (λ j b. is_well c j ≡ true → ((runs (c.stage j) && (c.greeted j && is_up (if b then x else c.phase j))) ≡ true) ⊎ (c.stage j ≡ Dead)) (λ w. absurd (true-not-false w un)) (λ j _ w. inl w)
+
+  pub on-deed : (e : Deed) → opens e ≡ false → Might c e → On c (goes c e)
+  on-deed (Acts a) n may = on-act a n may
+  on-deed (Meets q p i k) n may =
+      let l : c.heard q p < i = may.2 in
+      let o = on-hears c q p i h.low (omega arith) (fine p q (Ask i k) may.0).1.1 in
+      record { count = refl; stored = λ p. refl; heard = o.heard; low = o.low; well = meets-well q (restores_anew (c.phase q) p) may.1.1; dead = λ p e. e }
+  on-deed (Loses q p i j k) n may = on-same c h.low
+  on-deed (Leaves p q) n may = on-turn c p (phase_with (without (todo_of (c.phase p)) q)) h.low (λ u. absurd (true-not-false u (not-up c p q may.1)))
+
+  pub plain-deed : (e : Deed) → opens e ≡ false → Might c e → Plain (goes c e)
+  plain-deed (Acts a) n may = plain-act a n may
+  plain-deed (Meets q p i k) n may =
+      let f = fine p q (Ask i k) may.0 in
+      let g = plain-turn c q (restores_anew (c.phase q) p) (un-gate q may.1.1) (anew-sound (c.phase q) p (h.sound q)) (λ r e. elim (anew (c.phase q) p r e) [ inl z ↦ (let P : ℕ → Type 0 = λ i. IsNode c i × (i ≢ q) in subst P (sym z) (f.1.0, f.0)) | inr t ↦ h.todo q r t ]) h in
+      record {
+        low = low-hears c q p i h.low f.1.1;
+        begun = g.begun;
+        settled = g.settled;
+        gateway = g.gateway;
+        sound = g.sound;
+        todo = g.todo;
+        within = g.within;
+        ends = g.ends;
+        own = g.own;
+      }
+  plain-deed (Loses q p i j k) n may = h
+  plain-deed (Leaves p q) n may = plain-turn c p (phase_with (without (todo_of (c.phase p)) q)) (restores-gate c p q h may.1) (sound-with _) (rest-todo p q) h

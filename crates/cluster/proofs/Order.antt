@@ -1,0 +1,88 @@
+-- What each node received, and what was shown, has each sender's messages in the order of their SSN
+use Rattle.std.proofs.Common.{◌≡◌, inl, inr, ℕ, zero, suc, ◌+◌, ◌-◌, ◌<◌, List, [], ◌∷◌, ◌++◌, length, take, Bool, refl, subst, arith}
+use Rattle.std.specs.Prelude.{Option, Some, None, slice_get, nat_lt, if◌then◌else◌}
+use Rattle.world.specs.declared.message.Message.{Message}
+use Rattle.world.specs.History.{count_of}
+use Rattle.world.specs.Phases.{Busy}
+use Rattle.world.specs.Plan.{if_next, pushed}
+use Rattle.world.specs.World.{put}
+use Rattle.theorems.proofs.Changes.{choose}
+use Rattle.theorems.proofs.ListLemmas.{get-push, get-take, take-all, take-push, take-take}
+use Rattle.cluster.specs.Cluster.{Cluster, opening}
+use Rattle.cluster.specs.Rules.{Act, Input, Puts, Starts, Shows, Works, Replays, Records, Counts, Drops, Hears, Collects, Recovers, Obeys, Enters, Restores, Greets, Freezes, Keeps, Thaws, Dies, Opens, May, does, message, plan, told_by, kept_by}
+use Rattle.cluster.proofs.Growth.{either-way}
+use Rattle.cluster.specs.Overlap.{Deed, Acts, Meets, Loses, Leaves, Might, steps, Deeds, after_deeds}
+use Rattle.cluster.specs.DurablePromises.{InOrder, AlwaysInOrder}
+use Rattle.cluster.proofs.Firsts.{if_next-is}
+use Rattle.cluster.proofs.DurablePromised.{Durable, opens-durable, step-durable}
+
+none-in-order : InOrder []
+none-in-order i m e = absurd (let t : None ≡ Some m = e in cc)
+
+-- one message more, which is its sender's next
+order-push : (h : List Message) (m : Message) → m.ssn ≡ suc (count_of m.sender h) → InOrder h → InOrder (h ++ m ∷ [])
+order-push h m next o i x e = elim (get-push h m i x e) [ inl t ↦ before t.0 t.1 | inr t ↦ last t.0 t.1 ]
+  where
+    before : i < length h → slice_get h i ≡ Some x → x.ssn ≡ suc (count_of x.sender (take i (h ++ m ∷ [])))
+    before l t = rw (take-push h (m ∷ []) i (omega arith)) (o i x t)
+
+    last : i ≡ length h → m ≡ x → x.ssn ≡ suc (count_of x.sender (take i (h ++ m ∷ [])))
+    last l t =
+        let P : Message → Type 0 = λ y. y.ssn ≡ suc (count_of y.sender h) in
+        rw l (rw (take-push h (m ∷ []) (length h) (omega arith)) (rw (take-all h) (subst P t next)))
+
+-- the first of these messages
+order-take : (h : List Message) (k : ℕ) → InOrder h → InOrder (take k h)
+order-take h k o i x e = let t = get-take h k i x e in let l : i < k = t.0 in rw (take-take h i k (omega arith)) (o i x t.1)
+
+-- what a plan takes is its sender's next
+order-plan : (f : ℕ → Option Message) (h : List Message) (k : ℕ) → InOrder h → InOrder (plan f h k)
+order-plan f h zero o = o
+order-plan f h (suc k) o = more (if_next (plan f h k) (f (suc (length (plan f h k))))) refl (order-plan f h k o)
+  where
+    more : (m : Option Message) → if_next (plan f h k) (f (suc (length (plan f h k)))) ≡ m → InOrder (plan f h k) → InOrder (pushed (plan f h k) m)
+    more None e r = r
+    more (Some x) e r = order-push (plan f h k) x (if_next-is _ _ x e).1 r
+
+-- all of a cluster's
+abbrev Ordered : Cluster → Type 0
+Ordered c = ((p : ℕ) → InOrder (c.history p)) × InOrder c.shown
+
+-- an act leaves it so, if the open jobs are on messages that are their senders' next
+does-order : (c : Cluster) (a : Act) → ((d : ℕ) (m : Message) → c.phase d ≡ Busy m → m.ssn ≡ suc (count_of m.sender (c.history d))) → May c a → Ordered c → Ordered (does c a)
+does-order c (Input d x) jobs may o = o
+does-order c (Puts p d x) jobs may o = o
+does-order c (Starts p d i ssn x) jobs may o = o
+does-order c (Shows p i ssn x) jobs may o = (o.0, order-push c.shown (message p ssn x) may.2 o.1)
+does-order c (Works p m) jobs may o = (choose p (λ j t. InOrder (if t then c.history p ++ m ∷ [] else c.history j)) (order-push (c.history p) m (jobs p m may.2) (o.0 p)) (λ j _. o.0 j), o.1)
+does-order c (Replays p j) jobs may o = either-way (nat_lt (c.saved p + suc j) (length (c.history p))) _ _ Ordered o o
+does-order c (Records r s i ssn k) jobs may o = o
+does-order c (Counts s r i k) jobs may o = o
+does-order c (Drops d s n) jobs may o = o
+does-order c (Hears p q i k) jobs may o = o
+does-order c (Collects q p i j k u f) jobs may o = o
+does-order c (Recovers p k) jobs may o =
+    let kept : (q : ℕ) → InOrder (put c.history p (kept_by c p k) q) = choose p (λ j t. InOrder (if t then kept_by c p k else c.history j)) (order-plan (told_by c p) (take (c.saved p) (c.history p)) (k - c.saved p) (order-take (c.history p) (c.saved p) (o.0 p))) (λ j _. o.0 j) in
+    either-way (nat_lt (c.saved p) k) _ _ Ordered (kept, o.1) (kept, o.1)
+does-order c (Obeys p q i k s) jobs may o = o
+does-order c (Enters q p i j n s u f) jobs may o = o
+does-order c (Restores q p i j n s f) jobs may o = o
+does-order c (Greets p i j n s f) jobs may o = o
+does-order c (Freezes p) jobs may o = o
+does-order c (Keeps p) jobs may o = o
+does-order c (Thaws p) jobs may o = o
+does-order c (Dies p) jobs may o = o
+does-order c (Opens p n) jobs may o = o
+
+steps-order : (durable : ℕ → Bool) (c : Cluster) (e : Deed) → Durable durable c → Might c e → Ordered c → Ordered (steps durable c e)
+steps-order durable c (Acts a) h may o = does-order c a (λ d m e. (h.firm.jobs d m e).1) may o
+steps-order durable c (Meets q p i k) h may o = o
+steps-order durable c (Loses q p i j k) h may o = o
+steps-order durable c (Leaves p q) h may o = o
+
+deeds-order : (durable : ℕ → Bool) (c : Cluster) (es : List Deed) → Durable durable c → Deeds durable c es → Ordered c → Ordered (after_deeds durable c es)
+deeds-order durable c [] h r o = o
+deeds-order durable c (e ∷ es) h r o = deeds-order durable (steps durable c e) es (step-durable durable c e h r.0) r.1 (steps-order durable c e h r.0 o)
+
+pub always-in-order : AlwaysInOrder
+always-in-order n f durable es g r = deeds-order durable (opening n f) es (opens-durable n f durable g) r (λ p. none-in-order, none-in-order)

@@ -1,0 +1,345 @@
+-- A run in which no node was ever not exact is one of nodes that don't meet
+use Rattle.std.proofs.Common.{◌≡◌, inl, inr, ℕ, suc, ◌+◌, ◌≤◌, List, [], ◌∷◌, length, Bool, true, false, refl, sym, ap, ◌∙◌, subst, arith}
+use Rattle.std.specs.Prelude.{Some, None, not, ◌&&◌, ◌==◌, nat_lt, if◌then◌else◌}
+use Rattle.world.specs.Handlers.{Handlers}
+use Rattle.theorems.specs.Growth.{Grows}
+use Rattle.theorems.proofs.Changes.{choose, at-itself}
+use Rattle.theorems.proofs.Tests.{both}
+use Rattle.cluster.specs.Parcels.{Body, Delivery, Number, Acknowledgement, Ask, Told, Resume, Restored, Saved, Parcel, parcel, In}
+use Rattle.world.specs.Phases.{is_up}
+use Rattle.world.specs.Logs.{released_to}
+use Rattle.cluster.specs.Cluster.{Cluster, opening, seen, is_well}
+use Rattle.cluster.specs.Rules.{Act, Input, Puts, Starts, Shows, Works, Replays, Records, Counts, Drops, Hears, Collects, Recovers, Obeys, Enters, Restores, Greets, Freezes, Keeps, Thaws, Dies, Opens, May, does, Run, after_run}
+use Rattle.cluster.specs.Promises.{NoOrphanNode, OutputOnce, ReceivedOnce}
+use Rattle.cluster.proofs.Facts.{choose2, true-not-false, well-is}
+use Rattle.cluster.proofs.Growth.{either-way}
+use Rattle.cluster.proofs.Promised.{nodes-keep}
+use Rattle.cluster.specs.Overlap.{Acts, Loses, Might, kept_sends, renews, steps, Deeds, after_deeds}
+use Rattle.cluster.proofs.DurablePromised.{Durable, opens-durable, step-durable}
+use Rattle.cluster.proofs.Less.{letting, Alike, Less, does-alike, does-less, held-less}
+use Rattle.cluster.specs.Exact.{Flagged, flagged, Said, Telling, starts, Step, Takes, Meeting, Losing, Leaving, Says, step, Steps, after_steps, AlwaysExact, acts_of, deeds_of, StepsAreDeeds, ExactRunsDontMeet, ExactRunsKeep}
+
+-- whether it is an answer to Ask
+abbrev is_told : Body → Bool
+is_told (Told i j k u f) = true
+is_told x = false
+
+-- the packets behind an act
+abbrev more : Act → List Parcel → List Parcel
+more (Puts p d x) ps = parcel p d x ∷ ps
+more (Records r s i ssn k) ps = parcel s r (Acknowledgement i k) ∷ ps
+more a ps = ps
+
+-- the cluster with these packets, where this is released
+abbrev among : Cluster → List Parcel → (ℕ → ℕ → ℕ) → Cluster
+among c ps r = record c { parcels = ps; released = r }
+
+-- an act leaves the same whatever packets there are and whatever is released, but for these
+either-among : (b : Bool) (x y v w : Cluster) (ps : List Parcel) → (if b then among x ps v.released else among y ps w.released) ≡ among (if b then x else y) ps (if b then v else w).released
+either-among true x y v w ps = refl
+either-among false x y v w ps = refl
+
+does-among : (c : Cluster) (ps : List Parcel) (r : ℕ → ℕ → ℕ) (a : Act) → does (among c ps r) a ≡ among (does c a) (more a ps) (does (letting c r) a).released
+does-among c ps r (Input d x) = refl
+does-among c ps r (Puts p d x) = refl
+does-among c ps r (Starts p d i ssn x) = refl
+does-among c ps r (Shows p i ssn x) = refl
+does-among c ps r (Works p m) = refl
+does-among c ps r (Replays p j) = either-among (nat_lt (c.saved p + suc j) (length (c.history p))) _ _ _ _ ps
+does-among c ps r (Records t s i ssn k) = refl
+does-among c ps r (Counts s t i k) = refl
+does-among c ps r (Drops d s n) = refl
+does-among c ps r (Hears p q i k) = refl
+does-among c ps r (Collects q p i j k u f) = refl
+does-among c ps r (Recovers p k) = either-among (nat_lt (c.saved p) k) _ _ _ _ ps
+does-among c ps r (Obeys p q i k s) = refl
+does-among c ps r (Enters q p i j n s u f) = refl
+does-among c ps r (Restores q p i j n s f) = refl
+does-among c ps r (Greets p i j n s f) = refl
+does-among c ps r (Freezes p) = refl
+does-among c ps r (Keeps p) = refl
+does-among c ps r (Thaws p) = refl
+does-among c ps r (Dies p) = refl
+does-among c ps r (Opens p n) = refl
+
+-- the Told that an act takes is among them
+abbrev Got : List Parcel → Act → Type 0
+Got ps (Collects q p i j k u f) = In (parcel q p (Told i j k u f)) ps
+Got ps a = Unit {0}
+
+-- an act may happen among other packets, where these have what it takes, and where no less is released
+module _ (c : Cluster) (ps : List Parcel) (r : ℕ → ℕ → ℕ) (others : (x : Parcel) → is_told x.body ≡ false → In x c.parcels → In x ps) (less : Less c (letting c r)) where
+  released-among : (p d : ℕ) → is_well c p ≡ true → released_to (seen c) p d ≤ released_to (seen (letting c r)) p d
+  released-among p d well = let l : c.released p d ≤ r p d = less p d (well-is c p well).2 in split (p == 0) l
+    where
+      split : (b : Bool) → c.released p d ≤ r p d → (if b then length (c.inputs d) else c.released p d) ≤ (if b then length (c.inputs d) else r p d)
+      split true l = omega arith
+      split false l = l
+
+  may-among : (a : Act) → Got ps a → May c a → May (among c ps r) a
+  may-among (Input d x) g may = may
+  may-among (Puts p d (Delivery i ssn x)) g may =
+      let l : released_to (seen c) p d ≤ released_to (seen (letting c r)) p d = released-among p d may.3.0 in
+      let s : ssn ≤ released_to (seen c) p d = may.3.2 in
+      (may.0, may.1, may.2, (may.3.0, may.3.1, (omega arith), may.3.3, may.3.4))
+  may-among (Puts p d (Number i ssn k)) g may = may
+  may-among (Puts p d (Acknowledgement i k)) g may = may
+  may-among (Puts p d (Ask i k)) g may = may
+  may-among (Puts p d (Told i j k u f)) g may = may
+  may-among (Puts p d (Resume i k s)) g may = may
+  may-among (Puts p d (Restored i j n s u f)) g may = may
+  may-among (Puts p d (Saved n)) g may = may
+  may-among (Starts p d i ssn x) g may = (others (parcel p d (Delivery i ssn x)) refl may.0, may.1, may.2, may.3, may.4, may.5, may.6)
+  may-among (Shows p i ssn x) g may = (others (parcel p 0 (Delivery i ssn x)) refl may.0, may.1, may.2)
+  may-among (Works p m) g may = may
+  may-among (Replays p j) g may = may
+  may-among (Records r s i ssn k) g may = (others (parcel r s (Number i ssn k)) refl may.0, may.1, may.2, may.3)
+  may-among (Counts s r i k) g may = (others (parcel s r (Acknowledgement i k)) refl may.0, may.1, may.2, may.3, may.4, may.5)
+  may-among (Drops d s n) g may = (others (parcel d s (Saved n)) refl may.0, may.1)
+  may-among (Hears p q i k) g may = (others (parcel p q (Ask i k)) refl may.0, may.1, may.2)
+  may-among (Collects q p i j k u f) g may = (g, may.1, may.2, may.3, may.4)
+  may-among (Recovers p k) g may = may
+  may-among (Obeys p q i k s) g may = (others (parcel p q (Resume i k s)) refl may.0, may.1, may.2, may.3, may.4)
+  may-among (Enters q p i j n s u f) g may = (others (parcel q p (Restored i j n s (Some u) f)) refl may.0, may.1, may.2, may.3, may.4, may.5, may.6)
+  may-among (Restores q p i j n s f) g may = (others (parcel q p (Restored i j n s None f)) refl may.0, may.1, may.2, may.3, may.4, may.5, may.6)
+  may-among (Greets p i j n s f) g may = (others (parcel 0 p (Restored i j n s None f)) refl may.0, may.1, may.2, may.3, may.4)
+  may-among (Freezes p) g may = may
+  may-among (Keeps p) g may = may
+  may-among (Thaws p) g may = may
+  may-among (Dies p) g may = may
+  may-among (Opens p n) g may = may
+
+-- these are all packets of s but those that say that something is lost; and nobody was told so
+abbrev Follows : Telling → List Parcel → Type 0
+Follows s ps =
+    record {
+      others : (x : Parcel) → is_told x.body ≡ false → In x s.cluster.parcels → In x ps;
+      told : (y : Flagged) → Said y s.said → y.lost ≡ false → In y.packet ps;
+      found : (p q : ℕ) → s.lost p q ≡ false;
+    }
+
+-- if an act that takes a Told takes one that says nothing is lost
+abbrev Nothing : Bool → Act → Type 0
+Nothing lost (Collects q p i j k u f) = lost ≡ false
+Nothing lost a = Unit {0}
+
+module _ (s : Telling) (ps : List Parcel) (h : Follows s ps) (exact lost : Bool) where
+  -- one packet more, of which nothing is said
+  one-more : (x : Parcel) (y : Parcel) → is_told y.body ≡ false → In y (x ∷ s.cluster.parcels) → In y (x ∷ ps)
+  one-more x y e i = elim i [ inl f ↦ inl f | inr f ↦ inr (h.others y e f) ]
+
+  -- or of which it is said that nothing is lost
+  one-said : (x : Parcel) (z : Bool) (y : Flagged) → Said y (flagged x z false ∷ s.said) → y.lost ≡ false → In y.packet (x ∷ ps)
+  one-said x z y i e = elim i [ inl f ↦ inl (ap (λ (w : Flagged). w.packet) f) | inr f ↦ inr (h.told y f e) ]
+
+  follows : (a : Act) → Nothing lost a → Follows (step s (Takes exact lost a)) (more a ps)
+  follows (Input d x) g = h
+  follows (Puts p d (Delivery i ssn x)) g = record { others = one-more (parcel p d (Delivery i ssn x)); told = λ y i e. inr (h.told y i e); found = h.found }
+  follows (Puts p d (Number i ssn k)) g = record { others = one-more (parcel p d (Number i ssn k)); told = λ y i e. inr (h.told y i e); found = h.found }
+  follows (Puts p d (Acknowledgement i k)) g = record { others = one-more (parcel p d (Acknowledgement i k)); told = λ y i e. inr (h.told y i e); found = h.found }
+  follows (Puts p d (Ask i k)) g = record { others = one-more (parcel p d (Ask i k)); told = λ y i e. inr (h.told y i e); found = h.found }
+  follows (Puts p d (Told i j k u f)) g = record { others = one-more (parcel p d (Told i j k u f)); told = one-said (parcel p d (Told i j k u f)) (s.exact p); found = h.found }
+  follows (Puts p d (Resume i k r)) g = record { others = one-more (parcel p d (Resume i k r)); told = λ y i e. inr (h.told y i e); found = h.found }
+  follows (Puts p d (Restored i j n r u f)) g = record { others = one-more (parcel p d (Restored i j n r u f)); told = one-said (parcel p d (Restored i j n r u f)) (s.exact p); found = h.found }
+  follows (Puts p d (Saved n)) g = record { others = one-more (parcel p d (Saved n)); told = λ y i e. inr (h.told y i e); found = h.found }
+  follows (Starts p d i ssn x) g = h
+  follows (Shows p i ssn x) g = h
+  follows (Works p m) g = h
+  follows (Replays p j) g =
+      record {
+        others = either-way (nat_lt (s.cluster.saved p + suc j) (length (s.cluster.history p))) _ _ (λ v. (x : Parcel) → is_told x.body ≡ false → In x v.parcels → In x ps) h.others h.others;
+        told = h.told;
+        found = h.found;
+      }
+  follows (Records r t i ssn k) g = record { others = one-more (parcel t r (Acknowledgement i k)); told = λ y i e. inr (h.told y i e); found = h.found }
+  follows (Counts t r i k) g = h
+  follows (Drops d t n) g = h
+  follows (Hears p q i k) g = record { others = h.others; told = h.told; found = choose2 q p (λ a b t. (if t then false else s.lost a b) ≡ false) refl (λ a b _. h.found a b) }
+  follows (Collects q p i j k u f) g = record { others = h.others; told = h.told; found = choose2 p q (λ a b t. (if t then lost else s.lost a b) ≡ false) g (λ a b _. h.found a b) }
+  follows (Recovers p k) g =
+      record {
+        others = either-way (nat_lt (s.cluster.saved p) k) _ _ (λ v. (x : Parcel) → is_told x.body ≡ false → In x v.parcels → In x ps) h.others h.others;
+        told = h.told;
+        found = h.found;
+      }
+  follows (Obeys p q i k r) g = h
+  follows (Enters q p i j n r u f) g = h
+  follows (Restores q p i j n r f) g = h
+  follows (Greets p i j n r f) g = h
+  follows (Freezes p) g = h
+  follows (Keeps p) g = h
+  follows (Thaws p) g = h
+  follows (Dies p) g = h
+  follows (Opens p n) g = record { others = h.others; told = h.told; found = λ a b. choose p (λ j t. (if t then (λ (k : ℕ). false) else s.lost j) b ≡ false) refl (λ j _. h.found j b) a }
+
+-- all are exact where such a run begins
+first-exact : (s : Telling) (xs : List Step) → AlwaysExact s xs → (p : ℕ) → s.exact p ≡ true
+first-exact s [] e p = e p
+first-exact s (x ∷ xs) e p = e.0 p
+
+not-lost : (lost : Bool) → not lost ≡ true → lost ≡ false
+not-lost true e = absurd (cc)
+not-lost false e = refl
+
+-- a node that is exact after it took a Told was told of nothing lost
+nothing : (s : Telling) (exact lost : Bool) (a : Act) → ((p : ℕ) → (step s (Takes exact lost a)).exact p ≡ true) → Nothing lost a
+nothing s exact lost (Collects q p i j k u f) e =
+    let now : (s.exact p && (exact && not lost)) ≡ true = at-itself p (λ b. (if b then s.exact p && (exact && not lost) else s.exact p) ≡ true → (s.exact p && (exact && not lost)) ≡ true) (λ z. z) (e p) in
+    not-lost lost (both exact (not lost) (both (s.exact p) (exact && not lost) now).1).1
+nothing s exact lost (Input d x) e = tt
+nothing s exact lost (Puts p d x) e = tt
+nothing s exact lost (Starts p d i ssn x) e = tt
+nothing s exact lost (Shows p i ssn x) e = tt
+nothing s exact lost (Works p m) e = tt
+nothing s exact lost (Replays p j) e = tt
+nothing s exact lost (Records r t i ssn k) e = tt
+nothing s exact lost (Counts t r i k) e = tt
+nothing s exact lost (Drops d t n) e = tt
+nothing s exact lost (Hears p q i k) e = tt
+nothing s exact lost (Recovers p k) e = tt
+nothing s exact lost (Obeys p q i k r) e = tt
+nothing s exact lost (Enters q p i j n r u f) e = tt
+nothing s exact lost (Restores q p i j n r f) e = tt
+nothing s exact lost (Greets p i j n r f) e = tt
+nothing s exact lost (Freezes p) e = tt
+nothing s exact lost (Keeps p) e = tt
+nothing s exact lost (Thaws p) e = tt
+nothing s exact lost (Dies p) e = tt
+nothing s exact lost (Opens p n) e = tt
+
+-- and what it takes is among the packets that say so
+got : (s : Telling) (ps : List Parcel) → Follows s ps → (exact lost : Bool) (a : Act) → Nothing lost a → Says s exact lost a → Got ps a
+got s ps h exact lost (Collects q p i j k u f) n y = h.told (flagged (parcel q p (Told i j k u f)) exact lost) y n
+got s ps h exact lost (Input d x) n y = tt
+got s ps h exact lost (Puts p d x) n y = tt
+got s ps h exact lost (Starts p d i ssn x) n y = tt
+got s ps h exact lost (Shows p i ssn x) n y = tt
+got s ps h exact lost (Works p m) n y = tt
+got s ps h exact lost (Replays p j) n y = tt
+got s ps h exact lost (Records r t i ssn k) n y = tt
+got s ps h exact lost (Counts t r i k) n y = tt
+got s ps h exact lost (Drops d t k) n y = tt
+got s ps h exact lost (Hears p q i k) n y = tt
+got s ps h exact lost (Recovers p k) n y = tt
+got s ps h exact lost (Obeys p q i k r) n y = tt
+got s ps h exact lost (Enters q p i j k r u f) n y = tt
+got s ps h exact lost (Restores q p i j k r f) n y = tt
+got s ps h exact lost (Greets p i j k r f) n y = tt
+got s ps h exact lost (Freezes p) n y = tt
+got s ps h exact lost (Keeps p) n y = tt
+got s ps h exact lost (Thaws p) n y = tt
+got s ps h exact lost (Dies p) n y = tt
+got s ps h exact lost (Opens p k) n y = tt
+
+-- What is released in the exact cluster: where one isn't durable the same, and nowhere less
+abbrev Lets : Telling → (ℕ → ℕ → ℕ) → Type 0
+Lets s r =
+    record {
+      less : Less s.cluster (letting s.cluster r);
+      alike : (j : ℕ) → s.durable j ≡ false → Alike j s.cluster (letting s.cluster r);
+      kept : (j : ℕ) → s.durable j ≡ true → Durable s.durable s.cluster;
+    }
+
+module _ (s : Telling) (r : ℕ → ℕ → ℕ) (h : Lets s r) where
+  -- an act leaves it so
+  lets : (exact lost : Bool) (a : Act) → May s.cluster a → Lets (step s (Takes exact lost a)) (does (letting s.cluster r) a).released
+  lets exact lost a may =
+      record {
+        less = λ j d u. split j d u (s.durable j) refl;
+        alike = λ j e.
+            let P : Bool → Type 0 = λ b. (λ (d : ℕ). if b then (if renews (Acts a) j then length (kept_sends (does s.cluster a) j d) else s.cluster.released j d) else (does s.cluster a).released j d) ≡ (does (letting s.cluster r) a).released j in
+            subst P (sym e) (does-alike s.cluster r a j (h.alike j e));
+        kept = λ j e. step-durable s.durable s.cluster (Acts a) (h.kept j e) may;
+      }
+    where
+      split : (j d : ℕ) → is_up ((does s.cluster a).phase j) ≡ true → (b : Bool) → s.durable j ≡ b → (steps s.durable s.cluster (Acts a)).released j d ≤ (does (letting s.cluster r) a).released j d
+      split j d u true e =
+          let m : (steps s.durable s.cluster (Acts a)).released j d ≤ (does s.cluster a).released j d = held-less s.durable s.cluster (h.kept j e) j d e a may u in
+          let n : (does s.cluster a).released j d ≤ (does (letting s.cluster r) a).released j d = does-less s.cluster r a may h.less j d u in
+          omega arith
+      split j d u false e = rw e (does-less s.cluster r a may h.less j d u)
+
+  -- and so does one that tells that something is lost
+  lets-losing : (q p i n k : ℕ) → Might s.cluster (Loses q p i n k) → Lets (step s (Losing q p i n k)) r
+  lets-losing q p i n k may =
+      record {
+        less = λ j d u. same j d (s.durable j) (h.less j d u);
+        alike = λ j e.
+            let P : Bool → Type 0 = λ b. (λ (d : ℕ). if b then s.cluster.released j d else s.cluster.released j d) ≡ r j in
+            subst P (sym e) (h.alike j e);
+        kept = λ j e. step-durable s.durable s.cluster (Loses q p i n k) (h.kept j e) may;
+      }
+    where
+      same : (j d : ℕ) (b : Bool) → s.cluster.released j d ≤ r j d → (if b then s.cluster.released j d else s.cluster.released j d) ≤ r j d
+      same j d true l = l
+      same j d false l = l
+
+-- the acts are a run from a cluster with these packets, and lead where the steps lead, but for packets and what is released
+abbrev Along : Telling → List Step → Cluster → Type 0
+Along s xs c = (qs : List Parcel) × (r : ℕ → ℕ → ℕ) × Run c (acts_of xs) × (after_run c (acts_of xs) ≡ among (after_steps s xs).cluster qs r) × Lets (after_steps s xs) r
+
+along : (s : Telling) (ps : List Parcel) (r : ℕ → ℕ → ℕ) (xs : List Step) → Follows s ps → Lets s r → Steps s xs → AlwaysExact s xs → Along s xs (among s.cluster ps r)
+along s ps r [] h l run e = (ps, r, tt, refl, l)
+along s ps r (Takes exact lost a ∷ xs) h l run e =
+    let n : Nothing lost a = nothing s exact lost a (first-exact (step s (Takes exact lost a)) xs e.1) in
+    let t : Along (step s (Takes exact lost a)) xs (among (does s.cluster a) (more a ps) (does (letting s.cluster r) a).released) = along (step s (Takes exact lost a)) (more a ps) (does (letting s.cluster r) a).released xs (follows s ps h exact lost a n) (lets s r l exact lost a run.0.0) run.1 e.1 in
+    let P : Cluster → Type 0 = λ c. Along (step s (Takes exact lost a)) xs c in
+    let u : Along (step s (Takes exact lost a)) xs (does (among s.cluster ps r) a) = subst P (sym (does-among s.cluster ps r a)) t in
+    (u.0, u.1, (may-among s.cluster ps r h.others l.less a (got s ps h exact lost a n run.0.1) run.0.0, u.2), u.3, u.4)
+along s ps r (Meeting q p i k ∷ xs) h l run e = absurd (true-not-false (first-exact (step s (Meeting q p i k)) xs e.1 q) (at-itself q (λ b. (if b then false else s.exact q) ≡ false) refl))
+along s ps r (Losing q p i j k ∷ xs) h l run e = along (step s (Losing q p i j k)) ps r xs (record { others = others; told = told; found = h.found }) (lets-losing s r l q p i j k run.0) run.1 e.1
+  where
+    others : (x : Parcel) → is_told x.body ≡ false → In x (step s (Losing q p i j k)).cluster.parcels → In x ps
+    others x f a = elim a [ inl y ↦ absurd (let z : is_told x.body ≡ true = ap (λ (w : Parcel). is_told w.body) y in true-not-false z f) | inr y ↦ h.others x f y ]
+
+    told : (y : Flagged) → Said y (step s (Losing q p i j k)).said → y.lost ≡ false → In y.packet ps
+    told y a f = elim a [ inl z ↦ absurd (let w : y.lost ≡ true = ap (λ (v : Flagged). v.lost) z in true-not-false w f) | inr z ↦ h.told y z f ]
+along s ps r (Leaving p q ∷ xs) h l run e = absurd (true-not-false run.0.1 (h.found p q))
+
+exact-along : (n : ℕ) (f : Handlers) (durable : ℕ → Bool) (xs : List Step) → ((p : ℕ) → durable p ≡ true → Grows f) → Steps (starts n f durable) xs → AlwaysExact (starts n f durable) xs → Along (starts n f durable) xs (opening n f)
+exact-along n f durable xs g r e =
+    along (starts n f durable) [] (λ _ _. 0) xs (record { others = λ x t i. i; told = λ y i t. absurd i; found = λ p q. refl })
+    (record { less = λ j d u. omega arith; alike = λ j f. refl; kept = λ j e. opens-durable n f durable (g j e) }) r e
+
+-- no step makes a node durable, or takes that from it
+stays-durable : (s : Telling) (xs : List Step) → (after_steps s xs).durable ≡ s.durable
+stays-durable s [] = refl
+stays-durable s (Takes exact lost a ∷ xs) = stays-durable (step s (Takes exact lost a)) xs
+stays-durable s (Meeting q p i k ∷ xs) = stays-durable (step s (Meeting q p i k)) xs
+stays-durable s (Losing q p i j k ∷ xs) = stays-durable (step s (Losing q p i j k)) xs
+stays-durable s (Leaving p q ∷ xs) = stays-durable (step s (Leaving p q)) xs
+
+pub exact-runs-dont-meet : ExactRunsDontMeet
+exact-runs-dont-meet n f durable xs g r e =
+    let t = exact-along n f durable xs g r e in
+    let l : Lets (after_steps (starts n f durable) xs) t.1 = t.4 in
+    let freed : (after_run (opening n f) (acts_of xs)).released ≡ t.1 = ap (λ (c : Cluster). c.released) t.3 in
+    let P : List Parcel → (ℕ → ℕ → ℕ) → Type 0 = λ qs r. after_run (opening n f) (acts_of xs) ≡ among (after_steps (starts n f durable) xs).cluster qs r in
+    let P1 : List Parcel → Type 0 = λ qs. P qs t.1 in
+    let P2 : (ℕ → ℕ → ℕ) → Type 0 = λ r. P (after_run (opening n f) (acts_of xs)).parcels r in
+    let Q : (ℕ → ℕ → ℕ) → Type 0 = λ r. (p : ℕ) → durable p ≡ false → (after_steps (starts n f durable) xs).cluster.released p ≡ r p in
+    let R : (ℕ → ℕ → ℕ) → Type 0 = λ r. (p d : ℕ) → is_up ((after_steps (starts n f durable) xs).cluster.phase p) ≡ true → (after_steps (starts n f durable) xs).cluster.released p d ≤ r p d in
+    let kind : (after_steps (starts n f durable) xs).durable ≡ durable = stays-durable (starts n f durable) xs in
+    record {
+      run = t.2;
+      same = subst P2 (sym freed) (subst P1 (sym (ap (λ (c : Cluster). c.parcels) t.3)) t.3);
+      released = subst Q (sym freed) (λ p e. l.alike p (ap (λ (k : ℕ → Bool). k p) kind ∙ e));
+      less = subst R (sym freed) l.less;
+    }
+
+pub exact-runs-keep : ExactRunsKeep
+exact-runs-keep n f durable xs l g r e =
+    let t = exact-along n f durable xs (λ p e. g) r e in
+    let P : Cluster → Type 0 = λ c. NoOrphanNode c × OutputOnce c × ReceivedOnce c in
+    subst P t.3 (nodes-keep n f (acts_of xs) l g t.2)
+
+-- a step leaves what its deed leaves: so the steps are deeds, one by one
+along-deeds : (s : Telling) (xs : List Step) → Steps s xs → Deeds s.durable s.cluster (deeds_of xs) × (after_deeds s.durable s.cluster (deeds_of xs) ≡ (after_steps s xs).cluster)
+along-deeds s [] r = (tt, refl)
+along-deeds s (Takes exact lost a ∷ xs) r = let t = along-deeds (step s (Takes exact lost a)) xs r.1 in ((r.0.0, t.0), t.1)
+along-deeds s (Meeting q p i k ∷ xs) r = let t = along-deeds (step s (Meeting q p i k)) xs r.1 in ((r.0, t.0), t.1)
+along-deeds s (Losing q p i j k ∷ xs) r = let t = along-deeds (step s (Losing q p i j k)) xs r.1 in ((r.0, t.0), t.1)
+along-deeds s (Leaving p q ∷ xs) r = let t = along-deeds (step s (Leaving p q)) xs r.1 in ((r.0.0, t.0), t.1)
+
+pub steps-are-deeds : StepsAreDeeds
+steps-are-deeds n f durable xs r = along-deeds (starts n f durable) xs r

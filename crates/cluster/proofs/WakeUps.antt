@@ -1,0 +1,128 @@
+-- Nodes that are down are opened, those that are frozen thaw, and those that work on a message finish it
+use Rattle.std.proofs.Common.{◌≡◌, ◌≢◌, inl, inr, ℕ, zero, suc, ◌<◌, ◌≤◌, List, [], ◌∷◌, Bool, true, false, refl, sym, ap, ◌∙◌, subst, arith}
+use Rattle.std.specs.Prelude.{◌⊎◌, ◌==◌}
+use Rattle.std.proofs.lemmas.Bool.Decides.{nat_tests}
+use Rattle.world.specs.Phases.{Phase, Up, Busy, Down, Replaying, Resync, is_up}
+use Rattle.cluster.specs.Cluster.{Stage, Live, Frozen, Dead, Collecting, Cluster, is_well}
+use Rattle.cluster.specs.Rules.{Works, Keeps, Thaws, Opens, IsNode}
+use Rattle.cluster.proofs.Facts.{well-is, true-not-false}
+use Rattle.cluster.specs.Exact.{Telling, Step, Takes, MayStep, step, Steps, after_steps}
+use Rattle.cluster.specs.Return.{is_quiet, AllQuiet, CanGo}
+use Rattle.cluster.proofs.DurableTurns.{put-other}
+use Rattle.cluster.proofs.Births.{put-same, Orderly, orderly-step}
+
+-- one step more, and one way behind another
+pub go-first : (s : Telling) (P : Telling → Type 0) (x : Step) → MayStep s x → is_quiet x ≡ true → CanGo (step s x) P → CanGo s P
+go-first s P x may quiet r = (x ∷ r.0, (may, r.1), (quiet, r.2), r.3)
+
+pub go-on : (s : Telling) (P Q : Telling → Type 0) → CanGo s P → ((t : Telling) → P t → CanGo t Q) → CanGo s Q
+go-on s P Q r more = along r.0 s r.1 r.2 r.3
+  where
+    along : (xs : List Step) (s : Telling) → Steps s xs → AllQuiet xs → P (after_steps s xs) → CanGo s Q
+    along [] s a b p = more s p
+    along (x ∷ xs) s a b p = let u = along xs (step s x) a.1 b.1 p in (x ∷ u.0, (a.0, u.1), (b.0, u.2), u.3)
+
+-- it runs, and where it is up it waits for messages
+abbrev pub IsAwake : Cluster → ℕ → Type 0
+IsAwake c q = (c.stage q ≡ Live) × (is_well c q ≡ true → c.phase q ≡ Up)
+
+-- or it collects
+abbrev pub IsReady : Cluster → ℕ → Type 0
+IsReady c q = (c.stage q ≡ Collecting) ⊎ IsAwake c q
+
+-- of this node all is as before
+abbrev pub IsSame : Cluster → Cluster → ℕ → Type 0
+IsSame c d r = (d.stage r ≡ c.stage r) × (d.greeted r ≡ c.greeted r) × (d.phase r ≡ c.phase r)
+
+pub same-ready : (c d : Cluster) (r : ℕ) → IsSame c d r → IsReady c r → IsReady d r
+same-ready c d r k h = elim h [ inl e ↦ inl (k.0 ∙ e) | inr a ↦ inr (k.0 ∙ a.0, λ w. k.2 ∙ a.1 (rw (sym k.0, sym k.1, sym k.2) w)) ]
+
+-- one node is ready, and all is as before of the others
+pub record Roused (q : ℕ) (s t : Telling) : Type 0 where
+  pub orderly : Orderly t
+  pub count : t.cluster.count ≡ s.cluster.count
+  pub ready : IsReady t.cluster q
+  pub others : (r : ℕ) → r ≢ q → IsSame s.cluster t.cluster r
+
+module _ (q : ℕ) where
+  awake : (s : Telling) → Orderly s → IsNode s.cluster q → s.cluster.stage q ≡ Live → CanGo s (Roused q s)
+  awake s h node live = split (s.cluster.greeted q) refl (s.cluster.phase q) refl
+    where
+      stays : IsReady s.cluster q → CanGo s (Roused q s)
+      stays r = ([], tt, tt, record { orderly = h; count = refl; ready = r; others = λ r _. (refl, refl, refl) })
+
+      split : (g : Bool) → s.cluster.greeted q ≡ g → (x : Phase) → s.cluster.phase q ≡ x → CanGo s (Roused q s)
+      split false g x e = stays (inr (live, λ w. absurd (true-not-false (well-is s.cluster q w).1 g)))
+      split true g Up e = stays (inr (live, λ _. e))
+      split true g (Busy m) e =
+          let may : MayStep s (Takes true false (Works q m)) = ((node, (rw (live, g, e) refl), e), tt) in
+          go-first s (Roused q s) (Takes true false (Works q m)) may refl (
+            [],
+            tt,
+            tt,
+            record {
+              orderly = orderly-step s (Takes true false (Works q m)) h may;
+              count = refl;
+              ready = inr (live, λ _. put-same s.cluster.phase q Up);
+              others = λ r n. (refl, refl, put-other s.cluster.phase q Up r n);
+            },
+          )
+      split true g Down e = stays (inr (live, λ w. absurd (true-not-false (well-is s.cluster q w).2 (ap is_up e))))
+      split true g (Replaying j v a) e = stays (inr (live, λ w. absurd (true-not-false (well-is s.cluster q w).2 (ap is_up e))))
+      split true g (Resync rs) e = stays (inr (live, λ w. absurd (true-not-false (well-is s.cluster q w).2 (ap is_up e))))
+
+  rouse : (s : Telling) → Orderly s → IsNode s.cluster q → CanGo s (Roused q s)
+  rouse s h node = split (s.cluster.stage q) refl
+    where
+      split : (x : Stage) → s.cluster.stage q ≡ x → CanGo s (Roused q s)
+      split Live e = awake s h node e
+      split Collecting e = ([], tt, tt, record { orderly = h; count = refl; ready = inl e; others = λ r _. (refl, refl, refl) })
+      split Dead e =
+          let may : MayStep s (Takes true false (Opens q 0)) = ((node, e), tt) in
+          go-first s (Roused q s) (Takes true false (Opens q 0)) may refl (
+            [],
+            tt,
+            tt,
+            record {
+              orderly = orderly-step s (Takes true false (Opens q 0)) h may;
+              count = refl;
+              ready = inl (put-same s.cluster.stage q Collecting);
+              others = λ r n. (put-other s.cluster.stage q Collecting r n, refl, refl);
+            },
+          )
+      split Frozen e =
+          let may : MayStep s (Takes true false (Keeps q)) = ((node, e), tt) in
+          let thaws : MayStep (step s (Takes true false (Keeps q))) (Takes true false (Thaws q)) = ((node, e, put-same s.cluster.saved q _), tt) in
+          let g : Orderly (step (step s (Takes true false (Keeps q))) (Takes true false (Thaws q))) = orderly-step _ (Takes true false (Thaws q)) (orderly-step s (Takes true false (Keeps q)) h may) thaws in
+          go-first s (Roused q s) (Takes true false (Keeps q)) may refl
+          (go-first (step s (Takes true false (Keeps q))) (Roused q s) (Takes true false (Thaws q)) thaws refl
+          (go-on (step (step s (Takes true false (Keeps q))) (Takes true false (Thaws q))) (Roused q (step (step s (Takes true false (Keeps q))) (Takes true false (Thaws q)))) (Roused q s) (awake (step (step s (Takes true false (Keeps q))) (Takes true false (Thaws q))) g node (put-same s.cluster.stage q Live)) (λ v r. (
+            [],
+            tt,
+            tt,
+            record {
+              orderly = r.orderly;
+              count = r.count;
+              ready = r.ready;
+              others = λ x n. let k = r.others x n in (k.0 ∙ put-other s.cluster.stage q Live x n, k.1, k.2);
+            },
+          ))))
+
+-- and so are all, one after the other
+abbrev pub AllReady : Cluster → Type 0
+AllReady c = (q : ℕ) → q ≤ c.count → IsReady c q
+
+pub rouse-all : (m : ℕ) (s : Telling) → Orderly s → m ≤ s.cluster.count → ((q : ℕ) → m < q → q ≤ s.cluster.count → IsReady s.cluster q) → CanGo s (λ t. Orderly t × AllReady t.cluster)
+rouse-all zero s h l up = ([], tt, tt, (h, all))
+  where
+    all : (q : ℕ) → q ≤ s.cluster.count → IsReady s.cluster q
+    all zero b = let g = h.2.plain.gateway in inr (g.0, λ _. g.2)
+    all (suc q) b = up (suc q) (omega arith) b
+rouse-all (suc m) s h l up =
+    go-on s (Roused (suc m) s) (λ t. Orderly t × AllReady t.cluster) (rouse (suc m) s h (omega arith, l)) (λ t r.
+    let same : t.cluster.count ≡ s.cluster.count = r.count in
+    rouse-all m t r.orderly (omega arith) (λ q a b. one t r q a (omega arith) (q == suc m) refl))
+  where
+    one : (t : Telling) → Roused (suc m) s t → (q : ℕ) → m < q → q ≤ s.cluster.count → (b : Bool) → (q == suc m) ≡ b → IsReady t.cluster q
+    one t r q a l true e = let z : suc m ≡ q = grind (arith, nat_tests) in let P : ℕ → Type 0 = λ i. IsReady t.cluster i in subst P z r.ready
+    one t r q a l false e = let z : q ≢ suc m = grind (arith, nat_tests) in same-ready s.cluster t.cluster q (r.others q z) (up q (omega arith) l)

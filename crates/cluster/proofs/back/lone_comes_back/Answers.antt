@@ -1,0 +1,5 @@
+use Rattle.cluster.proofs.ComesBack.{lone-comes-back}
+use Rattle.cluster.proofs.back.lone_comes_back.Goals as goal
+
+pub returns : goal.returns
+returns c = lone-comes-back

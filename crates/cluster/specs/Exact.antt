@@ -1,0 +1,155 @@
+-- The whole rules: nodes may be durable, nodes whose recoveries meet say so, and each node knows whether it is exact
+use Rattle.std.specs.Prelude.{◌≡◌, ◌⊎◌, ℕ, ◌≤◌, List, [], ◌∷◌, Some, None, Bool, true, false, not, ◌&&◌}
+use Rattle.world.specs.Handlers.{Handlers}
+use Rattle.world.specs.Phases.{is_up}
+use Rattle.world.specs.World.{put}
+use Rattle.theorems.specs.Growth.{Grows}
+use Rattle.cluster.specs.Parcels.{Body, Told, Restored, Parcel, parcel}
+use Rattle.cluster.specs.Cluster.{Cluster, opening}
+use Rattle.cluster.specs.Rules.{Act, Puts, Hears, Collects, Enters, Restores, Greets, Opens, May, put2, Run, after_run}
+use Rattle.cluster.specs.Promises.{NoOrphanNode, OutputOnce, ReceivedOnce}
+use Rattle.cluster.specs.Overlap.{Deed, Acts, Meets, Loses, Leaves, Might, steps, Deeds, after_deeds}
+
+-- a packet Told or Restored also says whether its teller is exact, and whether the teller lost what it had
+pub record Flagged : Type 0 where
+  pub packet : Parcel
+  pub exact : Bool
+  pub lost : Bool
+
+abbrev pub flagged : Parcel → Bool → Bool → Flagged
+flagged x exact lost = record { packet = x; exact = exact; lost = lost }
+
+-- these packets said this
+abbrev pub Said : Flagged → List Flagged → Type 0
+Said x [] = ⊥
+Said x (y ∷ ys) = (x ≡ y) ⊎ Said x ys
+
+-- a cluster some nodes of which are durable, and what its nodes know of recoveries that met
+pub record Telling : Type 0 where
+  -- which nodes are durable: fixed when they are opened
+  pub durable : ℕ → Bool
+  pub cluster : Cluster
+  -- in memory: whether it is exact, as far as it knows; and by peer, whether the peer said that it lost what it had
+  pub exact : ℕ → Bool
+  pub lost : ℕ → ℕ → Bool
+  -- what all packets said that were ever sent
+  pub said : List Flagged
+
+abbrev pub starts : ℕ → Handlers → (ℕ → Bool) → Telling
+starts n f durable = record { durable = durable; cluster = opening n f; exact = λ _. true; lost = λ _ _. false; said = [] }
+
+-- what may happen
+pub data Step : Type 0 where
+  -- an act by the rules for recoveries that don't meet. If it takes a Told or Restored: whether the teller is exact, and whether it lost
+  -- what it had
+  Takes : Bool → Bool → Act → Step
+  -- q, p, incarnation, RSN: q, which is recovering itself, hears a newer Ask of p, and is no longer exact
+  Meeting : ℕ → ℕ → ℕ → ℕ → Step
+  -- q, p, incarnations of p and of q, RSN: q is recovering itself, and tells p that it lost what it had for p
+  Losing : ℕ → ℕ → ℕ → ℕ → ℕ → Step
+  -- p, q: p doesn't wait for q's answer, since q said that it lost it
+  Leaving : ℕ → ℕ → Step
+
+-- the packet that an act takes said this
+abbrev pub Says : Telling → Bool → Bool → Act → Type 0
+Says s exact lost (Collects q p i j k u f) = Said (flagged (parcel q p (Told i j k u f)) exact lost) s.said
+Says s exact lost (Enters q p i j n r u f) = Said (flagged (parcel q p (Restored i j n r (Some u) f)) exact lost) s.said
+Says s exact lost (Restores q p i j n r f) = Said (flagged (parcel q p (Restored i j n r None f)) exact lost) s.said
+Says s exact lost (Greets p i j n r f) = Said (flagged (parcel 0 p (Restored i j n r None f)) exact lost) s.said
+Says s exact lost a = Unit {0}
+
+-- when each may happen
+abbrev pub MayStep : Telling → Step → Type 0
+MayStep s (Takes exact lost a) = May s.cluster a × Says s exact lost a
+MayStep s (Meeting q p i k) = Might s.cluster (Meets q p i k)
+MayStep s (Losing q p i j k) = Might s.cluster (Loses q p i j k)
+MayStep s (Leaving p q) = Might s.cluster (Leaves p q) × (s.lost p q ≡ true)
+
+-- who is exact after an act. A node that is opened again has forgotten that it wasn't
+abbrev pub exact_after : (ℕ → Bool) → Bool → Bool → Act → ℕ → Bool
+exact_after f exact lost (Collects q p i j k u g) = put f p (f p && (exact && not lost))
+exact_after f exact lost (Enters q p i j n r u g) = put f p (f p && exact)
+exact_after f exact lost (Restores q p i j n r g) = put f p (f p && exact)
+exact_after f exact lost (Greets p i j n r g) = put f p (f p && exact)
+exact_after f exact lost (Opens p n) = put f p true
+exact_after f exact lost a = f
+
+-- which peers said that they lost what they had. A node that asks anew was told nothing
+abbrev pub lost_after : (ℕ → ℕ → Bool) → Bool → Act → ℕ → ℕ → Bool
+lost_after f lost (Collects q p i j k u g) = put2 f p q lost
+lost_after f lost (Hears p q i k) = put2 f q p false
+lost_after f lost (Opens p n) = put f p (λ _. false)
+lost_after f lost a = f
+
+-- what a packet says when it is sent
+abbrev pub also_said : Telling → ℕ → ℕ → Body → List Flagged
+also_said s p d (Told i j k u f) = flagged (parcel p d (Told i j k u f)) (s.exact p) false ∷ s.said
+also_said s p d (Restored i j n r u f) = flagged (parcel p d (Restored i j n r u f)) (s.exact p) false ∷ s.said
+also_said s p d x = s.said
+
+abbrev pub said_after : Telling → Act → List Flagged
+said_after s (Puts p d x) = also_said s p d x
+said_after s a = s.said
+
+-- what each step changes: a durable node releases only what the messages covered by its durable checkpoint send
+abbrev pub step : Telling → Step → Telling
+step s (Takes exact lost a) = record { durable = s.durable; cluster = steps s.durable s.cluster (Acts a); exact = exact_after s.exact exact lost a; lost = lost_after s.lost lost a; said = said_after s a }
+step s (Meeting q p i k) = record s { cluster = steps s.durable s.cluster (Meets q p i k); exact = put s.exact q false }
+step s (Losing q p i j k) = record s { cluster = steps s.durable s.cluster (Loses q p i j k); said = flagged (parcel q p (Told i j k None (λ _. None))) false true ∷ s.said }
+step s (Leaving p q) = record s { cluster = steps s.durable s.cluster (Leaves p q) }
+
+-- a run: a list of steps, each of which may happen after those before it
+abbrev pub Steps : Telling → List Step → Type 0
+Steps s [] = Unit {0}
+Steps s (x ∷ xs) = MayStep s x × Steps (step s x) xs
+
+abbrev pub after_steps : Telling → List Step → Telling
+after_steps s [] = s
+after_steps s (x ∷ xs) = after_steps (step s x) xs
+
+-- every node is exact at each step of it
+abbrev pub AlwaysExact : Telling → List Step → Type 0
+AlwaysExact s [] = (p : ℕ) → s.exact p ≡ true
+AlwaysExact s (x ∷ xs) = ((p : ℕ) → s.exact p ≡ true) × AlwaysExact (step s x) xs
+
+-- the acts of a run in which no recoveries meet
+abbrev pub acts_of : List Step → List Act
+acts_of [] = []
+acts_of (Takes exact lost a ∷ xs) = a ∷ acts_of xs
+acts_of (Meeting q p i k ∷ xs) = acts_of xs
+acts_of (Losing q p i j k ∷ xs) = acts_of xs
+acts_of (Leaving p q ∷ xs) = acts_of xs
+
+-- the deeds of any run
+abbrev pub deeds_of : List Step → List Deed
+deeds_of [] = []
+deeds_of (Takes exact lost a ∷ xs) = Acts a ∷ deeds_of xs
+deeds_of (Meeting q p i k ∷ xs) = Meets q p i k ∷ deeds_of xs
+deeds_of (Losing q p i j k ∷ xs) = Loses q p i j k ∷ deeds_of xs
+deeds_of (Leaving p q ∷ xs) = Leaves p q ∷ deeds_of xs
+
+-- the deeds of a run may happen: so it keeps their promises whatever fails
+abbrev pub StepsAreDeeds : Type 0
+StepsAreDeeds = (n : ℕ) (f : Handlers) (durable : ℕ → Bool) (xs : List Step) → Steps (starts n f durable) xs
+    → Deeds durable (opening n f) (deeds_of xs) × (after_deeds durable (opening n f) (deeds_of xs) ≡ (after_steps (starts n f durable) xs).cluster)
+
+-- these acts are a run of nodes whose recoveries don't meet. They lead where the steps lead, except for packets that say that something is
+-- lost, and for what durable nodes release: a node that is up may release less
+abbrev pub IsRunOf : ℕ → Handlers → (ℕ → Bool) → List Act → Cluster → Type 0
+IsRunOf n f durable acts c =
+    record {
+      run : Run (opening n f) acts;
+      same : after_run (opening n f) acts ≡ record c { parcels = (after_run (opening n f) acts).parcels; released = (after_run (opening n f) acts).released };
+      released : (p : ℕ) → durable p ≡ false → c.released p ≡ (after_run (opening n f) acts).released p;
+      less : (p d : ℕ) → is_up (c.phase p) ≡ true → c.released p d ≤ (after_run (opening n f) acts).released p d;
+    }
+
+-- so is each run in which every node was always exact. If there are durable nodes, each handler's sends only grow
+abbrev pub ExactRunsDontMeet : Type 0
+ExactRunsDontMeet = (n : ℕ) (f : Handlers) (durable : ℕ → Bool) (xs : List Step) → ((p : ℕ) → durable p ≡ true → Grows f) → Steps (starts n f durable) xs → AlwaysExact (starts n f durable) xs
+    → IsRunOf n f durable (acts_of xs) (after_steps (starts n f durable) xs).cluster
+
+-- so it keeps the promises of such a run
+abbrev pub ExactRunsKeep : Type 0
+ExactRunsKeep = (n : ℕ) (f : Handlers) (durable : ℕ → Bool) (xs : List Step) → n ≤ 15 → Grows f → Steps (starts n f durable) xs → AlwaysExact (starts n f durable) xs
+    → NoOrphanNode (after_steps (starts n f durable) xs).cluster × OutputOnce (after_steps (starts n f durable) xs).cluster × ReceivedOnce (after_steps (starts n f durable) xs).cluster

@@ -1,0 +1,49 @@
+-- Nodes come back: one that dies alone, and all of them, whatever failed
+use Rattle.std.specs.Prelude.{◌≡◌, ℕ, ◌≤◌, List, [], ◌∷◌, Bool, true, false}
+use Rattle.std.proofs.Common.{◌≢◌}
+use Rattle.world.specs.Handlers.{Handlers}
+use Rattle.theorems.specs.Growth.{Grows}
+use Rattle.cluster.specs.Cluster.{Cluster, opening, is_well}
+use Rattle.cluster.specs.Rules.{Act, Input, Dies, IsNode, Run, after_run}
+use Rattle.cluster.specs.Exact.{Telling, starts, Step, Takes, Steps, after_steps}
+
+abbrev pub is_death : Act → Bool
+is_death (Dies p) = true
+is_death a = false
+
+-- no node dies in these acts
+abbrev pub NobodyDies : List Act → Type 0
+NobodyDies [] = Unit {0}
+NobodyDies (a ∷ acts) = (is_death a ≡ false) × NobodyDies acts
+
+-- the cluster can go on, without a death, to one for which this holds
+abbrev pub CanReach : Cluster → (Cluster → Type 0) → Type 0
+CanReach c P = (acts : List Act) × Run c acts × NobodyDies acts × P (after_run c acts)
+
+abbrev pub AllUp : Cluster → Type 0
+AllUp c = (q : ℕ) → q ≤ c.count → is_well c q ≡ true
+
+-- after any run: if all nodes except p are up, p comes back, whether it is dead, collects, replays or restores RSNs: the nodes can go on,
+-- without a death, until all are up
+abbrev pub LoneComesBack : Type 0
+LoneComesBack = (n : ℕ) (f : Handlers) (acts : List Act) (p : ℕ) → n ≤ 15 → Grows f → Run (opening n f) acts → IsNode (after_run (opening n f) acts) p
+    → ((q : ℕ) → IsNode (after_run (opening n f) acts) q → q ≢ p → is_well (after_run (opening n f) acts) q ≡ true) → CanReach (after_run (opening n f) acts) AllUp
+
+-- a step that is no failure and needs nothing from outside: no node dies, and the gateway gets no input
+abbrev pub is_quiet : Step → Bool
+is_quiet (Takes exact lost (Dies p)) = false
+is_quiet (Takes exact lost (Input d x)) = false
+is_quiet x = true
+
+abbrev pub AllQuiet : List Step → Type 0
+AllQuiet [] = Unit {0}
+AllQuiet (x ∷ xs) = (is_quiet x ≡ true) × AllQuiet xs
+
+-- by such steps alone the nodes can go on to where this holds
+abbrev pub CanGo : Telling → (Telling → Type 0) → Type 0
+CanGo s P = (xs : List Step) × Steps s xs × AllQuiet xs × P (after_steps s xs)
+
+-- after any run of the whole rules, whatever failed, with any number of nodes down or recovering and any packets on the way: the nodes can
+-- go on until all are up
+abbrev pub AllComeBack : Type 0
+AllComeBack = (n : ℕ) (f : Handlers) (durable : ℕ → Bool) (xs : List Step) → Steps (starts n f durable) xs → CanGo (after_steps (starts n f durable) xs) (λ s. AllUp s.cluster)

@@ -1,4 +1,0 @@
-pub mod WorkedRuns
-pub mod DeathRuns
-pub mod LateRuns
-pub mod SizeRuns

@@ -1,5 +1,0 @@
-use Rattle.cluster_runs.proofs.DeathRuns.{all-have-to-answer}
-use Rattle.cluster_runs.proofs.deaths.all_have_to_answer.Goals as goal
-
-pub returns : goal.returns
-returns c = all-have-to-answer

@@ -1,5 +1,0 @@
-use Rattle.cluster_runs.proofs.DeathRuns.{dies-at-checkpoint}
-use Rattle.cluster_runs.proofs.deaths.dies_at_checkpoint.Goals as goal
-
-pub returns : goal.returns
-returns c = dies-at-checkpoint

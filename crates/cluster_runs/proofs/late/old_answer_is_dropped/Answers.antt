@@ -1,5 +1,0 @@
-use Rattle.cluster_runs.proofs.LateRuns.{old-answer-is-dropped}
-use Rattle.cluster_runs.proofs.late.old_answer_is_dropped.Goals as goal
-
-pub returns : goal.returns
-returns c = old-answer-is-dropped

@@ -1,5 +1,0 @@
-use Rattle.cluster_runs.proofs.LateRuns.{old-ask-is-heard}
-use Rattle.cluster_runs.proofs.late.old_ask_is_heard.Goals as goal
-
-pub returns : goal.returns
-returns c = old-ask-is-heard

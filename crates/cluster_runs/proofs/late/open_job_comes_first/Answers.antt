@@ -1,5 +1,0 @@
-use Rattle.cluster_runs.proofs.LateRuns.{open-job-comes-first}
-use Rattle.cluster_runs.proofs.late.open_job_comes_first.Goals as goal
-
-pub returns : goal.returns
-returns c = open-job-comes-first

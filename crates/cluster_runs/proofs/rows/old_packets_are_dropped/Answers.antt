@@ -1,5 +1,0 @@
-use Rattle.cluster_runs.proofs.WorkedRuns.{old-packets-are-dropped}
-use Rattle.cluster_runs.proofs.rows.old_packets_are_dropped.Goals as goal
-
-pub returns : goal.returns
-returns c = old-packets-are-dropped

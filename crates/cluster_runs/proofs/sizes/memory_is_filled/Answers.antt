@@ -1,5 +1,0 @@
-use Rattle.cluster_runs.proofs.SizeRuns.{memory-is-filled}
-use Rattle.cluster_runs.proofs.sizes.memory_is_filled.Goals as goal
-
-pub returns : goal.returns
-returns c = memory-is-filled

@@ -1,5 +1,0 @@
-use Rattle.cluster_runs.proofs.SizeRuns.{saved-may-be-lost}
-use Rattle.cluster_runs.proofs.sizes.saved_may_be_lost.Goals as goal
-
-pub returns : goal.returns
-returns c = saved-may-be-lost

@@ -1,0 +1,81 @@
+-- A node puts a packet out
+use Rattle.std.proofs.Common.{◌≡◌, ◌≢◌, inl, inr, ℕ, ◌≤◌, [], ◌∷◌, Bool, true, false, refl, sym, ap, ◌∙◌, arith}
+use Rattle.std.specs.Prelude.{Option, Some, None}
+use Rattle.world.specs.Phases.{is_up}
+use Rattle.cluster.specs.Parcels.{Body, parcel, In}
+use Rattle.cluster.specs.Cluster.{Cluster, runs, is_well, takes}
+use Rattle.cluster.specs.Rules.{Act, Puts, May, MayPut, does}
+use Rattle.node.specs.declared.job.OpenJob.{OpenJob}
+use Rattle.packets.specs.declared.packet.Body as bodies
+use Rattle.packets.specs.declared.packet.Packet.{Packet}
+use Rattle.node.specs.Node.{TheNode, posts, packet_of}
+use Rattle.packets.specs.Says.{Says}
+use Rattle.node.specs.Stands.{Stands, GoesOn, PutOut, phase_of, stage_of, own_act}
+use Rattle.node.proofs.Lists.{all-more, all-pushed}
+
+up-with : (o : Option OpenJob) → is_up (phase_of o) ≡ true
+up-with None = refl
+up-with (Some j) = refl
+
+pub is-up : (n : TheNode) (c : Cluster) (p : ℕ) → Stands n c p → is_up (c.phase p) ≡ true
+is-up n c p s = ap is_up s.phase ∙ up-with n.working
+
+pub stands-takes : (n : TheNode) (c : Cluster) (p : ℕ) → n.frozen ≡ false → Stands n c p → takes c p ≡ true
+stands-takes n c p live s = rw (s.stage, live, s.greeted, is-up n c p s) refl
+
+-- also while it waits for its checkpoint it is up
+runs-with : (b : Bool) → runs (stage_of b) ≡ true
+runs-with true = refl
+runs-with false = refl
+
+pub stands-well : (n : TheNode) (c : Cluster) (p : ℕ) → Stands n c p → is_well c p ≡ true
+stands-well n c p s = rw (s.stage, runs-with n.frozen, s.greeted, is-up n c p s) refl
+
+-- a packet that was put out still is among more parcels
+pub put-still : (c d : Cluster) (p : ℕ) (x : Packet) → c.count ≡ d.count → ((b : Body) → In (parcel p x.to b) c.parcels → In (parcel p x.to b) d.parcels) → PutOut c.count c.parcels p x → PutOut d.count d.parcels p x
+put-still c d p x same more s = record { count_is = s.count_is ∙ same; from = s.from; said = (s.said.0, s.said.1, more s.said.0 s.said.2) }
+
+-- it stands in the cluster in which the packet is put out
+pub stands-posted : (n : TheNode) (c : Cluster) (p to : ℕ) (x : bodies.Body) (b : Body) → Says p x b → Stands n c p → Stands (posts to x n) (does c (Puts p to b)) p
+stands-posted n c p to x b says s =
+    record {
+      me = s.me;
+      count = s.count;
+      inside = s.inside;
+      stage = s.stage;
+      greeted = s.greeted;
+      phase = s.phase;
+      works = s.works;
+      life = s.life;
+      state = s.state;
+      saved = s.saved;
+      received = s.received;
+      waits = s.waits;
+      logs = s.logs;
+      gates = s.gates;
+      free = s.free;
+      heard = s.heard;
+      resumed = s.resumed;
+      out = all-pushed (PutOut c.count (parcel p to b ∷ c.parcels) p) n.out (packet_of n to x)
+          (all-more (PutOut c.count c.parcels p) (PutOut c.count (parcel p to b ∷ c.parcels) p) n.out (λ o. put-still c (does c (Puts p to b)) p o refl (λ y i. inr i)) s.out)
+          (record { count_is = s.count; from = s.me; said = (b, says, inl refl) });
+    }
+
+-- to put out what the cluster lets it
+pub posted : (n : TheNode) (c : Cluster) (to : ℕ) (x : bodies.Body) (b : Body) → Says n.me x b → Stands n c n.me → to ≤ n.count → to ≢ n.me → MayPut c n.me to b → GoesOn n.me (posts to x n) c
+posted n c to x b says s low other may =
+    let within : to ≤ c.count = omega (arith, low, s.count) in
+    record {
+      acts = Puts n.me to b ∷ [];
+      run = ((s.inside.1, within, (λ e. other (sym e)), may), tt);
+      by = (refl, tt);
+      stands = stands-posted n c n.me to x b says s;
+    }
+
+-- to do nothing
+pub stays : (n : TheNode) (c : Cluster) → Stands n c n.me → GoesOn n.me n c
+stays n c s = record { acts = []; run = tt; by = tt; stands = s }
+
+-- after one more act
+pub goes-on : (p : ℕ) (n : TheNode) (c : Cluster) (a : Act) → May c a → own_act a ≡ Some p → GoesOn p n (does c a) → GoesOn p n c
+goes-on p n c a may by g = record { acts = a ∷ g.acts; run = (may, g.run); by = (by, g.by); stands = g.stands }

@@ -1,0 +1,212 @@
+-- Where failures come one at a time each process stays exact
+use Rattle.std.proofs.Common.{◌≡◌, ℕ, ◌<◌, List, [], ◌∷◌, ◌++◌, Bool, true, false, refl, sym, ap, ◌∙◌, subst, arith}
+use Rattle.std.specs.Prelude.{not, ◌&&◌, ◌==◌, nat_le, slice_index_or}
+use Rattle.std.proofs.lemmas.Bool.Decides.{nat_tests}
+use Rattle.theorems.proofs.Tests.{both}
+use Rattle.world.specs.Handlers.{Handlers}
+use Rattle.world.specs.World.{put}
+use Rattle.cluster.specs.Cluster.{Cluster, opening}
+use Rattle.cluster.specs.Rules.{Act, after_run}
+use Rattle.packets.specs.Packet.{in_range}
+use Rattle.packets.specs.declared.packet.Packet.{Packet}
+use Rattle.packets.specs.declared.packet.Body.{Body}
+use Rattle.packets.specs.declared.packet.Body.TheVariants.{Restored}
+use Rattle.packets.specs.declared.kept.Kept.{Kept}
+use Rattle.packets.proofs.KeptLemmas.{one_kept}
+use Rattle.packets.specs.Says.{WasSaid}
+use Rattle.node.specs.declared.limit.Limits.{Limits}
+use Rattle.node.specs.Kept.{IsKeptOf}
+use Rattle.node.specs.Runs.{Answering, handlers_of, IsOne}
+use Rattle.node.proofs.Runs.{grows, one-was}
+use Rattle.recovery.specs.Overlap.{is_loss}
+use Rattle.recovery.specs.Intake.{sent_to}
+use Rattle.recovery.specs.Collection.{TheCollecting, begins, revived}
+use Rattle.recovery.specs.Restoration.{TheRestoring, has_answered, above_of, last_ssn}
+use Rattle.recovery.specs.RestorationStands.{StandsRestoring}
+use Rattle.recovery.proofs.Fits.{pages-fit}
+use Rattle.gateway.specs.Gateway.{TheGateway}
+use Rattle.node_laws.specs.Together.{IsFirst}
+use Rattle.node_laws.specs.Process.{Process, Up, Covered, Collects, Replays, Replayed, Restores, Killed, StandsAs, IsKilled, IsStoredOf, ComesFrom, covered}
+use Rattle.node_laws.specs.System.{System, new_system, AreStoredOf, Call, Gave, Handed, Worked, Did, Stored, Saved, Died, Revived, GaveOut, HandedOut, DidOut, StoredOut, StoredBut, RevivedOut, DoesIt, after_call, Calls, AreExact, StayExact}
+use Rattle.node_laws.specs.Alone.{is_up, FailsAlone, OneAtATime, LoneFailuresStayExact, LoneLivesRun, NothingIsLostAlone, RecoversExactlyAlone}
+use Rattle.node_laws.proofs.Lives.{WasPut, lives-run}
+use Rattle.node_laws.proofs.Lives as runs
+use Rattle.node_laws.proofs.Back.{Reached, GoesOn, goes-on, nothing-is-lost, recovers-exactly}
+use Rattle.node_laws.proofs.Sound.{IsSound, AreSound, raised-here}
+use Rattle.node_laws.proofs.OwnSound.{IsAlone, of-other}
+use Rattle.node_laws.proofs.CollectingSound as collecting
+use Rattle.node_laws.proofs.GatewaySound as gateways
+use Rattle.node_laws.proofs.Lone.{Returns, IsOf, stands-of, Good, Goes, Back, Lone, IsLone, is-alone, process-goes, process-dies, only-comes, process-comes}
+use Rattle.node_laws.proofs.LoneCalls.{Fits, giving, hearing, working, acting, storing, telling}
+
+-- ---- no page tells of more than was sent
+
+closed : (b : Bool) → not b ≡ true → b ≡ false
+closed true e = absurd (let z : false ≡ true = e in cc (z))
+closed false e = refl
+
+module _ (f : Answering) (len : ℕ → ℕ) (n : ℕ) (s : System) (acts : List Act) (r : Reached (handlers_of f len) n s acts) where
+  abbrev g : Handlers
+  g = handlers_of f len
+
+  abbrev c : Cluster
+  c = after_run (opening n g) acts
+
+  -- p is of so many
+  is-of : (p : ℕ) → IsFirst n p → IsOf p n (s.processes p)
+  is-of p first = let h = r.holds in subst (λ k. IsOf p k (s.processes p)) h.count (stands-of (s.processes p) c p (h.processes p first))
+
+  page-fits : (x : Packet) (m : TheRestoring) (p : ℕ) → WasPut c x → StandsRestoring m c p → Fits x (Restores m)
+  page-fits x m p was st mine i j k a flags pairs e range reply =
+      let q = of-other m.own x mine in
+      let u = both ((i == m.own.life) && nat_le (slice_index_or m.own.heard x.from 0) j && not (has_answered x.from m)) (a == above_of x.from m) reply in
+      let v = both ((i == m.own.life) && nat_le (slice_index_or m.own.heard x.from 0) j) (not (has_answered x.from m)) u.0 in
+      let w = both (i == m.own.life) (nat_le (slice_index_or m.own.heard x.from 0) j) v.0 in
+      let now : i ≡ m.own.life = (let z = w.0 in grind (arith, nat_tests)) in
+      let h = r.holds in
+      let here : StandsRestoring m c m.own.me = subst (StandsRestoring m c) (sym st.own.me) st in
+      let P : Body → Type 0 = λ b. WasSaid c.parcels x.from m.own.me b in
+      let Q : ℕ → Type 0 = λ z. WasSaid c.parcels x.from z x.body in
+      let R : ℕ → Type 0 = λ z. P (Restored z j k a flags pairs) in
+      let said : R m.own.life = subst R now (subst P e (subst Q q.0 (was (ap is_loss e)).said)) in
+      let S : ℕ → Type 0 = λ z. in_range (Restored z j k a flags pairs) ≡ true in
+      let fit = pages-fit n g acts m x.from j k a flags pairs h.few (grows f len) r.run here q.1.0 (closed (has_answered x.from m) v.1) (subst S now range) said in
+      let one : nat_le k (sent_to x.from m.own) ≡ true = (let l = fit.0 in grind (arith, nat_tests)) in
+      let two : nat_le (last_ssn 0 pairs) (sent_to x.from m.own) ≡ true = (let l = fit.1 in grind (arith, nat_tests)) in
+      rw (reply, one, two) refl
+
+  fits-here : (x : Packet) (process : Process) (p : ℕ) → WasPut c x → StandsAs process c p → Fits x process
+  fits-here x (Restores m) p was st = page-fits x m p was st
+  fits-here x (Up m) p was st = tt
+  fits-here x (Covered m) p was st = tt
+  fits-here x (Collects m) p was st = tt
+  fits-here x (Replays m) p was st = tt
+  fits-here x (Replayed m) p was st = tt
+  fits-here x Killed p was st = tt
+
+-- ---- calls
+
+killed-down : (process : Process) → IsKilled process → is_up process ≡ false
+killed-down (Up m) d = absurd d
+killed-down (Covered m) d = absurd d
+killed-down (Collects m) d = refl
+killed-down (Replays m) d = refl
+killed-down (Replayed m) d = refl
+killed-down (Restores m) d = refl
+killed-down Killed d = refl
+
+-- what is stored of one that is dead is what is kept of it
+kept-dead : (k : Kept) (process : Process) (c : Cluster) (p : ℕ) → IsKilled process → IsStoredOf k process c p → IsKeptOf k c p
+kept-dead k (Up m) c p d s = absurd d
+kept-dead k (Covered m) c p d s = absurd d
+kept-dead k (Collects m) c p d s = absurd d
+kept-dead k (Replays m) c p d s = absurd d
+kept-dead k (Replayed m) c p d s = absurd d
+kept-dead k (Restores m) c p d s = absurd d
+kept-dead k Killed c p d s = s
+
+-- one more packet was given
+with-given : (n : ℕ) (processes : ℕ → Process) (lives : ℕ → ℕ) (given out : List Packet) (x : Packet) → IsSound lives (Back n processes) x → Lone n processes lives given out → Lone n processes lives (x ∷ given) out
+with-given n processes lives given out x sound h = record { outside = h.outside; alone = h.alone; good = h.good; given = (sound, h.given); out = h.out }
+
+-- the gateway has this to send
+with-out : (n : ℕ) (processes : ℕ → Process) (lives : ℕ → ℕ) (given out new : List Packet) → AreSound lives (Back n processes) new → Lone n processes lives given out → Lone n processes lives given new
+with-out n processes lives given out new sound h = record { outside = h.outside; alone = h.alone; good = h.good; given = h.given; out = sound }
+
+-- one comes back from what is stored, of which its number and how many there are is known
+comes : (lives : ℕ → ℕ) (back : ℕ → Type 0) (n p life : ℕ) (limits : Limits) (k : Kept) (new : TheCollecting) → k.me ≡ p → k.count ≡ n → new ≡ revived limits k life → life ≡ lives p → back p → ((q : ℕ) → back q → q ≡ p) → Good lives back n p (Collects new)
+comes lives back n p life limits k new me count is now here only =
+    let old : TheCollecting = begins limits k life in
+    let a : IsAlone lives back n old.own = record { count = count; life = now ∙ ap lives (sym me); here = subst back (sym me) here; only = λ q b. only q b ∙ sym me } in
+    let t = collecting.asks-all lives back n old a in
+    let P : TheCollecting → Type 0 = λ z. Good lives back n p (Collects z) in
+    subst P (sym is) (record { exact = t.own.exact refl; life = t.own.life ∙ now; knows = t.hears (collecting.begun lives back n limits k life count); out = t.own.out tt })
+
+module _ (f : Answering) (len : ℕ → ℕ) (n : ℕ) (s : System) (acts : List Act) (r : Reached (handlers_of f len) n s acts) (h : IsLone n s) where
+  abbrev back : ℕ → Type 0
+  back = Back n s.processes
+
+  abbrev here : Cluster
+  here = after_run (opening n (handlers_of f len)) acts
+
+  -- a packet that was given
+  sound-given : (x : Packet) → IsOne x s.given → IsSound s.lives back x
+  sound-given x one = one-was (IsSound s.lives back) x s.given h.given one
+
+  only : (p : ℕ) → IsFirst n p → Returns (s.processes p) → back p × ((q : ℕ) → back q → q ≡ p)
+  only p first b = ((first, b), is-alone n s.processes s.lives s.given s.gateway.out p h first b)
+
+  goes : (p : ℕ) (new : Process) → IsFirst n p → Goes s.lives back n p (s.processes p) new → Lone n (put s.processes p new) s.lives s.given s.gateway.out
+  goes p new first w = process-goes n s.processes s.lives s.given s.gateway.out h p first new w
+
+  -- it comes back
+  revives : (p life : ℕ) (new : TheCollecting) → IsFirst n p → IsKilled (s.processes p) → s.lives p < life → ComesFrom (s.stored p) life new → Lone n (put s.processes p (Collects new)) (put s.lives p life) s.given s.gateway.out
+  revives p life new first dead above from =
+      let holds = r.holds in
+      let are : AreStoredOf (s.stored p) (s.processes p) here p = holds.stored p first in
+      let k : Kept = from.0 in
+      let one : are.0 ≡ k = one_kept are.0 k (s.stored p) are.1.0 from.1.0 in
+      let kept : IsKeptOf k here p = subst (λ z. IsKeptOf z here p) one (kept-dead are.0 (s.processes p) here p dead are.1.1) in
+      let down : is_up (s.processes p) ≡ false = killed-down (s.processes p) dead in
+      let now : life ≡ put s.lives p life p = sym (raised-here s.lives p life) in
+      let b : Back n (put s.processes p (Collects new)) p = (first, subst Returns (sym (raised-here s.processes p (Collects new))) tt) in
+      process-comes n s.processes s.lives s.given s.gateway.out h p first (Collects new) life down refl above
+      (comes (put s.lives p life) (Back n (put s.processes p (Collects new))) n p life from.1.1.0.0 k new kept.me (kept.count ∙ holds.count) from.1.1.0.1 now b (only-comes n s.processes s.lives s.given s.gateway.out h p first (Collects new) down))
+
+  call-alone : (k : Call) → DoesIt f n s k → FailsAlone n s k → IsLone n (after_call s k)
+  call-alone (Gave p x new) m a =
+      let t = giving s.lives back n p x (s.processes p) new m.1 (h.good p m.0) in
+      process-goes n s.processes s.lives (x ∷ s.given) s.gateway.out (with-given n s.processes s.lives s.given s.gateway.out x t.0 h) p m.0 new t.1
+  call-alone (Handed p x new) m a =
+      let holds = r.holds in
+      let fits : Fits x (s.processes p) = fits-here f len n s acts r x (s.processes p) p (one-was (WasPut here) x s.given holds.given m.1.0) (holds.processes p m.0) in
+      goes p new m.0 (hearing s.lives back n p x (s.processes p) new m.1.1 (sound-given x m.1.0) fits (is-of f len n s acts r p m.0) (only p m.0) (h.good p m.0))
+  call-alone (Worked p a new) m l = goes p new m.0 (working s.lives back n p f a (s.processes p) new m.1 (h.good p m.0))
+  call-alone (Did p new) m a = goes p new m.0 (acting s.lives back n p (s.processes p) new m.1 (is-of f len n s acts r p m.0) (only p m.0) (h.good p m.0))
+  call-alone (Stored p bytes) m a = goes p (covered (s.processes p)) m.0 (storing s.lives back n p bytes (s.processes p) m.1 (h.good p m.0))
+  call-alone (Saved p new) m a = goes p new m.0 (telling s.lives back n p (s.processes p) new m.1 (h.good p m.0))
+  call-alone (Died p) m a = process-dies n s.processes s.lives s.given s.gateway.out h p m Killed refl a
+  call-alone (Revived p life new) m a = revives p life new m.0 m.1.0 m.1.1.0 m.1.1.1
+  call-alone (GaveOut x new) m a =
+      let P : TheGateway → Type 0 = λ z. AreSound s.lives back z.out in
+      let out : AreSound s.lives back (x ∷ new.out) = subst P m.1.0 h.out in
+      with-given n s.processes s.lives s.given new.out x out.0 (with-out n s.processes s.lives s.given s.gateway.out new.out out.1 h)
+  call-alone (HandedOut x new) m a =
+      let k : gateways.Keeps s.lives back s.gateway new = subst (gateways.Keeps s.lives back s.gateway) (sym m.1.0) (gateways.hands s.lives back x s.gateway h.outside (sound-given x m.0)) in
+      with-out n s.processes s.lives s.given s.gateway.out new.out (k.out h.out) h
+  call-alone (DidOut new) m a = let k = gateways.deals s.lives back s.gateway new m.0 in with-out n s.processes s.lives s.given s.gateway.out new.out (k.out h.out) h
+  call-alone StoredOut m a = h
+  call-alone (StoredBut k) m a = h
+  call-alone (RevivedOut new) m a =
+      let P : TheGateway → Type 0 = λ z. AreSound s.lives back z.out in
+      let out : AreSound s.lives back new.out = subst P (sym m.0) tt in
+      with-out n s.processes s.lives s.given s.gateway.out new.out out h
+
+-- ---- lists of calls
+
+stays-alone : (f : Answering) (len : ℕ → ℕ) (n : ℕ) (s : System) (acts : List Act) (ks : List Call) → Reached (handlers_of f len) n s acts → IsLone n s → Calls f n s ks → OneAtATime n s ks → StayExact n s ks
+stays-alone f len n s acts [] r h m a = tt
+stays-alone f len n s acts (k ∷ ks) r h m a =
+    let after : IsLone n (after_call s k) = call-alone f len n s acts r h k m.0 a.0 in
+    let exact : AreExact n (after_call s k) = λ p first. (after.good p first).exact in
+    let on : GoesOn (handlers_of f len) n (after_call s k) acts = goes-on f len n s acts (k ∷ []) r (m.0, tt) (exact, tt) in
+    (exact, stays-alone f len n (after_call s k) (acts ++ on.more) ks on.reached after m.1 a.1)
+
+-- at the opening all are up
+begins-alone : (n page tick : ℕ) (limits : ℕ → Limits) (len : ℕ → ℕ) (bytes : ℕ → List ℕ) → IsLone n (new_system n limits len bytes page tick)
+begins-alone n page tick limits len bytes = record { outside = refl; alone = λ p q a b apart e. refl; good = λ p first. record { exact = refl; life = refl; knows = tt; out = tt }; given = tt; out = tt }
+
+pub lone-failures-stay-exact : LoneFailuresStayExact
+lone-failures-stay-exact f n page tick limits len bytes calls few stored m a =
+    stays-alone f len n (new_system n limits len bytes page tick) [] calls (record { run = tt; holds = runs.begins f n page tick limits len bytes few stored }) (begins-alone n page tick limits len bytes) m a
+
+pub lone-lives-run : LoneLivesRun
+lone-lives-run f n page tick limits len bytes calls few stored m a = lives-run f n page tick limits len bytes calls few stored m (lone-failures-stay-exact f n page tick limits len bytes calls few stored m a)
+
+pub nothing-is-lost-alone : NothingIsLostAlone
+nothing-is-lost-alone f n page tick limits len bytes calls more p a b few stored first m alone =
+    nothing-is-lost f n page tick limits len bytes calls more p a b few stored first m (lone-failures-stay-exact f n page tick limits len bytes (calls ++ more) few stored m alone)
+
+pub recovers-exactly-alone : RecoversExactlyAlone
+recovers-exactly-alone f n page tick limits len bytes calls more p old new few stored m alone =
+    recovers-exactly f n page tick limits len bytes calls more p old new few stored m (lone-failures-stay-exact f n page tick limits len bytes (calls ++ Did p (Replays new) ∷ more) few stored m alone)

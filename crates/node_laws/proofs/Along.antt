@@ -1,0 +1,85 @@
+-- What acts leave of a process
+use Rattle.std.proofs.Common.{◌≡◌, ◌≢◌, ℕ, suc, ◌+◌, ◌≤◌, List, [], ◌∷◌, length, take, Bool, true, false, refl, sym, ap, ◌∙◌, subst, arith}
+use Rattle.std.specs.Prelude.{Some, None, ◌==◌, nat_lt, if◌then◌else◌}
+use Rattle.std.proofs.lemmas.Bool.Decides.{nat_tests}
+use Rattle.theorems.proofs.Changes.{at-itself}
+use Rattle.world.specs.declared.message.Message.{Message}
+use Rattle.cluster.specs.Cluster.{Cluster}
+use Rattle.cluster.specs.Rules.{Act, Input, Puts, Starts, Shows, Works, Replays, Records, Counts, Drops, Hears, Collects, Recovers, Obeys, Enters, Restores, Greets, Freezes, Keeps, Thaws, Dies, Opens, does, after_run}
+use Rattle.packets.specs.declared.kept.Kept.{Kept}
+use Rattle.node.specs.Stands.{Each, actor, own_act}
+use Rattle.node.specs.Kept.{IsKeptOf}
+use Rattle.node.proofs.Beside.{Same, same}
+use Rattle.node.proofs.Lists.{all-more}
+use Rattle.node.proofs.Preservation.{kept-still, kept-stays}
+
+-- what holds of a cluster, and of each that has the same of p, holds after the acts of another
+pub along : (P : Cluster → Type 0) (p q : ℕ) (acts : List Act) (c : Cluster) → ((a b : Cluster) → Same a b p → P a → P b) → q ≢ p → Each (λ (a : Act). actor a ≡ q) acts → P c → P (after_run c acts)
+along P p q [] c keeps other by h = h
+along P p q (a ∷ acts) c keeps other by h =
+    let apart : (p == actor a) ≡ false = (let f : actor a ≡ q = by.0 in grind (arith, nat_tests)) in
+    along P p q acts (does c a) keeps other by.1 (keeps c (does c a) (same c a p apart) h)
+
+-- what is kept of p is what is durable of it, where both have the same of p
+pub kept-same : (k : Kept) (c d : Cluster) (p : ℕ) → Same c d p → IsKeptOf k c p → IsKeptOf k d p
+kept-same k c d p e s =
+    kept-still k c d p
+    (record { count = e.count; handlers = e.handlers; saved = e.saved; saved_trims = e.saved_trims; history = λ l. (ap (take (c.saved p)) (sym e.history), subst (λ (h : List Message). c.saved p ≤ length h) e.history l) }) s
+
+-- and what will be, once its checkpoint is
+pub keeping-same : (k : Kept) (c d : Cluster) (p : ℕ) → Same c d p → IsKeptOf k (does c (Keeps p)) p → IsKeptOf k (does d (Keeps p)) p
+keeping-same k c d p e s =
+    kept-still k (does c (Keeps p)) (does d (Keeps p)) p
+    (record {
+      count = e.count;
+      handlers = e.handlers;
+      saved = saved-is c ∙ ap length e.history ∙ sym (saved-is d);
+      saved_trims = λ r. trims-are c r ∙ e.trims r ∙ sym (trims-are d r);
+      history = λ l. (ap (take ((does c (Keeps p)).saved p)) (sym e.history), subst (λ (h : List Message). (does c (Keeps p)).saved p ≤ length h) e.history l);
+    }) s
+  where
+    saved-is : (x : Cluster) → (does x (Keeps p)).saved p ≡ length (x.history p)
+    saved-is x = at-itself p (λ b. (if b then length (x.history p) else x.saved p) ≡ length (x.history p)) refl
+
+    trims-are : (x : Cluster) (r : ℕ) → (does x (Keeps p)).saved_trims p r ≡ x.trims p r
+    trims-are x r = at-itself p (λ b. (if b then x.trims p else x.saved_trims p) r ≡ x.trims p r) refl
+
+-- what two clusters have alike the one has that is taken
+either : (b : Bool) (x y : Cluster) (f : Cluster → ℕ) (a : ℕ) → f x ≡ a → f y ≡ a → f (if b then x else y) ≡ a
+either true x y f a u v = u
+either false x y f a u v = v
+
+-- an act of its own that leaves what is stored durably leaves its incarnation
+stored-same : (c : Cluster) (p : ℕ) (a : Act) → own_act a ≡ Some p → (does c a).stored p ≡ c.stored p
+stored-same c p (Input d x) e = refl
+stored-same c p (Puts q d x) e = refl
+stored-same c p (Starts q d i ssn x) e = refl
+stored-same c p (Shows q i ssn x) e = refl
+stored-same c p (Works q m) e = refl
+stored-same c p (Replays q j) e = either (nat_lt (c.saved q + suc j) (length (c.history q))) _ _ (λ (x : Cluster). x.stored p) (c.stored p) refl refl
+stored-same c p (Records r s i ssn k) e = refl
+stored-same c p (Counts s r i k) e = refl
+stored-same c p (Drops d s n) e = refl
+stored-same c p (Hears r q i k) e = refl
+stored-same c p (Collects q r i j k u f) e = refl
+stored-same c p (Recovers q k) e = either (nat_lt (c.saved q) k) _ _ (λ (x : Cluster). x.stored p) (c.stored p) refl refl
+stored-same c p (Obeys r q i k s) e = refl
+stored-same c p (Enters q r i j n s u f) e = refl
+stored-same c p (Restores q r i j n s f) e = refl
+stored-same c p (Greets q i j n s f) e = refl
+stored-same c p (Freezes q) e = refl
+stored-same c p (Keeps q) e = refl
+stored-same c p (Thaws q) e = refl
+stored-same c p (Dies q) e = refl
+stored-same c p (Opens q n) e = absurd (cc (e))
+
+pub stored-along : (c : Cluster) (p : ℕ) (acts : List Act) → Each (λ (a : Act). own_act a ≡ Some p) acts → (after_run c acts).stored p ≡ c.stored p
+stored-along c p [] by = refl
+stored-along c p (a ∷ acts) by = stored-along (does c a) p acts by.1 ∙ stored-same c p a by.0
+
+-- and what is kept
+not-kept : (p : ℕ) (a : Act) → own_act a ≡ Some p → a ≢ Keeps p
+not-kept p a e f = let none : own_act a ≡ None = ap own_act f in absurd (cc)
+
+pub kept-own : (k : Kept) (c : Cluster) (p : ℕ) (acts : List Act) → Each (λ (a : Act). own_act a ≡ Some p) acts → IsKeptOf k c p → IsKeptOf k (after_run c acts) p
+kept-own k c p acts by s = kept-stays k p acts c (all-more (λ (a : Act). own_act a ≡ Some p) (λ (a : Act). a ≢ Keeps p) acts (λ a e. not-kept p a e) by) s

@@ -1,0 +1,316 @@
+-- Calls of processes and of the gateway, one after another
+use Rattle.std.proofs.Common.{◌≡◌, ◌≢◌, ℕ, ◌≤◌, List, [], ◌∷◌, ◌++◌, length, take, drop, Bool, true, false, refl, sym, ap, ◌∙◌, subst, arith}
+use Rattle.std.specs.Prelude.{Some, ◌==◌, if◌then◌else◌}
+use Rattle.std.proofs.lemmas.Bool.Decides.{nat_tests}
+use Rattle.std.proofs.lemmas.List.{take-append-drop}
+use Rattle.theorems.proofs.Changes.{at-itself}
+use Rattle.world.specs.Handlers.{Handlers}
+use Rattle.world.specs.World.{put}
+use Rattle.packets.specs.declared.packet.Packet.{Packet}
+use Rattle.cluster.specs.Parcels.{parcel}
+use Rattle.cluster.specs.Cluster.{Cluster, opening}
+use Rattle.cluster.specs.Rules.{Act, Run, does, after_run}
+use Rattle.cluster.proofs.Runs as worlds
+use Rattle.cluster.proofs.Promised.{nodes-keep}
+use Rattle.node.specs.Limit.{usual, AreAllowed}
+use Rattle.node.specs.declared.limit.Limits.{Limits}
+use Rattle.node.specs.Node.{new_node}
+use Rattle.node.specs.Kept.{kept_of}
+use Rattle.node.specs.Stands.{Each, PutOut, actor, BeginsWith}
+use Rattle.node.specs.Runs.{Answering, handlers_of}
+use Rattle.node.proofs.Beside.{count-after}
+use Rattle.node.proofs.Lists.{all-more}
+use Rattle.node.proofs.Openings.{stands-opened}
+use Rattle.node.proofs.Opened.{kept-opened}
+use Rattle.recovery.specs.Overlap.{is_loss}
+use Rattle.recovery.specs.Stands.{IsSent}
+use Rattle.recovery.proofs.Posts.{sent-still}
+use Rattle.node.proofs.Steps.{run-on}
+use Rattle.node.proofs.Runs.{grows, parcels-stay, one-was}
+use Rattle.stores.specs.declared.change.Output.{Output}
+use Rattle.stores.specs.Store.{TheStore}
+use Rattle.gateway.specs.Gateway.{TheGateway, new_gateway}
+use Rattle.gateway.specs.Calls as outside
+use Rattle.gateway.specs.Stands as gateways
+use Rattle.gateway.proofs.Openings as gateway_opening
+use Rattle.gateway.proofs.Steps.{stays}
+use Rattle.gateway.proofs.Views.{takes-so}
+use Rattle.node_laws.specs.Together.{IsFirst}
+use Rattle.node_laws.proofs.JointGateways.{gateway-stands, all-by-gateway}
+use Rattle.node_laws.specs.Process.{Process, Collects, Killed, StandsAs, is_exact, covered}
+use Rattle.node_laws.specs.System.{System, new_system, AreStored, Call, Gave, Handed, Worked, Did, Stored, Saved, Died, Revived, GaveOut, HandedOut, DidOut, StoredOut, StoredBut, RevivedOut, handed_out, untaken, DoesIt, after_call, Calls, after_calls, AreStoredOf, AreExact, StayExact, AllStand, LivesRun}
+use Rattle.node_laws.proofs.Moves.{Moves, stands-still, stored-still, lives-still}
+use Rattle.node_laws.proofs.Steps.{giving, hearing, working, acting, storing, telling, dying, reviving}
+use Rattle.node_laws.proofs.Losses.{loss-is-dropped}
+use Rattle.node_laws.proofs.Untaken.{goes-fewer, goes-taken-out, dealing, handing}
+use Rattle.node_laws.proofs.Gateways.{Ahead, PutsMore, ahead-none, ahead-still, ahead-acts, out-more, stands-as}
+
+-- a packet was put out by whoever it says, unless it says that all is lost
+abbrev pub WasPut : Cluster → Packet → Type 0
+WasPut c x = IsSent c.count c.parcels x.from x
+
+-- a cluster of n in which all of a system stand, of which a lawful world is believed, and in which was put out what was given
+pub record Holds (f : Handlers) (n : ℕ) (s : System) (c : Cluster) : Type 0 where
+  pub count : c.count ≡ n
+  pub few : n ≤ 15
+  pub believed : worlds.Holds c
+  pub processes : (p : ℕ) → IsFirst n p → StandsAs (s.processes p) c p
+  pub stored : (p : ℕ) → IsFirst n p → AreStoredOf (s.stored p) (s.processes p) c p
+  pub lives : (p : ℕ) → IsFirst n p → c.stored p ≤ s.lives p
+  pub durable : gateways.Stands s.durable c
+  pub ahead : Ahead s.durable (untaken s.taken s.gateway) c
+  pub given : Each (WasPut c) s.given
+  pub handlers : c.handlers ≡ f
+
+-- the cluster runs on to one that does
+pub record Onward (f : Handlers) (n : ℕ) (c : Cluster) (s : System) : Type 0 where
+  pub acts : List Act
+  pub run : Run c acts
+  pub holds : Holds f n s (after_run c acts)
+
+-- what is believed is after a run
+believed-along : (c : Cluster) (ran : List Act) → c.count ≤ 15 → worlds.Holds c → Run c ran → worlds.Holds (after_run c ran)
+believed-along c [] few h r = h
+believed-along c (a ∷ ran) few h r = let t = worlds.step-holds c a few h r.0 in believed-along (does c a) ran t.1 t.0 r.1
+
+given-still : (c : Cluster) (ran : List Act) (xs : List Packet) → Each (WasPut c) xs → Each (WasPut (after_run c ran)) xs
+given-still c ran xs h = all-more (WasPut c) (WasPut (after_run c ran)) xs (λ x o. sent-still c (after_run c ran) x.from x (sym (count-after c ran)) (λ b i. parcels-stay c ran (parcel x.from x.to b) i) o) h
+
+-- of a function that is changed at p, what holds at each place
+pub at-each : {X : Type 0} (P : ℕ → X → Type 0) (f : ℕ → X) (p q : ℕ) (x : X) → (q ≢ p → P q (f q)) → P p x → P q (put f p x q)
+at-each {X} P f p q x others here = split (q == p) refl
+  where
+    split : (b : Bool) → (q == p) ≡ b → P q (if b then x else f q)
+    split true e = let same : p ≡ q = grind (arith, nat_tests) in subst (λ k. P k x) same here
+    split false e = others (let apart : q ≢ p = grind (arith, nat_tests) in apart)
+
+module _ (f : Handlers) (n : ℕ) (s : System) (c : Cluster) (h : Holds f n s c) where
+  small : c.count ≤ 15
+  small = subst (λ k. k ≤ 15) (sym h.count) h.few
+
+  -- a process goes on, and these are stored of all
+  pub process-goes : (p : ℕ) (new : Process) (stored : ℕ → List ℕ) (lives : ℕ → ℕ) → ((q : ℕ) → q ≢ p → stored q ≡ s.stored q) → ((q : ℕ) → q ≢ p → lives q ≡ s.lives q) → IsFirst n p → Moves p new (stored p) (lives p) c
+      → Onward f n c (record s { processes = put s.processes p new; stored = stored; lives = lives })
+  process-goes p new stored lives same_stored same_lives first m =
+      record {
+        acts = m.acts;
+        run = m.run;
+        holds = record {
+          count = count-after c m.acts ∙ h.count;
+          few = h.few;
+          believed = believed-along c m.acts small h.believed m.run;
+          processes = λ q l. at-each (λ k z. StandsAs z (after_run c m.acts) k) s.processes p q new (λ o. stands-still (s.processes q) q p m.acts c (λ e. o (sym e)) m.by (h.processes q l)) m.stands;
+          stored = λ q l. at-each (λ k z. AreStoredOf (stored k) z (after_run c m.acts) k) s.processes p q new
+              (λ o. subst (λ bytes. AreStoredOf bytes (s.processes q) (after_run c m.acts) q) (sym (same_stored q o)) (stored-still (s.stored q) (s.processes q) q p m.acts c (λ e. o (sym e)) m.by (h.stored q l))) m.stored;
+          lives = λ q l. at-each (λ k z. (after_run c m.acts).stored k ≤ lives k) s.processes p q new
+              (λ o. subst (λ life. (after_run c m.acts).stored q ≤ life) (sym (same_lives q o)) (lives-still (s.lives q) q p m.acts c (λ e. o (sym e)) m.by (h.lives q l))) m.lives;
+          durable = gateway-stands s.durable c p m.acts first.0 m.by h.durable;
+          ahead = ahead-still s.durable (untaken s.taken s.gateway) c (after_run c m.acts) (parcels-stay c m.acts) h.ahead;
+          given = given-still c m.acts s.given h.given;
+          handlers = worlds.run-handlers c m.acts ∙ h.handlers;
+        };
+      }
+
+  -- where nothing is stored
+  process-acts : (p : ℕ) (new : Process) → IsFirst n p → Moves p new (s.stored p) (s.lives p) c → Onward f n c (record s { processes = put s.processes p new })
+  process-acts p new first m = process-goes p new s.stored s.lives (λ q o. refl) (λ q o. refl) first m
+
+  -- the gateway goes on to where it is durable so, and goes on from there
+  gateway-moves : (new durable : TheGateway) (taken : List Output) → (g : gateways.Goes durable c) → Ahead durable (untaken taken new) (after_run c g.acts) → Onward f n c (record s { gateway = new; durable = durable; taken = taken })
+  gateway-moves new durable taken g ahead =
+      let by : Each (λ (a : Act). actor a ≡ 0) g.acts = all-by-gateway g.acts g.by in
+      record {
+        acts = g.acts;
+        run = g.run;
+        holds = record {
+          count = count-after c g.acts ∙ h.count;
+          few = h.few;
+          believed = believed-along c g.acts small h.believed g.run;
+          processes = λ q l. stands-still (s.processes q) q 0 g.acts c (λ e. absurd (omega (arith, l.0, e))) by (h.processes q l);
+          stored = λ q l. stored-still (s.stored q) (s.processes q) q 0 g.acts c (λ e. absurd (omega (arith, l.0, e))) by (h.stored q l);
+          lives = λ q l. lives-still (s.lives q) q 0 g.acts c (λ e. absurd (omega (arith, l.0, e))) by (h.lives q l);
+          durable = g.stands;
+          ahead = ahead;
+          given = given-still c g.acts s.given h.given;
+          handlers = worlds.run-handlers c g.acts ∙ h.handlers;
+        };
+      }
+
+  -- and is durable as it is, but that these outputs were taken
+  gateway-goes : (new : TheGateway) (taken : List Output) → gateways.Goes (untaken taken new) c → Onward f n c (record s { gateway = new; durable = untaken taken new; taken = taken })
+  gateway-goes new taken g = gateway-moves new (untaken taken new) taken g (ahead-none (untaken taken new) (after_run c g.acts))
+
+  -- it goes on, and isn't durable yet
+  gateway-waits : (new : TheGateway) (taken : List Output) → Ahead s.durable (untaken taken new) c → Onward f n c (record s { gateway = new; taken = taken })
+  gateway-waits new taken a =
+      record {
+        acts = [];
+        run = tt;
+        holds = record { count = h.count; few = h.few; believed = h.believed; processes = h.processes; stored = h.stored; lives = h.lives; durable = h.durable; ahead = a; given = h.given; handlers = h.handlers };
+      }
+
+-- a packet more was given, where it was put out
+given-there : (f : Handlers) (n : ℕ) (c : Cluster) (s : System) (x : Packet) → (w : Onward f n c s) → WasPut (after_run c w.acts) x → Onward f n c (record s { given = x ∷ s.given })
+given-there f n c s x w o =
+    let h = w.holds in
+    record {
+      acts = w.acts;
+      run = w.run;
+      holds = record {
+        count = h.count;
+        few = h.few;
+        believed = h.believed;
+        processes = h.processes;
+        stored = h.stored;
+        lives = h.lives;
+        durable = h.durable;
+        ahead = h.ahead;
+        given = (o, h.given);
+        handlers = h.handlers;
+      };
+    }
+
+-- or had been before
+given-more : (f : Handlers) (n : ℕ) (c : Cluster) (s : System) (x : Packet) → WasPut c x → Onward f n c s → Onward f n c (record s { given = x ∷ s.given })
+given-more f n c s x o w = given-there f n c s x w (given-still c w.acts (x ∷ []) (o, tt)).0
+
+-- what a packet of a process says, as one of its own number
+from-own : (c : Cluster) (p : ℕ) (x : Packet) → IsSent c.count c.parcels p x → WasPut c x
+from-own c p x o e = let put = o e in subst (λ k. PutOut c.count c.parcels k x) (sym put.from) put
+
+-- what one of the gateway says
+from-gateway : (c : Cluster) (x : Packet) → gateways.PutOut c.count c.parcels x → WasPut c x
+from-gateway c x o = from-own c 0 x (λ e. record { count_is = o.count_is; from = o.from; said = (o.said.body, o.said.says, o.said.among) })
+
+-- and what the gateway is told by it, wherever all was put out that was here
+to-gateway : (c d : Cluster) (x : Packet) → PutsMore c d → PutOut c.count c.parcels x.from x → gateways.WasSaid d.parcels x.from x
+to-gateway c d x more o = record { body = o.said.0; says = o.said.1; among = more (parcel x.from x.to o.said.0) o.said.2 }
+
+-- a packet comes to the gateway: it drops one that says that all is lost
+handing-out : (s : System) (c : Cluster) (x : Packet) (new : TheGateway) (loss : Bool) → is_loss x.body ≡ loss → WasPut c x → new ≡ outside.handed x s.gateway → Ahead s.durable (untaken s.taken s.gateway) c
+    → Ahead s.durable (untaken s.taken new) c
+handing-out s c x new true e o g a = subst (λ z. Ahead s.durable (untaken s.taken z) c) (sym (g ∙ loss-is-dropped.1 x s.gateway e)) a
+handing-out s c x new false e o g a =
+    ahead-acts (λ d. gateways.WasSaid d.parcels x.from x) s.durable (untaken s.taken s.gateway) (untaken s.taken new) c (λ d more. to-gateway c d x more (o e)) (handing s.taken x s.gateway new g) a
+
+-- the gateway gives a packet: its store is durable, but which outputs were taken, and so is where it was put out
+giving-out : (f : Handlers) (n : ℕ) (s : System) (c : Cluster) (x : Packet) (new : TheGateway) → Holds f n s c → s.durable.store ≡ (untaken s.taken s.gateway).store → gateways.Takes (Some x) s.gateway new
+    → Onward f n c (record s { gateway = new; given = x ∷ s.given })
+unfolding gateway-moves
+giving-out f n s c x new h lasts m =
+    let old : TheGateway = untaken s.taken s.gateway in
+    let next : TheGateway = untaken s.taken new in
+    let g : gateways.Goes old c = h.ahead c h.durable (λ y i. i) in
+    let d : Cluster = after_run c g.acts in
+    let out : old.out ≡ x ∷ new.out = ap (λ (z : TheGateway). z.out) m.0 in
+    let took = (takes-so (Some x) old new.out out).1 d g.stands in
+    let is : record old { out = new.out } ≡ next = ap (λ (z : TheGateway). record (untaken s.taken z) { out = new.out }) m.0 in
+    let here : gateways.Stands next d = subst (λ z. gateways.Stands z d) is took.1 in
+    let store : s.durable.store ≡ next.store = lasts ∙ ap (λ (z : TheGateway). (untaken s.taken z).store) m.0 in
+    let kept : gateways.Stands s.durable d = stands-as next s.durable d store (out-more s.durable c d (sym (count-after c g.acts)) (parcels-stay c g.acts) h.durable.out) here in
+    let ahead : Ahead s.durable next d = λ b stands more.
+    let many : d.count ≡ b.count = sym here.count ∙ sym (ap (λ (z : TheStore). length z.peers) store) ∙ stands.count in
+    stays next b (stands-as s.durable next b (sym store) (out-more next d b many more here.out) stands) in
+    let onward = gateway-moves f n s c h new s.durable s.taken (record { acts = g.acts; run = g.run; by = g.by; stands = kept }) ahead in
+    given-there f n c (record s { gateway = new }) x onward (from-gateway d x took.0)
+
+-- what is changed at p alone
+elsewhere : {X : Type 0} (f : ℕ → X) (p q : ℕ) (x : X) → q ≢ p → put f p x q ≡ f q
+elsewhere f p q x other = let e : (q == p) ≡ false = grind (arith, nat_tests) in rw e refl
+
+-- each call
+pub call-goes : (f : Answering) (len : ℕ → ℕ) (n : ℕ) (s : System) (c : Cluster) (k : Call) → Holds (handlers_of f len) n s c → DoesIt f n s k → AreExact n (after_call s k) → Onward (handlers_of f len) n c (after_call s k)
+call-goes f len n s c (Gave p x new) h m exact =
+    let g = giving c p (s.stored p) (s.lives p) (h.lives p m.0) x (s.processes p) new m.1 (h.processes p m.0) (h.stored p m.0) in
+    given-more (handlers_of f len) n c (record s { processes = put s.processes p new }) x (from-own c p x g.0) (process-acts (handlers_of f len) n s c h p new m.0 g.1)
+call-goes f len n s c (Handed p x new) h m exact =
+    let o : WasPut c x = one-was (WasPut c) x s.given h.given m.1.0 in
+    process-acts (handlers_of f len) n s c h p new m.0 (hearing c p (s.stored p) (s.lives p) (h.lives p m.0) x (s.processes p) new m.1.1 (at-itself p (λ b. is_exact (if b then new else s.processes p) ≡ true → is_exact new ≡ true) (λ e. e) (exact p m.0)) (λ e. (o e).said) (h.processes p m.0) (h.stored p m.0))
+call-goes f len n s c (Worked p a new) h m exact =
+    process-acts (handlers_of f len) n s c h p new m.0 (working c p (s.stored p) (s.lives p) (h.lives p m.0) f len a (s.processes p) new m.1 h.handlers h.believed (h.processes p m.0) (h.stored p m.0))
+call-goes f len n s c (Did p new) h m exact =
+    process-acts (handlers_of f len) n s c h p new m.0 (acting c p (s.stored p) (s.lives p) (h.lives p m.0) (s.processes p) new m.1 h.believed (h.processes p m.0) (h.stored p m.0))
+call-goes f len n s c (Stored p bytes) h m exact =
+    let P : List ℕ → Type 0 = λ b. Moves p (covered (s.processes p)) b (s.lives p) c in
+    process-goes (handlers_of f len) n s c h p (covered (s.processes p)) (put s.stored p bytes) s.lives (λ q o. elsewhere s.stored p q bytes o) (λ q o. refl) m.0
+    (at-itself p (λ b. P (if b then bytes else s.stored p)) (storing c p bytes (s.lives p) (h.lives p m.0) (s.stored p) (s.processes p) m.1 (h.processes p m.0) (h.stored p m.0)))
+call-goes f len n s c (Saved p new) h m exact =
+    process-acts (handlers_of f len) n s c h p new m.0 (telling c p (s.stored p) (s.lives p) (h.lives p m.0) (s.processes p) new m.1 (h.processes p m.0) (h.stored p m.0))
+call-goes f len n s c (Died p) h m exact = process-acts (handlers_of f len) n s c h p Killed m (dying c p (s.stored p) (s.lives p) (s.processes p) (h.lives p m) (h.processes p m) (h.stored p m))
+call-goes f len n s c (Revived p life new) h m exact =
+    let P : ℕ → Type 0 = λ l. Moves p (Collects new) (s.stored p) l c in
+    process-goes (handlers_of f len) n s c h p (Collects new) s.stored (put s.lives p life) (λ q o. refl) (λ q o. elsewhere s.lives p q life o) m.0
+    (at-itself p (λ b. P (if b then life else s.lives p)) (reviving c p (s.stored p) (s.processes p) (s.lives p) life new m.1.0 (h.lives p m.0) m.1.1.0 m.1.1.1 (h.processes p m.0) (h.stored p m.0)))
+call-goes f len n s c (GaveOut x new) h m exact = giving-out (handlers_of f len) n s c x new h m.0 m.1
+call-goes f len n s c (HandedOut x new) h m exact =
+    let o : WasPut c x = one-was (WasPut c) x s.given h.given m.0 in
+    gateway-waits (handlers_of f len) n s c h new s.taken (handing-out s c x new (is_loss x.body) refl o m.1.0 h.ahead)
+call-goes f len n s c (DidOut new) h m exact =
+    let more : List Output = s.taken ++ handed_out s.gateway new in
+    gateway-waits (handlers_of f len) n s c h new more (ahead-acts (λ d. Unit {0}) s.durable (untaken s.taken s.gateway) (untaken more new) c (λ d more. tt) (dealing s.taken s.gateway new m.0) h.ahead)
+call-goes f len n s c StoredOut h m exact = gateway-goes (handlers_of f len) n s c h s.gateway [] (goes-taken-out s.taken s.gateway c (h.ahead c h.durable (λ x i. i)))
+call-goes f len n s c (StoredBut k) h m exact =
+    let all : gateways.Goes (untaken (take k s.taken ++ drop k s.taken) s.gateway) c = subst (λ z. gateways.Goes (untaken z s.gateway) c) (sym (take-append-drop k s.taken)) (h.ahead c h.durable (λ x i. i)) in
+    gateway-goes (handlers_of f len) n s c h s.gateway (drop k s.taken) (goes-fewer (take k s.taken) (drop k s.taken) s.gateway c all)
+call-goes f len n s c (RevivedOut new) h m exact =
+    gateway-goes (handlers_of f len) n s c h new [] (record { acts = []; run = tt; by = tt; stands = (m.1 s.durable refl).0 c h.durable })
+
+pub calls-go : (f : Answering) (len : ℕ → ℕ) (n : ℕ) (s : System) (c : Cluster) (ks : List Call) → Holds (handlers_of f len) n s c → Calls f n s ks → StayExact n s ks → Onward (handlers_of f len) n c (after_calls s ks)
+calls-go f len n s c [] h m exact = record { acts = []; run = tt; holds = h }
+calls-go f len n s c (k ∷ ks) h m exact =
+    let one = call-goes f len n s c k h m.0 exact.0 in
+    let rest = calls-go f len n (after_call s k) (after_run c one.acts) ks one.holds m.1 exact.1 in
+    let both = run-on c one.acts rest.acts one.run rest.run in
+    record {
+      acts = one.acts ++ rest.acts;
+      run = both.0;
+      holds = subst (Holds (handlers_of f len) n (after_calls (after_call s k) ks)) (sym both.1) rest.holds;
+    }
+
+-- the usual limits are in their ranges
+pub usual-allowed : AreAllowed usual
+usual-allowed = record { page = (omega arith, omega arith); tick = omega arith; numbers = (omega arith, omega arith); receipts = (omega arith, omega arith) }
+
+-- at the opening all stand
+pub begins : (f : Answering) (n page tick : ℕ) (limits : ℕ → Limits) (len : ℕ → ℕ) (bytes : ℕ → List ℕ) → n ≤ 15 → AreStored n len bytes → Holds (handlers_of f len) n (new_system n limits len bytes page tick) (opening n (handlers_of f len))
+begins f n page tick limits len bytes few stored =
+    let g : Handlers = handlers_of f len in
+    let begin : (p : ℕ) → BeginsWith g p (len p) = λ p. record { state_is = refl; sends_are = λ d. refl } in
+    record {
+      count = refl;
+      few = few;
+      believed = worlds.opens-holds n g (grows f len);
+      processes = λ p l. stands-opened (limits p) p n (len p) g l.0 l.1 (begin p);
+      stored = λ p l. (kept_of (new_node usual p n (len p)), (stored p l, kept-opened usual p n (len p) usual-allowed l.0 l.1 few g (begin p)));
+      lives = λ p l. (let e : 1 ≤ 1 = omega arith in e);
+      durable = gateway_opening.stands-opened n page tick g;
+      ahead = ahead-none (new_gateway n page tick) (opening n g);
+      given = tt;
+      handlers = refl;
+    }
+
+-- where all hold, all stand
+pub all-stand : (f : Handlers) (n : ℕ) (s : System) (c : Cluster) → Holds f n s c → AllStand n s c
+all-stand f n s c h =
+    record {
+      processes = h.processes;
+      stored = h.stored;
+      lives = h.lives;
+      durable = h.durable;
+      gateway = goes-taken-out s.taken s.gateway c (h.ahead c h.durable (λ x i. i));
+      shown = λ p first. h.durable.shown p (first.0, subst (λ k. p ≤ k) (sym h.count) first.1);
+    }
+
+pub lives-run : LivesRun
+lives-run f n page tick limits len bytes calls few stored m exact =
+    let g : Handlers = handlers_of f len in
+    let all = calls-go f len n (new_system n limits len bytes page tick) (opening n g) calls (begins f n page tick limits len bytes few stored) m exact in
+    let keeps = nodes-keep n g all.acts few (grows f len) all.run in
+    record {
+      acts = all.acts;
+      run = all.run;
+      stand = all-stand g n (after_calls (new_system n limits len bytes page tick) calls) (after_run (opening n g) all.acts) all.holds;
+      no_orphan = keeps.0;
+      output_once = keeps.1;
+      received_once = keeps.2;
+    }

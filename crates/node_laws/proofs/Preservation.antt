@@ -1,0 +1,297 @@
+-- What anyone has of a durable process is what is stored of it to be sent
+use Rattle.std.proofs.Common.{◌≡◌, ◌≢◌, ℕ, ◌≤◌, List, [], ◌∷◌, ◌++◌, length, drop, Bool, true, false, refl, sym, ap, ◌∙◌, subst, arith}
+use Rattle.std.specs.Prelude.{Some, ◌==◌, if◌then◌else◌}
+use Rattle.std.proofs.lemmas.Bool.Decides.{nat_tests}
+use Rattle.theorems.specs.Growth.{Begins}
+use Rattle.theorems.proofs.Changes.{at-itself}
+use Rattle.theorems.proofs.ListLemmas.{begins-self, begins-trans, nth-prefix}
+use Rattle.world.specs.declared.message.Message.{Message}
+use Rattle.world.specs.History.{Payload, nth}
+use Rattle.world.specs.Handlers.{Handlers}
+use Rattle.world.specs.World.{put}
+use Rattle.packets.specs.declared.packet.Body as bodies
+use Rattle.packets.specs.declared.packet.Body.TheVariants as packets
+use Rattle.packets.specs.declared.packet.Packet.{Packet}
+use Rattle.stores.specs.declared.change.Output.{Output}
+use Rattle.stores.specs.Store.{TheStore}
+use Rattle.gateway.specs.Gateway.{TheGateway, new_gateway}
+use Rattle.node.specs.Node.{TheNode}
+use Rattle.node.specs.Runs.{Answering, handlers_of}
+use Rattle.node.specs.Stands.{Each}
+use Rattle.node.proofs.Lists.{all-more}
+use Rattle.node.proofs.Runs.{grows, one-was}
+use Rattle.recovery.proofs.Preservation.{each-drop}
+use Rattle.recovery.proofs.Lists.{each-append}
+use Rattle.node_laws.specs.Together.{IsFirst}
+use Rattle.node_laws.specs.Process.{Process, Up, Gives, WaitsFor, covered}
+use Rattle.node_laws.specs.System.{System, new_system, Call, Gave, Handed, Worked, Did, Stored, Saved, Died, Revived, GaveOut, HandedOut, DidOut, StoredOut, StoredBut, RevivedOut, handed_out, untaken, DoesIt, after_call, Calls, after_calls}
+use Rattle.node_laws.specs.Durable.{ReplaysWhole, ReplayWhole, KeepsDurable, StaysDurable, HasAfter, IsSentBy, outputs_of, Knows, DurableKeep}
+use Rattle.node_laws.proofs.Taken.{IsFair, fair-more, fair-of}
+use Rattle.node_laws.proofs.HeldNode.{grown}
+use Rattle.node_laws.proofs.HeldGateway.{IsQuiet, OfGateway, EachOutput, each-deals, each-hands}
+use Rattle.node_laws.proofs.Durability.{IsStored, IsFor, giving, storing, for-more, stored-more}
+use Rattle.node_laws.proofs.Durable.{Now, is_store, step, IsFairCall, at-place, begins-now, after-of}
+
+-- what q sends to p by the messages that are stored of it
+abbrev pub sent_to : Handlers → (ℕ → List Message) → ℕ → ℕ → List Payload
+sent_to F H p q = F.sends q (H q) p
+
+-- what a packet says is borne out by what is stored of its sender and of its receiver
+abbrev pub IsTrue : Handlers → (ℕ → Bool) → (ℕ → List Message) → Packet → Type 0
+IsTrue F D H x = IsFair (D x.from) (D x.from) (F.sends x.from (H x.from) x.to) (D x.to) (F.sends x.to (H x.to) x.from) x.body
+
+-- what is to be shown of a durable process is what is stored of it
+abbrev pub IsShown : Handlers → (ℕ → Bool) → (ℕ → List Message) → Output → Type 0
+IsShown F D H o = D o.process ≡ true → nth (F.sends o.process (H o.process) 0) o.ssn ≡ Some o.payload
+
+-- so is each output that waits
+abbrev pub AreShown : Handlers → (ℕ → Bool) → (ℕ → List Message) → TheStore → Type 0
+AreShown F D H s = EachOutput (IsShown F D H) s
+
+-- these messages are stored of the processes, and bear out all that was given
+pub record All (f : Answering) (len : ℕ → ℕ) (n : ℕ) (D : ℕ → Bool) (H : ℕ → List Message) (s : System) : Type 0 where
+  pub each : (p : ℕ) (l : IsFirst n p) → Now f len n p (D p) (D p) D (sent_to (handlers_of f len) H p) l.1 (H p) s
+  pub given : Each (IsTrue (handlers_of f len) D H) s.given
+  pub gateway : OfGateway (AreShown (handlers_of f len) D H) s.gateway
+  pub durable : OfGateway (AreShown (handlers_of f len) D H) s.durable
+  pub taken : Each (IsShown (handlers_of f len) D H) s.taken
+
+-- after a call these or more do; and what it handed out these make their processes show
+pub record Goes (f : Answering) (len : ℕ → ℕ) (n : ℕ) (D : ℕ → Bool) (H : ℕ → List Message) (s : System) (k : Call) : Type 0 where
+  pub messages : ℕ → List Message
+  pub later : (q : ℕ) → Begins (H q) (messages q)
+  pub all : All f len n D messages (after_call s k)
+  pub shows : (ks : List Call) (G : ℕ → List Message) → ((q : ℕ) → Begins (messages q) (G q)) → Each (IsShown (handlers_of f len) D G) (outputs_of (after_call s k) ks) → Each (IsShown (handlers_of f len) D G) (outputs_of s (k ∷ ks))
+
+-- after some
+pub record Ends (f : Answering) (len : ℕ → ℕ) (n : ℕ) (D : ℕ → Bool) (H : ℕ → List Message) (s : System) (ks : List Call) : Type 0 where
+  pub messages : ℕ → List Message
+  pub later : (q : ℕ) → Begins (H q) (messages q)
+  pub all : All f len n D messages (after_calls s ks)
+  pub shown : Each (IsShown (handlers_of f len) D messages) (outputs_of s ks)
+
+module _ (f : Answering) (len : ℕ → ℕ) (n : ℕ) (D : ℕ → Bool) (proper : (p : ℕ) → D p ≡ true → IsFirst n p) where
+  abbrev F : Handlers
+  F = handlers_of f len
+
+  abbrev In : (ℕ → List Message) → ℕ → ℕ → List Payload
+  In H p q = sent_to F H p q
+
+  -- where more is stored
+  sent-more : (H G : ℕ → List Message) → ((q : ℕ) → Begins (H q) (G q)) → (p q : ℕ) → Begins (In H p q) (In G p q)
+  sent-more H G b p q = subst (λ z. Begins (F.sends q (H q) p) (F.sends q z p)) (b q).1 (grown F (grows f len) q p (H q) (b q).0)
+
+  true-more : (H G : ℕ → List Message) → ((q : ℕ) → Begins (H q) (G q)) → (x : Packet) → IsTrue F D H x → IsTrue F D G x
+  true-more H G b x o =
+      fair-more (D x.from) (D x.from) (F.sends x.from (H x.from) x.to) (F.sends x.from (G x.from) x.to) (D x.to) (F.sends x.to (H x.to) x.from) (F.sends x.to (G x.to) x.from) x.body (sent-more H G b x.to x.from) (sent-more H G b x.from x.to) o
+
+  shown-more : (H G : ℕ → List Message) → ((q : ℕ) → Begins (H q) (G q)) → (xs : List Output) → Each (IsShown F D H) xs → Each (IsShown F D G) xs
+  shown-more H G b xs a = all-more (IsShown F D H) (IsShown F D G) xs (λ o t d. nth-prefix (In H 0 o.process) (In G 0 o.process) o.ssn o.payload (sent-more H G b 0 o.process) (t d)) a
+
+  gateway-more : (H G : ℕ → List Message) → ((q : ℕ) → Begins (H q) (G q)) → (g : TheGateway) → OfGateway (AreShown F D H) g → OfGateway (AreShown F D G) g
+  gateway-more H G b g s = record { out = s.out; store = shown-more H G b g.store.outputs s.store }
+
+  -- a packet of a process
+  gave-true : (H : ℕ → List Message) (s : System) (q : ℕ) (x : Packet) (new : Process) → All f len n D H s → IsFirst n q → Gives x (s.processes q) new → IsTrue F D H x
+  gave-true H s q x new a l g =
+      let t = giving f len n q (D q) (D q) D (In H q) l.1 (H q) x (s.processes q) new g (a.each q l).holds in
+      let P : ℕ → Type 0 = λ z. IsFair (D z) (D z) (F.sends z (H z) x.to) (D x.to) (F.sends x.to (H x.to) z) x.body in
+      subst P (sym t.0.0) t.0.1
+
+  -- the gateway isn't durable here: nothing is asked of its messages
+  outside : D 0 ≡ true → ⊥
+  outside e = let l = (proper 0 e).0 in omega (arith, l)
+
+  quiet-true : (sent : List Payload) (b : Bool) (back : List Payload) (x : bodies.Body) → IsQuiet x → IsFair (D 0) (D 0) sent b back x
+  quiet-true sent b back (packets.Delivery i ssn y) q = λ e. absurd (outside e)
+  quiet-true sent b back (packets.Number i ssn k) q = absurd q
+  quiet-true sent b back (packets.Told i j k flags entries) q = λ e. absurd (outside e)
+  quiet-true sent b back (packets.Restored i j c s flags pairs) q = λ e. subst (Each (λ x. x.ssn ≤ length back)) (sym q) tt
+  quiet-true sent b back (packets.Acknowledgement i k) q = tt
+  quiet-true sent b back (packets.Ask i k) q = tt
+  quiet-true sent b back (packets.Resume i k s) q = tt
+  quiet-true sent b back (packets.Saved k) q = tt
+
+  -- had these not been taken
+  shown-untaken : (H : ℕ → List Message) (outputs : List Output) (g : TheGateway) → Each (IsShown F D H) outputs → OfGateway (AreShown F D H) g → OfGateway (AreShown F D H) (untaken outputs g)
+  shown-untaken H outputs g a s = record { out = s.out; store = each-append (IsShown F D H) outputs g.store.outputs a s.store }
+
+  gave-out : (H : ℕ → List Message) (x : Packet) (g new : TheGateway) → g ≡ record new { out = x ∷ new.out } → OfGateway (AreShown F D H) g → IsTrue F D H x × OfGateway (AreShown F D H) new
+  gave-out H x g new e s =
+      let t = subst (OfGateway (AreShown F D H)) e s in
+      let P : ℕ → Type 0 = λ z. IsFair (D z) (D z) (F.sends z (H z) x.to) (D x.to) (F.sends x.to (H x.to) z) x.body in
+      (subst P (sym t.out.0.0) (quiet-true (F.sends 0 (H 0) x.to) (D x.to) (F.sends x.to (H x.to) 0) x.body t.out.0.1), record { out = t.out.1; store = t.store })
+
+  -- it is handed to its receiver
+  handed-true : (H : ℕ → List Message) (x : Packet) (p : ℕ) → IsTrue F D H x → x.to ≡ p → IsFair (D x.from) (D x.from) (In H p x.from) (D p) (F.sends p (H p) x.from) x.body
+  handed-true H x p o e =
+      let P : ℕ → Type 0 = λ z. IsFair (D x.from) (D x.from) (F.sends x.from (H x.from) z) (D z) (F.sends z (H z) x.from) x.body in
+      subst P e o
+
+  -- what it bears is to be shown
+  shown-true : (H : ℕ → List Message) (x : Packet) → IsTrue F D H x → x.to ≡ 0 → (i ssn : ℕ) (y : List ℕ) → x.body ≡ packets.Delivery i ssn y → IsShown F D H (record { process = x.from; ssn = ssn; payload = y })
+  shown-true H x o e i ssn y is =
+      let there = handed-true H x 0 o e in
+      subst (IsFair (D x.from) (D x.from) (In H 0 x.from) (D 0) (F.sends 0 (H 0) x.from)) is there
+
+  -- ---- the checkpoint of q is durable
+
+  module _ (H : ℕ → List Message) (s : System) (q : ℕ) (bytes : List ℕ) (a : All f len n D H s) (l : IsFirst n q) (w : WaitsFor bytes (s.processes q)) where
+    abbrev next : Process
+    next = covered (s.processes q)
+
+    found : (to : List Message) × (Begins (H q) to × (IsStored n F q D (In H q) to bytes × IsFor f len n q (D q) (D q) D (In H q) l.1 to next))
+    found = storing f len n q (D q) (D q) D (In H q) l.1 (H q) bytes (s.processes q) w (a.each q l).holds
+
+    abbrev G : ℕ → List Message
+    G = put H q found.0
+
+    later : (p : ℕ) → Begins (H p) (G p)
+    later p = split (p == q) refl
+      where
+        split : (b : Bool) → (p == q) ≡ b → Begins (H p) (if b then found.0 else H p)
+        split true e = let same : q ≡ p = grind (arith, nat_tests) in subst (λ z. Begins (H z) found.0) same found.1.0
+        split false e = begins-self (H p)
+
+    stored-each : (p : ℕ) (k : IsFirst n p) → Now f len n p (D p) (D p) D (In G p) k.1 (G p) (after_call s (Stored q bytes))
+    stored-each p k = split (p == q) refl
+      where
+        more : (r : ℕ) → Begins (In H p r) (In G p r)
+        more r = sent-more H G later p r
+
+        there : List Message → Type 0
+        there h = Now f len n p (D p) (D p) D (In G p) k.1 h (after_call s (Stored q bytes))
+
+        here : (h : List Message) → IsFor f len n p (D p) (D p) D (In H p) k.1 h (put s.processes q next p) → IsStored n F p D (In H p) h (put s.stored q bytes p) → Now f len n p (D p) (D p) D (In G p) k.1 h (after_call s (Stored q bytes))
+        here h u v =
+            record {
+              holds = for-more f len n p (D p) (D p) D (In H p) k.1 (In G p) more h (put s.processes q next p) u;
+              stored = stored-more f len n p (D p) (D p) D (In H p) k.1 (In G p) more h (put s.stored q bytes p) v;
+            }
+
+        split : (b : Bool) → (p == q) ≡ b → Now f len n p (D p) (D p) D (In G p) k.1 (if b then found.0 else H p) (after_call s (Stored q bytes))
+        split true e =
+            let same : q ≡ p = grind (arith, nat_tests) in
+            let one : IsFor f len n q (D q) (D q) D (In H q) l.1 found.0 (put s.processes q next q) × IsStored n F q D (In H q) found.0 (put s.stored q bytes q) = (
+              at-itself q (λ b. IsFor f len n q (D q) (D q) D (In H q) l.1 found.0 (if b then next else s.processes q)) found.1.1.1,
+              at-itself q (λ b. IsStored n F q D (In H q) found.0 (if b then bytes else s.stored q)) found.1.1.0,
+            ) in
+            let Q : ℕ → Type 0 = λ z. (y : IsFirst n z) → IsFor f len n z (D z) (D z) D (In H z) y.1 found.0 (put s.processes q next z) × IsStored n F z D (In H z) found.0 (put s.stored q bytes z) in
+            let both : Q p = subst Q same (λ y. one) in
+            here found.0 (both k).0 (both k).1
+        split false e =
+            let apart : q ≢ p = grind (arith, nat_tests) in
+            here (H p) (at-place s.processes q p next (λ z. IsFor f len n p (D p) (D p) D (In H p) k.1 (H p) z) (λ o. (a.each p k).holds) (λ d. absurd (apart d)))
+            (at-place s.stored q p bytes (λ z. IsStored n F p D (In H p) (H p) z) (λ o. (a.each p k).stored) (λ d. absurd (apart d)))
+
+    stores : Goes f len n D H s (Stored q bytes)
+    stores =
+        record {
+          messages = G;
+          later = later;
+          all = record {
+            each = stored-each;
+            given = all-more (IsTrue F D H) (IsTrue F D G) s.given (true-more H G later) a.given;
+            gateway = gateway-more H G later s.gateway a.gateway;
+            durable = gateway-more H G later s.durable a.durable;
+            taken = shown-more H G later s.taken a.taken;
+          };
+          shows = λ ks K b o. o;
+        }
+
+  -- ---- each call
+
+  -- where nothing is stored, a process has what it had
+  each-still : (H : ℕ → List Message) (s : System) (k : Call) → is_store k ≡ false → All f len n D H s → DoesIt f n s k → ReplaysWhole s k → ((p : ℕ) → D p ≡ true → KeepsDurable p s k)
+      → ((p : ℕ) (l : IsFirst n p) → IsFairCall f len n p (D p) (D p) D (In H p) l.1 (H p) k) → (p : ℕ) (l : IsFirst n p) → Now f len n p (D p) (D p) D (In H p) l.1 (H p) (after_call s k)
+  each-still H s k e a m v w fair p l =
+      let t = step f len n p (D p) (D p) D (In H p) l.1 (H p) s k (a.each p l) m v (w p) (fair p l) in
+      subst (λ z. Now f len n p (D p) (D p) D (In H p) l.1 z (after_call s k)) (t.still e) t.now
+
+  -- where what was given, and the gateway, are these
+  stays : (H : ℕ → List Message) (s : System) (k : Call) → is_store k ≡ false → All f len n D H s → DoesIt f n s k → ReplaysWhole s k → ((p : ℕ) → D p ≡ true → KeepsDurable p s k)
+      → ((p : ℕ) (l : IsFirst n p) → IsFairCall f len n p (D p) (D p) D (In H p) l.1 (H p) k) → Each (IsTrue F D H) (after_call s k).given → OfGateway (AreShown F D H) (after_call s k).gateway → OfGateway (AreShown F D H) (after_call s k).durable
+      → Each (IsShown F D H) (after_call s k).taken → ((ks : List Call) (G : ℕ → List Message) → ((q : ℕ) → Begins (H q) (G q)) → Each (IsShown F D G) (outputs_of (after_call s k) ks) → Each (IsShown F D G) (outputs_of s (k ∷ ks))) → Goes f len n D H s k
+  stays H s k e a m v w fair given gateway durable taken shows =
+      record {
+        messages = H;
+        later = λ q. begins-self (H q);
+        all = record { each = each-still H s k e a m v w fair; given = given; gateway = gateway; durable = durable; taken = taken };
+        shows = shows;
+      }
+
+  pub goes : (H : ℕ → List Message) (s : System) (k : Call) → All f len n D H s → DoesIt f n s k → ReplaysWhole s k → ((p : ℕ) → D p ≡ true → KeepsDurable p s k) → Goes f len n D H s k
+  goes H s (Gave q x new) a m v w = stays H s (Gave q x new) refl a m v w (λ p l. tt) (gave-true H s q x new a m.0 m.1, a.given) a.gateway a.durable a.taken (λ ks G b o. o)
+  goes H s (Handed q x new) a m v w =
+      let t : IsTrue F D H x = one-was (IsTrue F D H) x s.given a.given m.1.0 in
+      stays H s (Handed q x new) refl a m v w (λ p l e. handed-true H x p t) a.given a.gateway a.durable a.taken (λ ks G b o. o)
+  goes H s (Worked q x new) a m v w = stays H s (Worked q x new) refl a m v w (λ p l. tt) a.given a.gateway a.durable a.taken (λ ks G b o. o)
+  goes H s (Did q new) a m v w = stays H s (Did q new) refl a m v w (λ p l. tt) a.given a.gateway a.durable a.taken (λ ks G b o. o)
+  goes H s (Stored q bytes) a m v w = stores H s q bytes a m.0 m.1
+  goes H s (Saved q new) a m v w = stays H s (Saved q new) refl a m v w (λ p l. tt) a.given a.gateway a.durable a.taken (λ ks G b o. o)
+  goes H s (Died q) a m v w = stays H s (Died q) refl a m v w (λ p l. tt) a.given a.gateway a.durable a.taken (λ ks G b o. o)
+  goes H s (Revived q life new) a m v w = stays H s (Revived q life new) refl a m v w (λ p l. tt) a.given a.gateway a.durable a.taken (λ ks G b o. o)
+  goes H s (GaveOut x new) a m v w =
+      let t = gave-out H x s.gateway new m.1.0 a.gateway in
+      stays H s (GaveOut x new) refl a m v w (λ p l. tt) (t.0, a.given) t.1 a.durable a.taken (λ ks G b o. o)
+  goes H s (HandedOut x new) a m v w =
+      let t : IsTrue F D H x = one-was (IsTrue F D H) x s.given a.given m.0 in
+      stays H s (HandedOut x new) refl a m v w (λ p l. tt) a.given (subst (OfGateway (AreShown F D H)) (sym m.1.0) (each-hands (IsShown F D H) x s.gateway (shown-true H x t) a.gateway)) a.durable a.taken (λ ks G b o. o)
+  goes H s (DidOut new) a m v w =
+      let t = each-deals (IsShown F D H) s.gateway new m.0 a.gateway in
+      stays H s (DidOut new) refl a m v w (λ p l. tt) a.given t.0 a.durable (each-append (IsShown F D H) s.taken (handed_out s.gateway new) a.taken t.1)
+      (λ ks G b o. each-append (IsShown F D G) (handed_out s.gateway new) (outputs_of (after_call s (DidOut new)) ks) (shown-more H G b (handed_out s.gateway new) t.1) o)
+  goes H s StoredOut a m v w = stays H s StoredOut refl a m v w (λ p l. tt) a.given a.gateway a.gateway tt (λ ks G b o. o)
+  goes H s (StoredBut k) a m v w =
+      let rest : Each (IsShown F D H) (drop k s.taken) = each-drop (IsShown F D H) k s.taken a.taken in
+      stays H s (StoredBut k) refl a m v w (λ p l. tt) a.given a.gateway (shown-untaken H (drop k s.taken) s.gateway rest a.gateway) rest (λ ks G b o. o)
+  goes H s (RevivedOut new) a m v w =
+      let t : OfGateway (AreShown F D H) new = subst (OfGateway (AreShown F D H)) (sym m.0) (record { out = tt; store = a.durable.store }) in
+      stays H s (RevivedOut new) refl a m v w (λ p l. tt) a.given t t tt (λ ks G b o. o)
+
+  pub goes-on : (H : ℕ → List Message) (s : System) (ks : List Call) → All f len n D H s → Calls f n s ks → ReplayWhole s ks → ((p : ℕ) → D p ≡ true → StaysDurable p s ks) → Ends f len n D H s ks
+  goes-on H s [] a m v w = record { messages = H; later = λ q. begins-self (H q); all = a; shown = tt }
+  goes-on H s (k ∷ ks) a m v w =
+      let one = goes H s k a m.0 v.0 (λ p d. (w p d).0) in
+      let rest = goes-on one.messages (after_call s k) ks one.all m.1 v.1 (λ p d. (w p d).1) in
+      record {
+        messages = rest.messages;
+        later = λ q. begins-trans (H q) (one.messages q) (rest.messages q) (one.later q) (rest.later q);
+        all = rest.all;
+        shown = one.shows ks rest.messages rest.later rest.shown;
+      }
+
+  -- what a node that is up received
+  up-knows : (H : ℕ → List Message) (p : ℕ) (l : IsFirst n p) (process : Process) (m : TheNode) → IsFor f len n p (D p) (D p) D (In H p) l.1 (H p) process → process ≡ Up m → (has : HasAfter F p (H p) m) × Knows F D H p (H p ++ has.rest)
+  up-knows H p l process m s e =
+      let up : IsFor f len n p (D p) (D p) D (In H p) l.1 (H p) (Up m) = subst (IsFor f len n p (D p) (D p) D (In H p) l.1 (H p)) e s in (
+        record { rest = up.1.more; many = ap length up.1.begins ∙ up.1.many; state = ap (F.state p) up.1.begins ∙ up.1.state },
+        subst (Knows F D H p) (sym up.1.begins) (record { ordered = up.1.taken.ordered; known = up.1.taken.known }),
+      )
+
+pub durable-keep : DurableKeep
+durable-keep f n page tick limits len bytes calls durable stored lasting m v w =
+    let s : System = new_system n limits len bytes page tick in
+    let proper : (p : ℕ) → durable p ≡ true → IsFirst n p = λ p d. (lasting p d).0 in
+    let none : OfGateway (AreShown (handlers_of f len) durable (λ q. [])) (new_gateway n page tick) = record { out = tt; store = tt } in
+    let all : All f len n durable (λ p. []) s = record {
+      each = λ p l. begins-now f len n p page tick (durable p) (durable p) durable (sent_to (handlers_of f len) (λ q. []) p) l.1 limits bytes stored l (λ d. (lasting p d).1);
+      given = tt;
+      gateway = none;
+      durable = none;
+      taken = tt;
+    } in
+    let t = goes-on f len n durable proper (λ p. []) s calls all m v w in
+    let end : System = after_calls s calls in
+    record {
+      messages = t.messages;
+      stored = λ p l. after-of n (handlers_of f len) p durable (sent_to (handlers_of f len) t.messages p) (t.messages p) (end.stored p) (t.all.each p l).stored;
+      received = λ p l. record { ordered = (t.all.each p l).stored.1.1.1.ordered; known = (t.all.each p l).stored.1.1.1.known };
+      up = λ p l node e. up-knows f len n durable proper t.messages p l (end.processes p) node (t.all.each p l).holds e;
+      given = all-more (IsTrue (handlers_of f len) durable t.messages) (λ (x : Packet). durable x.from ≡ true → IsSentBy (handlers_of f len) x.from (t.messages x.from) x) end.given (λ x o d. said (durable x.from) d (handlers_of f len) x (durable x.to) t.messages o) t.all.given;
+      shown = t.shown;
+    }
+  where
+    said : (b : Bool) → b ≡ true → (F : Handlers) (x : Packet) (c : Bool) (H : ℕ → List Message) → IsFair b b (F.sends x.from (H x.from) x.to) c (F.sends x.to (H x.to) x.from) x.body → IsSentBy F x.from (H x.from) x
+    said true d F x c H o = fair-of true (F.sends x.from (H x.from) x.to) c (F.sends x.to (H x.to) x.from) x.body o
+    said false d F x c H o = absurd (cc (d))

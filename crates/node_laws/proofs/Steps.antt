@@ -1,0 +1,263 @@
+-- What each call of a process makes of the cluster
+use Rattle.std.proofs.Common.{◌≡◌, ◌≢◌, inl, inr, ℕ, suc, ◌+◌, ◌≤◌, ◌<◌, List, [], ◌∷◌, ◌++◌, take, refl, sym, ap, ◌∙◌, subst, arith, Bool, true, false}
+use Rattle.std.specs.Prelude.{Some, Option, None, replicate, ◌⊎◌, if◌then◌else◌}
+use Rattle.theorems.proofs.Changes.{at-itself}
+use Rattle.world.specs.declared.message.Message.{Message}
+use Rattle.world.specs.Handlers.{Handlers}
+use Rattle.world.specs.Phases as phases
+use Rattle.cluster.specs.Cluster.{Cluster, Live, Dead, Collecting}
+use Rattle.cluster.specs.Rules.{Act, Keeps, Dies, Opens, May, IsNode, does}
+use Rattle.cluster.proofs.Runs as worlds
+use Rattle.cluster.proofs.Promised.{received-once-node}
+use Rattle.packets.specs.declared.packet.Packet.{Packet}
+use Rattle.packets.specs.declared.kept.Kept.{Kept}
+use Rattle.packets.specs.Kept.{IsKept}
+use Rattle.packets.proofs.KeptLemmas.{one_kept}
+use Rattle.packets.specs.Says.{WasSaid}
+use Rattle.node.specs.declared.job.OpenJob.{OpenJob}
+use Rattle.node.specs.Node.{TheNode}
+use Rattle.node.specs.Calls.{handed, did_work}
+use Rattle.node.specs.Transmission.{ticked}
+use Rattle.node.specs.Checkpoints.{froze}
+use Rattle.node.specs.Kept.{kept_of, Covers, IsKeptOf}
+use Rattle.node.specs.Stands.{Each, Stands, GoesTo, PutOut, IsHanded, Handles, actor, phase_of, stage_of, job_of, payloads_to}
+use Rattle.node.specs.Runs.{Answer, Answering, handlers_of, state_from, sends_from}
+use Rattle.node.proofs.Steps.{owes-at, saves-at}
+use Rattle.node.proofs.Preservation.{kept-stays, resting-stands}
+use Rattle.node.proofs.Runs.{answers, state-more, sends-more}
+use Rattle.recovery.specs.Collection.{TheCollecting}
+use Rattle.recovery.specs.Overlap.{is_loss}
+use Rattle.recovery.specs.Stands.{StandsCollecting, IsSaid, IsSent, Reopens}
+use Rattle.recovery.specs.Replays.{TheReplaying}
+use Rattle.recovery.specs.Replayed.{StandsReplayed}
+use Rattle.recovery.specs.StandsAtReplay.{StandsReplaying, IsInOrder, AnswersAfter}
+use Rattle.recovery.specs.StandsAtReplay as replaying
+use Rattle.recovery.proofs.Acts.{goes-self, goes-one}
+use Rattle.recovery.proofs.Posts.{replayed-out}
+use Rattle.recovery.specs.RestorationStands.{StandsRestoring}
+use Rattle.node_laws.specs.Process.{Process, Up, Covered, Collects, Replays, Replayed, Restores, Killed, StandsAs, is_exact, Gives, Hears, Works, Acts, WaitsFor, covered, IsTold, IsKilled, ComesFrom, IsAnswerAgain}
+use Rattle.node_laws.specs.System.{AreStoredOf}
+use Rattle.node_laws.proofs.Moves.{Moves, IsPlain, moves-own, moves-none}
+use Rattle.node_laws.proofs.Losses.{loss-is-dropped}
+
+-- ---- a node that waits for its checkpoint is as it was
+
+handed-rests : (x : Packet) (n : TheNode) → n.frozen ≡ true → handed x n ≡ n
+handed-rests x n e = rw e refl
+
+ticked-rests : (n : TheNode) → n.frozen ≡ true → ticked n ≡ n
+ticked-rests n e = rw e refl
+
+froze-rests : (n : TheNode) → n.frozen ≡ true → froze n ≡ n
+froze-rests n e = rw e refl
+
+-- it works on nothing
+idle : (o : Option OpenJob) → phase_of o ≡ phases.Up → o ≡ None
+idle None e = refl
+idle (Some j) e = absurd (cc (e))
+
+work-rests : (c : Cluster) (p : ℕ) (n : TheNode) (a : Answer) → worlds.Holds c → n.frozen ≡ true → Stands n c p → did_work a.state a.given n.working n ≡ n
+work-rests c p n a h e s =
+    let waits : c.stage p ≡ stage_of true = s.stage ∙ ap stage_of e in
+    let none : n.working ≡ None = idle n.working (sym s.phase ∙ h.agrees.stages.frozen p waits) in
+    ap (λ o. did_work a.state a.given o n) none
+
+-- ---- the handler's answer to a message that is replayed
+
+answers-again : (f : Answering) (len : ℕ → ℕ) (n : TheReplaying) (c : Cluster) (p : ℕ) (a : Answer) → c.handlers ≡ handlers_of f len → StandsReplaying n c p → IsAnswerAgain f p n a → replaying.Handles a.state a.given n c
+answers-again f len n c p a handlers s is j next =
+    let h : List Message = take (n.own.base + n.done) (c.history p) in
+    let here : state_from f p (replicate (len p) 0) h ≡ n.own.state = ap (λ (g : Handlers). g.state p h) (sym handlers) ∙ s.own.state in
+    let answer : f p (state_from f p (replicate (len p) 0) h) (job_of j) ≡ a = ap (λ z. f p z (job_of j)) here ∙ sym (is j next) in
+    subst (λ k. AnswersAfter c.handlers k (take (n.own.base + n.done) (c.history k)) (job_of j) a.state a.given) (sym s.own.me) (record {
+      state_is = ap (λ (g : Handlers). g.state p (h ++ job_of j ∷ [])) handlers ∙ state-more f p (replicate (len p) 0) h (job_of j) ∙ ap (λ (z : Answer). z.state) answer;
+      sends_are = λ d. ap (λ (g : Handlers). g.sends p (h ++ job_of j ∷ []) d) handlers ∙ sends-more f p (replicate (len p) 0) h (job_of j) d
+          ∙ ap (λ (z : Answer). sends_from f p (replicate (len p) 0) h d ++ payloads_to d z.given) answer ∙ ap (λ (g : Handlers). g.sends p h d ++ payloads_to d a.given) (sym handlers);
+    })
+
+-- ---- acts before others
+
+moves-after : (p : ℕ) (new : Process) (bytes : List ℕ) (life : ℕ) (c : Cluster) (a : Act) → May c a → actor a ≡ p → Moves p new bytes life (does c a) → Moves p new bytes life c
+moves-after p new bytes life c a may by m = record { acts = a ∷ m.acts; run = (may, m.run); by = (by, m.by); stands = m.stands; stored = m.stored; lives = m.lives }
+
+-- a process that becomes another
+becomes : (p : ℕ) (old new : Process) (bytes : List ℕ) (life : ℕ) (c : Cluster) → new ≡ old → Moves p old bytes life c → Moves p new bytes life c
+becomes p old new bytes life c e m = subst (λ z. Moves p z bytes life c) (sym e) m
+
+-- ---- the calls
+
+module _ (c : Cluster) (p : ℕ) (bytes : List ℕ) (life : ℕ) (low : c.stored p ≤ life) where
+  abbrev Goes : Process → Type 0
+  Goes new = Moves p new bytes life c
+
+  -- where it goes by acts of its own that leave what is stored
+  own : (new : Process) (k : Kept) → IsPlain new p → IsKept k bytes × IsKeptOf k c p → GoesTo p (λ d. StandsAs new d p) c → Goes new
+  own new k plain are g = moves-own p new bytes life c k plain are.0 are.1 low g
+
+  -- a packet is taken
+  pub giving : (x : Packet) (old new : Process) → Gives x old new → StandsAs old c p → AreStoredOf bytes old c p → IsSent c.count c.parcels p x × Goes new
+  giving x (Up n) new g s are =
+      let P : ℕ → Type 0 = λ q. PutOut c.count c.parcels q x × Stands g.0 c q in
+      let took : P p = subst P s.me (g.1.1.1 c (subst (Stands n c) (sym s.me) s)) in
+      (λ e. took.0, becomes p (Up g.0) new bytes life c g.1.0 (moves-none p (Up g.0) bytes life c took.1 are low))
+  giving x (Covered n) new g s are =
+      let P : ℕ → Type 0 = λ q. PutOut c.count c.parcels q x × Stands g.0 c q in
+      let took : P p = subst P s.1.me (g.1.1.1 c (subst (Stands n c) (sym s.1.me) s.1)) in
+      let waits : g.0.frozen ≡ true = sym (ap (λ (z : TheNode). z.frozen) g.1.1.0) ∙ s.0 in
+      (λ e. took.0, becomes p (Covered g.0) new bytes life c g.1.0 (moves-none p (Covered g.0) bytes life c (waits, took.1) are low))
+  giving x (Collects n) new g s are =
+      let P : ℕ → Type 0 = λ q. IsSent c.count c.parcels q x × StandsCollecting g.0 c q in
+      let took : P p = subst P s.own.me (g.1.1.1 c (subst (StandsCollecting n c) (sym s.own.me) s)) in
+      (took.0, becomes p (Collects g.0) new bytes life c g.1.0 (moves-none p (Collects g.0) bytes life c took.1 are low))
+  giving x (Replays n) new g s are =
+      let P : ℕ → Type 0 = λ q. IsSent c.count c.parcels q x × StandsReplaying g.0 c q in
+      let took : P p = subst P s.own.me (g.1.1.1 c (subst (StandsReplaying n c) (sym s.own.me) s)) in
+      (took.0, becomes p (Replays g.0) new bytes life c g.1.0 (moves-none p (Replays g.0) bytes life c took.1 are low))
+  giving x (Restores n) new g s are =
+      let P : ℕ → Type 0 = λ q. IsSent c.count c.parcels q x × StandsRestoring g.0 c q in
+      let took : P p = subst P s.own.me (g.1.1.1 c (subst (StandsRestoring n c) (sym s.own.me) s)) in
+      (took.0, becomes p (Restores g.0) new bytes life c g.1.0 (moves-none p (Restores g.0) bytes life c took.1 are low))
+  giving x (Replayed n) new g s are =
+      let out : Each (IsSent c.count c.parcels p) (x ∷ g.0.own.out) = subst (Each (IsSent c.count c.parcels p)) g.1.1.0 s.own.out in
+      (out.0, becomes p (Replayed g.0) new bytes life c g.1.0 (moves-none p (Replayed g.0) bytes life c (subst (λ z. StandsReplayed z c p) (sym g.1.1.1) (replayed-out n c p g.0.own.out out.1 s)) are low))
+  giving x Killed new g s are = absurd g
+
+  -- a packet comes to a node that is up: it drops one that says that all is lost
+  hearing-up : (x : Packet) (n new : TheNode) (loss : Bool) → is_loss x.body ≡ loss → (new ≡ handed x n) × IsHanded x n new → IsSaid c.parcels x.from x.to x.body → Stands n c p → GoesTo p (λ d. Stands new d p) c
+  hearing-up x n new true e g said s = goes-self p (λ d. Stands new d p) c (subst (λ z. Stands z c p) (sym (g.0 ∙ loss-is-dropped.0 x n e)) s)
+  hearing-up x n new false e g said s = owes-at (λ d. WasSaid d.parcels x.from x.to x.body) n new c p g.1 s (said e)
+
+  -- a packet comes, and the process stays exact
+  pub hearing : (x : Packet) (old new : Process) → Hears x old new → is_exact new ≡ true → IsSaid c.parcels x.from x.to x.body → StandsAs old c p → AreStoredOf bytes old c p → Goes new
+  hearing x (Up n) new g exact said s are = becomes p (Up g.0) new bytes life c g.1.0 (own (Up g.0) are.0 (λ k d z. z) are.1 (hearing-up x n g.0 (is_loss x.body) refl g.1.1 said s))
+  hearing x (Covered n) new g exact said s are =
+      becomes p (Covered n) new bytes life c (g.1.0 ∙ ap Covered (g.1.1 ∙ handed-rests x n s.0)) (moves-none p (Covered n) bytes life c s are low)
+  hearing x (Collects n) new g exact said s are =
+      let P : ℕ → Type 0 = λ q. GoesTo q (λ d. StandsCollecting g.0 d q) c in
+      let here : g.0.own.exact ≡ true = sym (ap is_exact g.1.0) ∙ exact in
+      becomes p (Collects g.0) new bytes life c g.1.0 (own (Collects g.0) are.0 (λ k d z. z) are.1 (subst P s.own.me (g.1.1.1 here c (subst (StandsCollecting n c) (sym s.own.me) s) said)))
+  hearing x (Replays n) new g exact said s are =
+      let here : g.0.own.exact ≡ true = sym (ap is_exact g.1.0) ∙ exact in
+      becomes p (Replays g.0) new bytes life c g.1.0 (moves-none p (Replays g.0) bytes life c (g.1.1.1 here c p s) are low)
+  hearing x (Replayed n) new g exact said s are =
+      let here : g.0.own.exact ≡ true = sym (ap is_exact g.1.0) ∙ exact in
+      becomes p (Replayed g.0) new bytes life c g.1.0 (moves-none p (Replayed g.0) bytes life c (g.1.1.1 here c p s) are low)
+  hearing x (Restores n) new g exact said s are =
+      let P : ℕ → Type 0 = λ q. GoesTo q (λ d. StandsRestoring g.0 d q) c in
+      let here : g.0.own.exact ≡ true = sym (ap is_exact g.1.0) ∙ exact in
+      becomes p (Restores g.0) new bytes life c g.1.0 (own (Restores g.0) are.0 (λ k d z. z) are.1 (subst P s.own.me (g.1.1.1 here c (subst (StandsRestoring n c) (sym s.own.me) s) said)))
+  hearing x Killed new g exact said s are = absurd g
+
+  -- its handler answered
+  pub working : (f : Answering) (len : ℕ → ℕ) (a : Answer) (old new : Process) → Works f p a old new → c.handlers ≡ handlers_of f len → worlds.Holds c → StandsAs old c p → AreStoredOf bytes old c p → Goes new
+  working f len a (Up n) new g handlers h s are =
+      becomes p (Up g.1.0) new bytes life c g.1.1.0 (own (Up g.1.0) are.0 (λ k d z. z) are.1 (owes-at (Handles a.state a.given n) n g.1.0 c p g.1.1.1.1 s (answers f len n c p a handlers s g.0)))
+  working f len a (Covered n) new g handlers h s are =
+      becomes p (Covered n) new bytes life c (g.1.0 ∙ ap Covered (g.1.1 ∙ work-rests c p n a h s.0 s.1)) (moves-none p (Covered n) bytes life c s are low)
+  working f len a (Replays n) new g handlers h s are =
+      let P : ℕ → Type 0 = λ q. GoesTo q (λ d. StandsReplaying g.1.0 d q) c in
+      becomes p (Replays g.1.0) new bytes life c g.1.1.0
+      (own (Replays g.1.0) are.0 (λ k d z. z) are.1 (subst P s.own.me (g.1.1.1.1 c (subst (StandsReplaying n c) (sym s.own.me) s) (answers-again f len n c p a handlers s g.0))))
+  working f len a (Collects n) new g handlers h s are = absurd g
+  working f len a (Replayed n) new g handlers h s are = absurd g
+  working f len a (Restores n) new g handlers h s are = absurd g
+  working f len a Killed new g handlers h s are = absurd g
+
+  -- it acts, or goes on to its next stage
+  pub acting : (old new : Process) → Acts old new → worlds.Holds c → StandsAs old c p → AreStoredOf bytes old c p → Goes new
+  acting (Up n) new g h s are = becomes p (Up g.0) new bytes life c g.1.0 (own (Up g.0) are.0 (λ k d z. z) are.1 (owes-at (λ d. Unit {0}) n g.0 c p g.1.1.1 s tt))
+  acting (Covered n) new g h s are = becomes p (Covered n) new bytes life c (g.1.0 ∙ ap Covered (rests g.1.1)) (moves-none p (Covered n) bytes life c s are low)
+    where
+      rests : (g.0 ≡ ticked n) ⊎ (g.0 ≡ froze n) → g.0 ≡ n
+      rests (inl e) = e ∙ ticked-rests n s.0
+      rests (inr e) = e ∙ froze-rests n s.0
+  acting (Collects n) new (inl g) h s are =
+      let P : ℕ → Type 0 = λ q. GoesTo q (λ d. StandsCollecting g.0 d q) c in
+      becomes p (Collects g.0) new bytes life c g.1.0 (own (Collects g.0) are.0 (λ k d z. z) are.1 (subst P s.own.me (g.1.1.1 c (subst (StandsCollecting n c) (sym s.own.me) s) tt)))
+  acting (Collects n) new (inr g) h s are =
+      let P : ℕ → Type 0 = λ q. GoesTo q (λ d. StandsReplaying g.0 d q) c in
+      let ordered : IsInOrder c n.own.me = (received-once-node c h.beside h.agrees h.lawful).next n.own.me in
+      becomes p (Replays g.0) new bytes life c g.1.0 (own (Replays g.0) are.0 (λ k d z. z) are.1 (subst P s.own.me (g.1.1.acts c (subst (StandsCollecting n c) (sym s.own.me) s) ordered)))
+  acting (Replays n) new g h s are = becomes p (Replayed g.0) new bytes life c g.1.0 (moves-none p (Replayed g.0) bytes life c (g.1.1.1 c p s) are low)
+  acting (Replayed n) new g h s are =
+      let P : ℕ → Type 0 = λ q. GoesTo q (λ d. StandsRestoring g.0 d q) c in
+      becomes p (Restores g.0) new bytes life c g.1.0 (own (Restores g.0) are.0 (λ k d z. z) are.1 (subst P s.own.me (g.1.1.1 c (subst (StandsReplayed n c) (sym s.own.me) s))))
+  acting (Restores n) new (inl g) h s are =
+      let P : ℕ → Type 0 = λ q. GoesTo q (λ d. StandsRestoring g.0 d q) c in
+      becomes p (Restores g.0) new bytes life c g.1.0 (own (Restores g.0) are.0 (λ k d z. z) are.1 (subst P s.own.me (g.1.1.1 c (subst (StandsRestoring n c) (sym s.own.me) s) tt)))
+  acting (Restores n) new (inr g) h s are =
+      becomes p (Up g.0) new bytes life c g.1.0 (moves-none p (Up g.0) bytes life c (subst (Stands g.0 c) s.own.me (g.1.1.1 c (subst (StandsRestoring n c) (sym s.own.me) s))) are low)
+  acting Killed new g h s are = absurd g
+
+  -- its checkpoint is durable
+  pub storing : (others : List ℕ) (old : Process) → WaitsFor bytes old → StandsAs old c p → AreStoredOf others old c p → Goes (covered old)
+  storing others (Up n) g s are = moves-none p (Covered n) bytes life c (g.0, s) (kept_of n, (g.1.0, covers-at n g.1.1 g.0 s)) low
+    where
+      covers-at : (n : TheNode) → Covers (kept_of n) n → n.frozen ≡ true → Stands n c p → May c (Keeps p) × IsKeptOf (kept_of n) (does c (Keeps p)) p
+      covers-at n cov waits s =
+          let P : ℕ → Type 0 = λ q. May c (Keeps q) × IsKeptOf (kept_of n) (does c (Keeps q)) q in
+          subst P s.me (cov c (resting-stands n c waits (subst (Stands n c) (sym s.me) s)))
+  storing others (Covered n) g s are =
+      let P : ℕ → Type 0 = λ q. May c (Keeps q) × IsKeptOf (kept_of n) (does c (Keeps q)) q in
+      moves-none p (Covered n) bytes life c s (kept_of n, (g.0, subst P s.1.me (g.1 c (resting-stands n c s.0 (subst (Stands n c) (sym s.1.me) s.1))))) low
+  storing others (Collects n) g s are = absurd g
+  storing others (Replays n) g s are = absurd g
+  storing others (Replayed n) g s are = absurd g
+  storing others (Restores n) g s are = absurd g
+  storing others Killed g s are = absurd g
+
+  -- and it was told so
+  pub telling : (old new : Process) → IsTold old new → StandsAs old c p → AreStoredOf bytes old c p → Goes new
+  telling (Up n) new g s are = becomes p (Up n) new bytes life c (g.1.1.0 ∙ ap Up (g.1.1.1.0 g.0)) (moves-none p (Up n) bytes life c s are low)
+  telling (Covered n) new g s are =
+      let k = saves-at n g.0 c p g.1.1.1 s.0 s.1 in
+      becomes p (Up g.0) new bytes life c g.1.0
+      (moves-after p (Up g.0) bytes life c (Keeps p) k.0 refl (moves-own p (Up g.0) bytes life (does c (Keeps p)) are.0 (λ m d z. z) are.1.0 are.1.1.1 low k.1))
+  telling (Collects n) new g s are = absurd g
+  telling (Replays n) new g s are = absurd g
+  telling (Replayed n) new g s are = absurd g
+  telling (Restores n) new g s are = absurd g
+  telling Killed new g s are = absurd g
+
+-- it is killed
+killed : (c : Cluster) (p : ℕ) (bytes : List ℕ) (life : ℕ) (k : Kept) → c.stored p ≤ life → IsNode c p → c.stage p ≢ Dead → IsKept k bytes → IsKeptOf k c p → Moves p Killed bytes life c
+killed c p bytes life k low inside alive is kept =
+    moves-own p Killed bytes life c k (λ m d z. z) is kept low
+    (goes-one p (λ d. StandsAs Killed d p) c (Dies p) (inside, alive) refl (inside, at-itself p (λ b. (if b then Dead else c.stage p) ≡ Dead) refl))
+
+runs-on : (b : Bool) → stage_of b ≢ Dead
+runs-on true e = absurd (cc (e))
+runs-on false e = absurd (cc (e))
+
+pub dying : (c : Cluster) (p : ℕ) (bytes : List ℕ) (life : ℕ) (old : Process) → c.stored p ≤ life → StandsAs old c p → AreStoredOf bytes old c p → Moves p Killed bytes life c
+dying c p bytes life (Up n) low s are = killed c p bytes life are.0 low s.inside (λ e. runs-on n.frozen (sym s.stage ∙ e)) are.1.0 are.1.1
+dying c p bytes life (Covered n) low s are =
+    moves-after p Killed bytes life c (Keeps p) are.1.1.0 refl
+    (killed (does c (Keeps p)) p bytes life are.0 low s.1.inside (λ e. runs-on n.frozen (sym s.1.stage ∙ e)) are.1.0 are.1.1.1)
+dying c p bytes life (Collects n) low s are = killed c p bytes life are.0 low s.own.inside (λ e. let f : Collecting ≡ Dead = sym s.stage ∙ e in absurd (cc (f))) are.1.0 are.1.1
+dying c p bytes life (Replays n) low s are = killed c p bytes life are.0 low s.own.inside (λ e. let f : Live ≡ Dead = sym s.stage ∙ e in absurd (cc (f))) are.1.0 are.1.1
+dying c p bytes life (Replayed n) low s are = killed c p bytes life are.0 low s.own.inside (λ e. let f : Live ≡ Dead = sym s.stage ∙ e in absurd (cc (f))) are.1.0 are.1.1
+dying c p bytes life (Restores n) low s are = killed c p bytes life are.0 low s.own.inside (λ e. let f : Live ≡ Dead = sym s.stage ∙ e in absurd (cc (f))) are.1.0 are.1.1
+dying c p bytes life Killed low s are = moves-none p Killed bytes life c s are low
+
+-- it comes back
+pub reviving : (c : Cluster) (p : ℕ) (bytes : List ℕ) (old : Process) (before life : ℕ) (n : TheCollecting) → IsKilled old → c.stored p ≤ before → before < life → ComesFrom bytes life n → StandsAs old c p → AreStoredOf bytes old c p → Moves p (Collects n) bytes life c
+reviving c p bytes Killed before life n dead low above from s are =
+    let k : Kept = are.0 in
+    let one : from.0 ≡ k = one_kept from.0 k bytes from.1.0 are.1.0 in
+    let early : c.stored p < life = omega (arith, low, above) in
+    let kept : IsKeptOf k c p = are.1.1 in
+    let P : ℕ → Type 0 = λ q. c.stage q ≡ Dead → c.stored q < life → IsKeptOf k c q → IsNode c q → Reopens q life (λ d. StandsCollecting n d q) c in
+    let owed : P k.me = subst (λ (z : Kept). c.stage z.me ≡ Dead → c.stored z.me < life → IsKeptOf z c z.me → IsNode c z.me → Reopens z.me life (λ d. StandsCollecting n d z.me) c) one (from.1.1.1 c) in
+    let r : Reopens p life (λ d. StandsCollecting n d p) c = subst P kept.me owed s.1 early kept s.0 in
+    let opened : Cluster = does c (Opens p r.skipped) in
+    let still : IsKeptOf k opened p = kept-stays k p (Opens p r.skipped ∷ []) c ((λ e. absurd (cc (e))), tt) kept in
+    let stored : opened.stored p ≡ life = at-itself p (λ b. (if b then suc (r.skipped + c.stored p) else c.stored p) ≡ life) r.incarnation in
+    moves-after p (Collects n) bytes life c (Opens p r.skipped) r.opens refl
+    (moves-own p (Collects n) bytes life opened k (λ m d z. z) are.1.0 still (omega (arith, stored)) r.goes)
+reviving c p bytes (Up m) before life n dead low above from s are = absurd dead
+reviving c p bytes (Covered m) before life n dead low above from s are = absurd dead
+reviving c p bytes (Collects m) before life n dead low above from s are = absurd dead
+reviving c p bytes (Replays m) before life n dead low above from s are = absurd dead
+reviving c p bytes (Replayed m) before life n dead low above from s are = absurd dead
+reviving c p bytes (Restores m) before life n dead low above from s are = absurd dead

@@ -1,0 +1,5 @@
+use Rattle.node_laws.proofs.HostOutputs.{hosted-in-order}
+use Rattle.node_laws.proofs.host_laws.hosted_in_order.Goals as goal
+
+pub returns : goal.returns
+returns c = hosted-in-order

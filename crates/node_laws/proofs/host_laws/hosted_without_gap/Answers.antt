@@ -1,0 +1,5 @@
+use Rattle.node_laws.proofs.HostOutputs.{hosted-without-gap}
+use Rattle.node_laws.proofs.host_laws.hosted_without_gap.Goals as goal
+
+pub returns : goal.returns
+returns c = hosted-without-gap

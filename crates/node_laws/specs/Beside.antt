@@ -1,0 +1,136 @@
+-- A worked list of calls of two processes: one is killed while the other is up, and comes back from the answers of the other and the
+-- gateway
+use Rattle.std.specs.Prelude.{◌≡◌, ℕ, List, [], ◌∷◌, true, false}
+use Rattle.packets.specs.declared.packet.Body.{Body}
+use Rattle.packets.specs.declared.packet.Body.TheVariants.{Ask, Told, Resume, Restored}
+use Rattle.packets.specs.declared.packet.Packet.{Packet}
+use Rattle.packets.specs.Packet.{flags_of}
+use Rattle.node.specs.Limit.{usual}
+use Rattle.node.specs.Node.{TheNode, new_node}
+use Rattle.node.specs.Calls as nodes
+use Rattle.node.specs.Kept.{kept_of}
+use Rattle.node.specs.Runs.{Answering}
+use Rattle.recovery.specs.Collection.{TheCollecting, revived}
+use Rattle.recovery.specs.Collection as collecting
+use Rattle.recovery.specs.Replays.{TheReplaying}
+use Rattle.recovery.specs.StandsAtReplay.{replayed_of}
+use Rattle.recovery.specs.Restoration.{TheRestoring, begun, up}
+use Rattle.recovery.specs.Restoration as restoring
+use Rattle.gateway.specs.Gateway.{TheGateway, new_gateway}
+use Rattle.gateway.specs.Calls as gateways
+use Rattle.node_laws.specs.Process.{Up, Collects, Replays, Replayed, Restores}
+use Rattle.node_laws.specs.System.{new_system, AreStored, Call, Gave, Handed, Did, Died, Revived, GaveOut, HandedOut, StoredOut, Calls, after_calls}
+use Rattle.node_laws.specs.Alone.{OneAtATime}
+use Rattle.node_laws.specs.Worked.{sent}
+
+-- ---- packets between the first process, the second and the gateway
+
+abbrev pub packet : ℕ → ℕ → Body → Packet
+packet from to b = record { count = 2; from = from; to = to; body = b }
+
+-- its questions in its second incarnation
+abbrev pub ask : ℕ → Packet
+ask to = packet 1 to (Ask 2 0)
+
+abbrev pub resume : ℕ → Packet
+resume to = packet 1 to (Resume 2 0 0)
+
+-- the answers: there is nothing
+abbrev pub told : ℕ → Packet
+told from = packet from 1 (Told 2 1 0 (flags_of true false true) [])
+
+abbrev pub restored : ℕ → Packet
+restored from = packet from 1 (Restored 2 1 0 0 (flags_of true false true) [])
+
+-- ---- the gateway, with this size of a page and of a tick
+
+abbrev pub asked : ℕ → ℕ → TheGateway
+asked page tick = gateways.handed (ask 0) (new_gateway 2 page tick)
+
+abbrev pub resumed : ℕ → ℕ → TheGateway
+resumed page tick = gateways.handed (resume 0) (sent (asked page tick))
+
+-- ---- the second process, with a state of zeros
+
+abbrev pub without : TheNode → TheNode
+without n = record n { out = [] }
+
+abbrev pub other_asked : ℕ → TheNode
+other_asked len = nodes.handed (ask 2) (new_node usual 2 2 len)
+
+abbrev pub other_resumed : ℕ → TheNode
+other_resumed len = nodes.handed (resume 2) (without (other_asked len))
+
+-- ---- the first process
+
+-- it comes back, and its questions are taken
+abbrev pub comes : ℕ → TheCollecting
+comes len = revived usual (kept_of (new_node usual 1 2 len)) 2
+
+abbrev pub asks : ℕ → List Packet → TheCollecting
+asks len out = record (comes len) { own = record (comes len).own { out = out } }
+
+-- the gateway has answered it, and then the other process
+abbrev pub hears : ℕ → TheCollecting
+hears len = collecting.handed (told 0) (asks len [])
+
+abbrev pub has_all : ℕ → TheCollecting
+has_all len = collecting.handed (told 2) (hears len)
+
+abbrev pub replays : ℕ → TheReplaying
+replays len = record { own = (has_all len).own; plan = []; done = 0 }
+
+abbrev pub begins : ℕ → TheRestoring
+begins len = begun (replayed_of (replays len))
+
+abbrev pub resumes : ℕ → List Packet → TheRestoring
+resumes len out = record (begins len) { own = record (begins len).own { out = out } }
+
+abbrev pub enters : ℕ → TheRestoring
+enters len = restoring.handed (restored 0) (resumes len [])
+
+abbrev pub has_answers : ℕ → TheRestoring
+has_answers len = restoring.handed (restored 2) (enters len)
+
+-- ---- the calls
+
+abbrev pub worked : ℕ → ℕ → ℕ → List Call
+worked len page tick =
+    Died 1
+    ∷ Revived 1 2 (comes len)
+    ∷ Gave 1 (ask 0) (Collects (asks len (ask 2 ∷ [])))
+    ∷ Gave 1 (ask 2) (Collects (asks len []))
+    ∷ HandedOut (ask 0) (asked page tick)
+    ∷ StoredOut
+    ∷ GaveOut (told 0) (sent (asked page tick))
+    ∷ Handed 2 (ask 2) (Up (other_asked len))
+    ∷ Gave 2 (told 2) (Up (without (other_asked len)))
+    ∷ Handed 1 (told 0) (Collects (hears len))
+    ∷ Handed 1 (told 2) (Collects (has_all len))
+    ∷ Did 1 (Replays (replays len))
+    ∷ Did 1 (Replayed (replayed_of (replays len)))
+    ∷ Did 1 (Restores (begins len))
+    ∷ Gave 1 (resume 0) (Restores (resumes len (resume 2 ∷ [])))
+    ∷ Gave 1 (resume 2) (Restores (resumes len []))
+    ∷ HandedOut (resume 0) (resumed page tick)
+    ∷ StoredOut
+    ∷ GaveOut (restored 0) (sent (resumed page tick))
+    ∷ Handed 2 (resume 2) (Up (other_resumed len))
+    ∷ Gave 2 (restored 2) (Up (without (other_resumed len)))
+    ∷ Handed 1 (restored 0) (Restores (enters len))
+    ∷ Handed 1 (restored 2) (Restores (has_answers len))
+    ∷ Did 1 (Up (up (has_answers len)))
+    ∷ []
+
+-- they are such calls, and the first process dies alone; then it is up in its second incarnation, and the other in its first
+pub record IsWorked (f : Answering) (len page tick : ℕ) (bytes : ℕ → List ℕ) : Type 0 where
+  pub calls : Calls f 2 (new_system 2 (λ _. usual) (λ _. len) bytes page tick) (worked len page tick)
+  pub alone : OneAtATime 2 (new_system 2 (λ _. usual) (λ _. len) bytes page tick) (worked len page tick)
+  pub node : TheNode
+  pub is_up : (after_calls (new_system 2 (λ _. usual) (λ _. len) bytes page tick) (worked len page tick)).processes 1 ≡ Up node
+  pub life : node.life ≡ 2
+  pub exact : node.exact ≡ true
+  pub other : (after_calls (new_system 2 (λ _. usual) (λ _. len) bytes page tick) (worked len page tick)).processes 2 ≡ Up (without (other_resumed len))
+
+abbrev pub ComesBackBeside : Type 0
+ComesBackBeside = (f : Answering) (len page tick : ℕ) (bytes : ℕ → List ℕ) → AreStored 2 (λ _. len) bytes → IsWorked f len page tick bytes

@@ -1,0 +1,62 @@
+-- A process and its host
+use Rattle.std.specs.Prelude.{ℕ, List}
+use Rattle.process.specs.declared.course.Course.{Course}
+use Rattle.process.specs.declared.course.Course.TheVariants as course
+use Rattle.process.specs.Process.{TheProcess}
+use Rattle.node_laws.specs.Process.{Process, covered}
+use Rattle.node_laws.specs.Process as lives
+
+-- the stage of a checkpoint
+pub data Checkpoint : Type 0 where
+  -- there is none
+  Absent : Checkpoint
+  -- the process waits for it, and these bytes are to be stored
+  Pending : List ℕ → Checkpoint
+  -- it is stored, and the process wasn't told so yet
+  Durable : Checkpoint
+
+-- the process that runs, and its checkpoint; or no process
+pub data Hosted : Type 0 where
+  Runs : TheProcess → Checkpoint → Hosted
+  Killed : Hosted
+
+-- it runs, and this holds of it
+abbrev pub Alive : (TheProcess → Type 0) → Hosted → Type 0
+Alive P (Runs process checkpoint) = P process
+Alive P Killed = ⊥
+
+-- this holds of its checkpoint
+abbrev pub Has : (Checkpoint → Type 0) → Hosted → Type 0
+Has P (Runs process checkpoint) = P checkpoint
+Has P Killed = ⊥
+
+-- the process after a call
+abbrev pub goes_on : TheProcess → Hosted → Hosted
+goes_on new (Runs process checkpoint) = Runs new checkpoint
+goes_on new Killed = Killed
+
+-- its checkpoint is durable
+abbrev pub keeps : Hosted → Hosted
+keeps (Runs process checkpoint) = Runs process Durable
+keeps Killed = Killed
+
+-- ---- which process of `lives` it is
+
+-- by its stage. It is between two stages only inside a call
+abbrev pub stage_of : Course → Process
+stage_of (course.Up n) = lives.Up n
+stage_of (course.Collecting n) = lives.Collects n
+stage_of (course.Replaying n) = lives.Replays n
+stage_of (course.Replayed n) = lives.Replayed n
+stage_of (course.Restoring n) = lives.Restores n
+stage_of course.Passing = lives.Killed
+
+-- and by its checkpoint
+abbrev pub seen : Checkpoint → Course → Process
+seen Absent c = stage_of c
+seen (Pending bytes) c = stage_of c
+seen Durable c = covered (stage_of c)
+
+abbrev pub as_process : Hosted → Process
+as_process (Runs process checkpoint) = seen checkpoint process.course
+as_process Killed = lives.Killed

@@ -1,0 +1,161 @@
+-- Calls of processes by their hosts, and of the gateway, one after another
+use Rattle.std.specs.Prelude.{◌≡◌, ℕ, ◌<◌, List, [], ◌∷◌, Some}
+use Rattle.world.specs.World.{put}
+use Rattle.packets.specs.declared.packet.Packet.{Packet}
+use Rattle.packets.specs.Format.{IsPacket}
+use Rattle.helpers.specs.declared.effects.Who.{Who}
+use Rattle.helpers.specs.Effects.{Emitted}
+use Rattle.images.specs.declared.any_image.AnyImage.{AnyImage}
+use Rattle.interp.specs.HandlerCall.{Handled}
+use Rattle.handlers.specs.Image.{as_image}
+use Rattle.node.specs.declared.limit.Limits.{Limits}
+use Rattle.node.specs.declared.job.OpenJob.{OpenJob}
+use Rattle.node.specs.Runs.{IsOne}
+use Rattle.stores.specs.declared.change.Output.{Output}
+use Rattle.gateway.specs.Gateway.{TheGateway, new_gateway}
+use Rattle.node_laws.specs.Together.{IsFirst}
+use Rattle.node_laws.specs.System as called
+use Rattle.node_laws.specs.System.{Call, GaveOut, HandedOut, DidOut, StoredOut, StoredBut, RevivedOut}
+use Rattle.process.specs.declared.call.Ticket.{Ticket}
+use Rattle.process.specs.Process.{TheProcess, state_of}
+use Rattle.process.specs.Job.{IsAnswered, WorksAs}
+use Rattle.process.specs.Calls.{Calls, Stays, IsHanded, Ticks, Takes, Freezes, Thaws}
+use Rattle.process.specs.Packets.{GivesBytes}
+use Rattle.process.specs.Revival.{IsOpened, IsRevived}
+use Rattle.process.specs.Checkpoints.{IsSavable, Keeps}
+use Rattle.process.specs.Work.{job_at, answer_to, Works}
+use Rattle.node_laws.specs.HostProcess.{Absent, Pending, Durable, Hosted, Runs, Killed, Alive, Has, goes_on, keeps, as_process}
+use Rattle.node_laws.specs.HostReplies.{answering}
+
+-- the processes by number; for each the bytes that its host has stored, and the greatest incarnation; the gateway, and the gateway that its
+-- store gives; the outputs that it gave without having stored so; and the packets that were given
+pub record System : Type 0 where
+  pub processes : ℕ → Hosted
+  pub stored : ℕ → List ℕ
+  pub lives : ℕ → ℕ
+  pub gateway : TheGateway
+  pub durable : TheGateway
+  pub taken : List Output
+  pub given : List Packet
+
+-- the system at the start: each process is opened, and its kept state stored; and the gateway
+pub record Opens (n : ℕ) (images : ℕ → AnyImage) (limits : ℕ → Limits) (processes : ℕ → TheProcess) (bytes : ℕ → List ℕ) : Type 0 where
+  pub opened : (p : ℕ) → IsFirst n p → IsOpened (images p) (limits p) p n (processes p)
+  pub stored : (p : ℕ) → IsFirst n p → Keeps (processes p).course (bytes p)
+
+abbrev pub new_system : ℕ → (ℕ → TheProcess) → (ℕ → List ℕ) → ℕ → ℕ → System
+new_system n processes bytes page tick =
+    record {
+      processes = λ p. Runs (processes p) Absent;
+      stored = bytes;
+      lives = λ _. 1;
+      gateway = new_gateway n page tick;
+      durable = new_gateway n page tick;
+      taken = [];
+      given = [];
+    }
+
+-- a call that isn't refused and changes a process, and the process after it; or something that its host does with it
+pub data HostCall : Type 0 where
+  -- `take` gave this packet
+  Gave : ℕ → Packet → TheProcess → HostCall
+  -- `take_bytes` gave these bytes, which are those of this packet
+  GaveBytes : ℕ → Packet → List ℕ → TheProcess → HostCall
+  -- `receive`, with this packet
+  Handed : ℕ → Packet → TheProcess → HostCall
+  -- `receive_bytes`, with the bytes of this packet
+  HandedBytes : ℕ → Packet → List ℕ → TheProcess → HostCall
+  -- `work`, or `done`
+  Worked : ℕ → TheProcess → HostCall
+  -- `done_unchecked`, for this job with this state and these messages and outputs
+  Answered : ℕ → Ticket → List ℕ → Emitted → TheProcess → HostCall
+  -- `tick`
+  Ticked : ℕ → TheProcess → HostCall
+  -- `checkpoint` gave these bytes; or `kept_bytes` did, and then `freeze` was called
+  Froze : ℕ → List ℕ → TheProcess → HostCall
+  -- `freeze` alone: the host has no bytes of that checkpoint, and the process waits until it is killed
+  Paused : ℕ → TheProcess → HostCall
+  -- the bytes that `checkpoint` gave are stored, in place of the earlier ones
+  Stored : ℕ → List ℕ → HostCall
+  -- `saved`
+  Saved : ℕ → TheProcess → HostCall
+  -- the process was killed
+  Died : ℕ → HostCall
+  -- `revive`, with these limits in this incarnation
+  Revived : ℕ → Limits → ℕ → TheProcess → HostCall
+  -- a call of the gateway, or something that happens to it
+  Outside : Call → HostCall
+
+-- it is a call of the gateway
+abbrev pub IsOutside : Call → Type 0
+IsOutside (GaveOut x new) = Unit {0}
+IsOutside (HandedOut x new) = Unit {0}
+IsOutside (DidOut new) = Unit {0}
+IsOutside StoredOut = Unit {0}
+IsOutside (StoredBut k) = Unit {0}
+IsOutside (RevivedOut new) = Unit {0}
+IsOutside call = ⊥
+
+-- the system of `lives` that it is
+abbrev pub as_lives : System → called.System
+as_lives s = record { processes = λ p. as_process (s.processes p); stored = s.stored; lives = s.lives; gateway = s.gateway; durable = s.durable; taken = s.taken; given = s.given }
+
+-- on the next message the handler leaves exactly this state and sends exactly this: the host knows it of machine code
+abbrev pub AnswersSo : List ℕ → Emitted → TheProcess → Type 0
+AnswersSo state e p =
+    (message : OpenJob) (who : Who) → job_at p.course ≡ Some (message, who) → (h : Handled) × ((answer_to p.image who (state_of p.course) message ≡ Some h) × ((h.state ≡ state) × (h.effects ≡ e)))
+
+-- it comes back with an image of this form, with these instructions and this length of state
+abbrev pub RevivesAs : AnyImage → Limits → List ℕ → ℕ → TheProcess → Type 0
+RevivesAs image limits bytes life new = (same : AnyImage) × ((as_image same ≡ as_image image) × IsRevived same limits bytes life new)
+
+-- each call does what the contract of its function says. A packet that is handed over was given, at any time, and may be handed over again.
+-- A host stores the bytes of the checkpoint for which the process waits, and tells it once they are stored. A process comes back from its
+-- stored bytes, with the same handler, in an incarnation above all that were stored
+abbrev pub DoesIt : (ℕ → AnyImage) → ℕ → System → HostCall → Type 0
+DoesIt images n s (Gave p x new) = IsFirst n p × Alive (λ old. Stays (Takes (Some x)) old new) (s.processes p)
+DoesIt images n s (GaveBytes p x bytes new) = IsFirst n p × (IsPacket x bytes × Alive (λ old. GivesBytes bytes old new) (s.processes p))
+DoesIt images n s (Handed p x new) = IsFirst n p × (IsOne x s.given × Alive (λ old. Calls (IsHanded x) old new) (s.processes p))
+DoesIt images n s (HandedBytes p x bytes new) =
+    IsFirst n p × (IsOne x s.given × (IsPacket x bytes × Alive (λ old. (y : Packet) → IsPacket y bytes → Calls (IsHanded y) old new) (s.processes p)))
+DoesIt images n s (Worked p new) = IsFirst n p × Alive (λ old. Works old new) (s.processes p)
+DoesIt images n s (Answered p ticket state e new) =
+    IsFirst n p × Alive (λ old. AnswersSo state e old × (IsAnswered ticket state e old new × WorksAs state e old new)) (s.processes p)
+DoesIt images n s (Ticked p new) = IsFirst n p × Alive (λ old. Calls Ticks old new) (s.processes p)
+DoesIt images n s (Froze p bytes new) =
+    IsFirst n p × Alive (λ old. IsSavable old.course × (Keeps old.course bytes × Stays Freezes old new)) (s.processes p)
+DoesIt images n s (Paused p new) = IsFirst n p × Alive (λ old. Stays Freezes old new) (s.processes p)
+DoesIt images n s (Stored p bytes) = IsFirst n p × Has (λ checkpoint. checkpoint ≡ Pending bytes) (s.processes p)
+DoesIt images n s (Saved p new) = IsFirst n p × (Has (λ checkpoint. checkpoint ≡ Durable) (s.processes p) × Alive (λ old. Stays Thaws old new) (s.processes p))
+DoesIt images n s (Died p) = IsFirst n p
+DoesIt images n s (Revived p limits life new) = IsFirst n p × ((s.processes p ≡ Killed) × ((s.lives p < life) × RevivesAs (images p) limits (s.stored p) life new))
+DoesIt images n s (Outside call) = IsOutside call × called.DoesIt (answering n images) n (as_lives s) call
+
+-- the system after a call of the gateway
+abbrev pub after_outside : System → called.System → System
+after_outside s t = record s { gateway = t.gateway; durable = t.durable; taken = t.taken; given = t.given }
+
+abbrev pub after_call : System → HostCall → System
+after_call s (Gave p x new) = record s { processes = put s.processes p (goes_on new (s.processes p)); given = x ∷ s.given }
+after_call s (GaveBytes p x bytes new) = record s { processes = put s.processes p (goes_on new (s.processes p)); given = x ∷ s.given }
+after_call s (Handed p x new) = record s { processes = put s.processes p (goes_on new (s.processes p)) }
+after_call s (HandedBytes p x bytes new) = record s { processes = put s.processes p (goes_on new (s.processes p)) }
+after_call s (Worked p new) = record s { processes = put s.processes p (goes_on new (s.processes p)) }
+after_call s (Answered p ticket state e new) = record s { processes = put s.processes p (goes_on new (s.processes p)) }
+after_call s (Ticked p new) = record s { processes = put s.processes p (goes_on new (s.processes p)) }
+after_call s (Froze p bytes new) = record s { processes = put s.processes p (Runs new (Pending bytes)) }
+after_call s (Paused p new) = record s { processes = put s.processes p (goes_on new (s.processes p)) }
+after_call s (Stored p bytes) = record s { processes = put s.processes p (keeps (s.processes p)); stored = put s.stored p bytes }
+after_call s (Saved p new) = record s { processes = put s.processes p (Runs new Absent) }
+after_call s (Died p) = record s { processes = put s.processes p Killed }
+after_call s (Revived p limits life new) = record s { processes = put s.processes p (Runs new Absent); lives = put s.lives p life }
+after_call s (Outside call) = after_outside s (called.after_call (as_lives s) call)
+
+-- calls, one after another
+abbrev pub AreCalls : (ℕ → AnyImage) → ℕ → System → List HostCall → Type 0
+AreCalls images n s [] = Unit {0}
+AreCalls images n s (k ∷ ks) = DoesIt images n s k × AreCalls images n (after_call s k) ks
+
+abbrev pub after_calls : System → List HostCall → System
+after_calls s [] = s
+after_calls s (k ∷ ks) = after_calls (after_call s k) ks

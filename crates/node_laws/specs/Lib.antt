@@ -1,0 +1,17 @@
+pub mod Together
+pub mod Process
+pub mod System
+pub mod Back
+pub mod Worked
+pub mod Beside
+pub mod Alone
+pub mod Durable
+pub mod Messages
+pub mod Overlap
+pub mod Outputs
+pub mod HostProcess
+pub mod HostReplies
+pub mod HostSystem
+pub mod HostLives
+pub mod HostBack
+pub mod HostWorked

@@ -1,0 +1,69 @@
+-- A worked list of calls of two durable processes that are killed at once and whose recoveries meet: these failures overlap
+use Rattle.std.specs.Prelude.{◌≡◌, ℕ, List, [], ◌∷◌, true, false}
+use Rattle.packets.specs.declared.packet.Body.TheVariants.{Ask, Told}
+use Rattle.packets.specs.declared.packet.Packet.{Packet}
+use Rattle.packets.specs.Packet.{flags_of}
+use Rattle.node.specs.declared.limit.Limits.{Limits}
+use Rattle.node.specs.Limit.{usual}
+use Rattle.node.specs.Node.{new_node}
+use Rattle.node.specs.Kept.{kept_of}
+use Rattle.node.specs.Runs.{Answering}
+use Rattle.recovery.specs.Collection.{TheCollecting, revived, handed}
+use Rattle.node_laws.specs.Process.{Collects, is_exact}
+use Rattle.node_laws.specs.System.{System, new_system, AreStored, Call, Gave, Handed, Died, Revived, Calls, after_calls}
+use Rattle.node_laws.specs.Durable.{ReplayWhole, StaysDurable}
+use Rattle.node_laws.specs.Beside.{packet}
+
+-- the limits of both
+abbrev pub lasting : Limits
+lasting = record usual { durable = true }
+
+-- the question of a process in its second incarnation, and the answer of the first process that all is lost
+abbrev pub ask : ℕ → ℕ → Packet
+ask from to = packet from to (Ask 2 0)
+
+abbrev pub loss : Packet
+loss = packet 1 2 (Told 2 2 0 (flags_of true true false) [])
+
+-- it comes back; and the packets that it has still to give
+abbrev pub comes : ℕ → ℕ → TheCollecting
+comes len p = revived lasting (kept_of (new_node usual p 2 len)) 2
+
+abbrev pub gives : TheCollecting → List Packet → TheCollecting
+gives n out = record n { own = record n.own { out = out } }
+
+-- the first process hears that the other is recovering too; and the other hears of the first
+abbrev pub hears : ℕ → TheCollecting
+hears len = handed (ask 2 1) (comes len 1)
+
+abbrev pub learns : ℕ → TheCollecting
+learns len = handed loss (gives (comes len 2) [])
+
+abbrev pub met : ℕ → List Call
+met len =
+    Died 1
+    ∷ Died 2
+    ∷ Revived 1 2 (comes len 1)
+    ∷ Revived 2 2 (comes len 2)
+    ∷ Gave 2 (ask 2 0) (Collects (gives (comes len 2) (ask 2 1 ∷ [])))
+    ∷ Gave 2 (ask 2 1) (Collects (gives (comes len 2) []))
+    ∷ Handed 1 (ask 2 1) (Collects (hears len))
+    ∷ Gave 1 (ask 1 0) (Collects (gives (hears len) (ask 1 2 ∷ ask 1 2 ∷ loss ∷ [])))
+    ∷ Gave 1 (ask 1 2) (Collects (gives (hears len) (ask 1 2 ∷ loss ∷ [])))
+    ∷ Gave 1 (ask 1 2) (Collects (gives (hears len) (loss ∷ [])))
+    ∷ Gave 1 loss (Collects (gives (hears len) []))
+    ∷ Handed 2 loss (Collects (learns len))
+    ∷ []
+
+abbrev pub opening : ℕ → ℕ → ℕ → (ℕ → List ℕ) → System
+opening len page tick bytes = new_system 2 (λ _. lasting) (λ _. len) bytes page tick
+
+-- they are such calls, and both stay durable; in the end one of them isn't exact
+pub record IsMet (f : Answering) (len page tick : ℕ) (bytes : ℕ → List ℕ) : Type 0 where
+  pub calls : Calls f 2 (opening len page tick bytes) (met len)
+  pub whole : ReplayWhole (opening len page tick bytes) (met len)
+  pub durable : (p : ℕ) → StaysDurable p (opening len page tick bytes) (met len)
+  pub inexact : is_exact ((after_calls (opening len page tick bytes) (met len)).processes 2) ≡ false
+
+abbrev pub DurableMeet : Type 0
+DurableMeet = (f : Answering) (len page tick : ℕ) (bytes : ℕ → List ℕ) → AreStored 2 (λ _. len) bytes → IsMet f len page tick bytes

@@ -1,0 +1,117 @@
+-- A worked list of calls: the only process of a cluster is killed, comes back from the bytes that were stored before it opened, and is up
+use Rattle.std.specs.Prelude.{◌≡◌, ℕ, List, [], ◌∷◌, true, false}
+use Rattle.packets.specs.declared.packet.Body.{Body}
+use Rattle.packets.specs.declared.packet.Body.TheVariants.{Ask, Told, Resume, Restored}
+use Rattle.packets.specs.declared.packet.Packet.{Packet}
+use Rattle.packets.specs.Packet.{flags_of}
+use Rattle.node.specs.Limit.{usual}
+use Rattle.node.specs.Node.{TheNode, new_node}
+use Rattle.node.specs.Kept.{kept_of}
+use Rattle.node.specs.Runs.{Answering}
+use Rattle.recovery.specs.Collection.{TheCollecting, revived}
+use Rattle.recovery.specs.Collection as collecting
+use Rattle.recovery.specs.Replays.{TheReplaying}
+use Rattle.recovery.specs.StandsAtReplay.{replayed_of}
+use Rattle.recovery.specs.Restoration.{TheRestoring, begun, up}
+use Rattle.recovery.specs.Restoration as restoring
+use Rattle.gateway.specs.Gateway.{TheGateway, new_gateway}
+use Rattle.gateway.specs.Calls as gateways
+use Rattle.node_laws.specs.Process.{Up, Collects, Replays, Replayed, Restores}
+use Rattle.node_laws.specs.System.{new_system, AreStored, Call, Gave, Handed, Did, Died, Revived, GaveOut, HandedOut, StoredOut, Calls, after_calls, StayExact}
+use Rattle.node_laws.specs.Alone.{OneAtATime}
+use Rattle.node_laws.specs.Durable.{ReplayWhole}
+
+-- ---- its packets
+
+-- from the process to the gateway, and back
+abbrev pub from_process : Body → Packet
+from_process b = record { count = 1; from = 1; to = 0; body = b }
+
+abbrev pub from_gateway : Body → Packet
+from_gateway b = record { count = 1; from = 0; to = 1; body = b }
+
+abbrev pub ask : Packet
+ask = from_process (Ask 2 0)
+
+abbrev pub told : Packet
+told = from_gateway (Told 2 1 0 (flags_of true false true) [])
+
+abbrev pub resume : Packet
+resume = from_process (Resume 2 0 0)
+
+abbrev pub restored : Packet
+restored = from_gateway (Restored 2 1 0 0 (flags_of true false true) [])
+
+-- ---- the gateway, with this size of a page and of a tick
+
+abbrev pub sent : TheGateway → TheGateway
+sent g = record g { out = [] }
+
+abbrev pub asked : ℕ → ℕ → TheGateway
+asked page tick = gateways.handed ask (new_gateway 1 page tick)
+
+abbrev pub resumed : ℕ → ℕ → TheGateway
+resumed page tick = gateways.handed resume (sent (asked page tick))
+
+-- ---- the process, with a state of zeros
+
+-- it comes back, and its question is taken
+abbrev pub comes : ℕ → TheCollecting
+comes len = revived usual (kept_of (new_node usual 1 1 len)) 2
+
+abbrev pub asks : ℕ → TheCollecting
+asks len = record (comes len) { own = record (comes len).own { out = [] } }
+
+-- the gateway has told it that its log is empty
+abbrev pub has_all : ℕ → TheCollecting
+has_all len = collecting.handed told (asks len)
+
+abbrev pub replays : ℕ → TheReplaying
+replays len = record { own = (has_all len).own; plan = []; done = 0 }
+
+abbrev pub begins : ℕ → TheRestoring
+begins len = begun (replayed_of (replays len))
+
+abbrev pub resumes : ℕ → TheRestoring
+resumes len = record (begins len) { own = record (begins len).own { out = [] } }
+
+-- the gateway has answered that it has nothing
+abbrev pub has_answer : ℕ → TheRestoring
+has_answer len = restoring.handed restored (resumes len)
+
+-- ---- the calls
+
+abbrev pub worked : ℕ → ℕ → ℕ → List Call
+worked len page tick =
+    Died 1
+    ∷ Revived 1 2 (comes len)
+    ∷ Gave 1 ask (Collects (asks len))
+    ∷ HandedOut ask (asked page tick)
+    ∷ StoredOut
+    ∷ GaveOut told (sent (asked page tick))
+    ∷ Handed 1 told (Collects (has_all len))
+    ∷ Did 1 (Replays (replays len))
+    ∷ Did 1 (Replayed (replayed_of (replays len)))
+    ∷ Did 1 (Restores (begins len))
+    ∷ Gave 1 resume (Restores (resumes len))
+    ∷ HandedOut resume (resumed page tick)
+    ∷ StoredOut
+    ∷ GaveOut restored (sent (resumed page tick))
+    ∷ Handed 1 restored (Restores (has_answer len))
+    ∷ Did 1 (Up (up (has_answer len)))
+    ∷ []
+
+-- they are such calls, in which it fails alone, goes on once all is replayed, and stays exact; in the end it is up in its second
+-- incarnation, with the state of zeros
+pub record IsWorked (f : Answering) (len page tick : ℕ) (bytes : ℕ → List ℕ) : Type 0 where
+  pub calls : Calls f 1 (new_system 1 (λ _. usual) (λ _. len) bytes page tick) (worked len page tick)
+  pub alone : OneAtATime 1 (new_system 1 (λ _. usual) (λ _. len) bytes page tick) (worked len page tick)
+  pub whole : ReplayWhole (new_system 1 (λ _. usual) (λ _. len) bytes page tick) (worked len page tick)
+  pub exact : StayExact 1 (new_system 1 (λ _. usual) (λ _. len) bytes page tick) (worked len page tick)
+  pub node : TheNode
+  pub is_up : (after_calls (new_system 1 (λ _. usual) (λ _. len) bytes page tick) (worked len page tick)).processes 1 ≡ Up node
+  pub life : node.life ≡ 2
+  pub state : node.state ≡ (new_node usual 1 1 len).state
+
+abbrev pub ComesBackUp : Type 0
+ComesBackUp = (f : Answering) (len page tick : ℕ) (bytes : ℕ → List ℕ) → AreStored 1 (λ _. len) bytes → IsWorked f len page tick bytes

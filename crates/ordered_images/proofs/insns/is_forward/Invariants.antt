@@ -1,7 +1,0 @@
-use Rattle.std.proofs.Common.{take}
-use Rattle.std.specs.List.{AllByRecursion}
-use Rattle.ordered_images.specs.Order.{GoesForward}
-use Rattle.ordered_images.proofs.insns.is_forward.Given as goal
-
-abbrev pub invariant-loop-insn : goal.invariant-loop-insn
-invariant-loop-insn l = AllByRecursion GoesForward (take l.insn-index l.insns)

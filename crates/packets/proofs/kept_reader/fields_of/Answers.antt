@@ -1,0 +1,19 @@
+use Rattle.std.proofs.Common.{◌≡◌, ◌-◌, ℕ, List, true, false, length, take, drop, eqb, refl, sym, ap, ◌∙◌}
+use Rattle.std.specs.Prelude.{nat_lt, nat_eq, not}
+use Rattle.std.specs.Cmp.Lexicographic.{pointwise}
+use Rattle.std.proofs.lemmas.Bool.{le-ltb, eq-eqb}
+use Rattle.byteorder.specs.Endian.{little_number}
+use Rattle.packets.specs.Checksum.{crc32c}
+use Rattle.packets.specs.Kept.{kept_magic}
+use Rattle.packets.specs.Inside.KeptReader.{kept_fields_at}
+use Rattle.packets.proofs.kept_reader.fields_of.Goals as goal
+
+pub returns-clause-exact : goal.returns-clause-exact
+unfolding kept_fields_at
+returns-clause-exact c =
+    let b = c.args.bytes.now in
+    let long : nat_lt (length b) 20 ≡ false = le-ltb _ _ c.if-bytes-lt-KEPT_LEN.false in
+    let magical : not (pointwise nat_eq (take 4 b) kept_magic) ≡ false = ap (λ (m : List ℕ). not (pointwise nat_eq (take 4 b) m)) (sym c.as_slice.ensures) ∙ sym c.ne.ensures ∙ c.if-ne.false in
+    let summed : eqb (little_number 4 (drop (length b - 4) b)) (crc32c (take (length b - 4) b)) ≡ true =
+    eq-eqb _ _ (ap (λ (x : List ℕ). little_number 4 x) (sym c.split_at.ensures.back) ∙ sym c.read_u32.ensures ∙ c.if-read_u32-crc32c.false ∙ c.crc32c.ensures ∙ ap crc32c c.split_at.ensures.front) in
+    rw (long, magical, summed) refl

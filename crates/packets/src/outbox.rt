@@ -1,0 +1,89 @@
+//! The packets that wait to be sent.
+
+ghost use Rattle.std.specs.Prelude.{◌≡◌, List, [], ◌∷◌, length, true, IfOk, MatchOption};
+ghost use Rattle.packets.specs.declared.packet.Packet.{Packet};
+ghost use Rattle.packets.specs.Outbox.{pushed, Pops};
+
+use crate::packet::Packet;
+use std::alloc::{AllocError, Global};
+use std::collections::VecDeque;
+use std::marker::Model;
+
+/// This many packets wait at most.
+pub const OUTBOX: usize = 4096;
+
+/// Packets in the order in which they came. The memory for all of them is taken at the start. A
+/// packet that finds no room is lost, as any packet may be.
+#[derive(Drop)]
+pub struct Outbox {
+    packets: VecDeque<Packet>,
+}
+
+impl Model for Outbox {
+    ghost use Rattle.std.specs.Prelude.{List};
+    ghost use Rattle.std.specs.VecDeque.{deque_len, deque_capacity};
+    ghost use Rattle.packets.specs.declared.packet.Packet.{Packet};
+    ghost use Rattle.packets.specs.Outbox.{HasRoom};
+
+    ghost Value = { List Packet };
+
+    ghost view = { λ o. o.packets.items };
+
+    ghost invariant = { λ o. HasRoom (deque_len o.packets) (deque_capacity o.packets) };
+}
+
+impl Outbox {
+    /// An empty outbox.
+    pub fn new(alloc: Global) -> Result<Outbox, AllocError>
+        ensures { IfOk result (λ o. o ≡ []) }
+    {
+        Ok(Outbox {
+            packets: VecDeque::with_capacity(alloc, OUTBOX)?,
+        })
+    }
+
+    /// Whether no packet waits.
+    pub fn is_empty(&self) -> bool
+        ensures yes { result ≡ true → self.now ≡ [] }
+        ensures no { self.now ≡ [] → result ≡ true }
+    {
+        self.packets.is_empty()
+    }
+
+    /// Appends a packet, if there is room.
+    pub fn push(&mut self, packet: Packet)
+        ensures { self.new ≡ pushed packet self.old }
+    {
+        if self.packets.len() < OUTBOX {
+            self.packets.push_back_reserved(packet);
+        }
+    }
+
+    /// Takes the first packet, if there is one.
+    pub fn pop(&mut self) -> Option<Packet>
+        ensures { Pops result self.old self.new }
+    {
+        self.packets.pop_front()
+    }
+
+    /// The first packet, if there is one.
+    pub fn front(&self) -> Option<&Packet>
+        ensures { MatchOption result (self.now ≡ []) (λ x. (rest : List Packet) × (self.now ≡ x.now ∷ rest)) }
+    {
+        self.packets.front()
+    }
+
+    /// Drops all packets.
+    pub fn clear(&mut self)
+        ensures { self.new ≡ [] }
+    {
+        self.packets.clear();
+    }
+
+    /// How many packets wait.
+    pub fn len(&self) -> usize
+        ensures { result ≡ length self.now }
+    {
+        self.packets.len()
+    }
+}

@@ -1,3 +1,0 @@
-pub mod PageLemmas
-pub mod Telling
-pub mod Ranges

@@ -1,6 +1,0 @@
-use Rattle.std.proofs.Common.{◌≡◌, ◌++◌, take, map}
-use Rattle.process.specs.Working.{shown_of}
-use Rattle.process.proofs.working.add_shown.Given as goal
-
-abbrev pub invariant-loop-payload : goal.invariant-loop-payload
-invariant-loop-payload l = l.given.items ≡ l.fn.given.items ++ map shown_of (take l.payload-index l.outputs)

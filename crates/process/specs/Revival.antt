@@ -1,0 +1,58 @@
+-- Processes that are opened or come back
+use Rattle.std.specs.Prelude.{◌≡◌, ◌≢◌, ◌⊎◌, ℕ, List, length, true, false, ⊤}
+use Rattle.images.specs.declared.any_image.AnyImage.{AnyImage}
+use Rattle.images.specs.AnyImage.{state_of}
+use Rattle.packets.specs.declared.kept.Kept.{Kept}
+use Rattle.packets.specs.declared.kept_fault.KeptFault.TheVariants.{Range}
+use Rattle.packets.specs.Kept.{IsKept}
+use Rattle.packets.specs.KeptFaults.{IsFirstKept}
+use Rattle.node.specs.declared.limit.Limits.{Limits}
+use Rattle.node.specs.Node.{IsPositive}
+use Rattle.world.specs.Handlers.{Handlers}
+use Rattle.cluster.specs.Cluster.{opening}
+use Rattle.node.specs.Stands.{Stands, BeginsWith}
+use Rattle.node.specs.Node.{new_node}
+use Rattle.recovery.specs.Own.{comes_back}
+use Rattle.recovery.specs.Collection.{revived}
+use Rattle.recovery.specs.Stands.{Revives}
+use Rattle.process.specs.declared.course.Course.TheVariants.{Up, Collecting}
+use Rattle.process.specs.declared.fault.Unrevived.{Unrevived}
+use Rattle.process.specs.declared.fault.Unrevived.TheVariants as why
+use Rattle.process.specs.Process.{TheProcess}
+
+-- a process that received nothing: it agrees with the opening, in which its handler has a state of zeros
+pub record IsOpened (image : AnyImage) (limits : Limits) (me count : ℕ) (p : TheProcess) : Type 0 where
+  pub image_is : p.image ≡ image
+  pub course_is : p.course ≡ Up (new_node limits me count (state_of image))
+  pub stands : (f : Handlers) → BeginsWith f me (state_of image) → Stands (new_node limits me count (state_of image)) (opening count f) me
+
+-- a process may come back from these bytes, with a state as long as the image's
+pub record IsKeptFor (image : AnyImage) (k : Kept) (bytes : List ℕ) : Type 0 where
+  pub bytes_are : IsKept k bytes
+  pub comes : comes_back k ≡ true
+  pub long : length k.state ≡ state_of image
+
+-- the process that comes back from them
+pub record IsRevived (image : AnyImage) (limits : Limits) (bytes : List ℕ) (life : ℕ) (p : TheProcess) : Type 0 where
+  pub kept : Kept
+  pub is_kept : IsKeptFor image kept bytes
+  pub image_is : p.image ≡ image
+  pub course_is : p.course ≡ Collecting (revived limits kept life)
+  pub revives : Revives kept life (revived limits kept life)
+
+-- no process comes back from them: they have more messages than a process can have received or sent
+abbrev pub IsOver : List ℕ → Type 0
+IsOver bytes = (k : Kept) × IsKept k bytes × (comes_back k ≡ false)
+
+-- why no process comes back from these bytes
+abbrev pub IsUnread : List ℕ → Unrevived → Type 0
+IsUnread bytes why.Memory = ⊤
+IsUnread bytes (why.Kept f) = IsFirstKept f bytes ⊎ ((f ≡ Range) × IsOver bytes)
+IsUnread bytes other = ⊥
+
+-- why no process comes back
+abbrev pub IsUnrevived : AnyImage → List ℕ → ℕ → Unrevived → Type 0
+IsUnrevived image bytes life why.Memory = ⊤
+IsUnrevived image bytes life (why.Kept f) = IsPositive life × IsUnread bytes (why.Kept f)
+IsUnrevived image bytes life why.State = IsPositive life × ((k : Kept) × IsKept k bytes × (comes_back k ≡ true) × (length k.state ≢ state_of image))
+IsUnrevived image bytes life why.Incarnation = ¬ IsPositive life

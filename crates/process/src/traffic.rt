@@ -1,0 +1,201 @@
+//! Packets in and out, and what is sent again.
+
+ghost use Rattle.std.specs.Prelude.{◌≡◌, ◌∷◌, [], false, List, IfOk, IfErr, IfNone, IfSome, OnOk, OnErr, MatchOption};
+ghost use Rattle.packets.specs.declared.packet.Packet.{Packet};
+ghost use Rattle.packets.specs.Format.{Fits, IsPacket};
+ghost use Rattle.packets.specs.Faults.{IsReason};
+ghost use Rattle.node.specs.Bytes.{IsTaken};
+ghost use Rattle.process.specs.Process.{out_of};
+ghost use Rattle.process.specs.Calls.{Calls, Stays, IsHanded, Ticks, Takes};
+ghost use Rattle.process.specs.Packets.{IsFront, GivesBytes};
+ghost use Rattle.process.specs.Transitions.{Passes, is_held, IsHeld};
+
+use crate::course::Course;
+use crate::process::Process;
+use packets::{Packet, PacketError, decode, encode, one_packet};
+use recovery::Cause;
+use std::alloc::{AllocError, Global};
+use std::mem::replace;
+
+impl Process {
+    /// Takes the bytes of a packet as [`Process::receive`] takes the packet. Any other bytes are
+    /// refused by the first of their faults. A refusal changes nothing.
+    pub fn receive_bytes(&mut self, alloc: Global, bytes: &[u8]) -> Result<(), PacketError>
+        // Bytes that are taken are those of one packet.
+        ensures found { OnOk result ((p : Packet) × IsPacket p bytes.now) }
+        ensures calls { OnOk result ((p : Packet) → IsPacket p bytes.now → Calls (IsHanded p) self.old self.new) }
+        // The bytes of a packet are taken, unless memory runs out.
+        ensures only { (p : Packet) → IsPacket p bytes.now → IsTaken result }
+        ensures refused { IfErr result (λ e. IsReason e bytes.now) }
+        ensures err { OnErr result (self.new ≡ self.old) }
+    {
+        one_packet();
+        let packet = decode(alloc, bytes)?;
+        self.receive(alloc, &packet)?;
+        Ok(())
+    }
+
+    /// Takes a packet. While messages are to be replayed it drops it, but in each stage it answers
+    /// a peer that is recovering too. A refusal changes nothing.
+    pub fn receive(&mut self, alloc: Global, packet: &Packet) -> Result<(), AllocError>
+        ensures calls { OnOk result (Calls (IsHanded packet.now) self.old self.new) }
+        ensures err { OnErr result (self.new ≡ self.old) }
+    {
+        self.course.hand(alloc, packet)?;
+        let _held = self.pass(alloc);
+        Ok(())
+    }
+
+    /// Sends again what isn't answered. If memory was refused for the next stage, it tries again to
+    /// go on, and says why if it still can't.
+    pub fn tick(&mut self, alloc: Global) -> Result<(), Cause>
+        ensures calls { Calls Ticks self.old self.new }
+        ensures on { OnOk result (is_held self.new.course ≡ false) }
+        ensures held { IfErr result (λ why. IsHeld why self.new.course) }
+    {
+        self.course.send_again();
+        self.pass(alloc)
+    }
+
+    /// Takes the first packet that waits to be sent, if there is one.
+    pub fn take(&mut self) -> Option<Packet>
+        ensures { Stays (Takes result) self.old self.new }
+    {
+        self.course.pop()
+    }
+
+    /// Takes the first packet that waits, if there is one, as bytes. A refusal, which is by memory,
+    /// changes nothing.
+    pub fn take_bytes(&mut self, alloc: Global) -> Result<Option<Vec<u8>>, AllocError>
+        ensures none { IfOk result (λ o. IfNone o ((self.new ≡ self.old) × (out_of self.old.course ≡ []))) }
+        ensures some { IfOk result (λ o. IfSome o (λ v. GivesBytes v.items self.old self.new)) }
+        ensures err { OnErr result (self.new ≡ self.old) }
+    {
+        match self.front_bytes(alloc)? {
+            Some(bytes) => {
+                self.discard();
+                Ok(Some(bytes))
+            }
+            None => Ok(None),
+        }
+    }
+
+    /// Drops the first packet that waits.
+    fn discard(&mut self)
+        ensures { (x : Packet) (rest : List Packet) → out_of self.old.course ≡ x ∷ rest → Stays (Takes (Some x)) self.old self.new }
+    {
+        let _packet = self.take();
+    }
+
+    /// The bytes of the first packet that waits, if there is one. It still waits.
+    pub fn front_bytes(&self, alloc: Global) -> Result<Option<Vec<u8>>, AllocError>
+        ensures none { IfOk result (λ o. IfNone o (out_of self.now.course ≡ [])) }
+        ensures some { IfOk result (λ o. IfSome o (λ v. IsFront self.now v.items)) }
+    {
+        if let Course::Up(node) = &self.course {
+            return match node.front() {
+                Some(packet) => written(alloc, packet),
+                None => Ok(None),
+            };
+        }
+        match self.front() {
+            Some(packet) => written(alloc, packet),
+            None => Ok(None),
+        }
+    }
+
+    /// Goes on to the next stage if its stage is over, or says why it can't.
+    pub(crate) fn pass(&mut self, alloc: Global) -> Result<(), Cause>
+        ensures passes { Stays Passes self.old self.new }
+        ensures on { OnOk result (is_held self.new.course ≡ false) }
+        ensures held { IfErr result (λ why. IsHeld why self.new.course) }
+    {
+        if self.course.is_up() {
+            return Ok(());
+        }
+        self.pass_on(alloc)
+    }
+
+    /// The same for a process that isn't up, which is rare.
+    #[inline(never)]
+    fn pass_on(&mut self, alloc: Global) -> Result<(), Cause>
+        ensures passes { Stays Passes self.old self.new }
+        ensures on { OnOk result (is_held self.new.course ≡ false) }
+        ensures held { IfErr result (λ why. IsHeld why self.new.course) }
+    {
+        let course = replace(&mut self.course, Course::Passing);
+        match course.passed(alloc) {
+            Ok(course) => {
+                self.course = course;
+                Ok(())
+            }
+            Err(held) => {
+                self.course = held.course;
+                Err(held.cause)
+            }
+        }
+    }
+}
+
+impl Course {
+    /// Takes a packet. A refusal changes nothing.
+    fn hand(&mut self, alloc: Global, packet: &Packet) -> Result<(), AllocError>
+        ensures ok { OnOk result (IsHanded packet.now self.old self.new) }
+        ensures err { OnErr result (self.new ≡ self.old) }
+    {
+        match self {
+            Course::Up(process) => process.receive(alloc, packet),
+            Course::Collecting(process) => process.receive(alloc, packet),
+            Course::Replaying(process) => {
+                process.receive(alloc, packet);
+                Ok(())
+            }
+            Course::Replayed(process) => {
+                process.receive(alloc, packet);
+                Ok(())
+            }
+            Course::Restoring(process) => {
+                process.receive(alloc, packet);
+                Ok(())
+            }
+            Course::Passing => Ok(()),
+        }
+    }
+
+    /// Sends again what isn't answered.
+    fn send_again(&mut self)
+        ensures { Ticks self.old self.new }
+    {
+        match self {
+            Course::Up(process) => process.tick(),
+            Course::Collecting(process) => process.tick(),
+            Course::Restoring(process) => process.tick(),
+            Course::Replaying(_) => {}
+            Course::Replayed(_) => {}
+            Course::Passing => {}
+        }
+    }
+
+    /// Takes the first packet that waits, if there is one.
+    fn pop(&mut self) -> Option<Packet>
+        ensures { Takes result self.old self.new }
+    {
+        match self {
+            Course::Up(process) => process.take(),
+            Course::Collecting(process) => process.take(),
+            Course::Replaying(process) => process.take(),
+            Course::Replayed(process) => process.pop(),
+            Course::Restoring(process) => process.take(),
+            Course::Passing => None,
+        }
+    }
+}
+
+/// The bytes of a packet.
+fn written(alloc: Global, packet: &Packet) -> Result<Option<Vec<u8>>, AllocError>
+    requires { Fits packet.now }
+    ensures { IfOk result (λ o. MatchOption o ⊥ (λ v. IsPacket packet.now v.items)) }
+{
+    let bytes = encode(alloc, packet)?;
+    Ok(Some(bytes))
+}

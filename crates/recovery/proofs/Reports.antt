@@ -1,0 +1,256 @@
+-- A page comes to a process that collects
+use Rattle.std.proofs.Common.{◌≡◌, ◌≢◌, inr, ℕ, suc, ◌<◌, ◌≤◌, List, length, Bool, true, false, refl, sym, ap, ◌∙◌, subst, arith}
+use Rattle.std.specs.Prelude.{None, Option, Some, not, slice_index_or, slice_set, ◌&&◌, ◌==◌, nat_lt, nat_le, if◌then◌else◌}
+use Rattle.std.proofs.lemmas.Bool.Decides.{nat_tests}
+use Rattle.world.specs.declared.message.Message.{Message}
+use Rattle.theorems.proofs.Changes.{at-itself}
+use Rattle.theorems.proofs.Tests.{both}
+use Rattle.cluster.specs.Parcels.{Body, Ask, Told, In, parcel, reaches}
+use Rattle.cluster.specs.Cluster.{Cluster, Collected}
+use Rattle.cluster.specs.Rules.{Act, Hears, Collects, Asks, May, does, with_page as with_told}
+use Rattle.packets.specs.Packet.{is_done, is_lost, is_exact, in_range}
+use Rattle.packets.specs.declared.page.Entry.{Entry}
+use Rattle.packets.specs.declared.page.Flags.{Flags}
+use Rattle.packets.specs.declared.packet.Body as bodies
+use Rattle.packets.specs.declared.packet.Body.TheVariants as packets
+use Rattle.packets.specs.declared.packet.Packet.{Packet}
+use Rattle.recovery.specs.Own.{hears, learns, is_for}
+use Rattle.recovery.specs.Overlap.{heard_of, tells_loss}
+use Rattle.packets.specs.Says.{WasSaid, told_end, first_told}
+use Rattle.recovery.specs.Collected.{TheCollected, with_page, none_told}
+use Rattle.recovery.specs.Collection.{TheCollecting, told_of, answers, took_page, asks_anew, asked_by, heard, handed}
+use Rattle.recovery.specs.Stands.{IsTold, IsSaid, StandsCollecting, GoesTo, IsHanded}
+use Rattle.recovery.proofs.Lists.{at-changed}
+use Rattle.recovery.proofs.Acts.{goes-self, goes-one, goes-then}
+use Rattle.recovery.proofs.Pages.{IsPage, page-in-range}
+use Rattle.recovery.proofs.Told.{told-none, told-page}
+use Rattle.recovery.proofs.Posts.{collecting-out, loss-out}
+use Rattle.recovery.proofs.Meetings.{off-set}
+use Rattle.recovery.proofs.Inquiries.{At, by-branch, asks-at, only-asks}
+
+-- what a page has that answers what was asked last
+pub record IsAnswer (n : TheCollecting) (from i j k : ℕ) : Type 0 where
+  pub life : i ≡ n.own.life
+  pub young : slice_index_or n.own.heard from 0 ≤ j
+  pub open_is : (told_of n.told from).done ≡ false
+  pub cursor : k ≡ (told_of n.told from).cursor
+
+off : (b : Bool) → not b ≡ true → b ≡ false
+off true e = absurd (cc)
+off false e = refl
+
+pub is-answer : (n : TheCollecting) (from i j k : ℕ) → answers from i j k n ≡ true → IsAnswer n from i j k
+is-answer n from i j k e =
+    let x = told_of n.told from in
+    let h = slice_index_or n.own.heard from 0 in
+    let b = both ((i == n.own.life) && nat_le h j && not x.done) (k == x.cursor) e in
+    let d = both ((i == n.own.life) && nat_le h j) (not x.done) b.0 in
+    let g = both (i == n.own.life) (nat_le h j) d.0 in
+    record {
+      life = (let z : (i == n.own.life) ≡ true = g.0 in grind (arith, nat_tests));
+      young = (let z : nat_le h j ≡ true = g.1 in grind (arith, nat_tests));
+      open_is = off x.done d.1;
+      cursor = (let z : (k == x.cursor) ≡ true = b.1 in grind (arith, nat_tests));
+    }
+
+module _ (n : TheCollecting) (c : Cluster) (from i j k : ℕ) (flags : Flags) (page : List Entry) (f : ℕ → Option Message) (s : StandsCollecting n c n.own.me) (low : from ≤ n.own.count) (other : from ≢ n.own.me)
+    (told_wide : length n.told ≡ suc n.own.count) (heard_wide : length n.own.heard ≡ suc n.own.count) (ok : IsAnswer n from i j k) (fits : IsPage k page) (given : In (parcel from n.own.me (Told i j k (told_end flags k page) f)) c.parcels)
+    (says : (m : ℕ) → k < m → reaches (told_end flags k page) m ≡ true → f m ≡ first_told from page m) (exact : n.own.exact && (not (is_lost flags) && is_exact flags) ≡ true) (kept : is_lost flags ≡ false) where
+  abbrev me : ℕ
+  me = n.own.me
+
+  abbrev base : ℕ
+  base = n.own.base
+
+  abbrev act : Act
+  act = Collects from me i j k (told_end flags k page) f
+
+  abbrev c' : Cluster
+  c' = does c act
+
+  abbrev more : TheCollected
+  more = with_page (is_done flags) page (told_of n.told from)
+
+  abbrev mid : TheCollecting
+  mid = record { own = learns from j flags n.own; told = slice_set n.told from more }
+
+  within : from ≤ c.count
+  within = omega (arith, low, s.own.count)
+
+  asked : Asks (c.saved me) (c.told me from) k
+  asked = rw (s.own.saved, ok.cursor) ((s.told from within).asks ok.open_is)
+
+  may : May c act
+  may = (given, s.stage, ok.life ∙ sym s.life, (let e = s.own.heard from within in omega (arith, e, ok.young)), asked)
+
+  heard-is : (q : ℕ) → q ≤ c.count → c'.heard me q ≡ slice_index_or (slice_set n.own.heard from j) q 0
+  heard-is q l = at-itself me (λ t. (if t && (q == from) then j else c.heard me q) ≡ slice_index_or (slice_set n.own.heard from j) q 0)
+      (at-changed (λ z x y. y ≡ x) n.own.heard 0 (c.heard me) from j j q (omega (arith, low, heard_wide)) refl (s.own.heard q l))
+
+  told-is : (q : ℕ) → q ≤ c.count → IsTold q base (told_of mid.told q) (c'.told me q)
+  told-is q l =
+      let page_of : Collected = with_told (c.told me from) k (told_end flags k page) f in
+      at-itself me (λ t. IsTold q base (told_of (slice_set n.told from more) q) (if t && (q == from) then Some page_of else c.told me q))
+      (at-changed (λ z x y. IsTold z base x y) n.told (none_told 0) (c.told me) from more (Some page_of) q (omega (arith, low, told_wide))
+      (told-page from base k (told_of n.told from) (c.told me from) flags page f (s.told from within) ok.open_is ok.cursor fits says) (s.told q l))
+
+  alone-is : c'.told me me ≡ None
+  alone-is =
+      let apart : (me == from) ≡ false = (let f : me ≢ from = λ e. other (sym e) in grind (arith, nat_tests)) in
+      at-itself me (λ t. (if t && (me == from) then Some (with_told (c.told me from) k (told_end flags k page) f) else c.told me me) ≡ None) (rw apart s.alone)
+
+  stands-mid : StandsCollecting mid c' me
+  stands-mid = record {
+    stage = s.stage;
+    life = s.life;
+    own = record {
+      me = refl;
+      count = s.own.count;
+      inside = s.own.inside;
+      saved = s.own.saved;
+      many = s.own.many;
+      state = s.own.state;
+      covered = s.own.covered;
+      logs = s.own.logs;
+      held = s.own.held;
+      grown = s.own.grown;
+      heard = heard-is;
+      sure = record { exact_is = exact; none_lost = λ q l. off-set n.own.lost from q (is_lost flags) kept (s.own.sure.none_lost from low) (s.own.sure.none_lost q l) };
+      out = s.own.out;
+    };
+    told = told-is;
+    alone = alone-is;
+  }
+
+  goes-page : GoesTo me (At (took_page from j flags page n) me) c
+  goes-page = goes-then me (At mid me) (At (took_page from j flags page n) me) c (goes-one me (At mid me) c act may refl stands-mid)
+      (λ d t. asks-at mid d from t low other)
+
+-- a peer that comes back too asks in a newer incarnation
+module _ (n : TheCollecting) (c : Cluster) (from i k : ℕ) (s : StandsCollecting n c n.own.me) (low : from ≤ n.own.count) (other : from ≢ n.own.me) (told_wide : length n.told ≡ suc n.own.count)
+    (heard_wide : length n.own.heard ≡ suc n.own.count) (newer : nat_lt (heard_of from n.own) i ≡ true) (given : In (parcel from n.own.me (Ask i k)) c.parcels) where
+  abbrev p : ℕ
+  p = n.own.me
+
+  abbrev hear : Act
+  hear = Hears from p i k
+
+  abbrev d' : Cluster
+  d' = does c hear
+
+  abbrev anew : TheCollecting
+  anew = record { own = record (hears from i n.own) { lost = slice_set n.own.lost from false }; told = slice_set n.told from (none_told n.own.base) }
+
+  from-in : from ≤ c.count
+  from-in = omega (arith, low, s.own.count)
+
+  may-hear : May c hear
+  may-hear = (given, (let l : heard_of from n.own < i = grind (arith, nat_tests) in let e = s.own.heard from from-in in omega (arith, l, e)), inr s.stage)
+
+  heard-anew : (q : ℕ) → q ≤ c.count → d'.heard p q ≡ slice_index_or (slice_set n.own.heard from i) q 0
+  heard-anew q l = at-itself p (λ t. (if t && (q == from) then i else c.heard p q) ≡ slice_index_or (slice_set n.own.heard from i) q 0)
+      (at-changed (λ z x y. y ≡ x) n.own.heard 0 (c.heard p) from i i q (omega (arith, low, heard_wide)) refl (s.own.heard q l))
+
+  told-anew : (q : ℕ) → q ≤ c.count → IsTold q n.own.base (told_of anew.told q) (d'.told p q)
+  told-anew q l =
+      at-itself p (λ t. IsTold q n.own.base (told_of (slice_set n.told from (none_told n.own.base)) q) (if t && (q == from) then None else c.told p q))
+      (at-changed (λ z x y. IsTold z n.own.base x y) n.told (none_told 0) (c.told p) from (none_told n.own.base) None q (omega (arith, low, told_wide)) (told-none from n.own.base) (s.told q l))
+
+  alone-anew : d'.told p p ≡ None
+  alone-anew =
+      let apart : (p == from) ≡ false = (let f : p ≢ from = λ e. other (sym e) in grind (arith, nat_tests)) in
+      at-itself p (λ t. (if t && (p == from) then None else c.told p p) ≡ None) (rw apart s.alone)
+
+  stands-anew : StandsCollecting anew d' p
+  stands-anew = record {
+    stage = s.stage;
+    life = s.life;
+    own = record {
+      me = refl;
+      count = s.own.count;
+      inside = s.own.inside;
+      saved = s.own.saved;
+      many = s.own.many;
+      state = s.own.state;
+      covered = s.own.covered;
+      logs = s.own.logs;
+      held = s.own.held;
+      grown = s.own.grown;
+      heard = heard-anew;
+      sure = record { exact_is = s.own.sure.exact_is; none_lost = λ q l. off-set n.own.lost from q false refl (s.own.sure.none_lost from low) (s.own.sure.none_lost q l) };
+      out = s.own.out;
+    };
+    told = told-anew;
+    alone = alone-anew;
+  }
+
+  goes-anew : GoesTo p (At (asks_anew from i n) p) c
+  goes-anew = goes-then p (At anew p) (At (asks_anew from i n) p) c (goes-one p (At anew p) c hear may-hear refl stands-anew) (λ d t. asks-at anew d from t low other)
+
+-- it stands where it tells that all is lost
+tells-so : (n : TheCollecting) (p q i k : ℕ) (c : Cluster) → GoesTo p (At n p) c → GoesTo p (At (record n { own = tells_loss q i k n.own }) p) c
+tells-so n p q i k c g = goes-then p (At n p) (At (record n { own = tells_loss q i k n.own }) p) c g
+    (λ d t. goes-self p (At (record n { own = tells_loss q i k n.own }) p) d (collecting-out n d p (tells_loss q i k n.own).out (loss-out n.own d p q i k t.own.out) t))
+
+-- where it stays exact, it goes on to where it stands
+abbrev pub Onward : ℕ → Cluster → TheCollecting → Type 0
+Onward p c m = m.own.exact ≡ true → GoesTo p (At m p) c
+
+-- what is said to it
+module _ (n : TheCollecting) (c : Cluster) (from : ℕ) (s : StandsCollecting n c n.own.me) (low : from ≤ n.own.count) (other : from ≢ n.own.me) (wide : length n.told ≡ suc n.own.count) (heard_wide : length n.own.heard ≡ suc n.own.count) where
+  none-heard : Onward n.own.me c n
+  none-heard e = goes-self n.own.me (At n n.own.me) c s
+
+  asking-heard : (i k : ℕ) → In (parcel from n.own.me (Ask i k)) c.parcels → Onward n.own.me c (asked_by from i k n)
+  asking-heard i k given =
+      by-branch (Onward n.own.me c) (nat_lt i (heard_of from n.own)) n (let m : TheCollecting = if nat_lt (heard_of from n.own) i then asks_anew from i n else n in record m { own = tells_loss from i k m.own }) (λ e. none-heard)
+      (λ e. by-branch (λ m. Onward n.own.me c (record m { own = tells_loss from i k m.own })) (nat_lt (heard_of from n.own) i) (asks_anew from i n) n
+      (λ newer z. tells-so (asks_anew from i n) n.own.me from i k c (goes-anew n c from i k s low other wide heard_wide newer given))
+      (λ old z. tells-so n n.own.me from i k c (goes-self n.own.me (At n n.own.me) c s)))
+
+  exact-page : (j : ℕ) (flags : Flags) (page : List Entry) → (took_page from j flags page n).own.exact ≡ n.own.exact && (not (is_lost flags) && is_exact flags)
+  exact-page j flags page = ap (λ (z : TheCollecting). z.own.exact) (only-asks (record { own = learns from j flags n.own; told = slice_set n.told from (with_page (is_done flags) page (told_of n.told from)) }) from)
+
+  page-heard : (i j k : ℕ) (flags : Flags) (page : List Entry) → IsSaid c.parcels from n.own.me (packets.Told i j k flags page) → Onward n.own.me c (heard from (packets.Told i j k flags page) n)
+  page-heard i j k flags page said =
+      by-branch (Onward n.own.me c) (in_range (packets.Told i j k flags page) && answers from i j k n) (took_page from j flags page n) n
+      (λ e z. let two = both (in_range (packets.Told i j k flags page)) (answers from i j k n) e in
+      let exact : n.own.exact && (not (is_lost flags) && is_exact flags) ≡ true = sym (exact-page j flags page) ∙ z in
+      let kept : is_lost flags ≡ false = off (is_lost flags) (both (not (is_lost flags)) (is_exact flags) (both n.own.exact (not (is_lost flags) && is_exact flags) exact).1).0 in
+      let was : WasSaid c.parcels from n.own.me (packets.Told i j k flags page) = said kept in
+      let f = was.1.0 in
+      let given : In (parcel from n.own.me (Told i j k (told_end flags k page) f)) c.parcels = (let P : Body → Type 0 = λ b. In (parcel from n.own.me b) c.parcels in subst P was.1.1 was.2) in
+      goes-page n c from i j k flags page f s low other wide heard_wide (is-answer n from i j k two.1) (page-in-range i j k flags page two.0) given was.1.3 exact kept)
+      (λ e. none-heard)
+
+  ask-heard : (i k : ℕ) → IsSaid c.parcels from n.own.me (packets.Ask i k) → Onward n.own.me c (heard from (packets.Ask i k) n)
+  ask-heard i k said =
+      let was : WasSaid c.parcels from n.own.me (packets.Ask i k) = said refl in
+      let given : In (parcel from n.own.me (Ask i k)) c.parcels = (let same : was.0 ≡ Ask i k = cc (was.1) in let P : Body → Type 0 = λ b. In (parcel from n.own.me b) c.parcels in subst P same was.2) in
+      by-branch (Onward n.own.me c) (in_range (packets.Ask i k)) (asked_by from i k n) n (λ e. asking-heard i k given) (λ e. none-heard)
+
+  hearing : (x : bodies.Body) → IsSaid c.parcels from n.own.me x → Onward n.own.me c (heard from x n)
+  hearing (packets.Told i j k flags page) said = page-heard i j k flags page said
+  hearing (packets.Ask i k) said = ask-heard i k said
+  hearing (packets.Delivery i ssn x) said = none-heard
+  hearing (packets.Number i ssn k) said = none-heard
+  hearing (packets.Acknowledgement i k) said = none-heard
+  hearing (packets.Resume i k t) said = none-heard
+  hearing (packets.Restored i j k t flags pairs) said = none-heard
+  hearing (packets.Saved k) said = none-heard
+
+-- a packet comes
+pub handing : (n : TheCollecting) (x : Packet) → length n.told ≡ suc n.own.count → length n.own.heard ≡ suc n.own.count → IsHanded x n (handed x n)
+handing n x wide heard_wide exact c s said =
+    let me = n.own.me in
+    let o = n.own in
+    by-branch (Onward me c) (is_for o x) (heard x.from x.body n) n
+    (λ e. let a = both ((x.count == o.count) && (x.to == o.me) && nat_le x.from o.count) (not (x.from == o.me)) e in
+    let b = both ((x.count == o.count) && (x.to == o.me)) (nat_le x.from o.count) a.0 in
+    let d = both (x.count == o.count) (x.to == o.me) b.0 in
+    let to : x.to ≡ me = (let z : (x.to == o.me) ≡ true = d.1 in grind (arith, nat_tests)) in
+    let low : x.from ≤ o.count = (let z : nat_le x.from o.count ≡ true = b.1 in grind (arith, nat_tests)) in
+    let other : x.from ≢ me = (let z : (x.from == o.me) ≡ false = off (x.from == o.me) a.1 in grind (arith, nat_tests)) in
+    let P : ℕ → Type 0 = λ z. IsSaid c.parcels x.from z x.body in
+    hearing n c x.from s low other wide heard_wide x.body (subst P to said))
+    (λ e z. goes-self me (At n me) c s) exact

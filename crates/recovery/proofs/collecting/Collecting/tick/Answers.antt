@@ -1,8 +1,0 @@
-use Rattle.std.proofs.Common.{subst, sym}
-use Rattle.recovery.specs.Collecting.{TheCollecting}
-use Rattle.recovery.specs.Stands.{Acts}
-use Rattle.recovery.proofs.Asking.{asking}
-use Rattle.recovery.proofs.collecting.Collecting.tick.Goals as goal
-
-pub returns-clause-acts : goal.returns-clause-acts
-returns-clause-acts c = let P : TheCollecting → Type 0 = λ v. Acts c.args.self.now v in subst P (sym c.ask_all.ensures) (asking c.args.self.now)

@@ -1,0 +1,9 @@
+use Rattle.std.proofs.Common.{◌≡◌, ap, ◌∙◌, arith}
+use Rattle.recovery.specs.Collection.{TheCollecting}
+use Rattle.recovery.proofs.Inquiries.{only-below}
+use Rattle.recovery.proofs.collection.Collecting.ask_all.Goals as goal
+
+pub ask-requires : goal.ask-requires
+ask-requires c =
+    let count : c.loop-to.self.own.count ≡ c.args.self.now.own.count = ap (λ (n : TheCollecting). n.own.count) (c.loop-to.invariant ∙ only-below c.args.self.now c.me-me.result c.loop-to.to) in
+    omega (arith, count, c.count-to-end.ensures.value, ap (λ (n : TheCollecting). n.own.count) c.self.view_is)

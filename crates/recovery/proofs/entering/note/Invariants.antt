@@ -1,6 +1,0 @@
-use Rattle.std.proofs.Common.{◌≡◌, take}
-use Rattle.recovery.specs.Entering.{noted}
-use Rattle.recovery.proofs.entering.note.Given as goal
-
-abbrev pub invariant-loop-pair : goal.invariant-loop-pair
-invariant-loop-pair l = l.log ≡ noted (take l.pair-index l.pairs) l.fn.log

@@ -1,0 +1,51 @@
+-- When a process that restores RSNs agrees with a cluster, and what a call owes
+use Rattle.std.specs.Prelude.{◌≡◌, ℕ, ◌<◌, ◌≤◌, [], ◌∷◌, length, Option, Some, None, true, false}
+use Rattle.world.specs.Logs.{sent_in_all}
+use Rattle.world.specs.Calls.{phase_with}
+use Rattle.cluster.specs.Cluster.{Cluster, Live, seen}
+use Rattle.packets.specs.declared.packet.Packet.{Packet}
+use Rattle.node.specs.Node.{TheNode}
+use Rattle.node.specs.Stands.{HasReceived, Stands}
+use Rattle.recovery.specs.Stands.{HasOwn, IsSaid, IsSent, GoesTo}
+use Rattle.recovery.specs.Replayed.{TheReplayed, StandsReplayed}
+use Rattle.recovery.specs.Restoration.{TheRestoring, above_of, has_answered, left}
+
+-- it agrees with a cluster in which p restores its RSNs and waits for the same peers: all that p received is acknowledged; from a peer that
+-- it waits for it has the RSNs up to the SSN up to which that told them; and if it waits for no process, all that it sent is released
+pub record StandsRestoring (n : TheRestoring) (c : Cluster) (p : ℕ) : Type 0 where
+  pub stage : c.stage p ≡ Live
+  pub greeted : c.greeted p ≡ has_answered 0 n
+  pub phase : c.phase p ≡ phase_with (left n)
+  pub life : c.life p ≡ n.own.life
+  pub own : HasOwn n.own c p (c.history p) (c.trims p) (c.numbers p)
+  pub received : HasReceived n.own.count n.own.base n.own.covered n.receipts (c.history p) (c.acknowledged p)
+  pub acknowledged : (k : ℕ) → k ≤ length (c.history p) → c.acknowledged p k ≡ true
+  pub fresh : (q ssn : ℕ) → q ≤ c.count → has_answered q n ≡ false → above_of q n < ssn → c.numbers p q ssn ≡ None
+  pub resumed : (q : ℕ) → c.resumed p q ≡ true
+  pub restoring : (q : ℕ) → q ≤ c.count → c.restoring p q ≡ above_of q n
+  pub released : left n ≡ [] → (d : ℕ) → c.released p d ≡ sent_in_all (seen c) p d
+
+-- what the first call owes: from each cluster in which the process has finished its replay, to one with which it agrees
+abbrev pub Begins : TheReplayed → TheRestoring → Type 0
+Begins r n = (c : Cluster) → StandsReplayed r c r.own.me → GoesTo r.own.me (λ d. StandsRestoring n d r.own.me) c
+
+-- what a call owes: from each cluster with which it agreed, and for which `given` holds, to one with which it agrees
+abbrev pub Owes : (Cluster → Type 0) → TheRestoring → TheRestoring → Type 0
+Owes given old new = (c : Cluster) → StandsRestoring old c old.own.me → given c → GoesTo old.own.me (λ d. StandsRestoring new d old.own.me) c
+
+-- what a call owes that is handed nothing
+abbrev pub Acts : TheRestoring → TheRestoring → Type 0
+Acts old new = Owes (λ c. Unit {0}) old new
+
+-- what a call owes that is handed a packet, if that was sent; nothing if the process is no longer exact
+abbrev pub IsHanded : Packet → TheRestoring → TheRestoring → Type 0
+IsHanded x old new = new.own.exact ≡ true → Owes (λ c. IsSaid c.parcels x.from x.to x.body) old new
+
+-- what `take` owes: it gives the first packet that waited, which was sent, and the process no longer has it
+abbrev pub Takes : Option Packet → TheRestoring → TheRestoring → Type 0
+Takes None old new = (old.own.out ≡ []) × (new ≡ old)
+Takes (Some x) old new = (old ≡ record new { own = record new.own { out = x ∷ new.own.out } }) × ((c : Cluster) → StandsRestoring old c old.own.me → IsSent c.count c.parcels old.own.me x × StandsRestoring new c old.own.me)
+
+-- its node agrees with the same clusters
+abbrev pub IsUp : TheRestoring → TheNode → Type 0
+IsUp n node = (c : Cluster) → StandsRestoring n c n.own.me → Stands node c n.own.me

@@ -1,9 +1,0 @@
-use Rattle.std.proofs.Common.{◌≡◌, ap, ◌∙◌, arith}
-use Rattle.restoring.specs.Restoring.{TheRestoring}
-use Rattle.restoring.proofs.Asking.{only-below}
-use Rattle.restoring.proofs.restoring.Restoring.ask_all.Goals as goal
-
-pub ask-requires : goal.ask-requires
-ask-requires c =
-    let count : c.loop-to.self.own.count ≡ c.args.self.now.own.count = ap (λ (n : TheRestoring). n.own.count) (c.loop-to.invariant ∙ only-below c.args.self.now c.loop-to.to) in
-    omega (arith, count, c.count-to-end.ensures.value, ap (λ (n : TheRestoring). n.own.count) c.self.view_is)

@@ -1,6 +1,0 @@
-use Rattle.std.proofs.Common.{◌≡◌}
-use Rattle.restoring.specs.Restoring.{asks_below}
-use Rattle.restoring.proofs.restoring.Restoring.ask_all.Given as goal
-
-abbrev pub invariant-loop-to : goal.invariant-loop-to
-invariant-loop-to l = l.self ≡ asks_below l.to l.fn.self

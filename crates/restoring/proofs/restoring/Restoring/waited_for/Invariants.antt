@@ -1,7 +1,0 @@
-use Rattle.std.proofs.Common.{◌≡◌, ◌^◌}
-use Rattle.recovery.specs.Reading.{bits_of}
-use Rattle.restoring.specs.Reading.{is_asked}
-use Rattle.restoring.proofs.restoring.Restoring.waited_for.Given as goal
-
-abbrev pub invariant-loop-peer : goal.invariant-loop-peer
-invariant-loop-peer l = (l.peers ≡ bits_of (is_asked l.self) l.peer) × (l.bit ≡ 2 ^ l.peer)

@@ -1,9 +1,0 @@
-pub mod Words
-pub mod Values
-pub mod Memory
-pub mod Running
-pub mod Calls
-pub mod Entry
-pub mod Within
-pub mod Slices
-pub mod Worked

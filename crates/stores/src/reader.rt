@@ -1,0 +1,125 @@
+//! Reads a store.
+
+ghost use Rattle.std.specs.Prelude.{◌≡◌, ◌≤◌, length, Result, IfOk, IfErr};
+ghost use Rattle.packets.specs.declared.fault.PacketFault.{PacketFault};
+ghost use Rattle.packets.specs.Inside.Reader.{Gives};
+ghost use Rattle.stores.specs.declared.stored.Stored.{Stored as TheFields};
+ghost use Rattle.stores.specs.Store.{TheStore};
+ghost use Rattle.stores.specs.Format.{IsStoreBytes};
+ghost use Rattle.stores.specs.Faults.{IsStoreReason, ReadsStore};
+ghost use Rattle.stores.specs.Inside.Reader.{GivesStore, stored_at, read_stored, store_fields_at, count_at, store_reading, store_whole};
+
+use crate::fields::{heads_of, logs_of, outputs_of};
+use crate::store::Store;
+use crate::store_fault::{StoreError, StoreFault};
+use crate::stored::Stored;
+use byteorder::{ByteOrder, LittleEndian};
+use limits::PROCESSES;
+use packets::{CHECKSUM_LEN, HEAD_LEN, PacketError, PacketFault, crc32c};
+use std::alloc::Global;
+
+/// `SBG1`, the first four bytes.
+pub const STORE_MAGIC: [u8; 4] = [0x53, 0x42, 0x47, 0x31];
+
+/// The least length in bytes.
+const STORE_LEN: usize = 16;
+
+/// The store in these bytes. A refusal names the first fault by its number.
+pub fn decode_store(alloc: Global, bytes: &[u8]) -> Result<Store, StoreError>
+    // `encode_store` writes what is read as these bytes.
+    ensures found { IfOk result (λ s. IsStoreBytes s bytes.now) }
+    // Whatever `encode_store` writes is read, unless memory runs out.
+    ensures only { (s : TheStore) → IsStoreBytes s bytes.now → ReadsStore result s }
+    // A refusal names a fault of the bytes, and no lesser fault is theirs.
+    ensures refused { IfErr result (λ e. IsStoreReason e bytes.now) }
+{
+    store_of(alloc, bytes)
+}
+
+/// The store in these bytes, by its fields.
+#[tactic(auto, unfolding(crate::specs::Inside::Reader::store_whole))]
+fn store_of(alloc: Global, bytes: &[u8]) -> Result<Store, StoreError>
+    ensures { GivesStore (λ x. x) result (store_whole bytes.now) }
+{
+    let stored = stored_of(alloc, bytes)?;
+    Ok(stored.to_store(alloc)?)
+}
+
+/// The fields of a store, read one by one.
+#[tactic(auto, unfolding(crate::specs::Inside::Reader::store_reading))]
+fn stored_of(alloc: Global, bytes: &[u8]) -> Result<Stored, StoreError>
+    ensures { GivesStore (λ x. x) result (store_reading bytes.now) }
+{
+    let fields = fields_of(bytes)?;
+    let count = count_of(bytes)?;
+    let stored = with_fault(body_of(alloc, count, fields))?;
+    if !stored.is_in_range() {
+        return Err(StoreError::Fault(StoreFault::Range));
+    }
+    Ok(stored)
+}
+
+/// The bytes of the fields, if magic and checksum are right.
+#[tactic(auto, unfolding(crate::specs::Inside::Reader::store_fields_at))]
+fn fields_of(bytes: &[u8]) -> Result<&[u8], StoreError>
+    ensures exact { GivesStore (λ x. x.now) result (store_fields_at bytes.now) }
+    ensures long { IfOk result (λ x. 16 ≤ length bytes.now) }
+{
+    if bytes.len() < STORE_LEN {
+        return Err(StoreError::Fault(StoreFault::Short));
+    }
+    if &bytes[..4] != STORE_MAGIC.as_slice() {
+        return Err(StoreError::Fault(StoreFault::Magic));
+    }
+    let (text, checksum) = bytes.split_at(bytes.len() - CHECKSUM_LEN);
+    if LittleEndian::read_u32(checksum) != crc32c(text) {
+        return Err(StoreError::Fault(StoreFault::Checksum));
+    }
+    Ok(&bytes[HEAD_LEN..bytes.len() - CHECKSUM_LEN])
+}
+
+/// The number of processes.
+#[tactic(auto, unfolding(crate::specs::Inside::Reader::count_at))]
+fn count_of(bytes: &[u8]) -> Result<u8, StoreError>
+    requires { 8 ≤ length bytes.now }
+    ensures { GivesStore (λ x. x) result (count_at bytes.now) }
+{
+    let count = bytes[4];
+    if count < 1 || count > PROCESSES as u8 {
+        return Err(StoreError::Fault(StoreFault::Count));
+    }
+    let zeros = [bytes[5], bytes[6], bytes[7]];
+    if zeros != [0, 0, 0] {
+        return Err(StoreError::Fault(StoreFault::Zeros));
+    }
+    Ok(count)
+}
+
+/// The fields of `count` processes.
+#[tactic(auto, unfolding(crate::specs::Inside::Reader::stored_at))]
+fn body_of(alloc: Global, count: u8, bytes: &[u8]) -> Result<Stored, PacketError>
+    ensures { Gives (λ x. x) result (stored_at count bytes.now) }
+{
+    let (heads, rest) = heads_of(alloc, count, bytes)?;
+    let (logs, rest) = logs_of(alloc, count, rest)?;
+    let (outputs, rest) = outputs_of(alloc, rest)?;
+    if !rest.is_empty() {
+        return Err(PacketError::Fault(PacketFault::Fields));
+    }
+    Ok(Stored {
+        heads,
+        logs,
+        outputs,
+    })
+}
+
+/// A field that can't be read is fault 6.
+fn with_fault(read: Result<Stored, PacketError>) -> Result<Stored, StoreError>
+    ensures { (r : Result TheFields PacketFault) → Gives (λ x. x) read r → GivesStore (λ x. x) result (read_stored r) }
+{
+    match read {
+        Ok(stored) => Ok(stored),
+        Err(PacketError::Memory) => Err(StoreError::Memory),
+        Err(PacketError::Fault(_)) => Err(StoreError::Fault(StoreFault::Fields)),
+    }
+}

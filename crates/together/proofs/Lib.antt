@@ -1,2 +1,0 @@
-pub mod Gateways
-pub mod Together

@@ -1,0 +1,6 @@
+pub mod Numbers
+pub mod Places
+pub mod Forms
+pub mod Plain
+pub mod Effects
+pub mod Runs

@@ -1,6 +1,0 @@
-pub mod Numbers
-pub mod Places
-pub mod Forms
-pub mod Plain
-pub mod Doing
-pub mod Running
