@@ -5,8 +5,8 @@ use Rattle.decode.specs.declared.insn.Reg.{Reg}
 use Rattle.decode.specs.declared.insn.Operand.{Operand}
 use Rattle.decode.specs.declared.insn.Insn.{Insn}
 use Rattle.decode.specs.declared.insn.Insn.TheVariants as insn
-use Rattle.assemble.specs.declared.fault.Fault.{Fault}
-use Rattle.assemble.specs.declared.fault.Fault.TheVariants.{Shape, Range}
+use Rattle.assemble.specs.declared.fault.TextFault.{TextFault}
+use Rattle.assemble.specs.declared.fault.TextFault.TheVariants.{Shape, Range}
 use Rattle.assemble.specs.declared.mnemonic.Mnemonic.{Mnemonic}
 use Rattle.assemble.specs.declared.mnemonic.Mnemonic.TheVariants.{Alu, MovSx, Neg, End, Jump, JumpLong, JumpIf, Call, Exit, Load, LoadSx, StoreReg, StoreImm, Wide}
 use Rattle.assemble.specs.Inside.Reads.{Reads}
@@ -54,7 +54,7 @@ of_as m i is = subst (λ (k : Mnemonic). IsOf k i) is (is_of i)
 module _ {V : Type 0} (m : Mnemonic) (text : List ℕ) (made : V → Insn) (written : V → List ℕ) (F : V → Type 0)
     (same : (v : V) → mnemonic_of (made v) ≡ m) (opens : (v : V) → tail (operands_of (made v)) ≡ 32 ∷ written v)
     (fits : (v : V) → Fits (made v) → F v) (only : (i : Insn) → mnemonic_of i ≡ m → (v : V) × (i ≡ made v)) where
-  refused_so : (e : Fault) → Reads (λ (v : V). text ≡ written v) F (Err e) → Reads (IsInsn m (32 ∷ text)) Fits (Err e)
+  refused_so : (e : TextFault) → Reads (λ (v : V). text ≡ written v) F (Err e) → Reads (IsInsn m (32 ∷ text)) Fits (Err e)
   refused_so Shape h = λ i is.
       let v = only i is.0 in
       let all : 32 ∷ text ≡ 32 ∷ written v.0 = is.1 ∙ ap (λ (j : Insn). tail (operands_of j)) v.1 ∙ opens v.0 in
@@ -63,10 +63,10 @@ module _ {V : Type 0} (m : Mnemonic) (text : List ℕ) (made : V → Insn) (writ
   refused_so Range h = (made h.0, (same h.0, ap (λ (x : List ℕ). 32 ∷ x) h.1 ∙ sym (opens h.0)), λ f. h.2 (fits h.0 f))
 
   -- operands that are refused are refused with the mnemonic, for the same fault
-  pub refused : (k : Mnemonic) → k ≡ m → (e y : Fault) (out : Result Insn Fault) → out ≡ Err y → y ≡ e → Reads (λ (v : V). text ≡ written v) F (Err e) → Reads (IsInsn k (32 ∷ text)) Fits out
+  pub refused : (k : Mnemonic) → k ≡ m → (e y : TextFault) (out : Result Insn TextFault) → out ≡ Err y → y ≡ e → Reads (λ (v : V). text ≡ written v) F (Err e) → Reads (IsInsn k (32 ∷ text)) Fits out
   refused k km e y out is same_fault h =
-      let P : Mnemonic → Result Insn Fault → Type 0 = λ n o. Reads (IsInsn n (32 ∷ text)) Fits o in
-      subst (λ (o : Result Insn Fault). P k o) (sym (is ∙ ap (λ (x : Fault). let r : Result Insn Fault = Err x in r) same_fault)) (subst (λ (n : Mnemonic). P n (Err e)) (sym km) (refused_so e h))
+      let P : Mnemonic → Result Insn TextFault → Type 0 = λ n o. Reads (IsInsn n (32 ∷ text)) Fits o in
+      subst (λ (o : Result Insn TextFault). P k o) (sym (is ∙ ap (λ (x : TextFault). let r : Result Insn TextFault = Err x in r) same_fault)) (subst (λ (n : Mnemonic). P n (Err e)) (sym km) (refused_so e h))
 
 -- only one has no operands
 pub bare_is : (i : Insn) → [] ≡ tail (operands_of i) → mnemonic_of i ≡ Exit

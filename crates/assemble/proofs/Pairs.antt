@@ -10,8 +10,8 @@ use Rattle.std.specs.Prelude.{codes, ◌==◌, if◌then◌else◌}
 use Rattle.decode.specs.declared.insn.Reg.{Reg}
 use Rattle.decode.specs.declared.insn.Operand.{Operand}
 use Rattle.decode.specs.declared.insn.Operand.TheVariants as operand
-use Rattle.assemble.specs.declared.fault.Fault.{Fault}
-use Rattle.assemble.specs.declared.fault.Fault.TheVariants.{Shape, Range}
+use Rattle.assemble.specs.declared.fault.TextFault.{TextFault}
+use Rattle.assemble.specs.declared.fault.TextFault.TheVariants.{Shape, Range}
 use Rattle.assemble.specs.Inside.Reads.{Reads, both_of}
 use Rattle.assemble.specs.Number.{numeral, number, with_sign}
 use Rattle.assemble.specs.Inside.Split.{IsSplit, LacksSign, BeginsWithSign, register_name}
@@ -75,7 +75,7 @@ module _ {A B : Type 0} (PA FitsA : A → Type 0) (PB FitsB : B → Type 0) (Who
   abbrev FitsBoth : A × B → Type 0
   FitsBoth v = FitsA v.0 × FitsB v.1
 
-  reads_all : (x : Result A Fault) (y : Result B Fault) → Reads PA FitsA x → Reads PB FitsB y → Reads Whole FitsBoth (both_of x y)
+  reads_all : (x : Result A TextFault) (y : Result B TextFault) → Reads PA FitsA x → Reads PB FitsB y → Reads Whole FitsBoth (both_of x y)
   reads_all (Ok a) (Ok b) h k = (joined (a, b) h.0 k.0, (h.1, k.1))
   reads_all (Ok a) (Err Shape) h k = λ v e. k v.1 (apart v e).1
   reads_all (Ok a) (Err Range) h k = ((a, k.0), joined (a, k.0) h.0 k.1, λ fits. k.2 fits.1)
@@ -85,8 +85,8 @@ module _ {A B : Type 0} (PA FitsA : A → Type 0) (PB FitsB : B → Type 0) (Who
   reads_all (Err Range) (Err Range) h k = ((h.0, k.0), joined (h.0, k.0) h.1 k.1, λ fits. h.2 fits.0)
 
   -- both are read, or refused for the lesser fault
-  pub reads_both : (x : Result A Fault) (y : Result B Fault) (out : Result (A × B) Fault) → out ≡ both_of x y → Reads PA FitsA x → Reads PB FitsB y → Reads Whole FitsBoth out
-  reads_both x y out e h k = subst (λ (o : Result (A × B) Fault). Reads Whole FitsBoth o) (sym e) (reads_all x y h k)
+  pub reads_both : (x : Result A TextFault) (y : Result B TextFault) (out : Result (A × B) TextFault) → out ≡ both_of x y → Reads PA FitsA x → Reads PB FitsB y → Reads Whole FitsBoth out
+  reads_both x y out e h k = subst (λ (o : Result (A × B) TextFault). Reads Whole FitsBoth o) (sym e) (reads_all x y h k)
 
 -- ---- a comma and a space between them
 
@@ -104,7 +104,7 @@ module _ {A B : Type 0} (f : A → List ℕ) (FitsA : A → Type 0) (g : B → L
   joined l r cut v le re = cut.whole ∙ (λ i. le i ++ 44 ∷ 32 ∷ re i)
 
   -- a text is read as two at its first comma, with a space behind it
-  pub reads_pair : (l r : List ℕ) → IsSplit 44 text l (32 ∷ r) → (x : Result A Fault) (y : Result B Fault) (out : Result (A × B) Fault) → out ≡ both_of x y
+  pub reads_pair : (l r : List ℕ) → IsSplit 44 text l (32 ∷ r) → (x : Result A TextFault) (y : Result B TextFault) (out : Result (A × B) TextFault) → out ≡ both_of x y
       → Reads (λ a. l ≡ f a) FitsA x → Reads (λ b. r ≡ g b) FitsB y → Reads IsPair (λ v. FitsA v.0 × FitsB v.1) out
   reads_pair l r cut = reads_both (λ a. l ≡ f a) FitsA (λ b. r ≡ g b) FitsB IsPair (apart l r cut) (joined l r cut)
 
@@ -183,7 +183,7 @@ module _ (text : List ℕ) where
 
   -- a text in brackets is read as a register up to the first sign, and an offset from there
   pub reads_address : (FitsA : Reg → Type 0) (FitsB : ℤ → Type 0) (inner base off : List ℕ) → text ≡ 91 ∷ (inner ++ 93 ∷ []) → inner ≡ base ++ off → LacksSign base → BeginsWithSign off
-      → (x : Result Reg Fault) (y : Result ℤ Fault) (out : Result (Reg × ℤ) Fault) → out ≡ both_of x y
+      → (x : Result Reg TextFault) (y : Result ℤ TextFault) (out : Result (Reg × ℤ) TextFault) → out ≡ both_of x y
       → Reads (λ r. base ≡ register r) FitsA x → Reads (λ z. off ≡ with_sign z) FitsB y → Reads IsAddress (λ v. FitsA v.0 × FitsB v.1) out
   reads_address FitsA FitsB inner base off whole cut none sign =
       reads_both (λ r. base ≡ register r) FitsA (λ z. off ≡ with_sign z) FitsB IsAddress (parts inner base off whole cut none sign) (whole_of inner base off whole cut)
@@ -211,7 +211,7 @@ pub number_first : (z : ℤ) (x : List ℕ) → number z ≡ 114 ∷ x → ⊥
 number_first z x e = let plain : IsPlain (114 ∷ x) = subst (λ (y : List ℕ). IsPlain y) e (number_plain z) in absurd (omega (arith, plain.0.2))
 
 -- what is no register, and refused as a number, is refused as an operand
-pub source_refused : (text : List ℕ) (fault : Fault) → ((r : Reg) → text ≢ register_name r) → Reads (λ z. text ≡ number z) (λ z. FitsSigned w32 z) (Err fault) → Reads (λ (o : Operand). text ≡ source o) OperandFits (Err fault)
+pub source_refused : (text : List ℕ) (fault : TextFault) → ((r : Reg) → text ≢ register_name r) → Reads (λ z. text ≡ number z) (λ z. FitsSigned w32 z) (Err fault) → Reads (λ (o : Operand). text ≡ source o) OperandFits (Err fault)
 source_refused text Range none h = (operand.Imm h.0, h.1, h.2)
 source_refused text Shape none h = λ o e. refuse o e
   where

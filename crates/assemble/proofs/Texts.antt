@@ -8,8 +8,8 @@ use Rattle.decode.specs.Encoding.{Fits}
 use Rattle.decode.specs.Slots.{slots, size_of}
 use Rattle.decode.proofs.SlotLemmas.{slots-append, slots-cons}
 use Rattle.decode.specs.declared.insn.Insn.{Insn}
-use Rattle.assemble.specs.declared.fault.Rule.{Rule}
-use Rattle.assemble.specs.declared.fault.Rule.TheVariants as rule
+use Rattle.assemble.specs.declared.fault.TextRule.{TextRule}
+use Rattle.assemble.specs.declared.fault.TextRule.TheVariants as rule
 use Rattle.assemble.specs.declared.fault.AsmError.{AsmError}
 use Rattle.assemble.specs.declared.fault.AsmError.TheVariants.{Memory, Fault}
 use Rattle.assemble.specs.Text.{line_of, lines_of, spoken, is_silent}
@@ -136,16 +136,16 @@ goes_on (j ∷ js) (i ∷ is) line more e =
     (on.0, on.1, (λ k. same k ∷ on.2 k), on.3)
 
 -- a line that is written for an instruction, with room for it, breaks no rule
-fine_line : (n : ℕ) (i : Insn) (line : List ℕ) (r : Rule) → Fits i → line ≡ line_of i → n + size_of i ≤ 1024 → LineBreaksFirst n r line → ⊥
+fine_line : (n : ℕ) (i : Insn) (line : List ℕ) (r : TextRule) → Fits i → line ≡ line_of i → n + size_of i ≤ 1024 → LineBreaksFirst n r line → ⊥
 fine_line n i line r fits e room broken = breaks r (first_holds (λ q. LineBreaks n q line) _ r broken)
   where
-    breaks : (r : Rule) → LineBreaks n r line → ⊥
+    breaks : (r : TextRule) → LineBreaks n r line → ⊥
     breaks rule.Word h = word_shape n line h i e
     breaks rule.Shape h = h i e
     breaks rule.Range h = h i fits e
     breaks rule.Limit h = absurd (omega (arith, h i fits e))
 
-never : (lines before : List (List ℕ)) (line : List ℕ) (after : List (List ℕ)) (js is : List Insn) (r : Rule) → lines ≡ before ++ line ∷ after → AreLines before js → is_silent line ≡ false → LineBreaksFirst (slots js) r line → AreLines lines is → ⊥
+never : (lines before : List (List ℕ)) (line : List ℕ) (after : List (List ℕ)) (js is : List Insn) (r : TextRule) → lines ≡ before ++ line ∷ after → AreLines before js → is_silent line ≡ false → LineBreaksFirst (slots js) r line → AreLines lines is → ⊥
 never lines before line after js is r whole fine speaks broken h =
     let e : map line_of is ≡ map line_of js ++ line ∷ spoken after =
     sym h.written ∙ ap spoken whole ∙ spoken_append before (line ∷ after) ∙ (λ k. fine.written k ++ spoken_line line after speaks k) in
@@ -156,7 +156,7 @@ never lines before line after js is r whole fine speaks broken h =
     fine_line (slots js) on.0 line r fits.0 on.3 (omega (arith, h.limit)) broken
 
 -- lines of a list of instructions have no fault
-pub no_fault : (text : List ℕ) (is : List Insn) (r : Rule) (n : ℕ) → AreLines (lines_of text) is → IsFault text r n → ⊥
+pub no_fault : (text : List ℕ) (is : List Insn) (r : TextRule) (n : ℕ) → AreLines (lines_of text) is → IsFault text r n → ⊥
 no_fault text is r n h f = never (lines_of text) f.before f.line f.after f.insns is r f.whole f.fine f.speaks f.broken h
 
 -- two places in one list of lines are one, or the first stands before the second, or the second before the first
@@ -178,7 +178,7 @@ places (w ∷ ws) (z ∷ zs) c d x y e =
     ]
 
 -- a text has one fault at most
-pub one_fault : (text : List ℕ) (q r : Rule) (m n : ℕ) → IsFault text q m → IsFault text r n → (q ≡ r) × (m ≡ n)
+pub one_fault : (text : List ℕ) (q r : TextRule) (m n : ℕ) → IsFault text q m → IsFault text r n → (q ≡ r) × (m ≡ n)
 one_fault text q r m n a b = elim (places a.before b.before a.after b.after a.line b.line (sym a.whole ∙ b.whole)) [
   | inl same ↦
       let insns = one_list a.insns b.insns (sym a.fine.written ∙ ap spoken same.fronts ∙ b.fine.written) in

@@ -10,7 +10,7 @@ use thiserror::Error;
 
 /// Why an operand could not be read.
 #[derive(Clone, Copy, Debug, PartialEq, Eq)]
-pub enum Fault {
+pub enum TextFault {
     /// It has the wrong shape.
     Shape,
     /// It is a number that is out of range.
@@ -19,14 +19,14 @@ pub enum Fault {
 
 /// Both values, or the lesser of the faults.
 pub fn both<A: Copy, B: Copy>(
-    left: Result<A, Fault>,
-    right: Result<B, Fault>,
-) -> Result<(A, B), Fault>
+    left: Result<A, TextFault>,
+    right: Result<B, TextFault>,
+) -> Result<(A, B), TextFault>
     ensures { result ≡ both_of left right }
 {
     match (left, right) {
         (Ok(a), Ok(b)) => Ok((a, b)),
-        (Err(Fault::Range), Err(fault)) => Err(fault),
+        (Err(TextFault::Range), Err(fault)) => Err(fault),
         (Err(fault), _) => Err(fault),
         (_, Err(fault)) => Err(fault),
     }
@@ -34,7 +34,7 @@ pub fn both<A: Copy, B: Copy>(
 
 /// What is wrong with a line, by number. Each rule refuses all that the one before it refuses, and more.
 #[derive(Clone, Copy, Debug, PartialEq, Eq, Error)]
-pub enum Rule {
+pub enum TextRule {
     /// 1: no instruction has this word.
     #[error("unknown word")]
     Word,
@@ -49,16 +49,16 @@ pub enum Rule {
     Limit,
 }
 
-impl Rule {
+impl TextRule {
     /// The rule's number, 1 to 4.
     pub fn number(self) -> u8
         ensures { result ≡ rule_number self }
     {
         match self {
-            Rule::Word => 1,
-            Rule::Shape => 2,
-            Rule::Range => 3,
-            Rule::Limit => 4,
+            TextRule::Word => 1,
+            TextRule::Shape => 2,
+            TextRule::Range => 3,
+            TextRule::Limit => 4,
         }
     }
 }
@@ -73,7 +73,7 @@ pub enum AsmError {
     #[error("line {line}: {rule} (rule {})", .rule.number())]
     Fault {
         /// The least rule that the line breaks.
-        rule: Rule,
+        rule: TextRule,
         /// The first faulty line, counted from 1.
         line: usize,
     },

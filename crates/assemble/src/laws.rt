@@ -8,7 +8,7 @@ ghost use Rattle.decode.specs.declared.insn.Insn.{Insn};
 ghost use Rattle.assemble.specs.Refusal.{AreLines, IsFault};
 ghost use Rattle.assemble.specs.Text.{IsText, lines_of, text_of};
 ghost use Rattle.assemble.specs.declared.fault.AsmError.TheVariants.{Memory};
-ghost use Rattle.assemble.specs.declared.fault.Rule.{Rule};
+ghost use Rattle.assemble.specs.declared.fault.TextRule.{TextRule};
 
 use crate::fault::AsmError;
 use crate::parser::assemble;
@@ -24,8 +24,8 @@ pub fn one_list()
 
 /// A text has at most one fault, and a text with a fault belongs to no list of at most 1,024 slots.
 pub fn one_fault()
-    ensures once { (text : List ℕ) (q r : Rule) (m n : ℕ) → IsFault text q m → IsFault text r n → (q ≡ r) × (m ≡ n) }
-    ensures none { (text : List ℕ) (is : List Insn) (r : Rule) (n : ℕ) → AreLines (lines_of text) is → IsFault text r n → ⊥ }
+    ensures once { (text : List ℕ) (q r : TextRule) (m n : ℕ) → IsFault text q m → IsFault text r n → (q ≡ r) × (m ≡ n) }
+    ensures none { (text : List ℕ) (is : List Insn) (r : TextRule) (n : ℕ) → AreLines (lines_of text) is → IsFault text r n → ⊥ }
 {}
 
 /// The text written for a list belongs to it, and is read back if the list has at most 1,024 slots.

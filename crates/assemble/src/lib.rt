@@ -26,8 +26,8 @@ mod sentence;
 mod split;
 mod printer;
 
-pub use fault::{AsmError, Rule};
+pub use fault::{AsmError, TextRule};
 pub use laws::{one_fault, one_list, read_back, there_and_back};
-pub use mistake::{Mistake, Wanted, is_compiled, mistake_of};
+pub use mistake::{TextMistake, Wanted, is_compiled, mistake_of};
 pub use parser::assemble;
 pub use printer::disassemble;

@@ -7,7 +7,7 @@ ghost use Rattle.assemble.specs.Inside.Reads.{Reads};
 ghost use Rattle.assemble.specs.Refusal.{LineBreaksFirst};
 ghost use Rattle.assemble.specs.Text.{line_of};
 
-use crate::fault::{Fault, Rule};
+use crate::fault::{TextFault, TextRule};
 use crate::mnemonic::{Mnemonic, mnemonic_named};
 use crate::number::{distance_of, number_of, offset_of};
 use crate::operands::{
@@ -18,18 +18,18 @@ use crate::split::split_at_byte;
 use decode::Insn;
 
 /// Reads the instruction of a line.
-pub fn read_line(line: &[u8]) -> Result<Insn, Rule>
+pub fn read_line(line: &[u8]) -> Result<Insn, TextRule>
     ensures found { IfOk result (λ i. Fits i × (line.now ≡ line_of i)) }
     ensures refused { IfErr result (λ r. (n : ℕ) → LineBreaksFirst n r line.now) }
 {
     let (word, operands) = split_line(line);
     let Some(mnemonic) = mnemonic_named(word) else {
-        return Err(Rule::Word);
+        return Err(TextRule::Word);
     };
     match insn_with(mnemonic, operands) {
         Ok(insn) => Ok(insn),
-        Err(Fault::Shape) => Err(Rule::Shape),
-        Err(Fault::Range) => Err(Rule::Range),
+        Err(TextFault::Shape) => Err(TextRule::Shape),
+        Err(TextFault::Range) => Err(TextRule::Range),
     }
 }
 
@@ -45,7 +45,7 @@ fn split_line(line: &[u8]) -> (&[u8], Option<&[u8]>)
 }
 
 /// The instruction with these operands.
-fn insn_with(mnemonic: Mnemonic, operands: Option<&[u8]>) -> Result<Insn, Fault>
+fn insn_with(mnemonic: Mnemonic, operands: Option<&[u8]>) -> Result<Insn, TextFault>
     ensures { Reads (IsInsn mnemonic (behind operands.entry)) Fits result }
 {
     match operands {
@@ -55,17 +55,17 @@ fn insn_with(mnemonic: Mnemonic, operands: Option<&[u8]>) -> Result<Insn, Fault>
 }
 
 /// The instruction of a word that takes no operands.
-fn bare(mnemonic: Mnemonic) -> Result<Insn, Fault>
+fn bare(mnemonic: Mnemonic) -> Result<Insn, TextFault>
     ensures { Reads (IsInsn mnemonic []) Fits result }
 {
     match mnemonic {
         Mnemonic::Exit => Ok(Insn::Exit),
-        _ => Err(Fault::Shape),
+        _ => Err(TextFault::Shape),
     }
 }
 
 /// The instruction with the operands in this text, which came after a space.
-fn insn_of(mnemonic: Mnemonic, text: &[u8]) -> Result<Insn, Fault>
+fn insn_of(mnemonic: Mnemonic, text: &[u8]) -> Result<Insn, TextFault>
     ensures { Reads (IsInsn mnemonic (32 ∷ text.now)) Fits result }
 {
     match mnemonic {
@@ -116,7 +116,7 @@ fn insn_of(mnemonic: Mnemonic, text: &[u8]) -> Result<Insn, Fault>
             let helper = number_of(text)?;
             Ok(Insn::Call { helper })
         }
-        Mnemonic::Exit => Err(Fault::Shape),
+        Mnemonic::Exit => Err(TextFault::Shape),
         Mnemonic::Load(size) => {
             let (dst, (src, offset)) = register_address(text)?;
             Ok(Insn::Load {

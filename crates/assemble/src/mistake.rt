@@ -1,6 +1,6 @@
 //! What is wrong with the first faulty line of a text, in words.
 
-use crate::fault::Fault;
+use crate::fault::TextFault;
 use crate::mnemonic::{Mnemonic, mnemonic_named};
 use crate::number::{distance_of, number_of, offset_of, value_of};
 use crate::operands::{address_of, register_of, source_of};
@@ -27,7 +27,7 @@ pub enum Wanted {
 
 /// What is wrong with a line, and what would be right. It prints as a sentence without a line feed.
 #[derive(Clone, Copy)]
-pub enum Mistake<'a> {
+pub enum TextMistake<'a> {
     /// A byte order mark at the beginning.
     Mark,
     CarriageReturn,
@@ -78,7 +78,7 @@ pub enum Mistake<'a> {
 
 /// What is wrong with the line of this number, counted from 1, the first faulty one of a text. `None` if the line
 /// itself isn't faulty.
-pub fn mistake_of(text: &str, number: usize) -> Option<Mistake<'_>> {
+pub fn mistake_of(text: &str, number: usize) -> Option<TextMistake<'_>> {
     let line = text.split('\n').nth(number.checked_sub(1)?)?;
     if line.is_empty() || line.starts_with('#') {
         return None;
@@ -87,7 +87,7 @@ pub fn mistake_of(text: &str, number: usize) -> Option<Mistake<'_>> {
 }
 
 /// What is wrong with the words of a line.
-fn wording(line: &str) -> Option<Mistake<'_>> {
+fn wording(line: &str) -> Option<TextMistake<'_>> {
     let (word, operands) = match line.split_once(' ') {
         Some((word, operands)) => (word, Some(operands)),
         None => (line, None),
@@ -99,24 +99,24 @@ fn wording(line: &str) -> Option<Mistake<'_>> {
 }
 
 /// What is wrong with a line that another program wrote, or that is meant for another program.
-fn writing<'a>(text: &'a str, line: &'a str) -> Option<Mistake<'a>> {
+fn writing<'a>(text: &'a str, line: &'a str) -> Option<TextMistake<'a>> {
     if line.starts_with('\u{feff}') {
-        return Some(Mistake::Mark);
+        return Some(TextMistake::Mark);
     }
     if line.contains('\r') {
-        return Some(Mistake::CarriageReturn);
+        return Some(TextMistake::CarriageReturn);
     }
     if line.contains('\0') {
-        return Some(Mistake::Null);
+        return Some(TextMistake::Null);
     }
     if text.split('\n').any(is_compiled) {
-        return Some(Mistake::Compiler);
+        return Some(TextMistake::Compiler);
     }
     if is_listed(line) {
-        return Some(Mistake::Listing);
+        return Some(TextMistake::Listing);
     }
     if is_c(text, line) {
-        return Some(Mistake::Language);
+        return Some(TextMistake::Language);
     }
     None
 }
@@ -159,54 +159,54 @@ fn is_call(line: &str) -> bool {
 }
 
 /// What is wrong with the spaces and commas between a line's words, and with its letters.
-fn spacing(line: &str) -> Option<Mistake<'_>> {
+fn spacing(line: &str) -> Option<TextMistake<'_>> {
     if line.contains('\t') {
-        return Some(Mistake::Tab);
+        return Some(TextMistake::Tab);
     }
     if line.starts_with(' ') {
-        return Some(Mistake::Indent);
+        return Some(TextMistake::Indent);
     }
     marking(line).or(lettering(line)).or(parting(line))
 }
 
 /// What is wrong with the spaces of a line.
-fn parting(line: &str) -> Option<Mistake<'_>> {
+fn parting(line: &str) -> Option<TextMistake<'_>> {
     if line.ends_with(' ') || line.contains("  ") {
-        return Some(Mistake::Space);
+        return Some(TextMistake::Space);
     }
     None
 }
 
 /// The first letter of a line that isn't ASCII, or that a terminal can't show.
-fn lettering(line: &str) -> Option<Mistake<'_>> {
+fn lettering(line: &str) -> Option<TextMistake<'_>> {
     let mut place = 0usize;
     for letter in line.chars() {
         place = place.saturating_add(1);
         if letter.is_control() {
-            return Some(Mistake::Control { letter, place });
+            return Some(TextMistake::Control { letter, place });
         }
         if !letter.is_ascii() {
-            return Some(Mistake::Letter { letter, place });
+            return Some(TextMistake::Letter { letter, place });
         }
     }
     None
 }
 
 /// What is wrong with a mark after an instruction, or instead of one.
-fn marking(line: &str) -> Option<Mistake<'_>> {
+fn marking(line: &str) -> Option<TextMistake<'_>> {
     if line.split(", #").skip(1).any(is_number_begun) {
-        return Some(Mistake::Hash);
+        return Some(TextMistake::Hash);
     }
     if line.contains('#') || line.contains("//") || line.starts_with(';') {
-        return Some(Mistake::Comment);
+        return Some(TextMistake::Comment);
     }
     let (_, behind) = line.split_once(';')?;
     let behind = behind.trim_start();
     let (word, _) = behind.split_once(' ').unwrap_or((behind, ""));
     if word.is_empty() || mnemonic_named(word.as_bytes()).is_some() {
-        return Some(Mistake::Semicolon);
+        return Some(TextMistake::Semicolon);
     }
-    Some(Mistake::Comment)
+    Some(TextMistake::Comment)
 }
 
 /// Whether a number begins here.
@@ -220,26 +220,26 @@ fn is_slot(word: &str) -> bool {
 }
 
 /// What is wrong with a word that no instruction has.
-fn naming(word: &str) -> Mistake<'_> {
+fn naming(word: &str) -> TextMistake<'_> {
     if word.ends_with(':') {
-        return Mistake::Label;
+        return TextMistake::Label;
     }
     if word == "form" {
-        return Mistake::Listing;
+        return TextMistake::Listing;
     }
     if word == "if" || word == "goto" || word.starts_with("*(") {
-        return Mistake::Foreign;
+        return TextMistake::Foreign;
     }
     if word == "process" {
-        return Mistake::Scenario;
+        return TextMistake::Scenario;
     }
     if register_of(word.as_bytes()).is_ok() {
-        return Mistake::Register { word };
+        return TextMistake::Register { word };
     }
     if word.bytes().any(|letter| letter.is_ascii_uppercase()) {
-        return Mistake::Capital { word };
+        return TextMistake::Capital { word };
     }
-    Mistake::Word { word }
+    TextMistake::Word { word }
 }
 
 /// What is wrong with the operands of an instruction.
@@ -247,29 +247,29 @@ fn operating<'a>(
     word: &'a str,
     mnemonic: Mnemonic,
     operands: Option<&'a str>,
-) -> Option<Mistake<'a>> {
+) -> Option<TextMistake<'a>> {
     let (form, wanted) = form_of(mnemonic);
     let count = match operands {
         Some(operands) => operands.split(',').count(),
         None => 0,
     };
     if count != wanted.len() {
-        return Some(Mistake::Operands { word, form });
+        return Some(TextMistake::Operands { word, form });
     }
     let operands = operands?;
     if operands.contains(" ,") || operands.split(", ").count() != count {
-        return Some(Mistake::Comma);
+        return Some(TextMistake::Comma);
     }
-    if let Some((word, wanted)) = first_with(Fault::Shape, wanted, operands) {
-        return Some(Mistake::Shape { word, wanted });
+    if let Some((word, wanted)) = first_with(TextFault::Shape, wanted, operands) {
+        return Some(TextMistake::Shape { word, wanted });
     }
-    let (word, wanted) = first_with(Fault::Range, wanted, operands)?;
-    Some(Mistake::Range { word, wanted })
+    let (word, wanted) = first_with(TextFault::Range, wanted, operands)?;
+    Some(TextMistake::Range { word, wanted })
 }
 
 /// The first operand that has this fault.
 fn first_with<'a>(
-    fault: Fault,
+    fault: TextFault,
     wanted: &'static [Wanted],
     operands: &'a str,
 ) -> Option<(&'a str, Wanted)> {
@@ -307,7 +307,7 @@ fn form_of(mnemonic: Mnemonic) -> (&'static str, &'static [Wanted]) {
 }
 
 /// The fault of an operand.
-fn fault_of(wanted: Wanted, operand: &[u8]) -> Option<Fault> {
+fn fault_of(wanted: Wanted, operand: &[u8]) -> Option<TextFault> {
     match wanted {
         Wanted::Register => register_of(operand).err(),
         Wanted::Source => source_of(operand).err(),

@@ -9,7 +9,7 @@ ghost use Rattle.std.specs.Char.{is_ascii_digit};
 ghost use Rattle.std.specs.List.{list_all};
 ghost use Rattle.assemble.specs.Inside.Spelled.{IsPositive, IsUnsigned, IsNumber, IsSigned};
 
-use crate::fault::Fault;
+use crate::fault::TextFault;
 
 /// Whether the text is digits only.
 fn are_digits(text: &[u8]) -> bool
@@ -65,65 +65,65 @@ fn text_of(bytes: &[u8]) -> Option<&str>
 }
 
 /// A number of 32 bits.
-pub fn number_of(bytes: &[u8]) -> Result<i32, Fault>
+pub fn number_of(bytes: &[u8]) -> Result<i32, TextFault>
     ensures { Reads (λ z. bytes.now ≡ number z) (λ z. FitsSigned w32 z) result }
 {
     if !is_number(bytes) {
-        return Err(Fault::Shape);
+        return Err(TextFault::Shape);
     }
     let Some(text) = text_of(bytes) else {
-        return Err(Fault::Shape);
+        return Err(TextFault::Shape);
     };
     match text.parse() {
         Ok(number) => Ok(number),
-        Err(_) => Err(Fault::Range),
+        Err(_) => Err(TextFault::Range),
     }
 }
 
 /// A number of 16 bits with its sign.
-pub fn offset_of(bytes: &[u8]) -> Result<i16, Fault>
+pub fn offset_of(bytes: &[u8]) -> Result<i16, TextFault>
     ensures { Reads (λ z. bytes.now ≡ with_sign z) (λ z. FitsSigned w16 z) result }
 {
     if !is_signed(bytes) {
-        return Err(Fault::Shape);
+        return Err(TextFault::Shape);
     }
     let Some(text) = text_of(bytes) else {
-        return Err(Fault::Shape);
+        return Err(TextFault::Shape);
     };
     match text.parse() {
         Ok(number) => Ok(number),
-        Err(_) => Err(Fault::Range),
+        Err(_) => Err(TextFault::Range),
     }
 }
 
 /// A number of 32 bits with its sign.
-pub fn distance_of(bytes: &[u8]) -> Result<i32, Fault>
+pub fn distance_of(bytes: &[u8]) -> Result<i32, TextFault>
     ensures { Reads (λ z. bytes.now ≡ with_sign z) (λ z. FitsSigned w32 z) result }
 {
     if !is_signed(bytes) {
-        return Err(Fault::Shape);
+        return Err(TextFault::Shape);
     }
     let Some(text) = text_of(bytes) else {
-        return Err(Fault::Shape);
+        return Err(TextFault::Shape);
     };
     match text.parse() {
         Ok(number) => Ok(number),
-        Err(_) => Err(Fault::Range),
+        Err(_) => Err(TextFault::Range),
     }
 }
 
 /// A number of 64 bits, without a sign.
-pub fn value_of(bytes: &[u8]) -> Result<u64, Fault>
+pub fn value_of(bytes: &[u8]) -> Result<u64, TextFault>
     ensures { Reads (λ n. bytes.now ≡ numeral n) (λ n. n < 2 ^ 64) result }
 {
     if !is_unsigned(bytes) {
-        return Err(Fault::Shape);
+        return Err(TextFault::Shape);
     }
     let Some(text) = text_of(bytes) else {
-        return Err(Fault::Shape);
+        return Err(TextFault::Shape);
     };
     match text.parse() {
         Ok(number) => Ok(number),
-        Err(_) => Err(Fault::Range),
+        Err(_) => Err(TextFault::Range),
     }
 }

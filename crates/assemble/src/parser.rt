@@ -7,7 +7,7 @@ ghost use Rattle.assemble.specs.Text.{is_silent, lines_of};
 ghost use Rattle.assemble.specs.declared.fault.AsmError.TheVariants.{Memory};
 ghost use Rattle.decode.specs.declared.insn.Insn.{Insn};
 
-use crate::fault::{AsmError, Rule};
+use crate::fault::{AsmError, TextRule};
 use crate::line::read_line;
 use crate::split::split_at_byte;
 use decode::Insn;
@@ -72,7 +72,7 @@ fn is_silent(line: &[u8]) -> bool
 }
 
 /// The instruction of a line after this many slots, if it gives one.
-fn read_after(slots: usize, line: &[u8]) -> Result<Option<Insn>, Rule>
+fn read_after(slots: usize, line: &[u8]) -> Result<Option<Insn>, TextRule>
     requires { slots ≤ SLOTS }
     ensures { ReadsAfter slots line.now result }
 {
@@ -82,7 +82,7 @@ fn read_after(slots: usize, line: &[u8]) -> Result<Option<Insn>, Rule>
     match read_line(line) {
         Ok(insn) => {
             if slots + insn.slots() > SLOTS {
-                return Err(Rule::Limit);
+                return Err(TextRule::Limit);
             }
             Ok(Some(insn))
         }

@@ -1,6 +1,6 @@
 //! The sentence that a mistake prints.
 
-use crate::mistake::{Mistake, Wanted};
+use crate::mistake::{TextMistake, Wanted};
 use std::fmt;
 
 /// How many letters of a word are shown at most.
@@ -123,30 +123,30 @@ impl fmt::Display for Sentence<'_> {
     }
 }
 
-impl<'a> Mistake<'a> {
+impl<'a> TextMistake<'a> {
     /// The whole sentence of a mistake that quotes nothing.
     fn fixed(self) -> Option<&'static str> {
         match self {
-            Mistake::Mark => Some(
+            TextMistake::Mark => Some(
                 "a byte order mark (U+FEFF) before the first letter: save the text as UTF-8 without one",
             ),
-            Mistake::CarriageReturn => Some("a carriage return: lines end with a line feed alone"),
-            Mistake::Null => {
+            TextMistake::CarriageReturn => Some("a carriage return: lines end with a line feed alone"),
+            TextMistake::Null => {
                 Some(
                     "a NUL (U+0000), which each second letter of UTF-16 is: save the text as UTF-8",
                 )
             }
-            Mistake::Tab => Some(
+            TextMistake::Tab => Some(
                 "a tab: one space stands behind the first word and behind a comma, and none before the first word or at the end",
             ),
-            Mistake::Indent => Some("a space before the first word"),
-            Mistake::Semicolon => Some(
+            TextMistake::Indent => Some("a space before the first word"),
+            TextMistake::Semicolon => Some(
                 "a semicolon: each instruction stands on a line of its own, without one",
             ),
-            Mistake::Hash => Some("a number stands without a # before it"),
-            Mistake::Comment => Some("a comment stands on a line of its own, which begins with #"),
-            Mistake::Space => Some("a space at the end, or two in a row"),
-            Mistake::Comma => Some(
+            TextMistake::Hash => Some("a number stands without a # before it"),
+            TextMistake::Comment => Some("a comment stands on a line of its own, which begins with #"),
+            TextMistake::Space => Some("a space at the end, or two in a row"),
+            TextMistake::Comma => Some(
                 "a comma and one space stand between operands, and no space before the comma",
             ),
             _ => self.foreign(),
@@ -156,22 +156,22 @@ impl<'a> Mistake<'a> {
     /// The same for text that is meant for another program.
     fn foreign(self) -> Option<&'static str> {
         match self {
-            Mistake::Compiler => Some(
+            TextMistake::Compiler => Some(
                 "this looks like a compiler's assembler text: clang -c in place of clang -S, and sblog pack writes the image (docs/HANDLERS.md)",
             ),
-            Mistake::Language => Some(
+            TextMistake::Language => Some(
                 "this looks like C: clang compiles it, and sblog pack writes the image (docs/HANDLERS.md)",
             ),
-            Mistake::Label => Some(
+            TextMistake::Label => Some(
                 "there are no labels: a jump has its distance in slots, as ja +2",
             ),
-            Mistake::Listing => Some(
+            TextMistake::Listing => Some(
                 "this looks like a listing, of sblog explain or llvm-objdump: sblog dis prints the text of an image",
             ),
-            Mistake::Foreign => Some(
+            TextMistake::Foreign => Some(
                 "this is how clang writes an instruction: here a word stands first, as in jeq r1, 0, +2 or stxdw [r2+0], r3",
             ),
-            Mistake::Scenario => Some("this looks like a scenario: sblog run carries it out"),
+            TextMistake::Scenario => Some("this looks like a scenario: sblog run carries it out"),
             _ => None,
         }
     }
@@ -179,27 +179,27 @@ impl<'a> Mistake<'a> {
     /// The sentence of a mistake that quotes something from the text.
     fn sentence(self) -> Sentence<'a> {
         match self {
-            Mistake::Control { letter, place } => Sentence::of_letter(
+            TextMistake::Control { letter, place } => Sentence::of_letter(
                 place,
                 letter,
                 ", a control character: no terminal shows it",
             ),
-            Mistake::Letter { letter, place } => Sentence::of_letter(
+            TextMistake::Letter { letter, place } => Sentence::of_letter(
                 place,
                 letter,
                 ": outside of comments all are ASCII",
             ),
-            Mistake::Register { word } => Sentence::of(
+            TextMistake::Register { word } => Sentence::of(
                 "a line begins with the word of its instruction, as mov ",
                 Part::Word(word),
                 ", 0, and not with a register",
             ),
-            Mistake::Capital { word } => Sentence::of(
+            TextMistake::Capital { word } => Sentence::of(
                 "",
                 Part::Word(word),
                 " has a capital letter: words are in small ones",
             ),
-            Mistake::Word { word } => Sentence::of(
+            TextMistake::Word { word } => Sentence::of(
                 "no instruction has the word ",
                 Part::Word(word),
                 ": add, sub, mul, div, sdiv, mod, smod, or, and, xor, lsh, rsh, arsh, neg, mov, movsx8 to movsx32, ja, jal, jeq, jne, jgt, jge, jlt, jle, jsgt, jsge, jslt, jsle, jset, le, be and swap with 16, 32 or 64, ldxb, ldxh, ldxw, ldxdw, stxb to stxdw, stb to stdw, lddw, call and exit do; with 32 behind it, half as wide",
@@ -211,19 +211,19 @@ impl<'a> Mistake<'a> {
     /// The sentence of a mistake in operands.
     fn operand(self) -> Sentence<'a> {
         match self {
-            Mistake::Operands { word, form } => Sentence::of(
+            TextMistake::Operands { word, form } => Sentence::of(
                 "more or fewer operands than in: ",
                 Part::Fixed(word),
                 form,
             ),
-            Mistake::Shape { word, wanted } => Sentence(
+            TextMistake::Shape { word, wanted } => Sentence(
                 "",
                 Part::Word(word),
                 " ",
                 Part::Fixed(wanted.shape()),
                 "",
             ),
-            Mistake::Range { word, wanted } => Sentence(
+            TextMistake::Range { word, wanted } => Sentence(
                 "",
                 Part::Word(word),
                 " is out of its range, ",
@@ -235,7 +235,7 @@ impl<'a> Mistake<'a> {
     }
 }
 
-impl fmt::Display for Mistake<'_> {
+impl fmt::Display for TextMistake<'_> {
     fn fmt<W: fmt::Write>(&self, f: &mut fmt::Formatter<W>) -> fmt::Result {
         match self.fixed() {
             Some(words) => f.write_str(words),

@@ -11,8 +11,8 @@ use Rattle.spans.specs.Typing.{Code}
 use Rattle.decode.specs.Distance.{distance}
 use Rattle.block_order.specs.Placement.{IsPlacement, place_at}
 use Rattle.block_order.specs.declared.arrangement.Placed.{Placed}
-use Rattle.block_order.specs.declared.order.Order.{Order}
-use Rattle.block_order.specs.declared.order.Order.TheVariants.{Forward, Moved, Loops, Unknown}
+use Rattle.block_order.specs.declared.order.BlockOrder.{BlockOrder}
+use Rattle.block_order.specs.declared.order.BlockOrder.TheVariants.{Forward, Moved, Loops, Unknown}
 
 -- the instruction that begins at each slot
 abbrev pub code_of : List Insn → Code
@@ -62,7 +62,7 @@ pub record IsMoved (code : List Insn) (moved : Placed) : Type 0 where
   pub short : slots moved.insns.items ≤ SLOTS
 
 -- each jump already goes forward; or there is another order in which it does; or there is a loop; or no order was found
-abbrev pub IsOrder : List Insn → Order → Type 0
+abbrev pub IsOrder : List Insn → BlockOrder → Type 0
 IsOrder code Forward = IsForward code
 IsOrder code (Moved moved) = ¬ IsForward code × IsMoved code moved
 IsOrder code (Loops from to) = ¬ IsForward code × IsLoop (code_of code) from to

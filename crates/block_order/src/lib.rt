@@ -36,6 +36,6 @@ mod walk;
 
 pub use blocks::Blocks;
 pub use laws::{moved_runs_are_kept, runs_are_kept};
-pub use order::{Order, order_blocks};
+pub use order::{BlockOrder, order_blocks};
 pub use arrangement::Placed;
 pub use writer::{Ordered, ordered_file};

@@ -16,7 +16,7 @@ use std::alloc::{AllocError, Global};
 
 /// The result for the order of blocks.
 #[derive(Drop)]
-pub enum Order {
+pub enum BlockOrder {
     /// Each jump already goes to a later slot.
     Forward,
     /// The code in another order, in which each jump goes to a later slot.
@@ -61,19 +61,19 @@ fn moved(
     code: &[Insn],
     slots: &[Option<Insn>],
     finished: &[usize],
-) -> Result<Order, AllocError>
+) -> Result<BlockOrder, AllocError>
     requires slots { slots.now ≡ slots_of code.now }
     requires back { ¬ IsForward code.now }
     ensures { IfOk result (IsOrder code.now) }
 {
     let placed = match place(alloc, slots, finished) {
         Ok(placed) => placed,
-        Err(Misplaced::NoRoom) => return Ok(Order::Unknown),
+        Err(Misplaced::NoRoom) => return Ok(BlockOrder::Unknown),
         Err(Misplaced::Memory) => return Err(AllocError),
     };
     match is_moved(alloc, code, slots, &placed) {
-        Ok(true) => Ok(Order::Moved(placed)),
-        Ok(false) => Ok(Order::Unknown),
+        Ok(true) => Ok(BlockOrder::Moved(placed)),
+        Ok(false) => Ok(BlockOrder::Unknown),
         Err(e) => Err(e),
     }
 }
@@ -114,14 +114,14 @@ fn looped(
     slots: &[Option<Insn>],
     open: &[usize],
     place: usize,
-) -> Result<Order, AllocError>
+) -> Result<BlockOrder, AllocError>
     requires slots { slots.now ≡ slots_of code.now }
     requires back { ¬ IsForward code.now }
     ensures { IfOk result (IsOrder code.now) }
 {
     match jump_back(alloc, slots, open, place) {
-        Ok(Some((from, to))) => Ok(Order::Loops { from, to }),
-        Ok(None) => Ok(Order::Unknown),
+        Ok(Some((from, to))) => Ok(BlockOrder::Loops { from, to }),
+        Ok(None) => Ok(BlockOrder::Unknown),
         Err(e) => Err(e),
     }
 }
@@ -132,7 +132,7 @@ fn order_of(
     code: &[Insn],
     slots: &[Option<Insn>],
     found: &Search,
-) -> Result<Order, AllocError>
+) -> Result<BlockOrder, AllocError>
     requires slots { slots.now ≡ slots_of code.now }
     requires back { ¬ IsForward code.now }
     ensures { IfOk result (IsOrder code.now) }
@@ -144,7 +144,7 @@ fn order_of(
 }
 
 /// The order of the blocks of code in which a jump goes back.
-fn order_slots(alloc: Global, code: &[Insn], slots: &[Option<Insn>]) -> Result<Order, AllocError>
+fn order_slots(alloc: Global, code: &[Insn], slots: &[Option<Insn>]) -> Result<BlockOrder, AllocError>
     requires slots { slots.now ≡ slots_of code.now }
     requires back { ¬ IsForward code.now }
     ensures { IfOk result (IsOrder code.now) }
@@ -156,11 +156,11 @@ fn order_slots(alloc: Global, code: &[Insn], slots: &[Option<Insn>]) -> Result<O
 /// The order of the blocks of code. If a jump goes back and there is no loop, the answer is another order, if one is
 /// found: from slot 0 on, each block comes before those that it leads to, and right before the next one in the code if
 /// it can.
-pub fn order_blocks(alloc: Global, code: &[Insn]) -> Result<Order, AllocError>
+pub fn order_blocks(alloc: Global, code: &[Insn]) -> Result<BlockOrder, AllocError>
     ensures { IfOk result (IsOrder code.now) }
 {
     if is_forward(code) {
-        return Ok(Order::Forward);
+        return Ok(BlockOrder::Forward);
     }
     let slots = lay_out(alloc, code)?;
     order_slots(alloc, code, slots.as_slice())

@@ -11,13 +11,13 @@ ghost use Rattle.block_order.specs.Order.{IsForward, IsMoved, IsOrder};
 ghost use Rattle.block_order.specs.Ordered.{BreaksV1, IsOrdered};
 
 use crate::blocks::Blocks;
-use crate::order::{Order, order_blocks};
+use crate::order::{BlockOrder, order_blocks};
 use crate::arrangement::Placed;
 use decode::Insn;
 use images::{FileForm, file};
 use limits::{SLOTS, STATE_BYTES};
 use regtypes::Rule;
-use span_verifier::{VerifyError, verify};
+use span_verifier::{SpanVerifyError, verify};
 use std::alloc::{AllocError, Global};
 use verifier::ImageError;
 
@@ -36,8 +36,8 @@ fn breaks_v1(alloc: Global, code: &[Insn], state_len: u16) -> Result<bool, Alloc
 {
     match verify(alloc, code, state_len) {
         Ok(_) => Ok(false),
-        Err(VerifyError::Fault { rule, .. }) => Ok(rule == Rule::V1),
-        Err(VerifyError::Memory) => Err(AllocError),
+        Err(SpanVerifyError::Fault { rule, .. }) => Ok(rule == Rule::V1),
+        Err(SpanVerifyError::Memory) => Err(AllocError),
     }
 }
 
@@ -72,7 +72,7 @@ fn file_in(
     code: &[Insn],
     state_len: u16,
     bytes: Vec<u8>,
-    order: Order,
+    order: BlockOrder,
 ) -> Result<Ordered, ImageError>
     requires state { state_len ≤ STATE_BYTES }
     requires file { IsFile Sbi3 code.now state_len bytes.items }
@@ -82,10 +82,10 @@ fn file_in(
     ensures refused { IfErr result (IsUnwritten code.now) }
 {
     let blocks = match order {
-        Order::Forward => Blocks::Kept,
-        Order::Moved(placed) => return moved_file(alloc, code, state_len, &placed),
-        Order::Loops { from, to } => Blocks::Loops { from, to },
-        Order::Unknown => Blocks::Unknown,
+        BlockOrder::Forward => Blocks::Kept,
+        BlockOrder::Moved(placed) => return moved_file(alloc, code, state_len, &placed),
+        BlockOrder::Loops { from, to } => Blocks::Loops { from, to },
+        BlockOrder::Unknown => Blocks::Unknown,
     };
     Ok(Ordered { bytes, blocks })
 }

@@ -5,11 +5,11 @@ use Rattle.std.specs.Int.{Width, w16, w32, byte_len, to_le_bytes}
 use Rattle.std.specs.List.{flat_map, remove, insert, AllByRecursion}
 use Rattle.std.proofs.lemmas.Bool.Decides.{nat_tests}
 use Rattle.std.proofs.lemmas.List.{length-append}
-use Rattle.checkpoint.specs.declared.form.Form.{Form}
-use Rattle.checkpoint.specs.declared.form.Form.TheVariants.{First, Second}
+use Rattle.checkpoint.specs.declared.form.CheckpointForm.{CheckpointForm}
+use Rattle.checkpoint.specs.declared.form.CheckpointForm.TheVariants.{First, Second}
 use Rattle.checkpoint.specs.declared.fault.SavedFault.{SavedFault}
 use Rattle.checkpoint.specs.declared.fault.SavedFault.TheVariants.{Length}
-use Rattle.checkpoint.specs.declared.fields.Head.{Head}
+use Rattle.checkpoint.specs.declared.fields.CheckpointHead.{CheckpointHead}
 use Rattle.checkpoint.specs.Saved.{TheKept, TheSaved, nothing_kept, PayloadFits, KeptFits, Fits}
 use Rattle.checkpoint.specs.Inside.Saved.{HeadFits}
 use Rattle.checkpoint.specs.Format.{magic, payload_bytes, kept_bytes, number_bytes}
@@ -63,7 +63,7 @@ byte_short : (low high n : ℕ) → IsShort (byte_at low high) (n ∷ [])
 byte_short low high n [] more e some = refl
 byte_short low high n (b ∷ bytes) more e some = absurd (omega (arith, ap length e, length-append bytes more))
 
-form_short : (form : Form) → IsShort form_at (magic form)
+form_short : (form : CheckpointForm) → IsShort form_at (magic form)
 unfolding form_at
 form_short First bytes more e some = rw (bytes_short 4 (magic First) refl bytes more e some) refl
 form_short Second bytes more e some = rw (bytes_short 4 (magic Second) refl bytes more e some) refl
@@ -72,7 +72,7 @@ senders_short : (me count : ℕ) (senders : List ℕ) → IsShort (senders_at me
 unfolding senders_at
 senders_short me count senders bytes more e some = rw (bytes_short (length senders) senders refl bytes more e some) refl
 
-payload_short : (form : Form) (payload : List ℕ) → PayloadFits form payload → IsShort (payload_at form) (payload_bytes form payload)
+payload_short : (form : CheckpointForm) (payload : List ℕ) → PayloadFits form payload → IsShort (payload_at form) (payload_bytes form payload)
 unfolding payload_at
 payload_short First payload fits bytes more e some = bytes_short 64 payload fits bytes more e some
 payload_short Second payload fits bytes more e some =
@@ -88,7 +88,7 @@ times_short field spell P again short (x ∷ xs) all bytes more e some =
     bind_short field (λ first. times field (length xs) first.1 >>= λ others. Ok (first.0 ∷ others.0, others.1)) (spell x) (flat_map spell xs) x (short x all.0) (λ rest. again x rest all.0)
     (λ rest m f left. rw (times_short field spell P again short xs all.1 rest m f left) refl) bytes more e some
 
-kept_short : (form : Form) (kept : TheKept) → KeptFits form kept → IsShort (kept_at form) (kept_bytes form kept)
+kept_short : (form : CheckpointForm) (kept : TheKept) → KeptFits form kept → IsShort (kept_at form) (kept_bytes form kept)
 unfolding kept_at
 kept_short form kept fits bytes more e some =
     let n = length kept.payloads in
@@ -104,7 +104,7 @@ kept_short form kept fits bytes more e some =
 
 -- ---- the whole
 
-head_short : (h : Head) → HeadFits h → IsShort head_at (head_bytes h)
+head_short : (h : CheckpointHead) → HeadFits h → IsShort head_at (head_bytes h)
 unfolding head_at
 head_short h fits bytes more e some =
     bind_short form_at (λ form. number_at w16 0 1024 form.1 >>= λ state. byte_at 1 15 state.1 >>= λ count. byte_at 1 count.0 count.1 >>= λ me. number_at w32 0 65536 me.1 >>= λ received.
@@ -122,7 +122,7 @@ head_short h fits bytes more e some =
     (λ rest m f left. rw (number_short w32 (2 ^ 32) wide32 0 65536 h.received rest m f left) refl))))
     bytes more e some
 
-body_short : (form : Form) (s : TheSaved) → Fits form s → IsShort (body_at (head form s)) (body_bytes form s)
+body_short : (form : CheckpointForm) (s : TheSaved) → Fits form s → IsShort (body_at (head form s)) (body_bytes form s)
 unfolding body_at
 body_short form s fits bytes more e some =
     let ks = remove s.queues s.me in

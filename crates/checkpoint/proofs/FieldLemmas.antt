@@ -7,8 +7,8 @@ use Rattle.std.specs.Cmp.Lexicographic.{pointwise, same_text}
 use Rattle.std.proofs.lemmas.Bool.{cases_lt, ltb-false, le-ltb}
 use Rattle.std.proofs.lemmas.List.{take_at, drop_at, take-append-drop, length-append, length-take, length-drop, get_or-drop, get_or-take, get_or_past}
 use Rattle.std.proofs.lemmas.Nat.{le_bytes_2, le_bytes_4, from_le_bytes-to_le_bytes_2, from_le_bytes-to_le_bytes_4}
-use Rattle.checkpoint.specs.declared.form.Form.{Form}
-use Rattle.checkpoint.specs.declared.form.Form.TheVariants.{First, Second}
+use Rattle.checkpoint.specs.declared.form.CheckpointForm.{CheckpointForm}
+use Rattle.checkpoint.specs.declared.form.CheckpointForm.TheVariants.{First, Second}
 use Rattle.checkpoint.specs.declared.fault.SavedFault.{SavedFault}
 use Rattle.checkpoint.specs.declared.fault.SavedFault.TheVariants.{Magic, Length, Range}
 use Rattle.checkpoint.specs.Saved.{PayloadFits, is_sender}
@@ -149,23 +149,23 @@ number_again w limit wide low high n rest least most lt =
 
 -- ---- the form, receipts and payloads
 
-form_chosen : (a b : Bool) (rest : List ℕ) (x : Form × List ℕ) → cond a (Ok (First, rest)) (cond b (Ok (Second, rest)) (Err Magic)) ≡ Ok x → ((a ≡ true) × ((First, rest) ≡ x)) ⊎ ((b ≡ true) × ((Second, rest) ≡ x))
+form_chosen : (a b : Bool) (rest : List ℕ) (x : CheckpointForm × List ℕ) → cond a (Ok (First, rest)) (cond b (Ok (Second, rest)) (Err Magic)) ≡ Ok x → ((a ≡ true) × ((First, rest) ≡ x)) ⊎ ((b ≡ true) × ((Second, rest) ≡ x))
 form_chosen true b rest x e = inl (refl, ok_is (First, rest) x e)
 form_chosen false true rest x e = inr (refl, ok_is (Second, rest) x e)
 form_chosen false false rest x e = absurd cc
 
-pub form_takes : (bytes : List ℕ) (x : Form × List ℕ) → IsBytes bytes → form_at bytes ≡ Ok x → Takes bytes (magic x.0) x.1
+pub form_takes : (bytes : List ℕ) (x : CheckpointForm × List ℕ) → IsBytes bytes → form_at bytes ≡ Ok x → Takes bytes (magic x.0) x.1
 unfolding form_at
 form_takes bytes x fits e =
     let b = bind_ok (bytes_at 4 bytes) (λ found. cond (pointwise nat_eq found.0 (magic First)) (Ok (First, found.1)) (cond (pointwise nat_eq found.0 (magic Second)) (Ok (Second, found.1)) (Err Magic))) x e in
     let t = bytes_takes 4 bytes b.0 fits b.1 in
-    let at = λ (form : Form) (same : b.0.0 ≡ magic form) (is : (form, b.0.1) ≡ x). subst (λ (p : Form × List ℕ). Takes bytes (magic p.0) p.1) is (subst (λ (text : List ℕ). Takes bytes text b.0.1) same t.0) in
+    let at = λ (form : CheckpointForm) (same : b.0.0 ≡ magic form) (is : (form, b.0.1) ≡ x). subst (λ (p : CheckpointForm × List ℕ). Takes bytes (magic p.0) p.1) is (subst (λ (text : List ℕ). Takes bytes text b.0.1) same t.0) in
     elim (form_chosen (pointwise nat_eq b.0.0 (magic First)) (pointwise nat_eq b.0.0 (magic Second)) b.0.1 x b.2) [
       | inl h ↦ at First (same_text b.0.0 (magic First) (sym h.0)) h.1
       | inr h ↦ at Second (same_text b.0.0 (magic Second) (sym h.0)) h.1
     ]
 
-pub form_again : (form : Form) (rest : List ℕ) → form_at (magic form ++ rest) ≡ Ok (form, rest)
+pub form_again : (form : CheckpointForm) (rest : List ℕ) → form_at (magic form ++ rest) ≡ Ok (form, rest)
 unfolding form_at
 form_again First rest = rw (bytes_again 4 (magic First) rest refl) refl
 form_again Second rest = rw (bytes_again 4 (magic Second) rest refl) refl
@@ -184,7 +184,7 @@ unfolding senders_at
 senders_again me count senders rest all = rw (bytes_again (length senders) senders rest refl, all) refl
 
 -- a payload that is read was spelled so in this form, and fits it
-pub payload_takes : (form : Form) (bytes : List ℕ) (x : List ℕ × List ℕ) → IsBytes bytes → payload_at form bytes ≡ Ok x → Takes bytes (payload_bytes form x.0) x.1 × PayloadFits form x.0
+pub payload_takes : (form : CheckpointForm) (bytes : List ℕ) (x : List ℕ × List ℕ) → IsBytes bytes → payload_at form bytes ≡ Ok x → Takes bytes (payload_bytes form x.0) x.1 × PayloadFits form x.0
 unfolding payload_at
 payload_takes First bytes x fits e = let t = bytes_takes 64 bytes x fits e in (t.0, t.1)
 payload_takes Second bytes x fits e =
@@ -207,7 +207,7 @@ number_short w low high bytes x e =
     let r = range_takes low high (from_le_bytes w b.0.0) b.0.1 x b.2 in
     subst (λ (p : ℕ × List ℕ). length p.1 ≤ length bytes) r.0 (omega (arith, bytes_short (byte_len w) bytes b.0 b.1))
 
-pub payload_short : (form : Form) (bytes : List ℕ) (x : List ℕ × List ℕ) → payload_at form bytes ≡ Ok x → length x.0 + length x.1 ≤ length bytes
+pub payload_short : (form : CheckpointForm) (bytes : List ℕ) (x : List ℕ × List ℕ) → payload_at form bytes ≡ Ok x → length x.0 + length x.1 ≤ length bytes
 unfolding payload_at
 payload_short First bytes x e = bytes_short 64 bytes x e
 payload_short Second bytes x e =
@@ -215,7 +215,7 @@ payload_short Second bytes x e =
     omega (arith, number_short w16 0 256 bytes b.0 b.1, bytes_short b.0.0 b.0.1 x b.2)
 
 -- and one that fits, spelled so, is read
-pub payload_again : (form : Form) (payload rest : List ℕ) → PayloadFits form payload → payload_at form (payload_bytes form payload ++ rest) ≡ Ok (payload, rest)
+pub payload_again : (form : CheckpointForm) (payload rest : List ℕ) → PayloadFits form payload → payload_at form (payload_bytes form payload ++ rest) ≡ Ok (payload, rest)
 unfolding payload_at
 payload_again First payload rest fits = bytes_again 64 payload rest fits
 payload_again Second payload rest fits =

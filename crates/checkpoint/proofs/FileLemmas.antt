@@ -6,12 +6,12 @@ use Rattle.std.specs.List.{flat_map, remove, insert, AllByRecursion}
 use Rattle.std.proofs.lemmas.Bool.{eqb-true}
 use Rattle.std.proofs.lemmas.Bool.Decides.{nat_tests}
 use Rattle.std.proofs.lemmas.List.{append-nil, nil_from_length}
-use Rattle.checkpoint.specs.declared.form.Form.{Form}
-use Rattle.checkpoint.specs.declared.form.Form.TheVariants.{First, Second}
+use Rattle.checkpoint.specs.declared.form.CheckpointForm.{CheckpointForm}
+use Rattle.checkpoint.specs.declared.form.CheckpointForm.TheVariants.{First, Second}
 use Rattle.checkpoint.specs.declared.fault.SavedFault.{SavedFault}
 use Rattle.checkpoint.specs.declared.fault.SavedFault.TheVariants.{Length}
 use Rattle.checkpoint.specs.declared.fault.SavedError.{SavedError}
-use Rattle.checkpoint.specs.declared.fields.Head.{Head}
+use Rattle.checkpoint.specs.declared.fields.CheckpointHead.{CheckpointHead}
 use Rattle.checkpoint.specs.Saved.{TheKept, TheSaved, nothing_kept, KeptFits, Fits}
 use Rattle.checkpoint.specs.Inside.Saved.{HeadFits}
 use Rattle.checkpoint.specs.Format.{magic, kept_bytes, number_bytes, bytes_of, IsCheckpoint}
@@ -61,14 +61,14 @@ all-removed P (y ∷ ys) (suc i) all = (all.0, all-removed P ys i all.1)
 -- ---- the first fields
 
 -- the first fields, spelled
-abbrev pub head_bytes : Head → List ℕ
+abbrev pub head_bytes : CheckpointHead → List ℕ
 head_bytes h = magic h.form ++ (to_le_bytes w16 h.state ++ (h.count ∷ h.me ∷ to_le_bytes w32 h.received))
 
 -- the first fields of a checkpoint
-abbrev pub head : Form → TheSaved → Head
+abbrev pub head : CheckpointForm → TheSaved → CheckpointHead
 head form s = record { form = form; state = length s.state; count = s.count; me = s.me; received = length s.senders }
 
-head_takes : (bytes : List ℕ) (x : Head × List ℕ) → IsBytes bytes → head_at bytes ≡ Ok x → Takes bytes (head_bytes x.0) x.1 × HeadFits x.0
+head_takes : (bytes : List ℕ) (x : CheckpointHead × List ℕ) → IsBytes bytes → head_at bytes ≡ Ok x → Takes bytes (head_bytes x.0) x.1 × HeadFits x.0
 unfolding head_at
 head_takes bytes x fits e =
     let a = bind_ok (form_at bytes) (λ form. number_at w16 0 1024 form.1 >>= λ state. byte_at 1 15 state.1 >>= λ count. byte_at 1 count.0 count.1 >>= λ me. number_at w32 0 65536 me.1 >>= λ received.
@@ -85,17 +85,17 @@ head_takes bytes x fits e =
     let t2 = byte_takes 1 15 b.0.1 c.0 t1.0.rest_fits c.1 in
     let t3 = byte_takes 1 c.0.0 c.0.1 d.0 t2.0.rest_fits d.1 in
     let t4 = number_takes w32 (2 ^ 32) wide32 0 65536 d.0.1 f.0 t3.0.rest_fits f.1 in
-    let h : Head = record { form = a.0.0; state = b.0.0; count = c.0.0; me = d.0.0; received = f.0.0 } in
+    let h : CheckpointHead = record { form = a.0.0; state = b.0.0; count = c.0.0; me = d.0.0; received = f.0.0 } in
     let last = to_le_bytes w32 f.0.0 in
     let k3 : Takes c.0.1 (d.0.0 ∷ last) f.0.1 = Takes-then c.0.1 (d.0.0 ∷ []) d.0.1 last f.0.1 t3.0 t4.0 in
     let k2 : Takes b.0.1 (c.0.0 ∷ d.0.0 ∷ last) f.0.1 = Takes-then b.0.1 (c.0.0 ∷ []) c.0.1 (d.0.0 ∷ last) f.0.1 t2.0 k3 in
     let k1 = Takes-then a.0.1 (to_le_bytes w16 b.0.0) b.0.1 (c.0.0 ∷ d.0.0 ∷ last) f.0.1 t1.0 k2 in
     let whole : Takes bytes (head_bytes h) f.0.1 = Takes-then bytes (magic a.0.0) a.0.1 (to_le_bytes w16 b.0.0 ++ (c.0.0 ∷ d.0.0 ∷ last)) f.0.1 t0 k1 in
     let ranges : HeadFits h = record { state = t1.2; some = t2.1; few = t2.2; least = t3.1; own = t3.2; received = t4.2 } in
-    subst (λ (y : Head × List ℕ). Takes bytes (head_bytes y.0) y.1 × HeadFits y.0) (ok_is (h, f.0.1) x f.2) (whole, ranges)
+    subst (λ (y : CheckpointHead × List ℕ). Takes bytes (head_bytes y.0) y.1 × HeadFits y.0) (ok_is (h, f.0.1) x f.2) (whole, ranges)
 
 -- first fields that fit, spelled so, are read
-pub head_again : (h : Head) (rest : List ℕ) → HeadFits h → head_at (head_bytes h ++ rest) ≡ Ok (h, rest)
+pub head_again : (h : CheckpointHead) (rest : List ℕ) → HeadFits h → head_at (head_bytes h ++ rest) ≡ Ok (h, rest)
 unfolding head_at
 head_again h rest fits =
     let numbers = h.count ∷ h.me ∷ to_le_bytes w32 h.received in
@@ -112,10 +112,10 @@ head_again h rest fits =
 -- ---- what follows them
 
 -- what follows them, spelled
-abbrev pub body_bytes : Form → TheSaved → List ℕ
+abbrev pub body_bytes : CheckpointForm → TheSaved → List ℕ
 body_bytes form s = s.state ++ (s.senders ++ flat_map (kept_bytes form) (remove s.queues s.me))
 
-body_takes : (h : Head) (bytes : List ℕ) (x : TheSaved × List ℕ) → HeadFits h → IsBytes bytes → body_at h bytes ≡ Ok x → Takes bytes (body_bytes h.form x.0) x.1 × (h ≡ head h.form x.0) × Fits h.form x.0
+body_takes : (h : CheckpointHead) (bytes : List ℕ) (x : TheSaved × List ℕ) → HeadFits h → IsBytes bytes → body_at h bytes ≡ Ok x → Takes bytes (body_bytes h.form x.0) x.1 × (h ≡ head h.form x.0) × Fits h.form x.0
 unfolding body_at
 body_takes h bytes x ranges fits e =
     let a = bind_ok (bytes_at h.state bytes) (λ state. senders_at h.me h.count h.received state.1 >>= λ senders. times (kept_at h.form) h.count senders.1 >>= λ queues.
@@ -133,8 +133,8 @@ body_takes h bytes x ranges fits e =
     let back = Takes-then a.0.1 b.0.0 b.0.1 (flat_map (kept_bytes h.form) qs) c.0.1 t1.0 t2.0 in
     let all = Takes-then bytes a.0.0 a.0.1 (b.0.0 ++ flat_map (kept_bytes h.form) qs) c.0.1 t0.0 back in
     let whole : Takes bytes (body_bytes h.form s) c.0.1 = subst (λ (ks : List TheKept). Takes bytes (a.0.0 ++ (b.0.0 ++ flat_map (kept_bytes h.form) ks)) c.0.1) (sym others) all in
-    let same : h ≡ head h.form s = ap (λ (n : ℕ). let g : Head = record { form = h.form; state = n; count = h.count; me = h.me; received = h.received } in g) (sym t0.1)
-    ∙ ap (λ (n : ℕ). let g : Head = record { form = h.form; state = length a.0.0; count = h.count; me = h.me; received = n } in g) (sym t1.1) in
+    let same : h ≡ head h.form s = ap (λ (n : ℕ). let g : CheckpointHead = record { form = h.form; state = n; count = h.count; me = h.me; received = h.received } in g) (sym t0.1)
+    ∙ ap (λ (n : ℕ). let g : CheckpointHead = record { form = h.form; state = length a.0.0; count = h.count; me = h.me; received = n } in g) (sym t1.1) in
     let nothing : KeptFits h.form nothing_kept = record { least = omega arith; bound = omega arith; payloads = tt } in
     let good : Fits h.form s = record {
       some = ranges.some;
@@ -150,7 +150,7 @@ body_takes h bytes x ranges fits e =
     } in
     subst (λ (y : TheSaved × List ℕ). Takes bytes (body_bytes h.form y.0) y.1 × (h ≡ head h.form y.0) × Fits h.form y.0) (ok_is (s, c.0.1) x c.2) (whole, same, good)
 
-body_again : (form : Form) (s : TheSaved) (rest : List ℕ) → Fits form s → body_at (head form s) (body_bytes form s ++ rest) ≡ Ok (s, rest)
+body_again : (form : CheckpointForm) (s : TheSaved) (rest : List ℕ) → Fits form s → body_at (head form s) (body_bytes form s ++ rest) ≡ Ok (s, rest)
 unfolding body_at
 body_again form s rest fits =
     let ks = remove s.queues s.me in
@@ -169,7 +169,7 @@ body_again form s rest fits =
 
 -- ---- the whole
 
-reading_takes : (bytes : List ℕ) (s : TheSaved) → IsBytes bytes → reading bytes ≡ Ok s → (form : Form) × IsCheckpoint form s bytes
+reading_takes : (bytes : List ℕ) (s : TheSaved) → IsBytes bytes → reading bytes ≡ Ok s → (form : CheckpointForm) × IsCheckpoint form s bytes
 unfolding reading
 reading_takes bytes s fits e =
     let a = bind_ok (head_at bytes) (λ h. body_at h.0 h.1 >>= λ saved. cond (eqb (length saved.1) 0) (Ok saved.0) (Err Length)) s e in
@@ -180,16 +180,16 @@ reading_takes bytes s fits e =
     let form = a.0.0.form in
     let none : b.0.1 ≡ [] = nil_from_length b.0.1 (eqb-true (length b.0.1) 0 p.0) in
     let rest : a.0.1 ≡ body_bytes form b.0.0 = u.0.parts ∙ ap (λ (t : List ℕ). body_bytes form b.0.0 ++ t) none ∙ append-nil (body_bytes form b.0.0) in
-    let front : bytes ≡ head_bytes (head form b.0.0) ++ body_bytes form b.0.0 = t.0.parts ∙ ap (λ (h : Head). head_bytes h ++ a.0.1) u.1 ∙ ap (λ (t : List ℕ). head_bytes (head form b.0.0) ++ t) rest in
+    let front : bytes ≡ head_bytes (head form b.0.0) ++ body_bytes form b.0.0 = t.0.parts ∙ ap (λ (h : CheckpointHead). head_bytes h ++ a.0.1) u.1 ∙ ap (λ (t : List ℕ). head_bytes (head form b.0.0) ++ t) rest in
     let whole : bytes ≡ bytes_of form b.0.0 = front ∙ append_assoc (magic form) (number_bytes b.0.0) (body_bytes form b.0.0) in
     (form, subst (λ (y : TheSaved). IsCheckpoint form y bytes) p.1 (record { fits = u.2; bytes_are = whole }))
 
 -- the first fields of a checkpoint that fits fit, too
-pub head_fits : (form : Form) (s : TheSaved) → Fits form s → HeadFits (head form s)
+pub head_fits : (form : CheckpointForm) (s : TheSaved) → Fits form s → HeadFits (head form s)
 head_fits form s fits = record { state = fits.state; some = fits.some; few = fits.few; least = fits.least; own = fits.own; received = fits.received }
 
 -- the bytes of a checkpoint are read as that checkpoint
-pub reading_again : (form : Form) (s : TheSaved) (bytes : List ℕ) → IsCheckpoint form s bytes → reading bytes ≡ Ok s
+pub reading_again : (form : CheckpointForm) (s : TheSaved) (bytes : List ℕ) → IsCheckpoint form s bytes → reading bytes ≡ Ok s
 unfolding reading
 reading_again form s bytes is =
     let body = body_bytes form s in
@@ -199,13 +199,13 @@ reading_again form s bytes is =
     ap reading regrouped ∙ rw (head_again (head form s) (body ++ []) ranges, body_again form s [] is.fits) refl
 
 -- and what is read from bytes is what they are a checkpoint of
-pub is_found : (bytes : List ℕ) (r : Result TheSaved SavedError) → IsBytes bytes → Gives (λ (s : TheSaved). s) r (reading bytes) → IfOk r (λ s. (form : Form) × IsCheckpoint form s bytes)
+pub is_found : (bytes : List ℕ) (r : Result TheSaved SavedError) → IsBytes bytes → Gives (λ (s : TheSaved). s) r (reading bytes) → IfOk r (λ s. (form : CheckpointForm) × IsCheckpoint form s bytes)
 is_found bytes (Ok s) fits given = reading_takes bytes s fits given
 is_found bytes (Err e) fits given = tt
 
 -- ---- laws
 
-form_of : (form form' : Form) (xs ys : List ℕ) → magic form ++ xs ≡ magic form' ++ ys → form ≡ form'
+form_of : (form form' : CheckpointForm) (xs ys : List ℕ) → magic form ++ xs ≡ magic form' ++ ys → form ≡ form'
 form_of First First xs ys e = refl
 form_of First Second xs ys e = let last : (let a : ℕ = 0x31 in a) ≡ 0x32 = ap (λ (zs : List ℕ). get_or zs 3 0) e in absurd (omega (arith, last))
 form_of Second First xs ys e = let last : (let a : ℕ = 0x32 in a) ≡ 0x31 = ap (λ (zs : List ℕ). get_or zs 3 0) e in absurd (omega (arith, last))

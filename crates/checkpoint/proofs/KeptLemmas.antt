@@ -2,7 +2,7 @@
 use Rattle.std.proofs.Common.{◌≡◌, ℕ, zero, suc, ◌-◌, ◌^◌, List, [], ◌∷◌, ◌++◌, length, Ok, refl, sym, ap, subst, ◌∙◌, append_assoc, arith}
 use Rattle.std.specs.Int.{w32, to_le_bytes}
 use Rattle.std.specs.List.{flat_map, AllByRecursion}
-use Rattle.checkpoint.specs.declared.form.Form.{Form}
+use Rattle.checkpoint.specs.declared.form.CheckpointForm.{CheckpointForm}
 use Rattle.checkpoint.specs.Saved.{TheKept, PayloadFits, KeptFits}
 use Rattle.checkpoint.specs.Format.{payload_bytes, kept_bytes}
 use Rattle.checkpoint.specs.Reader.{◌>>=◌, number_at, payload_at, times, kept_at}
@@ -38,7 +38,7 @@ times_again field spell P step (x ∷ xs) rest all =
 -- ---- what is kept
 
 -- what is read for a destination was spelled so, and fits
-pub kept_takes : (form : Form) (bytes : List ℕ) (x : TheKept × List ℕ) → IsBytes bytes → kept_at form bytes ≡ Ok x → Takes bytes (kept_bytes form x.0) x.1 × KeptFits form x.0
+pub kept_takes : (form : CheckpointForm) (bytes : List ℕ) (x : TheKept × List ℕ) → IsBytes bytes → kept_at form bytes ≡ Ok x → Takes bytes (kept_bytes form x.0) x.1 × KeptFits form x.0
 unfolding kept_at
 kept_takes form bytes x fits e =
     let a = bind_ok (number_at w32 1 524289 bytes) (λ first. number_at w32 0 (524289 - first.0) first.1 >>= λ count. times (payload_at form) count.0 count.1 >>= λ payloads. Ok (record { first = first.0; payloads = payloads.0 }, payloads.1)) x e in
@@ -55,7 +55,7 @@ kept_takes form bytes x fits e =
     subst (λ (y : TheKept × List ℕ). Takes bytes (kept_bytes form y.0) y.1 × KeptFits form y.0) (ok_is (kept, c.0.1) x c.2) (whole, ranges)
 
 -- and what fits, spelled so, is read
-pub kept_again : (form : Form) (kept : TheKept) (rest : List ℕ) → KeptFits form kept → kept_at form (kept_bytes form kept ++ rest) ≡ Ok (kept, rest)
+pub kept_again : (form : CheckpointForm) (kept : TheKept) (rest : List ℕ) → KeptFits form kept → kept_at form (kept_bytes form kept ++ rest) ≡ Ok (kept, rest)
 unfolding kept_at
 kept_again form kept rest fits =
     let n = length kept.payloads in

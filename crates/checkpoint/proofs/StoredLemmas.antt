@@ -2,7 +2,7 @@
 use Rattle.std.proofs.Common.{◌≡◌, ℕ, List, ◌++◌, length, take, drop, refl, sym, ap, subst, ◌∙◌}
 use Rattle.std.specs.List.{flat_map, remove}
 use Rattle.std.proofs.lemmas.List.{take_at}
-use Rattle.checkpoint.specs.declared.form.Form.TheVariants.{Second}
+use Rattle.checkpoint.specs.declared.form.CheckpointForm.TheVariants.{Second}
 use Rattle.checkpoint.specs.Saved.{TheSaved}
 use Rattle.checkpoint.specs.Format.{kept_bytes, IsCheckpoint, bytes_of}
 use Rattle.checkpoint.specs.Inside.Stored.{read_of, saved_in, IsStored}

@@ -4,13 +4,13 @@ use Rattle.std.specs.Int.{Width, w16, w32, byte_len, from_le_bytes}
 use Rattle.std.specs.List.{list_all, insert}
 use Rattle.std.specs.Cmp.Lexicographic.{pointwise}
 use Rattle.limits.specs.declared.TheConstants.{PAYLOAD_BYTES, PROCESSES, RECEIPTS, SENDS, STATE_BYTES}
-use Rattle.checkpoint.specs.declared.form.Form.{Form}
-use Rattle.checkpoint.specs.declared.form.Form.TheVariants.{First, Second}
+use Rattle.checkpoint.specs.declared.form.CheckpointForm.{CheckpointForm}
+use Rattle.checkpoint.specs.declared.form.CheckpointForm.TheVariants.{First, Second}
 use Rattle.checkpoint.specs.declared.fault.SavedFault.{SavedFault}
 use Rattle.checkpoint.specs.declared.fault.SavedFault.TheVariants.{Magic, Length, Range}
 use Rattle.checkpoint.specs.declared.fault.SavedError.{SavedError}
 use Rattle.checkpoint.specs.declared.fault.SavedError.TheVariants as errors
-use Rattle.checkpoint.specs.declared.fields.Head.{Head}
+use Rattle.checkpoint.specs.declared.fields.CheckpointHead.{CheckpointHead}
 use Rattle.checkpoint.specs.Saved.{TheKept, TheSaved, nothing_kept, is_sender}
 use Rattle.checkpoint.specs.Format.{magic}
 
@@ -51,7 +51,7 @@ number_at w low high bytes = do
   in_range low high (from_le_bytes w found.0) found.1
 
 -- the form with the magic at the front
-unfoldable pub form_at : List ℕ → Result (Form × List ℕ) SavedFault
+unfoldable pub form_at : List ℕ → Result (CheckpointForm × List ℕ) SavedFault
 form_at bytes = do
   found ← bytes_at 4 bytes
   if pointwise nat_eq found.0 (magic First) then Ok (First, found.1) else (if pointwise nat_eq found.0 (magic Second) then Ok (Second, found.1) else Err Magic)
@@ -63,7 +63,7 @@ senders_at me count received bytes = do
   if list_all (is_sender me count) senders.0 then Ok senders else Err Range
 
 -- 64 bytes, or a length and as many bytes
-unfoldable pub payload_at : Form → List ℕ → Result (List ℕ × List ℕ) SavedFault
+unfoldable pub payload_at : CheckpointForm → List ℕ → Result (List ℕ × List ℕ) SavedFault
 payload_at First bytes = bytes_at 64 bytes
 payload_at Second bytes = do
   len ← number_at w16 0 PAYLOAD_BYTES bytes
@@ -78,7 +78,7 @@ times field (suc n) bytes = do
   Ok (first.0 ∷ others.0, others.1)
 
 -- what is kept for one destination
-unfoldable pub kept_at : Form → List ℕ → Result (TheKept × List ℕ) SavedFault
+unfoldable pub kept_at : CheckpointForm → List ℕ → Result (TheKept × List ℕ) SavedFault
 kept_at form bytes = do
   first ← number_at w32 1 (SENDS + 1) bytes
   count ← number_at w32 0 (SENDS + 1 - first.0) first.1
@@ -88,7 +88,7 @@ kept_at form bytes = do
 -- ---- the whole
 
 -- the fields up to the number of receipts
-unfoldable pub head_at : List ℕ → Result (Head × List ℕ) SavedFault
+unfoldable pub head_at : List ℕ → Result (CheckpointHead × List ℕ) SavedFault
 head_at bytes = do
   form ← form_at bytes
   state ← number_at w16 0 STATE_BYTES form.1
@@ -98,7 +98,7 @@ head_at bytes = do
   Ok (record { form = form.0; state = state.0; count = count.0; me = me.0; received = received.0 }, received.1)
 
 -- the state, the receipts, and what is kept for each number but the process's own, for which nothing is kept
-unfoldable pub body_at : Head → List ℕ → Result (TheSaved × List ℕ) SavedFault
+unfoldable pub body_at : CheckpointHead → List ℕ → Result (TheSaved × List ℕ) SavedFault
 body_at head bytes = do
   state ← bytes_at head.state bytes
   senders ← senders_at head.me head.count head.received state.1

@@ -5,8 +5,8 @@ use Rattle.limits.specs.declared.TheConstants.{PAYLOAD_BYTES, PROCESSES, RECEIPT
 use Rattle.rsn.specs.Receipts.{Received}
 use Rattle.sender_log.specs.Queue.{TheQueue}
 use Rattle.sender_log.specs.Log.{TheLog}
-use Rattle.checkpoint.specs.declared.form.Form.{Form}
-use Rattle.checkpoint.specs.declared.form.Form.TheVariants.{First, Second}
+use Rattle.checkpoint.specs.declared.form.CheckpointForm.{CheckpointForm}
+use Rattle.checkpoint.specs.declared.form.CheckpointForm.TheVariants.{First, Second}
 
 -- ---- values
 
@@ -31,12 +31,12 @@ pub record TheSaved : Type 0 where
 -- ---- ranges
 
 -- the length that a payload of a form may have
-abbrev pub PayloadFits : Form → List ℕ → Type 0
+abbrev pub PayloadFits : CheckpointForm → List ℕ → Type 0
 PayloadFits First payload = length payload ≡ 64
 PayloadFits Second payload = length payload ≤ PAYLOAD_BYTES
 
 -- SSNs are from 1 to SENDS
-pub record KeptFits (form : Form) (kept : TheKept) : Type 0 where
+pub record KeptFits (form : CheckpointForm) (kept : TheKept) : Type 0 where
   pub least : 1 ≤ kept.first
   pub bound : kept.first + length kept.payloads ≤ SENDS + 1
   pub payloads : AllByRecursion (PayloadFits form) kept.payloads
@@ -46,7 +46,7 @@ abbrev pub is_sender : ℕ → ℕ → ℕ → Bool
 is_sender me count s = nat_le s count && not (s == me)
 
 -- what can be saved in a form
-pub record Fits (form : Form) (s : TheSaved) : Type 0 where
+pub record Fits (form : CheckpointForm) (s : TheSaved) : Type 0 where
   pub some : 1 ≤ s.count
   pub few : s.count ≤ PROCESSES
   pub least : 1 ≤ s.me

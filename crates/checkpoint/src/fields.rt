@@ -8,15 +8,15 @@ ghost use Rattle.checkpoint.specs.Inside.Saved.{HeadFits};
 ghost use Rattle.checkpoint.specs.Reader.{Gives, bytes_at, byte_at, number_at, form_at, senders_at, payload_at, head_at};
 
 use crate::fault::{SavedError, SavedFault};
-use crate::form::Form;
+use crate::form::CheckpointForm;
 use byteorder::{ByteOrder, LittleEndian};
 use limits::{PAYLOAD_BYTES, PROCESSES, RECEIPTS, STATE_BYTES};
 use std::alloc::Global;
 
 /// The first fields of a checkpoint.
 #[derive(Clone, Copy, Debug, PartialEq, Eq)]
-pub struct Head {
-    pub form: Form,
+pub struct CheckpointHead {
+    pub form: CheckpointForm,
     /// How many bytes the state has.
     pub state: u16,
     pub count: u8,
@@ -83,14 +83,14 @@ pub fn u32_of(least: u32, most: u32, bytes: &[u8]) -> Result<(u32, &[u8]), Saved
 
 /// The form with this magic.
 #[tactic(auto, unfolding(crate::specs::Reader::form_at))]
-fn form_of(bytes: &[u8]) -> Result<(Form, &[u8]), SavedError>
+fn form_of(bytes: &[u8]) -> Result<(CheckpointForm, &[u8]), SavedError>
     ensures { Gives (λ x. (x.0, x.1.now)) result (form_at bytes.now) }
 {
     let (front, rest) = bytes_of(4, bytes)?;
-    if front == Form::First.magic().as_slice() {
-        Ok((Form::First, rest))
-    } else if front == Form::Second.magic().as_slice() {
-        Ok((Form::Second, rest))
+    if front == CheckpointForm::First.magic().as_slice() {
+        Ok((CheckpointForm::First, rest))
+    } else if front == CheckpointForm::Second.magic().as_slice() {
+        Ok((CheckpointForm::Second, rest))
     } else {
         Err(SavedError::Fault(SavedFault::Magic))
     }
@@ -98,7 +98,7 @@ fn form_of(bytes: &[u8]) -> Result<(Form, &[u8]), SavedError>
 
 /// The fields up to the number of receipts.
 #[tactic(auto, unfolding(crate::specs::Reader::head_at))]
-pub fn head_of(bytes: &[u8]) -> Result<(Head, &[u8]), SavedError>
+pub fn head_of(bytes: &[u8]) -> Result<(CheckpointHead, &[u8]), SavedError>
     ensures exact { Gives (λ x. (x.0, x.1.now)) result (head_at bytes.now) }
     ensures fits { IfOk result (λ x. HeadFits x.0) }
 {
@@ -107,7 +107,7 @@ pub fn head_of(bytes: &[u8]) -> Result<(Head, &[u8]), SavedError>
     let (count, rest) = byte_of(1, PROCESSES as u8, rest)?;
     let (me, rest) = byte_of(1, count, rest)?;
     let (received, rest) = u32_of(0, RECEIPTS as u32, rest)?;
-    let head = Head {
+    let head = CheckpointHead {
         form,
         state,
         count,
@@ -119,7 +119,7 @@ pub fn head_of(bytes: &[u8]) -> Result<(Head, &[u8]), SavedError>
 
 /// The senders of the received messages, a byte each.
 #[tactic(auto, unfolding(crate::specs::Reader::senders_at))]
-pub fn senders_of(head: Head, bytes: &[u8]) -> Result<(&[u8], &[u8]), SavedError>
+pub fn senders_of(head: CheckpointHead, bytes: &[u8]) -> Result<(&[u8], &[u8]), SavedError>
     ensures exact { Gives (λ x. (x.0.now, x.1.now)) result (senders_at head.me head.count head.received bytes.now) }
     ensures len { IfOk result (λ x. length x.0.now ≡ head.received) }
     ensures senders { IfOk result (λ x. list_all (is_sender head.me head.count) x.0.now ≡ true) }
@@ -132,7 +132,7 @@ pub fn senders_of(head: Head, bytes: &[u8]) -> Result<(&[u8], &[u8]), SavedError
 }
 
 /// Whether each of these is the outside or another process.
-fn are_senders(head: Head, senders: &[u8]) -> bool
+fn are_senders(head: CheckpointHead, senders: &[u8]) -> bool
     ensures { result ≡ list_all (is_sender head.me head.count) senders.now }
 {
     senders
@@ -142,13 +142,13 @@ fn are_senders(head: Head, senders: &[u8]) -> bool
 
 /// A payload. In the second form its length comes first.
 #[tactic(auto, unfolding(crate::specs::Reader::payload_at))]
-pub fn payload_of(form: Form, bytes: &[u8]) -> Result<(&[u8], &[u8]), SavedError>
+pub fn payload_of(form: CheckpointForm, bytes: &[u8]) -> Result<(&[u8], &[u8]), SavedError>
     ensures exact { Gives (λ x. (x.0.now, x.1.now)) result (payload_at form bytes.now) }
     ensures bound { IfOk result (λ x. length x.0.now ≤ PAYLOAD_BYTES) }
 {
     match form {
-        Form::First => bytes_of(FIRST_PAYLOAD, bytes),
-        Form::Second => {
+        CheckpointForm::First => bytes_of(FIRST_PAYLOAD, bytes),
+        CheckpointForm::Second => {
             let (len, rest) = u16_of(0, PAYLOAD_BYTES as u16, bytes)?;
             bytes_of(len as usize, rest)
         }

@@ -2,14 +2,14 @@
 
 /// A form. The last digit of its magic tells which.
 #[derive(Clone, Copy, Debug, PartialEq, Eq)]
-pub enum Form {
+pub enum CheckpointForm {
     /// `SBC1`: each payload has 64 bytes.
     First,
     /// `SBC2`: each payload comes after its length, two bytes.
     Second,
 }
 
-impl Form {
+impl CheckpointForm {
     ghost use Rattle.std.specs.Prelude.{◌≡◌};
     ghost use Rattle.checkpoint.specs.Format.{magic};
 
@@ -18,8 +18,8 @@ impl Form {
         ensures { result ≡ magic self }
     {
         match self {
-            Form::First => [0x53, 0x42, 0x43, 0x31],
-            Form::Second => [0x53, 0x42, 0x43, 0x32],
+            CheckpointForm::First => [0x53, 0x42, 0x43, 0x31],
+            CheckpointForm::Second => [0x53, 0x42, 0x43, 0x32],
         }
     }
 }

@@ -2,17 +2,17 @@
 
 ghost use Rattle.std.specs.Prelude.{◌≡◌, ◌≢◌, ◌+◌, ◌*◌, ◌≤◌, true, length, IfOk, Ok};
 ghost use Rattle.std.specs.List.{AllByRecursion};
-ghost use Rattle.checkpoint.specs.declared.form.Form.{Form};
-ghost use Rattle.checkpoint.specs.declared.form.Form.TheVariants.{Second};
+ghost use Rattle.checkpoint.specs.declared.form.CheckpointForm.{CheckpointForm};
+ghost use Rattle.checkpoint.specs.declared.form.CheckpointForm.TheVariants.{Second};
 ghost use Rattle.checkpoint.specs.Saved.{TheSaved, PayloadFits, KeptFits};
 ghost use Rattle.checkpoint.specs.Inside.Saved.{HeadFits};
 ghost use Rattle.checkpoint.specs.Format.{IsCheckpoint, bytes_of};
 ghost use Rattle.checkpoint.specs.Reader.{Gives, payload_at, kept_at, times, body_at, reading};
 
 use crate::fault::{SavedError, SavedFault};
-use crate::fields::{Head, bytes_of, head_of, payload_of, senders_of, u32_of};
-use crate::form::Form;
-use crate::kept::Kept;
+use crate::fields::{CheckpointHead, bytes_of, head_of, payload_of, senders_of, u32_of};
+use crate::form::CheckpointForm;
+use crate::kept::KeptMessages;
 use crate::payloads::Payloads;
 use crate::saved::Saved;
 use limits::SENDS;
@@ -22,9 +22,9 @@ use std::alloc::Global;
 /// reading.
 pub fn decode(alloc: Global, bytes: &[u8]) -> Result<Saved, SavedError>
     // The bytes are the checkpoint of what is answered, in one of the forms.
-    ensures found { IfOk result (λ s. (form : Form) × IsCheckpoint form s bytes.now) }
+    ensures found { IfOk result (λ s. (form : CheckpointForm) × IsCheckpoint form s bytes.now) }
     // A checkpoint is read, unless memory runs out.
-    ensures only { (form : Form) (s : TheSaved) → IsCheckpoint form s bytes.now → Gives (λ x. x) result (Ok s) }
+    ensures only { (form : CheckpointForm) (s : TheSaved) → IsCheckpoint form s bytes.now → Gives (λ x. x) result (Ok s) }
     // The error is the first fault that reading meets.
     ensures exact { Gives (λ x. x) result (reading bytes.now) }
 {
@@ -46,14 +46,14 @@ fn whole(alloc: Global, bytes: &[u8]) -> Result<Saved, SavedError>
 
 /// The state, the receipts, and what is kept for each destination.
 #[tactic(auto, unfolding(crate::specs::Reader::body_at))]
-fn body_of(alloc: Global, head: Head, bytes: &[u8]) -> Result<(Saved, &[u8]), SavedError>
+fn body_of(alloc: Global, head: CheckpointHead, bytes: &[u8]) -> Result<(Saved, &[u8]), SavedError>
     requires { HeadFits head }
     ensures { Gives (λ x. (x.0, x.1.now)) result (body_at head bytes.now) }
 {
     let (state, rest) = bytes_of(head.state as usize, bytes)?;
     let (senders, rest) = senders_of(head, rest)?;
     let (mut queues, rest) = queues_of(alloc, head.form, head.count, rest)?;
-    queues.insert(head.me as usize, Kept::nothing(alloc))?;
+    queues.insert(head.me as usize, KeptMessages::nothing(alloc))?;
     let state = Vec::from_slice(alloc, state)?;
     let senders = Vec::from_slice(alloc, senders)?;
     Ok((
@@ -65,10 +65,10 @@ fn body_of(alloc: Global, head: Head, bytes: &[u8]) -> Result<(Saved, &[u8]), Sa
 /// What is kept for `count` destinations.
 fn queues_of(
     alloc: Global,
-    form: Form,
+    form: CheckpointForm,
     count: u8,
     bytes: &[u8],
-) -> Result<(Vec<Kept>, &[u8]), SavedError>
+) -> Result<(Vec<KeptMessages>, &[u8]), SavedError>
     ensures exact { Gives (λ x. (x.0.items, x.1.now)) result (times (kept_at form) count bytes.now) }
     ensures count { IfOk result (λ x. length x.0.items ≡ count) }
     ensures fits { IfOk result (λ x. AllByRecursion (KeptFits Second) x.0.items) }
@@ -85,20 +85,20 @@ fn queues_of(
 
 /// What is kept for one destination.
 #[tactic(auto, unfolding(crate::specs::Reader::kept_at))]
-fn kept_of(alloc: Global, form: Form, bytes: &[u8]) -> Result<(Kept, &[u8]), SavedError>
+fn kept_of(alloc: Global, form: CheckpointForm, bytes: &[u8]) -> Result<(KeptMessages, &[u8]), SavedError>
     ensures exact { Gives (λ x. (x.0, x.1.now)) result (kept_at form bytes.now) }
     ensures fits { IfOk result (λ x. KeptFits Second x.0) }
 {
     let (first, rest) = u32_of(1, SENDS as u32 + 1, bytes)?;
     let (count, rest) = u32_of(0, SENDS as u32 + 1 - first, rest)?;
     let (payloads, rest) = payloads_of(alloc, form, count, rest)?;
-    Ok((Kept::new(first, payloads), rest))
+    Ok((KeptMessages::new(first, payloads), rest))
 }
 
 /// `count` payloads.
 fn payloads_of(
     alloc: Global,
-    form: Form,
+    form: CheckpointForm,
     count: u32,
     bytes: &[u8],
 ) -> Result<(Payloads, &[u8]), SavedError>
@@ -117,7 +117,7 @@ fn payloads_of(
 }
 
 /// How many bytes the payloads take, each after its length, up to the first that can't be read.
-fn room_of(form: Form, count: u32, bytes: &[u8]) -> usize
+fn room_of(form: CheckpointForm, count: u32, bytes: &[u8]) -> usize
     ensures { result ≤ length bytes.now + 2 * count }
 {
     let mut room = 0;

@@ -2,11 +2,11 @@
 
 ghost use Rattle.std.specs.Prelude.{◌≡◌, ◌+◌, ◌≤◌, true, length, map, IfOk};
 ghost use Rattle.std.specs.List.{list_all, AllByRecursion};
-ghost use Rattle.checkpoint.specs.declared.form.Form.TheVariants.{Second};
+ghost use Rattle.checkpoint.specs.declared.form.CheckpointForm.TheVariants.{Second};
 ghost use Rattle.checkpoint.specs.Saved.{nothing_kept, KeptFits, Fits, is_sender, kept_of, saved_of, receipts_again, log_again};
 ghost use Rattle.sender_log.specs.Log.{queue_of};
 
-use crate::kept::Kept;
+use crate::kept::KeptMessages;
 use limits::{PROCESSES, RECEIPTS, STATE_BYTES};
 use rsn::Receipts;
 use sender_log::Log;
@@ -20,11 +20,11 @@ pub struct Saved {
     count: u8,
     state: Vec<u8>,
     senders: Vec<u8>,
-    queues: Vec<Kept>,
+    queues: Vec<KeptMessages>,
 }
 
 impl Model for Saved {
-    ghost use Rattle.checkpoint.specs.declared.form.Form.TheVariants.{Second};
+    ghost use Rattle.checkpoint.specs.declared.form.CheckpointForm.TheVariants.{Second};
     ghost use Rattle.checkpoint.specs.Saved.{TheSaved, Fits};
 
     ghost Value = { TheSaved };
@@ -71,7 +71,7 @@ impl Saved {
         count: u8,
         state: Vec<u8>,
         senders: Vec<u8>,
-        queues: Vec<Kept>,
+        queues: Vec<KeptMessages>,
     ) -> Saved
         requires { Fits Second (record { me = me; count = count; state = state.items; senders = senders.items; queues = queues.items }) }
         ensures { result ≡ record { me = me; count = count; state = state.items; senders = senders.items; queues = queues.items } }
@@ -126,7 +126,7 @@ impl Saved {
     }
 
     /// What is kept for 0, 1, .. `count()`.
-    pub(crate) fn queues(&self) -> &[Kept]
+    pub(crate) fn queues(&self) -> &[KeptMessages]
         ensures { result.now ≡ self.now.queues }
     {
         self.queues.as_slice()
@@ -166,7 +166,7 @@ fn senders_of(alloc: Global, receipts: &Receipts) -> Result<Vec<u8>, AllocError>
 }
 
 /// What a log keeps for 0, 1, .. n.
-fn queues_of(alloc: Global, n: u8, log: &Log) -> Result<Vec<Kept>, AllocError>
+fn queues_of(alloc: Global, n: u8, log: &Log) -> Result<Vec<KeptMessages>, AllocError>
     requires count { n ≤ PROCESSES }
     requires queues { length log.now.queues ≡ n + 1 }
     ensures items { IfOk result (λ v. v.items ≡ map kept_of log.now.queues) }
@@ -177,9 +177,9 @@ fn queues_of(alloc: Global, n: u8, log: &Log) -> Result<Vec<Kept>, AllocError>
     let mut queues = Vec::with_capacity(alloc, n as usize + 1)?;
     for dst in 0..n + 1 {
         let kept = if dst == owner {
-            Kept::nothing(alloc)
+            KeptMessages::nothing(alloc)
         } else {
-            Kept::of(alloc, log, dst)?
+            KeptMessages::of(alloc, log, dst)?
         };
         queues.push(kept)?;
     }

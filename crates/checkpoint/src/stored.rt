@@ -1,7 +1,7 @@
 //! A saved process that is kept as bytes.
 
 ghost use Rattle.std.specs.Prelude.{◌≡◌, ◌≤◌, length, IfOk};
-ghost use Rattle.checkpoint.specs.declared.form.Form.TheVariants.{Second};
+ghost use Rattle.checkpoint.specs.declared.form.CheckpointForm.TheVariants.{Second};
 ghost use Rattle.checkpoint.specs.Format.{IsCheckpoint};
 ghost use Rattle.checkpoint.specs.Saved.{Fits, receipts_again, log_again};
 

@@ -3,11 +3,11 @@
 ghost use Rattle.std.specs.Prelude.{◌≡◌, ◌++◌, ◌<◌, ◌≤◌, length, take, IfOk, OnOk, OnErr};
 ghost use Rattle.std.specs.Int.{w16, w32, to_le_bytes};
 ghost use Rattle.std.specs.List.{flat_map, AllByRecursion};
-ghost use Rattle.checkpoint.specs.declared.form.Form.TheVariants.{Second};
+ghost use Rattle.checkpoint.specs.declared.form.CheckpointForm.TheVariants.{Second};
 ghost use Rattle.checkpoint.specs.Format.{number_bytes, payload_bytes, kept_bytes, IsCheckpoint};
 
-use crate::form::Form;
-use crate::kept::Kept;
+use crate::form::CheckpointForm;
+use crate::kept::KeptMessages;
 use crate::saved::Saved;
 use byteorder::{ByteOrder, LittleEndian};
 use limits::PAYLOAD_BYTES;
@@ -17,7 +17,7 @@ use std::alloc::{AllocError, Global};
 pub fn encode(alloc: Global, saved: &Saved) -> Result<Vec<u8>, AllocError>
     ensures { IfOk result (λ v. IsCheckpoint Second saved.now v.items) }
 {
-    let mut out = Vec::from_slice(alloc, &Form::Second.magic())?;
+    let mut out = Vec::from_slice(alloc, &CheckpointForm::Second.magic())?;
     put_numbers(&mut out, saved)?;
     out.extend_from_slice(saved.state())?;
     out.extend_from_slice(saved.senders())?;
@@ -40,7 +40,7 @@ fn put_numbers(out: &mut Vec<u8>, saved: &Saved) -> Result<(), AllocError>
 }
 
 /// Appends what is kept for each of these destinations.
-fn put_queues(out: &mut Vec<u8>, queues: &[Kept]) -> Result<(), AllocError>
+fn put_queues(out: &mut Vec<u8>, queues: &[KeptMessages]) -> Result<(), AllocError>
     ensures { OnOk result (out.new.items ≡ out.old.items ++ flat_map (kept_bytes Second) queues.now) }
 {
     for kept in queues {
@@ -50,7 +50,7 @@ fn put_queues(out: &mut Vec<u8>, queues: &[Kept]) -> Result<(), AllocError>
 }
 
 /// Appends the first SSN, how many messages are kept, and their payloads.
-fn put_kept(out: &mut Vec<u8>, kept: &Kept) -> Result<(), AllocError>
+fn put_kept(out: &mut Vec<u8>, kept: &KeptMessages) -> Result<(), AllocError>
     ensures { OnOk result (out.new.items ≡ out.old.items ++ kept_bytes Second kept.now) }
 {
     put_u32(out, kept.first())?;

@@ -12,8 +12,8 @@ use Rattle.images.specs.declared.file_form.FileForm.{FileForm}
 use Rattle.images.specs.declared.file_form.FileForm.TheVariants.{Sbi1, Sbi2, Sbi3}
 use Rattle.cli.specs.Asks.{AsksBy, AsksIn, Explains, HasBudget, HasForm, HasNumber, HasState, HasWorkers, IsInRange, IsRefusal, Order}
 use Rattle.cli.specs.Asks as order
-use Rattle.cli.specs.declared.refusal.Refusal.{Refusal}
-use Rattle.cli.specs.declared.refusal.Refusal.TheVariants as refusal
+use Rattle.cli.specs.declared.refusal.UsageRefusal.{UsageRefusal}
+use Rattle.cli.specs.declared.refusal.UsageRefusal.TheVariants as refusal
 use Rattle.cli.specs.Program.{sblog_app}
 
 some≢none : {X : Type 0} (x : X) → Some x ≡ None → ⊥
@@ -152,7 +152,7 @@ words_taken app words m is kinds matches = (
 )
 
 -- a refusal that explains the error of a parse that refused the words
-pub refused : (app : App) (words : List Text) (e : Error) (r : Refusal) → app ≡ sblog_app
+pub refused : (app : App) (words : List Text) (e : Error) (r : UsageRefusal) → app ≡ sblog_app
     → (is_simple_and_free app ≡ true → HasKind (fault_of app words) e) → Explains (kind_of e) r → IsRefusal words r
 refused app words e (refusal.Usage usage) is kinds told =
     (subst (λ k. IsAmong k (fault_of sblog_app words)) (sym told.0) (among (kinds (ap is_simple_and_free is ∙ is_simple_and_free-sblog_app))), told.2)

@@ -12,8 +12,8 @@ use Rattle.images.specs.FileForm.{file_form_number}
 use Rattle.images.specs.declared.file_form.FileForm.{FileForm}
 use Rattle.images.specs.declared.file_form.FileForm.TheVariants.{Sbi1}
 use Rattle.cli.specs.Program.{sblog_app}
-use Rattle.cli.specs.declared.refusal.Refusal.{Refusal}
-use Rattle.cli.specs.declared.refusal.Refusal.TheVariants as refusal
+use Rattle.cli.specs.declared.refusal.UsageRefusal.{UsageRefusal}
+use Rattle.cli.specs.declared.refusal.UsageRefusal.TheVariants as refusal
 use Rattle.cli.specs.declared.request.Request.{Request}
 use Rattle.cli.specs.declared.request.Request.TheVariants as request
 use Rattle.cli.specs.declared.command.TheConstants.{BUDGET}
@@ -136,7 +136,7 @@ GivesOrder P None = (o : Order) → P o → ⊥
 GivesOrder P (Some r) = P (order_of r)
 
 -- a usage refusal has a kind of fault that clap finds in the words, and a text to show
-abbrev pub IsRefusal : List Text → Refusal → Type 0
+abbrev pub IsRefusal : List Text → UsageRefusal → Type 0
 IsRefusal words (refusal.Usage usage) = IsAmong usage.kind (fault_of sblog_app words) × (string_bytes usage.text ≢ [])
 IsRefusal words refusal.Memory = Unit {0}
 
@@ -145,6 +145,6 @@ abbrev pub own_input_text : Text
 own_input_text = codes "error: OUT is a file that is read\n"
 
 -- a usage refusal has this kind and a text to show. Lack of memory is no usage
-abbrev pub Explains : ErrorKind → Refusal → Type 0
+abbrev pub Explains : ErrorKind → UsageRefusal → Type 0
 Explains kind (refusal.Usage usage) = (usage.kind ≡ kind) × (kind ≢ OutOfMemory) × (string_bytes usage.text ≢ [])
 Explains kind refusal.Memory = Unit {0}

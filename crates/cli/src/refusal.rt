@@ -2,7 +2,7 @@
 
 ghost use Rattle.std.specs.Prelude.{◌≡◌, ◌≢◌, IfOk, [], string_bytes};
 ghost use Rattle.cli.specs.Asks.{own_input_text};
-ghost use Rattle.cli.specs.declared.refusal.Refusal.TheVariants.{Memory};
+ghost use Rattle.cli.specs.declared.refusal.UsageRefusal.TheVariants.{Memory};
 
 use clap::error::ErrorKind;
 use std::alloc::{AllocError, Global};
@@ -43,7 +43,7 @@ impl Usage {
 
 /// Why a command line is refused.
 #[derive(Debug, Drop, Error)]
-pub enum Refusal {
+pub enum UsageRefusal {
     #[error("{0}")]
     Usage(Usage),
     /// Memory ran out.
@@ -51,10 +51,10 @@ pub enum Refusal {
     Memory,
 }
 
-impl From<AllocError> for Refusal {
+impl From<AllocError> for UsageRefusal {
     ghost from_gives = { λ _ e. e ≡ Memory };
 
-    fn from(_e: AllocError) -> Refusal {
-        Refusal::Memory
+    fn from(_e: AllocError) -> UsageRefusal {
+        UsageRefusal::Memory
     }
 }

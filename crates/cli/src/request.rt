@@ -5,7 +5,7 @@ ghost use Rattle.clap.specs.Words.{first_of, found_of, kind_of, rows_of, subcomm
 ghost use Rattle.cli.specs.Asks.{AsksBy, AsksFor, AsksIn, Explains, Gives, GivesOrder, HasForm, HasNumber, IsInRange, IsRefusal, is_set, order_of};
 
 use crate::command::{BUDGET, sblog};
-use crate::refusal::{Refusal, Usage};
+use crate::refusal::{UsageRefusal, Usage};
 use clap::error::ErrorKind;
 use clap::{ArgMatches, Error};
 use images::FileForm;
@@ -327,23 +327,23 @@ fn text_of(alloc: Global, error: &Error, below: &str) -> Result<String, AllocErr
 }
 
 /// The refusal of a command line by `clap`, with further words below the error.
-fn refusal_of(alloc: Global, error: &Error, below: &str) -> Refusal
+fn refusal_of(alloc: Global, error: &Error, below: &str) -> UsageRefusal
     ensures { Explains (kind_of error.now) result }
 {
     let kind = error.kind();
     if kind == ErrorKind::OutOfMemory {
-        return Refusal::Memory;
+        return UsageRefusal::Memory;
     }
     match text_of(alloc, error, below) {
-        Ok(text) => Refusal::Usage(Usage { kind, text }),
-        Err(_) => Refusal::Memory,
+        Ok(text) => UsageRefusal::Usage(Usage { kind, text }),
+        Err(_) => UsageRefusal::Memory,
     }
 }
 
 /// Reads the words of a command line, without the program's own name.
 ///
 /// A refusal for usage carries the text of `clap`: what was wrong, or the help that was asked for.
-pub fn parse_words<'a, S: AsStr>(alloc: Global, words: &'a [S]) -> Result<Request<'a>, Refusal>
+pub fn parse_words<'a, S: AsStr>(alloc: Global, words: &'a [S]) -> Result<Request<'a>, UsageRefusal>
     ensures request { IfOk result (λ r. AsksFor (map S.text words.entry.now) (order_of r)) }
     ensures range { IfOk result (λ r. IsInRange (order_of r)) }
     ensures usage { IfErr result (IsRefusal (map S.text words.entry.now)) }

@@ -11,8 +11,8 @@ use Rattle.decode.specs.declared.insn.SwapBits.TheVariants.{Bits16, Bits32, Bits
 use Rattle.decode.specs.declared.word.Word.{Word}
 use Rattle.decode.specs.declared.insn.Insn.{Insn}
 use Rattle.decode.specs.declared.insn.Reg.{Reg}
-use Rattle.decode.specs.declared.fault.Rule.TheVariants.{Register, Width}
-use Rattle.decode.specs.declared.fault.Rule.{Rule}
+use Rattle.decode.specs.declared.fault.EncodingRule.TheVariants.{Register, Width}
+use Rattle.decode.specs.declared.fault.EncodingRule.{EncodingRule}
 use Rattle.decode.specs.First.{IsFirst}
 use Rattle.decode.specs.Layout.{IsWord, word_bytes}
 use Rattle.decode.specs.Encoding.{Fits, encoding, insn_bytes, swap_imm}
@@ -85,13 +85,13 @@ are_words (suc k) (a ∷ b ∷ c ∷ d ∷ e ∷ f ∷ g ∷ h ∷ rest) is long
 are_words (suc k) bytes is long = absurd (omega arith)
 
 -- the first slot of the bytes is broken
-pub starts_broken : (bytes after : List ℕ) (w : Word) (r : Rule) → IsWord w → bytes ≡ word_bytes w ++ after → (words : AreWords after)
+pub starts_broken : (bytes after : List ℕ) (w : Word) (r : EncodingRule) → IsWord w → bytes ≡ word_bytes w ++ after → (words : AreWords after)
     → IsFirst (λ q. Breaks q w (slice_get words.0 0)) order r → IsBrokenAt bytes r 0
 starts_broken bytes after w r size fields (ws, sizes, whole) broken =
     record { before = []; fits = tt; slot_is = refl; word = w; rest = ws; sizes = (size, sizes); whole = fields ∙ ap (λ (x : List ℕ). word_bytes w ++ x) whole; broken = broken }
 
 -- it is the last
-pub alone_broken : (bytes after : List ℕ) (w : Word) (r : Rule) → IsWord w → bytes ≡ word_bytes w ++ after → length after ≡ 0
+pub alone_broken : (bytes after : List ℕ) (w : Word) (r : EncodingRule) → IsWord w → bytes ≡ word_bytes w ++ after → length after ≡ 0
     → IsFirst (λ q. Breaks q w None) order r → IsBrokenAt bytes r 0
 alone_broken bytes [] w r size fields last broken = starts_broken bytes [] w r size fields ([], tt, refl) broken
 alone_broken bytes (a ∷ after) w r size fields last broken = absurd (omega arith)
@@ -100,7 +100,7 @@ tail_bytes : (w : Word) (rest : List ℕ) → IsBytes (word_bytes w ++ rest) →
 tail_bytes w rest is i = is (suc (suc (suc (suc (suc (suc (suc (suc i))))))))
 
 -- another follows
-pub followed_broken : (bytes after last : List ℕ) (w s : Word) (r : Rule) → IsBytes bytes → length bytes % 8 ≡ 0 → IsWord w → bytes ≡ word_bytes w ++ after
+pub followed_broken : (bytes after last : List ℕ) (w s : Word) (r : EncodingRule) → IsBytes bytes → length bytes % 8 ≡ 0 → IsWord w → bytes ≡ word_bytes w ++ after
     → IsWord s → after ≡ word_bytes s ++ last → IsFirst (λ q. Breaks q w (Some s)) order r → IsBrokenAt bytes r 0
 followed_broken bytes after last w s r is even size fields size' fields' broken =
     let whole : bytes ≡ word_bytes w ++ (word_bytes s ++ last) = fields ∙ ap (λ (x : List ℕ). word_bytes w ++ x) fields' in
@@ -115,7 +115,7 @@ all_append [] js fi fj = fj
 all_append (i ∷ is) js fi fj = (fi.0, all_append is js fi.1 fj)
 
 -- a rule broken after whole instructions is broken in all of the bytes, as many slots later
-pub broken_later : (bytes rest : List ℕ) (is : List Insn) (r : Rule) (slot : ℕ) → AllByRecursion Fits is → slot ≡ slots is → bytes ≡ encoding is ++ rest → IsBrokenAt rest r 0 → IsBrokenAt bytes r slot
+pub broken_later : (bytes rest : List ℕ) (is : List Insn) (r : EncodingRule) (slot : ℕ) → AllByRecursion Fits is → slot ≡ slots is → bytes ≡ encoding is ++ rest → IsBrokenAt rest r 0 → IsBrokenAt bytes r slot
 broken_later bytes rest is r slot fits slot_is so_far b =
     let words = flat_map word_bytes (b.word ∷ b.rest) in
     record {

@@ -9,11 +9,11 @@ use Rattle.std.proofs.Math.Bridge.{le_prop}
 use Rattle.decode.specs.declared.insn.Insn.{Insn}
 use Rattle.decode.specs.declared.insn.Reg.{Reg}
 use Rattle.decode.specs.declared.word.Word.{Word}
-use Rattle.decode.specs.declared.form.Form.{Form}
+use Rattle.decode.specs.declared.form.OpcodeForm.{OpcodeForm}
 use Rattle.decode.specs.declared.insn.Insn.TheVariants as insn
 use Rattle.decode.specs.declared.insn.Operand.TheVariants as operand
 use Rattle.decode.specs.declared.form.Source.TheVariants.{Imm, Register}
-use Rattle.decode.specs.declared.form.Form.TheVariants.{Alu, Neg, End, Jump, JumpLong, JumpIf, Call, Exit, Load, LoadSx, StoreReg, StoreImm, Wide}
+use Rattle.decode.specs.declared.form.OpcodeForm.TheVariants.{Alu, Neg, End, Jump, JumpLong, JumpIf, Call, Exit, Load, LoadSx, StoreReg, StoreImm, Wide}
 use Rattle.decode.specs.declared.insn.AluOp.{AluOp}
 use Rattle.decode.specs.declared.insn.AluOp.TheVariants as alu
 use Rattle.decode.specs.declared.insn.Width.{Width}
@@ -64,10 +64,10 @@ r0 = record { number = 0; in_range = omega arith }
 abbrev zeros : Word
 zeros = record { opcode = 0; dst = 0; src = 0; offset = 0; imm = 0 }
 
-abbrev sample : Form → Insn
+abbrev sample : OpcodeForm → Insn
 sample f = insn_from f r0 r0 zeros None
 
-abbrev is_form_of : ℕ → Option Form → Bool
+abbrev is_form_of : ℕ → Option OpcodeForm → Bool
 is_form_of n None = true
 is_form_of n (Some f) = eqb (first_word (sample f)).opcode n
 
@@ -75,7 +75,7 @@ all_forms : (n : ℕ) → n < 256 → is_form_of n (form_at n) ≡ true
 all_forms = tried (λ n. is_form_of n (form_at n)) 256 refl
 
 -- an opcode with a form is that of some instruction
-pub has_form : (n : ℕ) (f : Form) → n < 256 → form_at n ≡ Some f → (i : Insn) × ((first_word i).opcode ≡ n)
+pub has_form : (n : ℕ) (f : OpcodeForm) → n < 256 → form_at n ≡ Some f → (i : Insn) × ((first_word i).opcode ≡ n)
 has_form n f lt e =
     let t = all_forms n lt in
     (sample f, eqb-true _ _ (subst (λ o. is_form_of n o ≡ true) e t))
@@ -87,7 +87,7 @@ unsigned_of alu.Sdiv = alu.Div
 unsigned_of alu.Smod = alu.Mod
 unsigned_of op = op
 
-abbrev pub form_of : Insn → Form
+abbrev pub form_of : Insn → OpcodeForm
 form_of (insn.Alu op width dst (operand.Imm n)) = Alu (unsigned_of op) width Imm
 form_of (insn.Alu op width dst (operand.Reg src)) = Alu (unsigned_of op) width Register
 form_of (insn.MovSx extension dst src) = Alu alu.Mov (extension_width extension) Register
@@ -213,7 +213,7 @@ reads (insn.Wide d value) fits next second dst src is_dst is_src =
     rw (second, same_reg dst d is_dst, whole) refl
 
 -- what begins with the slot is what is read
-pub reads_back : (i : Insn) → Fits i → (w : Word) (next : Option Word) → Begins i w next → (f : Form) → form_at w.opcode ≡ Some f → (dst src : Reg) → dst.number ≡ w.dst → src.number ≡ w.src
+pub reads_back : (i : Insn) → Fits i → (w : Word) (next : Option Word) → Begins i w next → (f : OpcodeForm) → form_at w.opcode ≡ Some f → (dst src : Reg) → dst.number ≡ w.dst → src.number ≡ w.src
     → insn_from f dst src w next ≡ i
 reads_back i fits w next begins f e dst src is_dst is_src =
     let P : Word → Type 0 = λ v. form_at v.opcode ≡ Some f → dst.number ≡ v.dst → src.number ≡ v.src → insn_from f dst src v next ≡ i in

@@ -17,15 +17,15 @@ use Rattle.decode.specs.declared.insn.ByteOrder.{ByteOrder}
 use Rattle.decode.specs.declared.insn.ByteOrder.TheVariants.{Little, Big, Swap}
 use Rattle.decode.specs.declared.insn.SwapBits.{SwapBits}
 use Rattle.decode.specs.declared.insn.SwapBits.TheVariants.{Bits16, Bits32, Bits64}
-use Rattle.decode.specs.declared.form.Form.{Form}
-use Rattle.decode.specs.declared.form.Form.TheVariants as form
+use Rattle.decode.specs.declared.form.OpcodeForm.{OpcodeForm}
+use Rattle.decode.specs.declared.form.OpcodeForm.TheVariants as form
 use Rattle.decode.specs.declared.insn.Operand.TheVariants as operand
 use Rattle.decode.specs.declared.insn.Insn.{Insn}
 use Rattle.decode.specs.declared.insn.Insn.TheVariants.{Alu, MovSx, Neg, End, Jump, JumpLong, JumpIf, Call, Load, LoadSx, StoreReg, StoreImm, Wide}
 use Rattle.decode.specs.declared.insn.Reg.{Reg}
 use Rattle.decode.specs.declared.word.Word.{Word}
-use Rattle.decode.specs.declared.fault.Rule.{Rule}
-use Rattle.decode.specs.declared.fault.Rule.TheVariants.{Profile, Cut, Width}
+use Rattle.decode.specs.declared.fault.EncodingRule.{EncodingRule}
+use Rattle.decode.specs.declared.fault.EncodingRule.TheVariants.{Profile, Cut, Width}
 use Rattle.decode.specs.declared.fault.DecodeError.{DecodeError}
 use Rattle.decode.specs.declared.fault.DecodeError.TheVariants.{Memory, Fault}
 use Rattle.decode.specs.Layout.{IsWord, word_bytes}
@@ -116,7 +116,7 @@ is_second (Wide dst value) fits = record { dst = omega arith; src = omega arith;
 is_second i fits = tt
 
 -- the first slot tells whether there is a second
-abbrev is_two : Form → Bool
+abbrev is_two : OpcodeForm → Bool
 is_two form.Wide = true
 is_two _ = false
 
@@ -261,7 +261,7 @@ is_whole : (i : Insn) (next : Option Word) → MatchOption (second_word i) (Unit
 is_whole i next follows cut = whole_wide i next (is_wide i cut.0) follows cut.1
 
 -- the first slot of an instruction that fits breaks no rule
-pub is_fine : (i : Insn) (next : Option Word) (r : Rule) → Fits i → MatchOption (second_word i) (Unit {0}) (λ s. next ≡ Some s) → IsFirst (λ q. Breaks q (first_word i) next) order r → ⊥
+pub is_fine : (i : Insn) (next : Option Word) (r : EncodingRule) → Fits i → MatchOption (second_word i) (Unit {0}) (λ s. next ≡ Some s) → IsFirst (λ q. Breaks q (first_word i) next) order r → ⊥
 unfolding IsFirst
 is_fine i next r fits follows (inl opcode) = opcode.1 i refl
 is_fine i next r fits follows (inr (_, inl (_, inl above))) = let ok = registers_of i in absurd (omega arith)
@@ -273,18 +273,18 @@ is_fine i next r fits follows (inr (_, inr (_, inr (_, inr (_, inr (_, inl field
 is_fine i next r fits follows (inr (_, inr (_, inr (_, inr (_, inr (_, inr (_, none))))))) = none
 
 -- the first of these slots breaks this rule first
-abbrev pub HeadBroken : Rule → List Word → Type 0
+abbrev pub HeadBroken : EncodingRule → List Word → Type 0
 HeadBroken r [] = ⊥
 HeadBroken r (w ∷ ws) = IsFirst (λ q. Breaks q w (slice_get ws 0)) order r
 
 -- slots that begin with an instruction are not broken at the first
-pub not_broken : (i : Insn) (tail : List ℕ) (r : Rule) (w : Word) (ws : List Word) → Fits i → AllByRecursion IsWord (w ∷ ws) → insn_bytes i ++ tail ≡ flat_map word_bytes (w ∷ ws) → HeadBroken r (w ∷ ws) → ⊥
+pub not_broken : (i : Insn) (tail : List ℕ) (r : EncodingRule) (w : Word) (ws : List Word) → Fits i → AllByRecursion IsWord (w ∷ ws) → insn_bytes i ++ tail ≡ flat_map word_bytes (w ∷ ws) → HeadBroken r (w ∷ ws) → ⊥
 not_broken i tail r w ws fits sizes e broken =
     let begins = begins_at i tail w ws fits sizes e in
     is_fine i (slice_get ws 0) r fits begins.1 (subst (λ (v : Word). IsFirst (λ q. Breaks q v (slice_get ws 0)) order r) (sym begins.0) broken)
 
 -- where slots behind whole instructions are broken, all of it is no encoding
-pub never : (before is : List Insn) (r : Rule) (w : Word) (ws : List Word) → Each before → Each is → AllByRecursion IsWord (w ∷ ws) → encoding before ++ flat_map word_bytes (w ∷ ws) ≡ encoding is → HeadBroken r (w ∷ ws) → ⊥
+pub never : (before is : List Insn) (r : EncodingRule) (w : Word) (ws : List Word) → Each before → Each is → AllByRecursion IsWord (w ∷ ws) → encoding before ++ flat_map word_bytes (w ∷ ws) ≡ encoding is → HeadBroken r (w ∷ ws) → ⊥
 never [] [] r w ws fb fi sizes e broken = absurd cc
 never [] (i ∷ is) r w ws fb fi sizes e broken = not_broken i (encoding is) r w ws fi.0 sizes (sym (starts i is) ∙ sym e) broken
 never (b ∷ bs) [] r w ws fb fi sizes e broken = let e' : (insn_bytes b ++ encoding bs) ++ flat_map word_bytes (w ∷ ws) ≡ [] = ap (λ (x : List ℕ). x ++ flat_map word_bytes (w ∷ ws)) (sym (starts b bs)) ∙ e in absurd cc

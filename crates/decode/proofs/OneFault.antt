@@ -4,7 +4,7 @@ use Rattle.std.specs.Prelude.{slice_get}
 use Rattle.std.specs.List.{AllByRecursion, flat_map}
 use Rattle.decode.specs.declared.insn.Insn.{Insn}
 use Rattle.decode.specs.declared.word.Word.{Word}
-use Rattle.decode.specs.declared.fault.Rule.{Rule}
+use Rattle.decode.specs.declared.fault.EncodingRule.{EncodingRule}
 use Rattle.decode.specs.Layout.{IsWord, word_bytes}
 use Rattle.decode.specs.Encoding.{Fits, encoding, insn_bytes}
 use Rattle.decode.specs.Slots.{slots}
@@ -30,7 +30,7 @@ Each is = AllByRecursion Fits is
 abbrev AreWords : List Word → Type 0
 AreWords ws = AllByRecursion IsWord ws
 
-one_place : (is js : List Insn) (r s : Rule) (w v : Word) (ws vs : List Word) → Each is → Each js → AreWords (w ∷ ws) → AreWords (v ∷ vs) → encoding is ++ flat_map word_bytes (w ∷ ws) ≡ encoding js ++ flat_map word_bytes (v ∷ vs) → HeadBroken r (w ∷ ws) → HeadBroken s (v ∷ vs) → (is ≡ js) × (flat_map word_bytes (w ∷ ws) ≡ flat_map word_bytes (v ∷ vs))
+one_place : (is js : List Insn) (r s : EncodingRule) (w v : Word) (ws vs : List Word) → Each is → Each js → AreWords (w ∷ ws) → AreWords (v ∷ vs) → encoding is ++ flat_map word_bytes (w ∷ ws) ≡ encoding js ++ flat_map word_bytes (v ∷ vs) → HeadBroken r (w ∷ ws) → HeadBroken s (v ∷ vs) → (is ≡ js) × (flat_map word_bytes (w ∷ ws) ≡ flat_map word_bytes (v ∷ vs))
 one_place [] [] r s w v ws vs fi fj sw sv e a b = (refl, e)
 one_place [] (j ∷ js) r s w v ws vs fi fj sw sv e a b = absurd (not_broken j (encoding js ++ flat_map word_bytes (v ∷ vs)) r w ws fj.0 sw (sym (e ∙ regroup j js (flat_map word_bytes (v ∷ vs)))) a)
 one_place (i ∷ is) [] r s w v ws vs fi fj sw sv e a b = absurd (not_broken i (encoding is ++ flat_map word_bytes (w ∷ ws)) s v vs fi.0 sv (sym (regroup i is (flat_map word_bytes (w ∷ ws))) ∙ e) b)
@@ -41,10 +41,10 @@ one_place (i ∷ is) (j ∷ js) r s w v ws vs fi fj sw sv e a b =
     let rest = one_place is js r s w v ws vs fi.1 fj.1 sw sv once.1 a b in
     (cc (once.0, rest.0), rest.1)
 
-one_head : (q r : Rule) (v : Word) (vs : List Word) → HeadBroken q (v ∷ vs) → HeadBroken r (v ∷ vs) → q ≡ r
+one_head : (q r : EncodingRule) (v : Word) (vs : List Word) → HeadBroken q (v ∷ vs) → HeadBroken r (v ∷ vs) → q ≡ r
 one_head q r v vs a b = first_once (λ s. Breaks s v (slice_get vs 0)) order q r a b
 
-pub one_fault : (bytes : List ℕ) (q r : Rule) (m n : ℕ) → IsFault bytes q m → IsFault bytes r n → (q ≡ r) × (m ≡ n)
+pub one_fault : (bytes : List ℕ) (q r : EncodingRule) (m n : ℕ) → IsFault bytes q m → IsFault bytes r n → (q ≡ r) × (m ≡ n)
 one_fault bytes q r m n (inl a) (inl b) = (a.0 ∙ sym b.0, a.1 ∙ sym b.1)
 one_fault bytes q r m n (inl a) (inr b) = absurd (a.2 b.0)
 one_fault bytes q r m n (inr a) (inl b) = absurd (b.2 a.0)
@@ -53,6 +53,6 @@ one_fault bytes q r m n (inr (_, a)) (inr (_, b)) =
     let same = words_once (a.word ∷ a.rest) (b.word ∷ b.rest) a.sizes b.sizes place.1 in
     (one_head q r b.word b.rest (subst (HeadBroken q) same a.broken) b.broken, a.slot_is ∙ ap slots place.0 ∙ sym b.slot_is)
 
-pub no_fault : (is : List Insn) (r : Rule) (n : ℕ) → AllByRecursion Fits is → IsFault (encoding is) r n → ⊥
+pub no_fault : (is : List Insn) (r : EncodingRule) (n : ℕ) → AllByRecursion Fits is → IsFault (encoding is) r n → ⊥
 no_fault is r n fits (inl uneven) = uneven.2 (whole_slots is)
 no_fault is r n fits (inr (_, at)) = never at.before is r at.word at.rest at.fits fits at.sizes (sym at.whole) at.broken

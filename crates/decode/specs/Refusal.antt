@@ -5,8 +5,8 @@ use Rattle.decode.specs.declared.insn.Insn.{Insn}
 use Rattle.decode.specs.declared.insn.ByteOrder.{ByteOrder}
 use Rattle.decode.specs.declared.insn.SwapBits.{SwapBits}
 use Rattle.decode.specs.declared.word.Word.{Word}
-use Rattle.decode.specs.declared.fault.Rule.{Rule}
-use Rattle.decode.specs.declared.fault.Rule.TheVariants.{Length, Opcode, Register, Profile, Cut, Width, Field}
+use Rattle.decode.specs.declared.fault.EncodingRule.{EncodingRule}
+use Rattle.decode.specs.declared.fault.EncodingRule.TheVariants.{Length, Opcode, Register, Profile, Cut, Width, Field}
 use Rattle.decode.specs.declared.fault.DecodeError.{DecodeError}
 use Rattle.decode.specs.declared.fault.DecodeError.TheVariants.{Memory, Fault}
 use Rattle.decode.specs.Layout.{IsWord, word_bytes}
@@ -15,7 +15,7 @@ use Rattle.decode.specs.First.{IsFirst}
 use Rattle.decode.specs.Slots.{slots}
 
 -- the rules by number
-abbrev pub rule_number : Rule → ℕ
+abbrev pub rule_number : EncodingRule → ℕ
 rule_number Length = 1
 rule_number Opcode = 2
 rule_number Field = 3
@@ -31,7 +31,7 @@ Begins i w next = (first_word i ≡ w) × MatchOption (second_word i) (Unit {0})
 -- what each rule refuses in a slot w that the slot `next` follows: an opcode that no instruction has; a register above
 -- 10; a call or a wide value of a kind that the profile leaves out; a wide instruction in the last slot; a byte swap of
 -- another width; a slot that begins no instruction (RFC 9669 sections 3.2, 4.2, 4.3.1 and 5.4)
-abbrev pub Breaks : Rule → Word → Option Word → Type 0
+abbrev pub Breaks : EncodingRule → Word → Option Word → Type 0
 Breaks Length w next = ⊥
 Breaks Opcode w next = (i : Insn) → (first_word i).opcode ≢ w.opcode
 Breaks Register w next = (10 < w.dst) ⊎ (10 < w.src)
@@ -41,11 +41,11 @@ Breaks Width w next = ((o : ByteOrder) × (w.opcode ≡ order_opcode o)) × ((bi
 Breaks Field w next = (i : Insn) → Fits i → Begins i w next → ⊥
 
 -- the order in which the rules are judged within a slot
-abbrev pub order : List Rule
+abbrev pub order : List EncodingRule
 order = Opcode ∷ Register ∷ Profile ∷ Cut ∷ Width ∷ Field ∷ []
 
 -- the bytes before the slot are whole instructions, and this is the first rule that the slot breaks
-pub record IsBrokenAt (bytes : List ℕ) (r : Rule) (slot : ℕ) : Type 0 where
+pub record IsBrokenAt (bytes : List ℕ) (r : EncodingRule) (slot : ℕ) : Type 0 where
   pub before : List Insn
   pub fits : AllByRecursion Fits before
   pub slot_is : slot ≡ slots before
@@ -56,7 +56,7 @@ pub record IsBrokenAt (bytes : List ℕ) (r : Rule) (slot : ℕ) : Type 0 where
   pub broken : IsFirst (λ q. Breaks q word (slice_get rest 0)) order r
 
 -- the rule and the slot that are named: the length comes first, then the first slot with a fault
-abbrev pub IsFault : List ℕ → Rule → ℕ → Type 0
+abbrev pub IsFault : List ℕ → EncodingRule → ℕ → Type 0
 IsFault bytes r slot =
     ((r ≡ Length) × (slot ≡ 0) × (length bytes % 8 ≢ 0)) ⊎ ((length bytes % 8 ≡ 0) × IsBrokenAt bytes r slot)
 

@@ -8,10 +8,10 @@ ghost use Rattle.decode.specs.Slots.{size_of, slots};
 ghost use Rattle.decode.specs.Refusal.{Begins, Breaks, IsBrokenAt, IsRefusal, order};
 ghost use Rattle.decode.specs.Inside.Reg.{AreRegisters};
 ghost use Rattle.decode.specs.declared.fault.DecodeError.TheVariants.{Memory};
-ghost use Rattle.decode.specs.declared.fault.Rule.TheVariants as rule;
+ghost use Rattle.decode.specs.declared.fault.EncodingRule.TheVariants as rule;
 ghost use Rattle.decode.specs.declared.insn.Insn.{Insn};
 
-use crate::fault::{DecodeError, Rule};
+use crate::fault::{DecodeError, EncodingRule};
 use crate::form::{form_of, insn_of};
 use crate::insn::{Insn, Reg};
 use crate::word::{SLOT, Word, word_at};
@@ -31,7 +31,7 @@ pub fn decode(alloc: Global, bytes: &[u8]) -> Result<Vec<Insn>, DecodeError>
 {
     if bytes.len() % SLOT != 0 {
         return Err(DecodeError::Fault {
-            rule: Rule::Length,
+            rule: EncodingRule::Length,
             slot: 0,
         });
     }
@@ -61,7 +61,7 @@ fn read_all(alloc: Global, bytes: &[u8]) -> Result<Vec<Insn>, DecodeError>
 }
 
 /// The instruction that the bytes begin with, and the bytes after it.
-fn read_first(bytes: &[u8]) -> Result<(Insn, &[u8]), Rule>
+fn read_first(bytes: &[u8]) -> Result<(Insn, &[u8]), EncodingRule>
     requires whole { length bytes.now % 8 ≡ 0 }
     requires more { 8 ≤ length bytes.now }
     ensures found { IfOk result (λ x. bytes.now ≡ insn_bytes x.0 ++ x.1.now) }
@@ -80,29 +80,29 @@ fn read_first(bytes: &[u8]) -> Result<(Insn, &[u8]), Rule>
 }
 
 /// The instruction whose first slot is `word`, before the slot `next`.
-fn read_insn(word: &Word, next: Option<Word>) -> Result<Insn, Rule>
+fn read_insn(word: &Word, next: Option<Word>) -> Result<Insn, EncodingRule>
     ensures found { IfOk result (λ i. Begins i word.now next) }
     ensures fits { IfOk result Fits }
     ensures fault { IfErr result (IsFirst (λ q. Breaks q word.now next) order) }
 {
     let Some(form) = form_of(word.opcode) else {
-        return Err(Rule::Opcode);
+        return Err(EncodingRule::Opcode);
     };
     let Some((dst, src)) = registers_of(word) else {
-        return Err(Rule::Register);
+        return Err(EncodingRule::Register);
     };
     if is_outside_profile(word) {
-        return Err(Rule::Profile);
+        return Err(EncodingRule::Profile);
     }
     if is_cut(word, next) {
-        return Err(Rule::Cut);
+        return Err(EncodingRule::Cut);
     }
     if has_no_width(word) {
-        return Err(Rule::Width);
+        return Err(EncodingRule::Width);
     }
     let insn = insn_of(form, dst, src, word, next);
     if !begins(&insn, word, next) {
-        return Err(Rule::Field);
+        return Err(EncodingRule::Field);
     }
     Ok(insn)
 }

@@ -9,7 +9,7 @@ use thiserror::Error;
 
 /// What is wrong with the bytes of a slot, by number. Within a slot the order of tests is 2, 4, 7, 5, 6, 3.
 #[derive(Clone, Copy, Debug, PartialEq, Eq, Error)]
-pub enum Rule {
+pub enum EncodingRule {
     /// 1: the bytes are not whole slots.
     #[error("the length is no multiple of 8")]
     Length,
@@ -34,19 +34,19 @@ pub enum Rule {
     Profile,
 }
 
-impl Rule {
+impl EncodingRule {
     /// The rule's number, 1 to 7.
     pub fn number(self) -> u8
         ensures { result ≡ rule_number self }
     {
         match self {
-            Rule::Length => 1,
-            Rule::Opcode => 2,
-            Rule::Field => 3,
-            Rule::Register => 4,
-            Rule::Cut => 5,
-            Rule::Width => 6,
-            Rule::Profile => 7,
+            EncodingRule::Length => 1,
+            EncodingRule::Opcode => 2,
+            EncodingRule::Field => 3,
+            EncodingRule::Register => 4,
+            EncodingRule::Cut => 5,
+            EncodingRule::Width => 6,
+            EncodingRule::Profile => 7,
         }
     }
 }
@@ -61,7 +61,7 @@ pub enum DecodeError {
     #[error("slot {slot}: {rule} (rule {})", .rule.number())]
     Fault {
         /// The first rule that the slot breaks.
-        rule: Rule,
+        rule: EncodingRule,
         /// The first slot that breaks a rule, counted from 0.
         slot: usize,
     },

@@ -17,7 +17,7 @@ pub enum Source {
 
 /// What an opcode tells of an instruction.
 #[derive(Clone, Copy)]
-pub enum Form {
+pub enum OpcodeForm {
     Alu(AluOp, Width, Source),
     Neg(Width),
     End(ByteOrder),
@@ -83,40 +83,40 @@ fn source_of(opcode: u8) -> Source
 }
 
 /// The form of an opcode.
-pub fn form_of(opcode: u8) -> Option<Form>
+pub fn form_of(opcode: u8) -> Option<OpcodeForm>
     ensures { result ≡ form_at opcode }
 {
     Some(match opcode {
-        0x05 => Form::Jump,
-        0x06 => Form::JumpLong,
-        0x18 => Form::Wide,
-        0x61 => Form::Load(Size::Word),
-        0x69 => Form::Load(Size::Half),
-        0x71 => Form::Load(Size::Byte),
-        0x79 => Form::Load(Size::Double),
-        0x62 => Form::StoreImm(Size::Word),
-        0x6a => Form::StoreImm(Size::Half),
-        0x72 => Form::StoreImm(Size::Byte),
-        0x7a => Form::StoreImm(Size::Double),
-        0x63 => Form::StoreReg(Size::Word),
-        0x6b => Form::StoreReg(Size::Half),
-        0x73 => Form::StoreReg(Size::Byte),
-        0x7b => Form::StoreReg(Size::Double),
-        0x81 => Form::LoadSx(SignedSize::Word),
-        0x89 => Form::LoadSx(SignedSize::Half),
-        0x91 => Form::LoadSx(SignedSize::Byte),
-        0x84 => Form::Neg(Width::W32),
-        0x87 => Form::Neg(Width::W64),
-        0x85 => Form::Call,
-        0x95 => Form::Exit,
-        0xd4 => Form::End(ByteOrder::Little),
-        0xdc => Form::End(ByteOrder::Big),
-        0xd7 => Form::End(ByteOrder::Swap),
+        0x05 => OpcodeForm::Jump,
+        0x06 => OpcodeForm::JumpLong,
+        0x18 => OpcodeForm::Wide,
+        0x61 => OpcodeForm::Load(Size::Word),
+        0x69 => OpcodeForm::Load(Size::Half),
+        0x71 => OpcodeForm::Load(Size::Byte),
+        0x79 => OpcodeForm::Load(Size::Double),
+        0x62 => OpcodeForm::StoreImm(Size::Word),
+        0x6a => OpcodeForm::StoreImm(Size::Half),
+        0x72 => OpcodeForm::StoreImm(Size::Byte),
+        0x7a => OpcodeForm::StoreImm(Size::Double),
+        0x63 => OpcodeForm::StoreReg(Size::Word),
+        0x6b => OpcodeForm::StoreReg(Size::Half),
+        0x73 => OpcodeForm::StoreReg(Size::Byte),
+        0x7b => OpcodeForm::StoreReg(Size::Double),
+        0x81 => OpcodeForm::LoadSx(SignedSize::Word),
+        0x89 => OpcodeForm::LoadSx(SignedSize::Half),
+        0x91 => OpcodeForm::LoadSx(SignedSize::Byte),
+        0x84 => OpcodeForm::Neg(Width::W32),
+        0x87 => OpcodeForm::Neg(Width::W64),
+        0x85 => OpcodeForm::Call,
+        0x95 => OpcodeForm::Exit,
+        0xd4 => OpcodeForm::End(ByteOrder::Little),
+        0xdc => OpcodeForm::End(ByteOrder::Big),
+        0xd7 => OpcodeForm::End(ByteOrder::Swap),
         _ => match opcode % 8 {
-            4 => Form::Alu(alu_of(opcode / 16)?, Width::W32, source_of(opcode)),
-            7 => Form::Alu(alu_of(opcode / 16)?, Width::W64, source_of(opcode)),
-            5 => Form::JumpIf(condition_of(opcode / 16)?, Width::W64, source_of(opcode)),
-            6 => Form::JumpIf(condition_of(opcode / 16)?, Width::W32, source_of(opcode)),
+            4 => OpcodeForm::Alu(alu_of(opcode / 16)?, Width::W32, source_of(opcode)),
+            7 => OpcodeForm::Alu(alu_of(opcode / 16)?, Width::W64, source_of(opcode)),
+            5 => OpcodeForm::JumpIf(condition_of(opcode / 16)?, Width::W64, source_of(opcode)),
+            6 => OpcodeForm::JumpIf(condition_of(opcode / 16)?, Width::W32, source_of(opcode)),
             _ => return None,
         },
     })
@@ -167,7 +167,7 @@ fn operand_of(source: Source, src: Reg, imm: i32) -> Operand
 }
 
 /// The instruction with this form and these fields. Unused fields are not read.
-pub fn insn_of(form: Form, dst: Reg, src: Reg, word: &Word, next: Option<Word>) -> Insn
+pub fn insn_of(form: OpcodeForm, dst: Reg, src: Reg, word: &Word, next: Option<Word>) -> Insn
     ensures insn { result ≡ insn_from form dst src word.now next }
     ensures fits { Fits result }
 {
@@ -175,13 +175,13 @@ pub fn insn_of(form: Form, dst: Reg, src: Reg, word: &Word, next: Option<Word>) 
     let imm = word.imm.cast_signed();
     let high = next.map_or(0, |second| second.imm);
     match form {
-        Form::Alu(op, width, Source::Imm) => Insn::Alu {
+        OpcodeForm::Alu(op, width, Source::Imm) => Insn::Alu {
             op: signed_of(op, word.offset),
             width,
             dst,
             operand: Operand::Imm(imm),
         },
-        Form::Alu(op, width, Source::Register) => match extension_of(op, width, word.offset) {
+        OpcodeForm::Alu(op, width, Source::Register) => match extension_of(op, width, word.offset) {
             Some(extension) => Insn::MovSx {
                 extension,
                 dst,
@@ -194,48 +194,48 @@ pub fn insn_of(form: Form, dst: Reg, src: Reg, word: &Word, next: Option<Word>) 
                 operand: Operand::Reg(src),
             },
         },
-        Form::Neg(width) => Insn::Neg { width, dst },
-        Form::End(order) => Insn::End {
+        OpcodeForm::Neg(width) => Insn::Neg { width, dst },
+        OpcodeForm::End(order) => Insn::End {
             order,
             bits: bits_of(word.imm),
             dst,
         },
-        Form::Jump => Insn::Jump { offset },
-        Form::JumpLong => Insn::JumpLong { distance: imm },
-        Form::JumpIf(condition, width, source) => Insn::JumpIf {
+        OpcodeForm::Jump => Insn::Jump { offset },
+        OpcodeForm::JumpLong => Insn::JumpLong { distance: imm },
+        OpcodeForm::JumpIf(condition, width, source) => Insn::JumpIf {
             condition,
             width,
             dst,
             operand: operand_of(source, src, imm),
             offset,
         },
-        Form::Call => Insn::Call { helper: imm },
-        Form::Exit => Insn::Exit,
-        Form::Load(size) => Insn::Load {
+        OpcodeForm::Call => Insn::Call { helper: imm },
+        OpcodeForm::Exit => Insn::Exit,
+        OpcodeForm::Load(size) => Insn::Load {
             size,
             dst,
             src,
             offset,
         },
-        Form::LoadSx(size) => Insn::LoadSx {
+        OpcodeForm::LoadSx(size) => Insn::LoadSx {
             size,
             dst,
             src,
             offset,
         },
-        Form::StoreReg(size) => Insn::StoreReg {
+        OpcodeForm::StoreReg(size) => Insn::StoreReg {
             size,
             dst,
             src,
             offset,
         },
-        Form::StoreImm(size) => Insn::StoreImm {
+        OpcodeForm::StoreImm(size) => Insn::StoreImm {
             size,
             dst,
             offset,
             imm,
         },
-        Form::Wide => Insn::Wide {
+        OpcodeForm::Wide => Insn::Wide {
             dst,
             value: word.imm as u64 + high as u64 * 0x1_0000_0000,
         },

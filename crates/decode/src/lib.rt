@@ -26,7 +26,7 @@ mod table;
 mod word;
 mod encoder;
 
-pub use fault::{DecodeError, Rule};
+pub use fault::{DecodeError, EncodingRule};
 pub use insn::{
     AluOp, ByteOrder, Condition, Extension, Insn, Operand, Reg, SignedSize, Size, SwapBits, Width,
 };

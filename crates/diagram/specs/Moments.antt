@@ -2,10 +2,10 @@
 use Rattle.diagram.specs.Columns.{TheStanding}
 use Rattle.diagram.specs.Run.{TheRun}
 use Rattle.diagram.specs.declared.run.Run.{Run}
-use Rattle.diagram.specs.declared.moments.Standing.{Standing}
+use Rattle.diagram.specs.declared.moments.ColumnState.{ColumnState}
 
 -- how far the columns have come
-abbrev pub standing_of : Standing → TheStanding
+abbrev pub standing_of : ColumnState → TheStanding
 standing_of s = record { place = s.place; outputs = s.outputs; keys = s.messages.keys; columns = s.columns.items }
 
 -- a run

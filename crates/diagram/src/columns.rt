@@ -6,7 +6,7 @@ ghost use Rattle.diagram.specs.Columns.{behind, behind_entry, column, columns, k
 ghost use Rattle.diagram.specs.Moments.{run_of, standing_of};
 
 use crate::run::{Moment, Run};
-use crate::moments::Standing;
+use crate::moments::ColumnState;
 use helpers::Payload;
 use indexmap::IndexSet;
 use std::alloc::{AllocError, Global};
@@ -22,7 +22,7 @@ pub struct Column {
     pub text: Option<Payload>,
 }
 
-impl Standing {
+impl ColumnState {
     /// Adds a refused order, which gets a column.
     fn refuse(&mut self, line: usize, number: u8) -> Result<(), AllocError>
         ensures { OnOk result (standing_of self.new ≡ record (standing_of self.old) { columns = self.old.columns.items ++ column (line, Some number) self.old.place None ∷ [] }) }
@@ -136,7 +136,7 @@ pub(crate) fn columns(
 ) -> Result<Vec<Column>, AllocError>
     ensures { IfOk result (λ v. v.items ≡ columns only_messages (run_of run.now)) }
 {
-    let mut standing = Standing {
+    let mut standing = ColumnState {
         place: 0,
         outputs: 0,
         messages: IndexSet::new(alloc),

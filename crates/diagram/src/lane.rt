@@ -26,7 +26,7 @@ impl Phase {
 
 /// A handler call that has begun.
 #[derive(Clone, Copy)]
-pub struct Job {
+pub struct OpenCall {
     pub serial: u32,
     /// The column where it began.
     pub column: usize,
@@ -34,7 +34,7 @@ pub struct Job {
     pub sender: Option<u8>,
 }
 
-impl Job {
+impl OpenCall {
     /// The style of its box.
     pub(crate) fn class(&self) -> &'static str {
         match self.sender {
@@ -58,7 +58,7 @@ pub struct Lane {
     pub phase: Phase,
     /// Where its phase began, in pixels to the right.
     pub since: usize,
-    pub job: Option<Job>,
+    pub job: Option<OpenCall>,
     /// How many messages its latest checkpoint covers.
     pub saved: u32,
 }

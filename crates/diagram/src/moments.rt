@@ -7,7 +7,7 @@ use indexmap::IndexSet;
 
 /// How far the columns of a run have come.
 #[derive(Drop)]
-pub struct Standing {
+pub struct ColumnState {
     /// How many entries came.
     pub place: usize,
     /// How many outputs these showed.

@@ -4,7 +4,7 @@ use crate::ink::{Point, push_line, push_mark};
 use crate::label::{Side, push_number, push_word};
 use crate::picture::Picture;
 use crate::sign::Sign;
-use crate::wire::{Kind, Wire};
+use crate::wire::{WireKind, PacketLine};
 use std::alloc::AllocError;
 use world::Answer;
 
@@ -20,15 +20,15 @@ impl Picture {
         if !self.has(from) || !self.has(to) {
             return Ok(());
         }
-        let wire = Wire::new(Kind::Message, from, to, column);
+        let wire = PacketLine::new(WireKind::Message, from, to, column);
         let side = Side::away(from, to);
         push_number(&mut self.marks, "t", side, column, from, "ssn ", ssn)?;
         self.place(key, wire)
     }
 
     /// A packet goes on the wire under its key. It is drawn if its kind is shown.
-    pub(crate) fn place(&mut self, key: usize, wire: Wire) -> Result<(), AllocError> {
-        if !self.only_messages || wire.kind == Kind::Message {
+    pub(crate) fn place(&mut self, key: usize, wire: PacketLine) -> Result<(), AllocError> {
+        if !self.only_messages || wire.kind == WireKind::Message {
             self.wires.insert(key, wire)?;
         }
         Ok(())
@@ -40,7 +40,7 @@ impl Picture {
             return Ok(());
         };
         let copied = Some(column);
-        self.place(new, Wire { copied, ..wire })
+        self.place(new, PacketLine { copied, ..wire })
     }
 
     /// A packet is lost half way.
@@ -79,7 +79,7 @@ impl Picture {
     }
 
     /// Marks the answer to an arrival at the end of its arrow.
-    fn receive(&mut self, column: usize, wire: Wire, answer: Answer) -> Result<(), AllocError> {
+    fn receive(&mut self, column: usize, wire: PacketLine, answer: Answer) -> Result<(), AllocError> {
         let end = wire.end(column);
         let side = Side::away(wire.to, wire.from);
         let (here, back) = (wire.to, wire.from);
@@ -88,14 +88,14 @@ impl Picture {
                 return self.begin(column, here, serial, Some(back));
             }
             Answer::Numbered(new) => {
-                return self.place(new, Wire::new(Kind::Acknowledgement, here, back, column));
+                return self.place(new, PacketLine::new(WireKind::Acknowledgement, here, back, column));
             }
             Answer::Shown(ssn) => {
                 push_mark(&mut self.marks, "shown", end)?;
                 return push_number(&mut self.marks, "s", Side::Above, column, here, "out ", ssn);
             }
             Answer::Duplicate(new) => {
-                self.place(new, Wire::new(Kind::Number, here, back, column))?;
+                self.place(new, PacketLine::new(WireKind::Number, here, back, column))?;
                 "again"
             }
             Answer::ShownBefore => "again",
@@ -112,7 +112,7 @@ impl Picture {
     }
 
     /// Draws a ring where a packet was copied.
-    pub(crate) fn mark_copy(&mut self, wire: Wire, end: Point) -> Result<(), AllocError> {
+    pub(crate) fn mark_copy(&mut self, wire: PacketLine, end: Point) -> Result<(), AllocError> {
         let Some(column) = wire.copied else {
             return Ok(());
         };

@@ -16,7 +16,7 @@ use crate::picture::Picture;
 use crate::run::Run;
 use crate::sign::Sign;
 use indexmap::IndexMap;
-use scenario::Process;
+use scenario::NamedProcess;
 use std::alloc::{AllocError, Global};
 use scenario::name_at;
 use world::Entry;
@@ -68,7 +68,7 @@ pub(crate) fn lane_y(number: u8) -> usize
 /// a process or packet that isn't there is not drawn. The only error is lack of memory.
 pub fn draw(
     alloc: Global,
-    processes: &IndexMap<String, Process>,
+    processes: &IndexMap<String, NamedProcess>,
     run: &Run<'_>,
     only_messages: bool,
 ) -> Result<String, AllocError>
@@ -89,7 +89,7 @@ pub fn draw(
 /// The drawing of these columns.
 fn drawing(
     alloc: Global,
-    processes: &IndexMap<String, Process>,
+    processes: &IndexMap<String, NamedProcess>,
     entries: &[Entry],
     columns: &[Column],
     only_messages: bool,
@@ -106,7 +106,7 @@ fn drawing(
 /// Draws these columns, down to a height, and the names of lines and rows.
 fn push_run(
     picture: &mut Picture,
-    processes: &IndexMap<String, Process>,
+    processes: &IndexMap<String, NamedProcess>,
     entries: &[Entry],
     columns: &[Column],
     foot: usize,
@@ -130,14 +130,14 @@ fn page_width(columns: usize) -> usize
 }
 
 /// The height of a page with these processes, in pixels.
-fn page_height(processes: &IndexMap<String, Process>) -> usize
+fn page_height(processes: &IndexMap<String, NamedProcess>) -> usize
     ensures { result ≡ page_height (index_map_len processes.now) }
 {
     lane_y(lane_count(processes)) + FOOT + LEGEND_HEIGHT
 }
 
 /// How many processes have lines.
-fn lane_count(processes: &IndexMap<String, Process>) -> u8
+fn lane_count(processes: &IndexMap<String, NamedProcess>) -> u8
     ensures { result ≡ min (index_map_len processes.now) 255 }
 {
     u8::try_from(processes.len()).unwrap_or(u8::MAX)
@@ -163,7 +163,7 @@ fn push_column(
 /// of columns.
 fn push_names(
     picture: &mut Picture,
-    processes: &IndexMap<String, Process>,
+    processes: &IndexMap<String, NamedProcess>,
     count: u8,
     columns: usize,
 ) -> Result<(), AllocError> {
@@ -184,7 +184,7 @@ fn push_names(
 /// Writes the names of the lines at one place.
 fn push_lane_names(
     out: &mut String,
-    processes: &IndexMap<String, Process>,
+    processes: &IndexMap<String, NamedProcess>,
     count: u8,
     class: &str,
     x: usize,
@@ -200,7 +200,7 @@ fn push_lane_names(
 /// Writes the name of a process at a place of its line.
 fn push_lane_name(
     out: &mut String,
-    processes: &IndexMap<String, Process>,
+    processes: &IndexMap<String, NamedProcess>,
     number: u8,
     class: &str,
     x: usize,

@@ -1,11 +1,11 @@
 //! The drawing of entries, one after the other.
 
 use crate::ink::{Point, push_line};
-use crate::lane::{Job, Lane, Phase};
+use crate::lane::{OpenCall, Lane, Phase};
 use crate::legend::Legend;
 use crate::page::{column_x, lane_y};
 use crate::sign::Sign;
-use crate::wire::Wire;
+use crate::wire::PacketLine;
 use indexmap::IndexMap;
 use std::alloc::{AllocError, Global};
 use world::{Answer, Call, Entry};
@@ -16,7 +16,7 @@ pub struct Picture {
     /// The lines by number. The first is the outside's.
     pub lanes: Vec<Lane>,
     /// The packets on the wire, by their keys.
-    pub wires: IndexMap<usize, Wire>,
+    pub wires: IndexMap<usize, PacketLine>,
     /// The lowest layer: the lines.
     pub lines: String,
     /// The next layer: the boxes.
@@ -117,7 +117,7 @@ impl Picture {
     }
 
     /// Draws half the way of a packet.
-    fn close_wire(&mut self, wire: Wire, column: usize) -> Result<(), AllocError> {
+    fn close_wire(&mut self, wire: PacketLine, column: usize) -> Result<(), AllocError> {
         let half = wire.half(column);
         push_line(&mut self.arrows, wire.headless(), wire.start(), half)?;
         self.legend.note(wire.sign())?;
@@ -144,7 +144,7 @@ impl Picture {
     }
 
     /// Takes out the open handler call of a process.
-    pub(crate) fn take_job(&mut self, process: u8) -> Option<Job> {
+    pub(crate) fn take_job(&mut self, process: u8) -> Option<OpenCall> {
         self.lanes.get_mut(usize::from(process))?.job.take()
     }
 

@@ -2,11 +2,11 @@
 
 use crate::ink::{Point, push_box, push_count, push_line};
 use crate::label::{Side, push_number};
-use crate::lane::{Job, Lane, Phase};
+use crate::lane::{OpenCall, Lane, Phase};
 use crate::page::{column_x, lane_y};
 use crate::picture::Picture;
 use crate::sign::Sign;
-use crate::wire::{Kind, Wire};
+use crate::wire::{WireKind, PacketLine};
 use std::alloc::AllocError;
 use world::Answer;
 
@@ -21,7 +21,7 @@ impl Picture {
     ) -> Result<(), AllocError> {
         self.stop(process, column_x(column), true)?;
         if let Some(lane) = self.lanes.get_mut(usize::from(process)) {
-            lane.job = Some(Job {
+            lane.job = Some(OpenCall {
                 serial,
                 column,
                 sender,
@@ -84,7 +84,7 @@ impl Picture {
         };
         let side = Side::away(process, sender);
         push_number(&mut self.marks, "t", side, column, process, "rsn ", rsn)?;
-        self.place(key, Wire::new(Kind::Number, process, sender, column))
+        self.place(key, PacketLine::new(WireKind::Number, process, sender, column))
     }
 
     /// A message is replayed.

@@ -6,7 +6,7 @@ use crate::sign::Sign;
 
 /// The kind of a packet.
 #[derive(Clone, Copy, PartialEq, Eq)]
-pub enum Kind {
+pub enum WireKind {
     Message,
     Number,
     Acknowledgement,
@@ -14,8 +14,8 @@ pub enum Kind {
 
 /// A packet on the wire, from line to line.
 #[derive(Clone, Copy)]
-pub struct Wire {
-    pub kind: Kind,
+pub struct PacketLine {
+    pub kind: WireKind,
     pub from: u8,
     pub to: u8,
     /// The column where it went on the wire. For a copy, where the original did.
@@ -24,10 +24,10 @@ pub struct Wire {
     pub copied: Option<usize>,
 }
 
-impl Wire {
+impl PacketLine {
     /// A packet that goes on the wire in this column.
-    pub(crate) fn new(kind: Kind, from: u8, to: u8, column: usize) -> Wire {
-        Wire {
+    pub(crate) fn new(kind: WireKind, from: u8, to: u8, column: usize) -> PacketLine {
+        PacketLine {
             kind,
             from,
             to,
@@ -39,24 +39,24 @@ impl Wire {
     /// The style of its arrow. A message to the outside is an output.
     pub(crate) fn class(&self) -> &'static str {
         match self.kind {
-            Kind::Message => { if self.to == 0 { "out" } else { "message" } }
-            Kind::Number => "number",
-            Kind::Acknowledgement => "ack",
+            WireKind::Message => { if self.to == 0 { "out" } else { "message" } }
+            WireKind::Number => "number",
+            WireKind::Acknowledgement => "ack",
         }
     }
 
     /// The legend's sign for it.
     pub(crate) fn sign(&self) -> Sign {
         match self.kind {
-            Kind::Message => {
+            WireKind::Message => {
                 if self.to == 0 {
                     Sign::Output
                 } else {
                     Sign::Message
                 }
             }
-            Kind::Number => Sign::Number,
-            Kind::Acknowledgement => Sign::Acknowledgement,
+            WireKind::Number => Sign::Number,
+            WireKind::Acknowledgement => Sign::Acknowledgement,
         }
     }
 

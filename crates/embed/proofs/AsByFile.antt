@@ -2,7 +2,7 @@
 use Rattle.std.proofs.Common.{◌≡◌, ◌≢◌, refl, sym, subst, inl, inr}
 use Rattle.images.specs.declared.file_form.FileForm.{FileForm}
 use Rattle.images.specs.declared.file_form.FileForm.TheVariants.{Sbi1, Sbi2, Sbi3}
-use Rattle.embed.specs.declared.refusal.Refusal.TheVariants.{State, Form}
+use Rattle.embed.specs.declared.refusal.ImageRefusal.TheVariants.{State, Form}
 use Rattle.embed.specs.Exports.{AreCallsRefused, IsTypable, IsCallable, IsFormRefusal, IsStateRefusal}
 use Rattle.embed.specs.Handles.{AreDoneAsByFile, AreRefusedAsByFile}
 use Rattle.embed.proofs.FirstFailure.{no_seat, no_messages, no_room, no_image}

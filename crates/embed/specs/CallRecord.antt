@@ -6,8 +6,8 @@ use Rattle.helpers.specs.declared.effects.Sent.{Sent}
 use Rattle.helpers.specs.Effects.{Emitted}
 use Rattle.native.specs.Correct.{IsAt, Keeps}
 use Rattle.embed.specs.declared.call_record.TheConstants.{PAYLOAD}
-use Rattle.embed.specs.declared.refusal.Refusal.{Refusal}
-use Rattle.embed.specs.declared.refusal.Refusal.TheVariants.{Room, Record}
+use Rattle.embed.specs.declared.refusal.ImageRefusal.{ImageRefusal}
+use Rattle.embed.specs.declared.refusal.ImageRefusal.TheVariants.{Room, Record}
 use Rattle.embed.specs.declared.report.TheConstants.{REPORT_LIMIT}
 use Rattle.embed.specs.Exports.{Answers}
 use Rattle.embed.specs.Layout.{report_bytes}
@@ -52,7 +52,7 @@ pub record IsTold (r0 : ℕ) (bytes out written : List ℕ) : Type 0 where
   pub written_is : written ≡ overwritten out 0 (report_bytes r0 steps effects)
 
 -- why it wasn't: the buffer is too short, or no call of form 1 leaves such bytes
-abbrev pub IsUntold : List ℕ → List ℕ → Refusal → Type 0
+abbrev pub IsUntold : List ℕ → List ℕ → ImageRefusal → Type 0
 IsUntold bytes out Room = length out < REPORT_LIMIT
 IsUntold bytes out Record = (REPORT_LIMIT ≤ length out) × ((steps : ℕ) (e : Emitted) → ¬ IsLeft bytes steps e)
 IsUntold bytes out why = ⊥

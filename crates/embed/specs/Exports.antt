@@ -11,8 +11,8 @@ use Rattle.images.specs.ImageFile.{IsRefusal}
 use Rattle.handlers.specs.Image.{TheImage}
 use Rattle.operations.specs.Bytes.{overwritten}
 use Rattle.embed.specs.declared.calls.TheConstants.{MESSAGE}
-use Rattle.embed.specs.declared.refusal.Refusal.{Refusal}
-use Rattle.embed.specs.declared.refusal.Refusal.TheVariants.{Image, State, Message, Who as NotSeat, Room, Form, Handle, Record}
+use Rattle.embed.specs.declared.refusal.ImageRefusal.{ImageRefusal}
+use Rattle.embed.specs.declared.refusal.ImageRefusal.TheVariants.{Image, State, Message, Who as NotSeat, Room, Form, Handle, Record}
 use Rattle.embed.specs.declared.report.TheConstants.{FAULT_SIZE, REPORT_LIMIT}
 use Rattle.embed.specs.Layout.{fault_bytes}
 use Rattle.embed.specs.Calls.{IsTypableFile, IsCallableForm, IsSeat, IsReported, AreReported}
@@ -27,7 +27,7 @@ error_number (error.Decode rule slot) = 3
 error_number (error.Verify rule slot) = 4
 
 -- the code of a refusal, 1 to 12
-abbrev pub refusal_number : Refusal → ℕ
+abbrev pub refusal_number : ImageRefusal → ℕ
 refusal_number (Image e) = error_number e
 refusal_number State = 5
 refusal_number Message = 6
@@ -54,8 +54,8 @@ refused_slot (error.Verify rule slot) = slot
 -- ---- answers
 
 -- the meaning of a code: 0 means that this was done, any other number says why it was not
-abbrev pub Answers : ℕ → Type 0 → (Refusal → Type 0) → Type 0
-Answers code done refused = ((code ≡ 0) × done) ⊎ ((why : Refusal) × (code ≡ refusal_number why) × refused why)
+abbrev pub Answers : ℕ → Type 0 → (ImageRefusal → Type 0) → Type 0
+Answers code done refused = ((code ≡ 0) × done) ⊎ ((why : ImageRefusal) × (code ≡ refusal_number why) × refused why)
 
 -- the file is accepted, and nothing is written
 pub record IsChecked (file out written : List ℕ) : Type 0 where
@@ -65,7 +65,7 @@ pub record IsChecked (file out written : List ℕ) : Type 0 where
   pub same : written ≡ out
 
 -- why a file is refused, and what is written of it: the buffer is judged before the file
-abbrev pub IsUnchecked : List ℕ → List ℕ → List ℕ → Refusal → Type 0
+abbrev pub IsUnchecked : List ℕ → List ℕ → List ℕ → ImageRefusal → Type 0
 IsUnchecked file out written (Image e) =
     (FAULT_SIZE ≤ length out) × IsRefusal file e × (written ≡ overwritten out 0 (fault_bytes (refused_rule e) (refused_slot e)))
 IsUnchecked file out written State = ⊥
@@ -93,7 +93,7 @@ abbrev pub IsTypable : List ℕ → Type 0
 IsTypable file = (image : TheImage) × IsTypableFile image file
 
 -- this refusal says why the file is not accepted. If memory ran out, nothing is known of the file
-abbrev pub IsFileRefusal : List ℕ → Refusal → Type 0
+abbrev pub IsFileRefusal : List ℕ → ImageRefusal → Type 0
 IsFileRefusal file why = (e : ImageError) × (why ≡ Image e) × IsRefusal file e
 
 -- its image can be called with messages of 64 bytes
@@ -101,16 +101,16 @@ abbrev pub IsCallable : List ℕ → Type 0
 IsCallable file = (image : TheImage) × IsTypableFile image file × IsCallableForm image
 
 -- this refusal says that it is of form 2
-abbrev pub IsFormRefusal : List ℕ → Refusal → Type 0
+abbrev pub IsFormRefusal : List ℕ → ImageRefusal → Type 0
 IsFormRefusal file why = (why ≡ Form) × ((image : TheImage) × IsTypableFile image file × (image.form ≡ Sbi2))
 
 -- this refusal says that the state isn't as long as the file says
-abbrev pub IsStateRefusal : List ℕ → List ℕ → Refusal → Type 0
+abbrev pub IsStateRefusal : List ℕ → List ℕ → ImageRefusal → Type 0
 IsStateRefusal file state why =
     (why ≡ State) × ((image : TheImage) × IsTypableFile image file × IsCallableForm image × (length state ≢ image.len))
 
 -- why a file isn't called on this state
-abbrev pub IsUncallable : List ℕ → List ℕ → Refusal → Type 0
+abbrev pub IsUncallable : List ℕ → List ℕ → ImageRefusal → Type 0
 IsUncallable file state why =
     IsFileRefusal file why ⊎ (IsTypable file × (IsFormRefusal file why ⊎ (IsCallable file × IsStateRefusal file state why)))
 
@@ -138,7 +138,7 @@ Passes file state who whole room OfState =
     (image : TheImage) × IsTypableFile image file × IsCallableForm image × (length state ≡ image.len)
 
 -- the arguments fail a test, with this refusal
-abbrev pub Fails : List ℕ → List ℕ → Who → Type 0 → Type 0 → Test → Refusal → Type 0
+abbrev pub Fails : List ℕ → List ℕ → Who → Type 0 → Type 0 → Test → ImageRefusal → Type 0
 Fails file state who whole room OfSeat why = (why ≡ NotSeat) × (¬ IsSeat who)
 Fails file state who whole room OfMessages why = (why ≡ Message) × (¬ whole)
 Fails file state who whole room OfRoom why = (why ≡ Room) × (¬ room)
@@ -147,7 +147,7 @@ Fails file state who whole room OfForm why = IsFormRefusal file why
 Fails file state who whole room OfState why = IsStateRefusal file state why
 
 -- the refusal is that of the first of these tests that the arguments fail
-unfoldable pub FailsFirst : List ℕ → List ℕ → Who → Type 0 → Type 0 → List Test → Refusal → Type 0
+unfoldable pub FailsFirst : List ℕ → List ℕ → Who → Type 0 → Type 0 → List Test → ImageRefusal → Type 0
 FailsFirst file state who whole room [] why = ⊥
 FailsFirst file state who whole room (t ∷ ts) why =
     Fails file state who whole room t why ⊎ (Passes file state who whole room t × FailsFirst file state who whole room ts why)
@@ -159,7 +159,7 @@ IsCalled file who state message after out written =
     (λ image. (end : ℕ) × IsReported image who state message after out 0 written end)
 
 -- why such a call is refused
-abbrev pub IsCallRefusal : List ℕ → Who → List ℕ → List ℕ → List ℕ → Refusal → Type 0
+abbrev pub IsCallRefusal : List ℕ → Who → List ℕ → List ℕ → List ℕ → ImageRefusal → Type 0
 IsCallRefusal file who state message out why =
     FailsFirst file state who (length message ≡ MESSAGE) (REPORT_LIMIT ≤ length out) order why
 
@@ -170,7 +170,7 @@ AreCalled file who state messages after out written =
     (λ image. AreReported image who state messages after out written)
 
 -- why such calls are refused
-abbrev pub AreCallsRefused : List ℕ → Who → List ℕ → List ℕ → List ℕ → Refusal → Type 0
+abbrev pub AreCallsRefused : List ℕ → Who → List ℕ → List ℕ → List ℕ → ImageRefusal → Type 0
 AreCallsRefused file who state messages out why =
     FailsFirst file state who (length messages % MESSAGE ≡ 0) (REPORT_LIMIT * (length messages / MESSAGE) ≤ length out) order why
 

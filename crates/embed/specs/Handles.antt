@@ -8,10 +8,10 @@ use mir.Syntax.{Ty}
 use base.Fml.{Fml, feq}
 use Rattle.helpers.specs.declared.effects.Who.{Who}
 use Rattle.handlers.specs.Image.{TheImage}
-use Rattle.embed.specs.contracts.handler.Handler.{the_row}
+use Rattle.embed.specs.contracts.handler.OpenHandler.{the_row}
 use Rattle.embed.specs.declared.calls.TheConstants.{MESSAGE}
-use Rattle.embed.specs.declared.refusal.Refusal.{Refusal}
-use Rattle.embed.specs.declared.refusal.Refusal.TheVariants.{State, Message, Who as NotSeat, Room, Form, Handle}
+use Rattle.embed.specs.declared.refusal.ImageRefusal.{ImageRefusal}
+use Rattle.embed.specs.declared.refusal.ImageRefusal.TheVariants.{State, Message, Who as NotSeat, Room, Form, Handle}
 use Rattle.embed.specs.declared.report.TheConstants.{REPORT_LIMIT}
 use Rattle.embed.specs.Calls.{IsTypableFile, IsCallableForm, IsSeat, AreReported}
 use Rattle.embed.specs.Exports.{Answers, IsFileRefusal, AreCalled, AreCallsRefused}
@@ -50,11 +50,11 @@ pub record AreDone (image : TheImage) (who : Who) (state messages after out writ
   pub called : AreReported image who state messages after out written
 
 -- a test, the refusal if it fails, and the refusals if it passes
-abbrev pub Unless : Type 0 → Refusal → (Refusal → Type 0) → Refusal → Type 0
+abbrev pub Unless : Type 0 → ImageRefusal → (ImageRefusal → Type 0) → ImageRefusal → Type 0
 Unless passes refusal others why = ((why ≡ refusal) × (¬ passes)) ⊎ (passes × others why)
 
 -- why such calls are refused: the first of these tests that fails
-abbrev pub AreUndone : TheImage → Who → List ℕ → List ℕ → List ℕ → Refusal → Type 0
+abbrev pub AreUndone : TheImage → Who → List ℕ → List ℕ → List ℕ → ImageRefusal → Type 0
 AreUndone image who state messages out =
     Unless (IsSeat who) NotSeat
     (Unless (length messages % MESSAGE ≡ 0) Message
@@ -80,5 +80,5 @@ AreDoneAsByFile =
 -- what is refused by the handle of a file is refused likewise by the file
 abbrev pub AreRefusedAsByFile : Type 0
 AreRefusedAsByFile =
-    (file : List ℕ) (image : TheImage) (who : Who) (state messages out : List ℕ) (why : Refusal) → IsTypableFile image file
+    (file : List ℕ) (image : TheImage) (who : Who) (state messages out : List ℕ) (why : ImageRefusal) → IsTypableFile image file
     → AreUndone image who state messages out why → AreCallsRefused file who state messages out why

@@ -4,12 +4,12 @@ use Rattle.operations.specs.Bytes.{overwritten}
 use Rattle.verifier.specs.declared.fault.ImageError.TheVariants.{Memory}
 use Rattle.span_native.specs.AnyForm.{IsNativeOf}
 use Rattle.handlers.specs.Image.{TheImage}
-use Rattle.embed.specs.declared.refusal.Refusal.{Refusal}
-use Rattle.embed.specs.declared.refusal.Refusal.TheVariants.{Image, Room, Handle}
+use Rattle.embed.specs.declared.refusal.ImageRefusal.{ImageRefusal}
+use Rattle.embed.specs.declared.refusal.ImageRefusal.TheVariants.{Image, Room, Handle}
 use Rattle.embed.specs.Exports.{Answers}
 
 -- why there is none: memory ran out
-abbrev pub IsUnmade : Refusal → Type 0
+abbrev pub IsUnmade : ImageRefusal → Type 0
 IsUnmade (Image Memory) = Unit {0}
 IsUnmade why = ⊥
 
@@ -26,7 +26,7 @@ pub record IsCompiled (image : TheImage) (out written : List ℕ) (size : ℕ) :
   pub written_is : written ≡ overwritten out 0 code
 
 -- why it wasn't: it is longer than the buffer, or memory ran out
-abbrev pub IsUncompiled : TheImage → List ℕ → ℕ → ℕ → Refusal → Type 0
+abbrev pub IsUncompiled : TheImage → List ℕ → ℕ → ℕ → ImageRefusal → Type 0
 IsUncompiled image out was size Room = (code : List ℕ) × IsCodeOf image size code × (length out < length code)
 IsUncompiled image out was size why = (size ≡ was) × IsUnmade why
 

@@ -6,7 +6,7 @@ ghost use Rattle.helpers.specs.Effects.{Emitted};
 ghost use Rattle.operations.specs.Bytes.{le_bytes, le_value};
 ghost use Rattle.embed.specs.CallRecord.{IsPayloadAt, IsSentAt, AreIn, AreNotIn, IsLeft, IsTold, IsUntold, Reports};
 
-use crate::refusal::Refusal;
+use crate::refusal::ImageRefusal;
 use crate::report::{REPORT_LIMIT, put_parts};
 use arrayvec::ArrayVec;
 use byteorder::{ByteOrder, LittleEndian};
@@ -124,16 +124,16 @@ fn left_in(bytes: &[u8]) -> Option<Left>
 }
 
 /// Writes the report of the call that left this record and had this r0.
-fn write(r0: u64, bytes: &[u8], out: &mut [u8]) -> Result<(), Refusal>
+fn write(r0: u64, bytes: &[u8], out: &mut [u8]) -> Result<(), ImageRefusal>
     ensures done { OnOk result (IsTold r0 bytes.now out.old out.new) }
     ensures refused { IfErr result (IsUntold bytes.now out.old) }
     ensures unchanged { OnErr result (out.new ≡ out.old) }
 {
     if out.len() < REPORT_LIMIT {
-        return Err(Refusal::Room);
+        return Err(ImageRefusal::Room);
     }
     let Some(left) = left_in(bytes) else {
-        return Err(Refusal::Record);
+        return Err(ImageRefusal::Record);
     };
     let sends = left.sends.as_slice();
     let outputs = left.outputs.as_slice();

@@ -6,8 +6,8 @@ ghost use Rattle.embed.specs.Calls.{IsTypableFile, IsCallableForm, IsSeat};
 ghost use Rattle.embed.specs.Exports.{IsChecked, IsUnchecked, IsUncallable, IsCalled, IsCallRefusal, AreCalled, AreCallsRefused};
 
 use crate::alone::call_alone;
-use crate::handler::Handler;
-use crate::refusal::{Refusal, refused_rule, refused_slot};
+use crate::handler::OpenHandler;
+use crate::refusal::{ImageRefusal, refused_rule, refused_slot};
 use crate::report::{FAULT_SIZE, REPORT_LIMIT, put_fault};
 use handlers::Handler as AnyHandler;
 use helpers::{Effects, Who};
@@ -19,17 +19,17 @@ use std::alloc::Global;
 pub const MESSAGE: usize = 64;
 
 /// Checks a file. If it is refused, writes the rule and the slot into `out`.
-pub fn check(alloc: Global, file: &[u8], out: &mut [u8]) -> Result<(), Refusal>
+pub fn check(alloc: Global, file: &[u8], out: &mut [u8]) -> Result<(), ImageRefusal>
     ensures { MatchResult result (λ _. IsChecked file.now out.old out.new) (IsUnchecked file.now out.old out.new) }
 {
     if out.len() < FAULT_SIZE {
-        return Err(Refusal::Room);
+        return Err(ImageRefusal::Room);
     }
     match load(alloc, file) {
         Ok(_image) => Ok(()),
         Err(error) => {
             put_fault(out, refused_rule(&error), refused_slot(&error));
-            Err(Refusal::Image(error))
+            Err(ImageRefusal::Image(error))
         }
     }
 }
@@ -47,7 +47,7 @@ pub fn is_seat(who: Who) -> bool
 }
 
 /// The handler of a file that isn't of form 2, for a state of this length.
-fn load_callable(alloc: Global, file: &[u8], state: &[u8]) -> Result<AnyHandler, Refusal>
+fn load_callable(alloc: Global, file: &[u8], state: &[u8]) -> Result<AnyHandler, ImageRefusal>
     ensures file { IfOk result (λ handler. IsTypableFile (the_image handler) file.now) }
     ensures form { IfOk result (λ handler. IsCallableForm (the_image handler)) }
     ensures state { IfOk result (λ handler. length state.now ≡ (the_image handler).len) }
@@ -55,13 +55,13 @@ fn load_callable(alloc: Global, file: &[u8], state: &[u8]) -> Result<AnyHandler,
 {
     let handler = match AnyHandler::load(alloc, file) {
         Ok(handler) => handler,
-        Err(error) => return Err(Refusal::Image(error)),
+        Err(error) => return Err(ImageRefusal::Image(error)),
     };
     if handler.form() == FileForm::Sbi2 {
-        return Err(Refusal::Form);
+        return Err(ImageRefusal::Form);
     }
     if state.len() != handler.state_len() as usize {
-        return Err(Refusal::State);
+        return Err(ImageRefusal::State);
     }
     Ok(handler)
 }
@@ -74,19 +74,19 @@ pub fn call(
     message: &[u8],
     who: Who,
     out: &mut [u8],
-) -> Result<(), Refusal>
+) -> Result<(), ImageRefusal>
     ensures done { IfOk result (λ _. IsCalled file.now who state.old message.now state.new out.old out.new) }
     ensures refused { IfErr result (IsCallRefusal file.now who state.old message.now out.old) }
     ensures unchanged { OnErr result ((state.new ≡ state.old) × (out.new ≡ out.old)) }
 {
     if !is_seat(who) {
-        return Err(Refusal::Who);
+        return Err(ImageRefusal::Who);
     }
     if message.len() != MESSAGE {
-        return Err(Refusal::Message);
+        return Err(ImageRefusal::Message);
     }
     if out.len() < REPORT_LIMIT {
-        return Err(Refusal::Room);
+        return Err(ImageRefusal::Room);
     }
     let handler = load_callable(alloc, file, state)?;
     let mut effects = Effects::new();
@@ -103,21 +103,21 @@ pub fn call_many(
     messages: &[u8],
     who: Who,
     out: &mut [u8],
-) -> Result<(), Refusal>
+) -> Result<(), ImageRefusal>
     ensures done { IfOk result (λ _. AreCalled file.now who state.old messages.now state.new out.old out.new) }
     ensures refused { IfErr result (AreCallsRefused file.now who state.old messages.now out.old) }
     ensures unchanged { OnErr result ((state.new ≡ state.old) × (out.new ≡ out.old)) }
 {
     if !is_seat(who) {
-        return Err(Refusal::Who);
+        return Err(ImageRefusal::Who);
     }
     if messages.len() % MESSAGE != 0 {
-        return Err(Refusal::Message);
+        return Err(ImageRefusal::Message);
     }
     if out.len() / REPORT_LIMIT < messages.len() / MESSAGE {
-        return Err(Refusal::Room);
+        return Err(ImageRefusal::Room);
     }
-    let mut handler = Handler::new(load_callable(alloc, file, state)?);
+    let mut handler = OpenHandler::new(load_callable(alloc, file, state)?);
     handler.call_each(state, messages, who, out);
     Ok(())
 }

@@ -6,7 +6,7 @@ ghost use Rattle.embed.specs.Arrays.{IsReady};
 
 use crate::array::call_each;
 use crate::calls::MESSAGE;
-use crate::refusal::Refusal;
+use crate::refusal::ImageRefusal;
 use crate::report::REPORT_LIMIT;
 use crate::span_array::call_spans;
 use handlers::Handler as AnyHandler;
@@ -20,13 +20,13 @@ use verifier::{Image, ImageError};
 /// A handler of any form, the array for calls of form 1, and memory for what a call emits. Both are
 /// kept, so a call clears only what the one before left.
 #[derive(Drop)]
-pub struct Handler {
+pub struct OpenHandler {
     pub(crate) handler: AnyHandler,
     pub(crate) mem: [u8; 1792],
     pub(crate) effects: Effects,
 }
 
-impl Model for Handler {
+impl Model for OpenHandler {
     ghost use Rattle.handlers.specs.Image.{TheImage, the_image};
     ghost use Rattle.embed.specs.Arrays.{IsReady};
 
@@ -57,7 +57,7 @@ fn array_of(handler: &AnyHandler) -> [u8; 1792]
     }
 }
 
-impl Handler {
+impl OpenHandler {
     ghost use Rattle.std.specs.Prelude.{◌≡◌, ◌≤◌, ◌*◌, ◌/◌, ◌%◌, IfOk, IfErr, length};
     ghost use Rattle.handlers.specs.Image.{the_image};
     ghost use Rattle.embed.specs.Calls.{AreReported, IsCallableForm, IsSeat};
@@ -65,11 +65,11 @@ impl Handler {
     ghost use Rattle.embed.specs.MachineCode.{IsUnmade};
 
     /// A handler before its first call.
-    pub fn new(handler: AnyHandler) -> Handler
+    pub fn new(handler: AnyHandler) -> OpenHandler
         ensures { result ≡ the_image handler }
     {
         let mem = array_of(&handler);
-        Handler {
+        OpenHandler {
             handler,
             mem,
             effects: Effects::new(),
@@ -84,13 +84,13 @@ impl Handler {
     }
 
     /// The machine code of its image.
-    pub fn compile(&self, alloc: Global) -> Result<Vec<u8>, Refusal>
+    pub fn compile(&self, alloc: Global) -> Result<Vec<u8>, ImageRefusal>
         ensures made { IfOk result (λ code. IsNativeOf self.now code.items) }
         ensures refused { IfErr result IsUnmade }
     {
         match compile_handler(alloc, &self.handler) {
             Ok(code) => Ok(code.into_bytes()),
-            Err(_) => Err(Refusal::Image(ImageError::Memory)),
+            Err(_) => Err(ImageRefusal::Image(ImageError::Memory)),
         }
     }
 

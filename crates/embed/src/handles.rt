@@ -8,7 +8,7 @@ ghost use Rattle.embed.specs.Calls.{caller};
 ghost use Rattle.embed.specs.Handles.{owns_image, state_len_of, Opens, Runs};
 ghost use Rattle.embed.specs.MachineCode.{Compiles};
 
-use crate::handler::Handler;
+use crate::handler::OpenHandler;
 use crate::loose::Loose;
 use crate::machine_code::compile;
 use crate::lifetime::{Opened, close, open};
@@ -44,7 +44,7 @@ pub unsafe extern "C" fn sblog_state_len(handle: *mut Handle) -> usize
     if handle.is_null() {
         return 0;
     }
-    let handler = handle.cast::<Handler>();
+    let handler = handle.cast::<OpenHandler>();
     (&*handler).state_len()
 }
 
@@ -67,7 +67,7 @@ pub unsafe extern "C" fn sblog_run(
     if handle.is_null() {
         return NULL;
     }
-    let handler = handle.cast::<Handler>();
+    let handler = handle.cast::<OpenHandler>();
     run(&mut *handler, state, messages, me, from, count, out)
 }
 
@@ -87,7 +87,7 @@ pub unsafe extern "C" fn sblog_compile(
     if handle.is_null() {
         return NULL;
     }
-    let handler = handle.cast::<Handler>();
+    let handler = handle.cast::<OpenHandler>();
     compile(alloc, &*handler, out, size)
 }
 
@@ -101,7 +101,7 @@ pub unsafe extern "C" fn sblog_close(alloc: Global, handle: *mut Handle)
         return;
     }
     close(Loose {
-        at: handle.cast::<Handler>(),
+        at: handle.cast::<OpenHandler>(),
         alloc,
     });
 }

@@ -6,9 +6,9 @@ ghost use Rattle.embed.specs.Calls.{IsTypableFile};
 ghost use Rattle.embed.specs.Exports.{IsFileRefusal};
 ghost use Rattle.embed.specs.Handles.{owns_image, Opens};
 
-use crate::handler::Handler;
+use crate::handler::OpenHandler;
 use crate::loose::Loose;
-use crate::refusal::Refusal;
+use crate::refusal::ImageRefusal;
 use handlers::Handler as AnyHandler;
 use std::alloc::Global;
 use std::marker::Model;
@@ -18,7 +18,7 @@ use verifier::ImageError;
 /// The result of opening a file: a code, and the pointer to an image, which is null if there is
 /// none.
 pub struct Opened {
-    pub(crate) at: *mut Handler,
+    pub(crate) at: *mut OpenHandler,
     pub(crate) code: u32,
     pub ghost held: { Option TheImage },
 }
@@ -29,7 +29,7 @@ impl Model for Opened {
 
 impl Opened {
     /// The image of a box.
-    fn of(image: Loose<Handler, Global>) -> Opened
+    fn of(image: Loose<OpenHandler, Global>) -> Opened
         ensures code { result.code ≡ 0 }
         ensures held { result.held ≡ Some image.value }
     {
@@ -50,16 +50,16 @@ impl Opened {
 }
 
 /// The image of a file, on the heap.
-fn boxed(alloc: Global, file: &[u8]) -> Result<Box<Handler>, Refusal>
+fn boxed(alloc: Global, file: &[u8]) -> Result<Box<OpenHandler>, ImageRefusal>
     ensures image { IfOk result (λ image. IsTypableFile image.value file.now) }
     ensures refused { IfErr result (IsFileRefusal file.now) }
 {
     match AnyHandler::load(alloc, file) {
-        Ok(handler) => match Box::new(alloc, Handler::new(handler)) {
+        Ok(handler) => match Box::new(alloc, OpenHandler::new(handler)) {
             Ok(image) => Ok(image),
-            Err(_) => Err(Refusal::Image(ImageError::Memory)),
+            Err(_) => Err(ImageRefusal::Image(ImageError::Memory)),
         },
-        Err(error) => Err(Refusal::Image(error)),
+        Err(error) => Err(ImageRefusal::Image(error)),
     }
 }
 
@@ -74,6 +74,6 @@ pub fn open(alloc: Global, file: &[u8]) -> Opened
 }
 
 /// Gives the memory of an image back.
-pub(crate) fn close(image: Loose<Handler, Global>) {
+pub(crate) fn close(image: Loose<OpenHandler, Global>) {
     drop(image.into_box());
 }

@@ -8,7 +8,7 @@ use verifier::ImageError;
 
 /// Why a file or a call is refused, by number.
 #[derive(Debug, Drop, Error)]
-pub enum Refusal {
+pub enum ImageRefusal {
     /// 1 to 4: memory ran out, or a fault of the file's header, of its code, or by the verifier's
     /// rules.
     #[error(transparent)]
@@ -36,23 +36,23 @@ pub enum Refusal {
     Record,
 }
 
-impl Refusal {
+impl ImageRefusal {
     /// Its number, 1 to 10 or 12.
     pub fn number(&self) -> u32
         ensures { result ≡ refusal_number self.now }
     {
         match self {
-            Refusal::Image(ImageError::Memory) => 1,
-            Refusal::Image(ImageError::Header(_)) => 2,
-            Refusal::Image(ImageError::Decode { .. }) => 3,
-            Refusal::Image(ImageError::Verify { .. }) => 4,
-            Refusal::State => 5,
-            Refusal::Message => 6,
-            Refusal::Who => 7,
-            Refusal::Room => 8,
-            Refusal::Form => 9,
-            Refusal::Handle => 10,
-            Refusal::Record => 12,
+            ImageRefusal::Image(ImageError::Memory) => 1,
+            ImageRefusal::Image(ImageError::Header(_)) => 2,
+            ImageRefusal::Image(ImageError::Decode { .. }) => 3,
+            ImageRefusal::Image(ImageError::Verify { .. }) => 4,
+            ImageRefusal::State => 5,
+            ImageRefusal::Message => 6,
+            ImageRefusal::Who => 7,
+            ImageRefusal::Room => 8,
+            ImageRefusal::Form => 9,
+            ImageRefusal::Handle => 10,
+            ImageRefusal::Record => 12,
         }
     }
 }

@@ -5,8 +5,8 @@ ghost use Rattle.embed.specs.Calls.{caller};
 ghost use Rattle.embed.specs.Handles.{AreDone, AreUndone, Runs, AreDoneAsByFile, AreRefusedAsByFile};
 
 use crate::calls::{MESSAGE, is_seat};
-use crate::handler::Handler;
-use crate::refusal::Refusal;
+use crate::handler::OpenHandler;
+use crate::refusal::ImageRefusal;
 use crate::report::REPORT_LIMIT;
 use helpers::Who;
 use images::FileForm;
@@ -14,31 +14,31 @@ use images::FileForm;
 /// Calls the handler with each message of 64 bytes in turn. Writes the reports into `out`, one
 /// after another.
 fn call_all(
-    handler: &mut Handler,
+    handler: &mut OpenHandler,
     state: &mut [u8],
     messages: &[u8],
     who: Who,
     out: &mut [u8],
-) -> Result<(), Refusal>
+) -> Result<(), ImageRefusal>
     ensures same { handler.new ≡ handler.old }
     ensures done { IfOk result (λ _. AreDone handler.old who state.old messages.now state.new out.old out.new) }
     ensures refused { IfErr result (AreUndone handler.old who state.old messages.now out.old) }
     ensures unchanged { OnErr result ((state.new ≡ state.old) × (out.new ≡ out.old)) }
 {
     if !is_seat(who) {
-        return Err(Refusal::Who);
+        return Err(ImageRefusal::Who);
     }
     if messages.len() % MESSAGE != 0 {
-        return Err(Refusal::Message);
+        return Err(ImageRefusal::Message);
     }
     if out.len() / REPORT_LIMIT < messages.len() / MESSAGE {
-        return Err(Refusal::Room);
+        return Err(ImageRefusal::Room);
     }
     if handler.form() == FileForm::Sbi2 {
-        return Err(Refusal::Form);
+        return Err(ImageRefusal::Form);
     }
     if state.len() != handler.state_len() {
-        return Err(Refusal::State);
+        return Err(ImageRefusal::State);
     }
     handler.call_each(state, messages, who, out);
     Ok(())
@@ -46,7 +46,7 @@ fn call_all(
 
 /// Calls the handler with messages of 64 bytes, and answers 0 or the number of the refusal.
 pub fn run(
-    handler: &mut Handler,
+    handler: &mut OpenHandler,
     state: &mut [u8],
     messages: &[u8],
     me: u8,

@@ -2,11 +2,11 @@
 use Rattle.std.specs.Prelude.{◌≡◌, ◌⊎◌, ℕ, ◌<◌, ◌≤◌, List, length, Option, Some, None, Result, MatchResult}
 use Rattle.operations.specs.Bytes.{overwritten}
 use Rattle.gateway.specs.Gateway.{TheGateway}
-use Rattle.embed_gateway.specs.declared.fault.Fault.{Fault}
-use Rattle.embed_gateway.specs.declared.fault.Fault.TheVariants.{Memory, Handle, Payload, Room, Absent, Bytes, Early, Range}
+use Rattle.embed_gateway.specs.declared.fault.GatewayFault.{GatewayFault}
+use Rattle.embed_gateway.specs.declared.fault.GatewayFault.TheVariants.{Memory, Handle, Payload, Room, Absent, Bytes, Early, Range}
 
 -- the code of a fault, 15 to 23
-abbrev pub fault_number : Fault → ℕ
+abbrev pub fault_number : GatewayFault → ℕ
 fault_number Memory = 15
 fault_number Handle = 16
 fault_number Payload = 18
@@ -18,16 +18,16 @@ fault_number Range = 23
 
 -- the meaning of a code, with what the handle held before and holds now: 0 means that this was done, any other number says why it was not,
 -- and the handle is unchanged
-abbrev pub Answers : ℕ → Option TheGateway → Option TheGateway → (Option TheGateway → Option TheGateway → Type 0) → (Option TheGateway → Fault → Type 0) → Type 0
-Answers code old new done refused = ((code ≡ 0) × done old new) ⊎ ((why : Fault) × (code ≡ fault_number why) × refused old why × (new ≡ old))
+abbrev pub Answers : ℕ → Option TheGateway → Option TheGateway → (Option TheGateway → Option TheGateway → Type 0) → (Option TheGateway → GatewayFault → Type 0) → Type 0
+Answers code old new done refused = ((code ≡ 0) × done old new) ⊎ ((why : GatewayFault) × (code ≡ fault_number why) × refused old why × (new ≡ old))
 
 -- the same of a result
-abbrev pub Results : Result (Unit {0}) Fault → Option TheGateway → Option TheGateway → (Option TheGateway → Option TheGateway → Type 0) → (Option TheGateway → Fault → Type 0)
+abbrev pub Results : Result (Unit {0}) GatewayFault → Option TheGateway → Option TheGateway → (Option TheGateway → Option TheGateway → Type 0) → (Option TheGateway → GatewayFault → Type 0)
     → Type 0
 Results result old new done refused = MatchResult result (λ u. done old new) (λ why. refused old why × (new ≡ old))
 
 -- the same of a gateway without its handle
-abbrev pub Does : Result (Unit {0}) Fault → TheGateway → TheGateway → (TheGateway → TheGateway → Type 0) → (TheGateway → Fault → Type 0) → Type 0
+abbrev pub Does : Result (Unit {0}) GatewayFault → TheGateway → TheGateway → (TheGateway → TheGateway → Type 0) → (TheGateway → GatewayFault → Type 0) → Type 0
 Does result old new done refused = MatchResult result (λ u. done old new) (λ why. refused old why × (new ≡ old))
 
 -- if the code is a fault, this holds
@@ -43,7 +43,7 @@ abbrev pub Calls : Option TheGateway → Option TheGateway → (TheGateway → T
 Calls old new holds = (g h : TheGateway) × (old ≡ Some g) × (new ≡ Some h) × holds g h
 
 -- why it was not called: the handle is closed, and nothing is written; or this holds of its gateway
-abbrev pub Refuses : Option TheGateway → Type 0 → (TheGateway → Fault → Type 0) → Fault → Type 0
+abbrev pub Refuses : Option TheGateway → Type 0 → (TheGateway → GatewayFault → Type 0) → GatewayFault → Type 0
 Refuses handle untouched holds why = ((why ≡ Handle) × (handle ≡ None) × untouched) ⊎ OfOpen handle (λ g. holds g why)
 
 -- the buffer begins with these bytes, and their number is written

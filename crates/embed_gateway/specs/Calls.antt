@@ -2,7 +2,7 @@
 use Rattle.std.specs.Prelude.{◌≡◌, ℕ, ◌+◌, ◌<◌, ◌≤◌, List, length, Option}
 use Rattle.limits.specs.declared.TheConstants.{PAYLOAD_BYTES}
 use Rattle.packets.specs.declared.fault.PacketFault.{PacketFault}
-use Rattle.packets.specs.declared.packet.Packet.{Packet}
+use Rattle.packets.specs.declared.packet.NodePacket.{NodePacket}
 use Rattle.packets.specs.Faults as packets
 use Rattle.packets.specs.Format.{IsPacket}
 use Rattle.stores.specs.Peer.{last_of}
@@ -11,8 +11,8 @@ use Rattle.gateway.specs.Gateway.{TheGateway, peer_of, puts_in, ticked}
 use Rattle.gateway.specs.Calls.{handed}
 use Rattle.gateway.specs.Since.{KeepsSince}
 use Rattle.gateway.specs.Stands.{Acts, IsHanded}
-use Rattle.embed_gateway.specs.declared.fault.Fault.{Fault}
-use Rattle.embed_gateway.specs.declared.fault.Fault.TheVariants.{Memory, Payload, Bytes, Range}
+use Rattle.embed_gateway.specs.declared.fault.GatewayFault.{GatewayFault}
+use Rattle.embed_gateway.specs.declared.fault.GatewayFault.TheVariants.{Memory, Payload, Bytes, Range}
 use Rattle.embed_gateway.specs.Answers.{Calls, Refuses}
 
 -- a payload that isn't too long is logged for one of its processes, and sent; `ssn` is its SSN
@@ -21,7 +21,7 @@ Logs p payload ssn g h =
     (length payload ≤ PAYLOAD_BYTES) × IsOf p g.store × (ssn ≡ last_of (peer_of p g) + 1) × (h ≡ puts_in p payload g) × KeepsSince g h × Acts g h
 
 -- why it isn't: the first of these: it is too long, there is no such process, or memory ran out
-abbrev pub LogsNot : ℕ → List ℕ → TheGateway → Fault → Type 0
+abbrev pub LogsNot : ℕ → List ℕ → TheGateway → GatewayFault → Type 0
 LogsNot p payload g Payload = PAYLOAD_BYTES < length payload
 LogsNot p payload g Range = (length payload ≤ PAYLOAD_BYTES) × (¬ IsOf p g.store)
 LogsNot p payload g Memory = (length payload ≤ PAYLOAD_BYTES) × IsOf p g.store
@@ -30,15 +30,15 @@ LogsNot p payload g other = ⊥
 abbrev pub IsLogged : ℕ → List ℕ → ℕ → Option TheGateway → Option TheGateway → Type 0
 IsLogged p payload ssn old new = Calls old new (Logs p payload ssn)
 
-abbrev pub IsUnlogged : ℕ → List ℕ → ℕ → ℕ → Option TheGateway → Fault → Type 0
+abbrev pub IsUnlogged : ℕ → List ℕ → ℕ → ℕ → Option TheGateway → GatewayFault → Type 0
 IsUnlogged p payload was ssn old why = Refuses old (ssn ≡ was) (λ g w. LogsNot p payload g w × (ssn ≡ was)) why
 
 -- the packet in these bytes is handed in
 abbrev pub Receives : List ℕ → TheGateway → TheGateway → Type 0
-Receives bytes g h = (x : Packet) × IsPacket x bytes × (h ≡ handed x g) × KeepsSince g h × IsHanded x g h
+Receives bytes g h = (x : NodePacket) × IsPacket x bytes × (h ≡ handed x g) × KeepsSince g h × IsHanded x g h
 
 -- why none is: the bytes are not a packet, by their first fault, or memory ran out
-abbrev pub ReceivesNot : List ℕ → ℕ → ℕ → Fault → Type 0
+abbrev pub ReceivesNot : List ℕ → ℕ → ℕ → GatewayFault → Type 0
 ReceivesNot bytes was fault Bytes = (f : PacketFault) × packets.IsFirst f bytes × (fault ≡ packets.fault_number f)
 ReceivesNot bytes was fault Memory = fault ≡ was
 ReceivesNot bytes was fault other = ⊥
@@ -46,7 +46,7 @@ ReceivesNot bytes was fault other = ⊥
 abbrev pub IsReceived : List ℕ → ℕ → ℕ → Option TheGateway → Option TheGateway → Type 0
 IsReceived bytes was fault old new = Calls old new (λ g h. Receives bytes g h × (fault ≡ was))
 
-abbrev pub IsUnreceived : List ℕ → ℕ → ℕ → Option TheGateway → Fault → Type 0
+abbrev pub IsUnreceived : List ℕ → ℕ → ℕ → Option TheGateway → GatewayFault → Type 0
 IsUnreceived bytes was fault old why = Refuses old (fault ≡ was) (λ g w. ReceivesNot bytes was fault w) why
 
 -- sends again what isn't answered

@@ -14,8 +14,8 @@ use Rattle.gateway.specs.Gateway.{TheGateway, new_gateway}
 use Rattle.gateway.specs.Since.{StandsFor, revived}
 use Rattle.gateway.specs.Stands.{Stands}
 use Rattle.embed_gateway.specs.declared.lifetime.TheConstants.{MOST_PAGE, NOT_CHANGES, UNFIT}
-use Rattle.embed_gateway.specs.declared.fault.Fault.{Fault}
-use Rattle.embed_gateway.specs.declared.fault.Fault.TheVariants.{Memory, Handle, Bytes, Early, Range}
+use Rattle.embed_gateway.specs.declared.fault.GatewayFault.{GatewayFault}
+use Rattle.embed_gateway.specs.declared.fault.GatewayFault.TheVariants.{Memory, Handle, Bytes, Early, Range}
 use Rattle.embed_gateway.specs.Answers.{OfOpen, Calls, Refuses}
 
 -- the limits are in range
@@ -32,7 +32,7 @@ IsOpened n page tick old new =
     (old ≡ None) × AreInside n page tick × OfOpen new (λ g. (g ≡ new_gateway n page tick) × ((f : Handlers) → Stands g (opening n f)))
 
 -- why it doesn't: the first of these: it was open, a number is out of range, or memory ran out
-abbrev pub IsUnopened : ℕ → ℕ → ℕ → Option TheGateway → Fault → Type 0
+abbrev pub IsUnopened : ℕ → ℕ → ℕ → Option TheGateway → GatewayFault → Type 0
 IsUnopened n page tick old Handle = old ≢ None
 IsUnopened n page tick old Range = (old ≡ None) × (¬ AreInside n page tick)
 IsUnopened n page tick old Memory = (old ≡ None) × AreInside n page tick
@@ -44,7 +44,7 @@ IsRevived store page tick was fault old new =
     ((old ≡ None) × AreLimits page tick × ((s : TheStore) × IsStoreBytes s store × OfOpen new (λ g. (g ≡ revived page tick s) × StandsFor s g))) × (fault ≡ was)
 
 -- why it doesn't: it was open, a limit is out of range, the bytes are not a store, by their first fault, or memory ran out
-abbrev pub IsUnrevived : List ℕ → ℕ → ℕ → ℕ → ℕ → Option TheGateway → Fault → Type 0
+abbrev pub IsUnrevived : List ℕ → ℕ → ℕ → ℕ → ℕ → Option TheGateway → GatewayFault → Type 0
 IsUnrevived store page tick was fault old Handle = (old ≢ None) × (fault ≡ was)
 IsUnrevived store page tick was fault old Range = (old ≡ None) × (¬ AreLimits page tick) × (fault ≡ was)
 IsUnrevived store page tick was fault old Bytes = (old ≡ None) × AreLimits page tick × ((f : StoreFault) × IsFirstFault f store × (fault ≡ store_fault_number f))
@@ -69,13 +69,13 @@ AreMisfit changes s fault =
     ((fault ≡ NOT_CHANGES) × ((ks : List Change) → ¬ AreChanges ks changes)) ⊎ ((fault ≡ UNFIT) × ((ks : List Change) × AreChanges ks changes × ((n : ℕ) × IsUnfit n ks s)))
 
 -- why it isn't: something waits, the changes are refused, or memory ran out
-abbrev pub IsUnlater : List ℕ → TheGateway → ℕ → ℕ → Fault → Type 0
+abbrev pub IsUnlater : List ℕ → TheGateway → ℕ → ℕ → GatewayFault → Type 0
 IsUnlater changes g was fault Early = (¬ IsFresh g) × (fault ≡ was)
 IsUnlater changes g was fault Bytes = IsFresh g × AreMisfit changes g.store fault
 IsUnlater changes g was fault Memory = IsFresh g × (fault ≡ was)
 IsUnlater changes g was fault other = ⊥
 
-abbrev pub IsUnapplied : List ℕ → ℕ → ℕ → Option TheGateway → Fault → Type 0
+abbrev pub IsUnapplied : List ℕ → ℕ → ℕ → Option TheGateway → GatewayFault → Type 0
 IsUnapplied changes was fault old why = Refuses old (fault ≡ was) (λ g w. IsUnlater changes g was fault w) why
 
 -- an open handle was closed
@@ -83,5 +83,5 @@ abbrev pub IsClosed : Option TheGateway → Option TheGateway → Type 0
 IsClosed old new = OfOpen old (λ g. Unit {0}) × (new ≡ None)
 
 -- the handle was closed before
-abbrev pub WasClosed : Option TheGateway → Fault → Type 0
+abbrev pub WasClosed : Option TheGateway → GatewayFault → Type 0
 WasClosed old why = (why ≡ Handle) × (old ≡ None)

@@ -5,7 +5,7 @@ ghost use Rattle.embed_gateway.specs.Answers.{Does, Results};
 ghost use Rattle.embed_gateway.specs.Calls.{IsLogged, IsReceived, IsTicked, IsUnlogged, IsUnreceived, Logs, LogsNot, Receives, ReceivesNot};
 ghost use Rattle.embed_gateway.specs.Lifetime.{WasClosed};
 
-use crate::fault::Fault;
+use crate::fault::GatewayFault;
 use crate::handle::GatewayHandle;
 use gateway::Gateway;
 use helpers::Payload;
@@ -14,14 +14,14 @@ use packets::PacketError;
 use std::alloc::Global;
 
 /// Logs an input for a process, and writes its SSN.
-fn log(gateway: &mut Gateway, process: u8, payload: &[u8], ssn: &mut u64) -> Result<(), Fault>
+fn log(gateway: &mut Gateway, process: u8, payload: &[u8], ssn: &mut u64) -> Result<(), GatewayFault>
     ensures { Does result gateway.old gateway.new (Logs process payload.now ssn.new) (λ g why. LogsNot process payload.now g why × (ssn.new ≡ ssn.old)) }
 {
     if payload.len() > PAYLOAD_BYTES {
-        return Err(Fault::Payload);
+        return Err(GatewayFault::Payload);
     }
     if process == 0 || process > gateway.store().count() {
-        return Err(Fault::Range);
+        return Err(GatewayFault::Range);
     }
     let number = gateway.input(process, Payload::from_slice(payload))?;
     *ssn = number;
@@ -35,11 +35,11 @@ pub(crate) fn input(
     process: u8,
     payload: &[u8],
     ssn: &mut u64,
-) -> Result<(), Fault>
+) -> Result<(), GatewayFault>
     ensures { Results result handle.old.gateway.value handle.new.gateway.value (IsLogged process payload.now ssn.new) (IsUnlogged process payload.now ssn.old ssn.new) }
 {
     let Some(mut gateway) = handle.take(alloc) else {
-        return Err(Fault::Handle);
+        return Err(GatewayFault::Handle);
     };
     let done = log(&mut gateway, process, payload, ssn);
     handle.put(gateway);
@@ -47,15 +47,15 @@ pub(crate) fn input(
 }
 
 /// Hands the bytes of a packet in. If they are refused, writes the number of their first fault.
-fn hear(alloc: Global, gateway: &mut Gateway, packet: &[u8], fault: &mut u32) -> Result<(), Fault>
+fn hear(alloc: Global, gateway: &mut Gateway, packet: &[u8], fault: &mut u32) -> Result<(), GatewayFault>
     ensures { Does result gateway.old gateway.new (λ g h. Receives packet.now g h × (fault.new ≡ fault.old)) (λ _. ReceivesNot packet.now fault.old fault.new) }
 {
     match gateway.receive_bytes(alloc, packet) {
         Ok(()) => Ok(()),
-        Err(PacketError::Memory) => Err(Fault::Memory),
+        Err(PacketError::Memory) => Err(GatewayFault::Memory),
         Err(PacketError::Fault(why)) => {
             *fault = u32::from(why.number());
-            Err(Fault::Bytes)
+            Err(GatewayFault::Bytes)
         }
     }
 }
@@ -66,11 +66,11 @@ pub(crate) fn receive(
     handle: &mut GatewayHandle,
     packet: &[u8],
     fault: &mut u32,
-) -> Result<(), Fault>
+) -> Result<(), GatewayFault>
     ensures { Results result handle.old.gateway.value handle.new.gateway.value (IsReceived packet.now fault.old fault.new) (IsUnreceived packet.now fault.old fault.new) }
 {
     let Some(mut gateway) = handle.take(alloc) else {
-        return Err(Fault::Handle);
+        return Err(GatewayFault::Handle);
     };
     let done = hear(alloc, &mut gateway, packet, fault);
     handle.put(gateway);
@@ -78,11 +78,11 @@ pub(crate) fn receive(
 }
 
 /// Sends again what isn't answered.
-pub(crate) fn tick(alloc: Global, handle: &mut GatewayHandle) -> Result<(), Fault>
+pub(crate) fn tick(alloc: Global, handle: &mut GatewayHandle) -> Result<(), GatewayFault>
     ensures { Results result handle.old.gateway.value handle.new.gateway.value IsTicked WasClosed }
 {
     let Some(mut gateway) = handle.take(alloc) else {
-        return Err(Fault::Handle);
+        return Err(GatewayFault::Handle);
     };
     gateway.tick();
     handle.put(gateway);

@@ -8,7 +8,7 @@ use thiserror::Error;
 
 /// Why a function did nothing, by number.
 #[derive(Clone, Copy, Debug, PartialEq, Eq, Error)]
-pub enum Fault {
+pub enum GatewayFault {
     /// 15: memory ran out.
     #[error("out of memory")]
     Memory,
@@ -35,37 +35,37 @@ pub enum Fault {
     Range,
 }
 
-impl Fault {
+impl GatewayFault {
     /// Its number, 15 to 23.
     pub fn number(self) -> u32
         ensures { result ≡ fault_number self }
     {
         match self {
-            Fault::Memory => 15,
-            Fault::Handle => 16,
-            Fault::Payload => 18,
-            Fault::Room => 19,
-            Fault::Absent => 20,
-            Fault::Bytes => 21,
-            Fault::Early => 22,
-            Fault::Range => 23,
+            GatewayFault::Memory => 15,
+            GatewayFault::Handle => 16,
+            GatewayFault::Payload => 18,
+            GatewayFault::Room => 19,
+            GatewayFault::Absent => 20,
+            GatewayFault::Bytes => 21,
+            GatewayFault::Early => 22,
+            GatewayFault::Range => 23,
         }
     }
 }
 
-impl From<AllocError> for Fault {
+impl From<AllocError> for GatewayFault {
     ghost use Rattle.std.specs.Prelude.{◌≡◌};
-    ghost use Rattle.embed_gateway.specs.declared.fault.Fault.TheVariants.{Memory};
+    ghost use Rattle.embed_gateway.specs.declared.fault.GatewayFault.TheVariants.{Memory};
 
     ghost from_gives = { λ _ e. e ≡ Memory };
 
-    fn from(_e: AllocError) -> Fault {
-        Fault::Memory
+    fn from(_e: AllocError) -> GatewayFault {
+        GatewayFault::Memory
     }
 }
 
 /// The code of a result: 0, or the number of the fault.
-pub(crate) fn code(done: Result<(), Fault>) -> u32
+pub(crate) fn code(done: Result<(), GatewayFault>) -> u32
     ensures done { IfOk done (λ _. result ≡ 0) }
     ensures fault { IfErr done (λ why. result ≡ fault_number why) }
 {

@@ -1,11 +1,11 @@
 //! Gateways that are opened, come back, and are closed.
 
 ghost use Rattle.std.specs.Prelude.{◌≡◌, ◌↔◌, IsTrue, MatchResult, Some};
-ghost use Rattle.embed_gateway.specs.declared.fault.Fault.TheVariants.{Memory};
+ghost use Rattle.embed_gateway.specs.declared.fault.GatewayFault.TheVariants.{Memory};
 ghost use Rattle.embed_gateway.specs.Answers.{Does, Results};
 ghost use Rattle.embed_gateway.specs.Lifetime.{AreInside, AreLimits, IsApplied, IsClosed, IsLater, IsOpened, IsRevived, IsUnapplied, IsUnlater, IsUnopened, IsUnrevived, WasClosed};
 
-use crate::fault::Fault;
+use crate::fault::GatewayFault;
 use crate::handle::GatewayHandle;
 use gateway::Gateway;
 use limits::PROCESSES;
@@ -37,11 +37,11 @@ fn are_inside(count: u8, page: u32, tick: u32) -> bool
 }
 
 /// Puts a gateway on the heap, and opens the handle with it.
-fn hold(alloc: Global, handle: &mut GatewayHandle, gateway: Gateway) -> Result<(), Fault>
+fn hold(alloc: Global, handle: &mut GatewayHandle, gateway: Gateway) -> Result<(), GatewayFault>
     ensures { MatchResult result (λ _. handle.new.gateway.value ≡ Some gateway) (λ why. (why ≡ Memory) × (handle.new.gateway.value ≡ handle.old.gateway.value)) }
 {
     let Ok(boxed) = Box::new(alloc, gateway) else {
-        return Err(Fault::Memory);
+        return Err(GatewayFault::Memory);
     };
     handle.put(boxed);
     Ok(())
@@ -54,14 +54,14 @@ pub(crate) fn open(
     page: u32,
     tick: u32,
     handle: &mut GatewayHandle,
-) -> Result<(), Fault>
+) -> Result<(), GatewayFault>
     ensures { Results result handle.old.gateway.value handle.new.gateway.value (IsOpened count page tick) (IsUnopened count page tick) }
 {
     if handle.is_open() {
-        return Err(Fault::Handle);
+        return Err(GatewayFault::Handle);
     }
     if !are_inside(count, page, tick) {
-        return Err(Fault::Range);
+        return Err(GatewayFault::Range);
     }
     let gateway = Gateway::open(alloc, count, page as u16, tick)?;
     hold(alloc, handle, gateway)
@@ -76,21 +76,21 @@ pub(crate) fn revive(
     tick: u32,
     handle: &mut GatewayHandle,
     fault: &mut u32,
-) -> Result<(), Fault>
+) -> Result<(), GatewayFault>
     ensures { Results result handle.old.gateway.value handle.new.gateway.value (IsRevived store.now page tick fault.old fault.new) (IsUnrevived store.now page tick fault.old fault.new) }
 {
     if handle.is_open() {
-        return Err(Fault::Handle);
+        return Err(GatewayFault::Handle);
     }
     if !are_limits(page, tick) {
-        return Err(Fault::Range);
+        return Err(GatewayFault::Range);
     }
     let store = match decode_store(alloc, store) {
         Ok(store) => store,
-        Err(StoreError::Memory) => return Err(Fault::Memory),
+        Err(StoreError::Memory) => return Err(GatewayFault::Memory),
         Err(StoreError::Fault(why)) => {
             *fault = u32::from(why.number());
-            return Err(Fault::Bytes);
+            return Err(GatewayFault::Bytes);
         }
     };
     let gateway = Gateway::revive(alloc, store, page as u16, tick)?;
@@ -103,26 +103,26 @@ fn bring_up(
     gateway: &mut Gateway,
     changes: &[u8],
     fault: &mut u32,
-) -> Result<(), Fault>
+) -> Result<(), GatewayFault>
     ensures { Does result gateway.old gateway.new (λ g h. IsLater changes.now g h × (fault.new ≡ fault.old)) (λ g. IsUnlater changes.now g fault.old fault.new) }
 {
     if !gateway.is_fresh() {
-        return Err(Fault::Early);
+        return Err(GatewayFault::Early);
     }
     let changes = match decode_changes(alloc, changes) {
         Ok(changes) => changes,
-        Err(ChangesError::Memory) => return Err(Fault::Memory),
+        Err(ChangesError::Memory) => return Err(GatewayFault::Memory),
         Err(ChangesError::Spelling) => {
             *fault = NOT_CHANGES;
-            return Err(Fault::Bytes);
+            return Err(GatewayFault::Bytes);
         }
     };
     match gateway.apply(alloc, &changes) {
         Ok(()) => Ok(()),
-        Err(ApplyError::Memory) => Err(Fault::Memory),
+        Err(ApplyError::Memory) => Err(GatewayFault::Memory),
         Err(ApplyError::Unfit(_)) => {
             *fault = UNFIT;
-            Err(Fault::Bytes)
+            Err(GatewayFault::Bytes)
         }
     }
 }
@@ -133,11 +133,11 @@ pub(crate) fn apply(
     handle: &mut GatewayHandle,
     changes: &[u8],
     fault: &mut u32,
-) -> Result<(), Fault>
+) -> Result<(), GatewayFault>
     ensures { Results result handle.old.gateway.value handle.new.gateway.value (IsApplied changes.now fault.old fault.new) (IsUnapplied changes.now fault.old fault.new) }
 {
     let Some(mut gateway) = handle.take(alloc) else {
-        return Err(Fault::Handle);
+        return Err(GatewayFault::Handle);
     };
     let done = bring_up(alloc, &mut gateway, changes, fault);
     handle.put(gateway);
@@ -145,11 +145,11 @@ pub(crate) fn apply(
 }
 
 /// Closes a handle, and gives the memory of its gateway back.
-pub(crate) fn close(alloc: Global, handle: &mut GatewayHandle) -> Result<(), Fault>
+pub(crate) fn close(alloc: Global, handle: &mut GatewayHandle) -> Result<(), GatewayFault>
     ensures { Results result handle.old.gateway.value handle.new.gateway.value IsClosed WasClosed }
 {
     match handle.take(alloc) {
         Some(_gateway) => Ok(()),
-        None => Err(Fault::Handle),
+        None => Err(GatewayFault::Handle),
     }
 }

@@ -6,7 +6,7 @@ ghost use Rattle.embed_gateway.specs.Results.{Gives, GivesNot, IsShown, IsStored
 ghost use Rattle.stores.specs.Format.{IsStoreBytes};
 ghost use Rattle.stores.specs.Changes.{AreChanges};
 
-use crate::fault::Fault;
+use crate::fault::GatewayFault;
 use crate::handle::GatewayHandle;
 use crate::output::{copy, measure, write};
 use gateway::Gateway;
@@ -19,12 +19,12 @@ fn give(
     out: &mut [u8],
     size: &mut usize,
     to: &mut u8,
-) -> Result<(), Fault>
+) -> Result<(), GatewayFault>
     ensures given { Does result gateway.old gateway.new (Gives out.old out.new size.new to.new) (GivesNot out.old out.new size.old size.new) }
     ensures kept { OnErr result (to.new ≡ to.old) }
 {
     let Some((name, bytes)) = gateway.first_bytes(alloc)? else {
-        return Err(Fault::Absent);
+        return Err(GatewayFault::Absent);
     };
     copy(&bytes, out, size)?;
     *to = name;
@@ -39,12 +39,12 @@ pub(crate) fn take(
     out: &mut [u8],
     size: &mut usize,
     to: &mut u8,
-) -> Result<(), Fault>
+) -> Result<(), GatewayFault>
     ensures taken { Results result handle.old.gateway.value handle.new.gateway.value (IsTaken out.old out.new size.new to.new) (IsUntaken out.old out.new size.old size.new) }
     ensures kept { OnErr result (to.new ≡ to.old) }
 {
     let Some(mut gateway) = handle.take(alloc) else {
-        return Err(Fault::Handle);
+        return Err(GatewayFault::Handle);
     };
     let done = give(alloc, &mut gateway, out, size, to);
     handle.put(gateway);
@@ -59,12 +59,12 @@ fn show(
     ssn: &mut u64,
     out: &mut [u8],
     size: &mut usize,
-) -> Result<(), Fault>
+) -> Result<(), GatewayFault>
     ensures shown { Does result gateway.old gateway.new (Shows process.new ssn.new out.old out.new size.new) (ShowsNot out.old out.new size.old size.new) }
     ensures kept { OnErr result ((process.new ≡ process.old) × (ssn.new ≡ ssn.old)) }
 {
     let Some(output) = gateway.store().first_output() else {
-        return Err(Fault::Absent);
+        return Err(GatewayFault::Absent);
     };
     let bytes = output.payload.as_slice();
     measure(bytes, out, size)?;
@@ -83,12 +83,12 @@ pub(crate) fn output(
     ssn: &mut u64,
     out: &mut [u8],
     size: &mut usize,
-) -> Result<(), Fault>
+) -> Result<(), GatewayFault>
     ensures shown { Results result handle.old.gateway.value handle.new.gateway.value (IsShown process.new ssn.new out.old out.new size.new) (IsUnshown out.old out.new size.old size.new) }
     ensures kept { OnErr result ((process.new ≡ process.old) × (ssn.new ≡ ssn.old)) }
 {
     let Some(mut gateway) = handle.take(alloc) else {
-        return Err(Fault::Handle);
+        return Err(GatewayFault::Handle);
     };
     let done = show(&mut gateway, process, ssn, out, size);
     handle.put(gateway);
@@ -96,7 +96,7 @@ pub(crate) fn output(
 }
 
 /// Writes the bytes of a gateway's store, and their number.
-fn spell(alloc: Global, gateway: &Gateway, out: &mut [u8], size: &mut usize) -> Result<(), Fault>
+fn spell(alloc: Global, gateway: &Gateway, out: &mut [u8], size: &mut usize) -> Result<(), GatewayFault>
     ensures { MatchResult result (λ _. Spells out.old out.new size.new gateway.now) (WritesNot (IsStoreBytes gateway.now.store) out.old out.new size.old size.new) }
 {
     let bytes = gateway.store_bytes(alloc)?;
@@ -109,11 +109,11 @@ pub(crate) fn store(
     handle: &mut GatewayHandle,
     out: &mut [u8],
     size: &mut usize,
-) -> Result<(), Fault>
+) -> Result<(), GatewayFault>
     ensures { Results result handle.old.gateway.value handle.new.gateway.value (IsStored out.old out.new size.new) (IsUnstored out.old out.new size.old size.new) }
 {
     let Some(gateway) = handle.take(alloc) else {
-        return Err(Fault::Handle);
+        return Err(GatewayFault::Handle);
     };
     let done = spell(alloc, &gateway, out, size);
     handle.put(gateway);
@@ -121,7 +121,7 @@ pub(crate) fn store(
 }
 
 /// Takes the changes of a gateway's store: writes their bytes, and their number.
-fn tell(alloc: Global, gateway: &mut Gateway, out: &mut [u8], size: &mut usize) -> Result<(), Fault>
+fn tell(alloc: Global, gateway: &mut Gateway, out: &mut [u8], size: &mut usize) -> Result<(), GatewayFault>
     ensures { Does result gateway.old gateway.new (Tells out.old out.new size.new) (λ g. WritesNot (AreChanges g.changes) out.old out.new size.old size.new) }
 {
     let bytes = gateway.changes_bytes(alloc)?;
@@ -136,11 +136,11 @@ pub(crate) fn changes(
     handle: &mut GatewayHandle,
     out: &mut [u8],
     size: &mut usize,
-) -> Result<(), Fault>
+) -> Result<(), GatewayFault>
     ensures { Results result handle.old.gateway.value handle.new.gateway.value (IsTold out.old out.new size.new) (IsUntold out.old out.new size.old size.new) }
 {
     let Some(mut gateway) = handle.take(alloc) else {
-        return Err(Fault::Handle);
+        return Err(GatewayFault::Handle);
     };
     let done = tell(alloc, &mut gateway, out, size);
     handle.put(gateway);

@@ -6,8 +6,8 @@ use Rattle.std_alloc.proofs.BoxSteps.Form.{Bx}
 use Rattle.std_heap.specs.contracts.Global as Heap
 use Rattle.std_heap.specs.contracts.GlobalAllocator.TheImpl.{ghosts, dict}
 use Rattle.std_heap.proofs.Global.TheLaws as heap
-use Rattle.process.specs.contracts.process.Process as Process
-use Rattle.process.proofs.process.Process.TheLaws as process
+use Rattle.process.specs.contracts.process.Member as Process
+use Rattle.process.proofs.process.Member.TheLaws as process
 use Rattle.embed_node.specs.contracts.parts.Parts as Parts
 use Rattle.embed_node.specs.contracts.loose.LooseProcess as LooseProcess
 

@@ -4,7 +4,7 @@ use Rattle.std.specs.Prelude.{Some, None}
 use Rattle.images.specs.declared.any_image.AnyImage.{AnyImage}
 use Rattle.images.specs.AnyImage.{IsImageOf, form_of, code_of, state_of}
 use Rattle.handlers.specs.Image.{as_image}
-use Rattle.packets.specs.declared.packet.Packet.{Packet}
+use Rattle.packets.specs.declared.packet.NodePacket.{NodePacket}
 use Rattle.packets.specs.Format.{IsPacket}
 use Rattle.packets.proofs.WholeLemmas.{one_packet}
 use Rattle.process.specs.Process.{TheProcess}
@@ -16,8 +16,8 @@ use Rattle.process.specs.Work.{Works}
 use Rattle.process.specs.Job.{IsAnswered, WorksAs}
 use Rattle.node_laws.specs.HostProcess.{Checkpoint, Alive, Has, Durable}
 use Rattle.node_laws.specs.HostSystem.{System, Ticked, AnswersSo, DoesIt}
-use Rattle.embed_node.specs.declared.fault.Fault.{Fault}
-use Rattle.embed_node.specs.declared.fault.Fault.TheVariants.{Memory, Handle, Image, Room, Absent, Bytes, Unready, Limit, Left}
+use Rattle.embed_node.specs.declared.fault.NodeFault.{NodeFault}
+use Rattle.embed_node.specs.declared.fault.NodeFault.TheVariants.{Memory, Handle, Image, Room, Absent, Bytes, Unready, Limit, Left}
 use Rattle.embed_node.specs.Answers.{OfBoth}
 use Rattle.embed_node.specs.Calls.{IsHeldBack}
 use Rattle.embed_node.specs.NodeJob.{state_in}
@@ -45,7 +45,7 @@ same-image file a b i j =
     let len : state_of a ≡ state_of b = one.len_is in
     cc
 
-held-back : (images : ℕ → AnyImage) (n : ℕ) (s : System) (p : ℕ) (w : Checkpoint) (old new : TheProcess) (why : Fault) → Holds n s p w old → IsHeldBack (Some old) (Some new) why → DoesIt images n s (Ticked p new)
+held-back : (images : ℕ → AnyImage) (n : ℕ) (s : System) (p : ℕ) (w : Checkpoint) (old new : TheProcess) (why : NodeFault) → Holds n s p w old → IsHeldBack (Some old) (Some new) why → DoesIt images n s (Ticked p new)
 held-back images n s p w old new Memory h b = (h.first, alive (λ o. Calls Ticks o new) n s p w old h (of-both old new _ b).0)
 held-back images n s p w old new Limit h b = (h.first, alive (λ o. Calls Ticks o new) n s p w old h (of-both old new _ b).0)
 held-back images n s p w old new Handle h b = absurd (let e : Some old ≡ None = b.0 in cc (e))
@@ -69,8 +69,8 @@ exports-are-calls =
           (first, (dead, (above, (r.image, (same-image file r.image (images p) r.image_is is, subst (λ q. IsRevived r.image (limits_of l) (s.stored p) life q) e r.revived)))));
       received = λ images n s p w old new x bytes h one is r.
           let both = of-both old new _ r in
-          let all : (y : Packet) → IsPacket y bytes → Calls (IsHanded y) old new = λ y other. subst (λ z. Calls (IsHanded z) old new) (one_packet both.0 y bytes both.1 other) both.2 in
-          (h.first, (one, (is, alive (λ o. (y : Packet) → IsPacket y bytes → Calls (IsHanded y) o new) n s p w old h all)));
+          let all : (y : NodePacket) → IsPacket y bytes → Calls (IsHanded y) old new = λ y other. subst (λ z. Calls (IsHanded z) old new) (one_packet both.0 y bytes both.1 other) both.2 in
+          (h.first, (one, (is, alive (λ o. (y : NodePacket) → IsPacket y bytes → Calls (IsHanded y) o new) n s p w old h all)));
       taken = λ images n s p w old new out out' size to h t.
           let both = of-both old new _ t in
           let x = both.0 in

@@ -2,11 +2,11 @@
 use Rattle.std.specs.Prelude.{◌≡◌, ◌⊎◌, ℕ, ◌<◌, ◌≤◌, List, length, Option, Some, None, Result, MatchResult}
 use Rattle.operations.specs.Bytes.{overwritten}
 use Rattle.process.specs.Process.{TheProcess}
-use Rattle.embed_node.specs.declared.fault.Fault.{Fault}
-use Rattle.embed_node.specs.declared.fault.Fault.TheVariants.{Memory, Handle, Image, Room, Absent, Bytes, Unready, Limit, Left}
+use Rattle.embed_node.specs.declared.fault.NodeFault.{NodeFault}
+use Rattle.embed_node.specs.declared.fault.NodeFault.TheVariants.{Memory, Handle, Image, Room, Absent, Bytes, Unready, Limit, Left}
 
 -- the code of a fault, 15 to 24
-abbrev pub fault_number : Fault → ℕ
+abbrev pub fault_number : NodeFault → ℕ
 fault_number Memory = 15
 fault_number Handle = 16
 fault_number Image = 17
@@ -18,11 +18,11 @@ fault_number Limit = 23
 fault_number Left = 24
 
 -- the meaning of a code, with what the handle held before and holds now: 0 means that this was done, any other number says why it was not
-abbrev pub Answers : ℕ → Option TheProcess → Option TheProcess → (Option TheProcess → Option TheProcess → Type 0) → (Option TheProcess → Option TheProcess → Fault → Type 0) → Type 0
-Answers code old new done refused = ((code ≡ 0) × done old new) ⊎ ((why : Fault) × (code ≡ fault_number why) × refused old new why)
+abbrev pub Answers : ℕ → Option TheProcess → Option TheProcess → (Option TheProcess → Option TheProcess → Type 0) → (Option TheProcess → Option TheProcess → NodeFault → Type 0) → Type 0
+Answers code old new done refused = ((code ≡ 0) × done old new) ⊎ ((why : NodeFault) × (code ≡ fault_number why) × refused old new why)
 
 -- the same of a result
-abbrev pub Results : Result (Unit {0}) Fault → Option TheProcess → Option TheProcess → (Option TheProcess → Option TheProcess → Type 0) → (Option TheProcess → Option TheProcess → Fault → Type 0)
+abbrev pub Results : Result (Unit {0}) NodeFault → Option TheProcess → Option TheProcess → (Option TheProcess → Option TheProcess → Type 0) → (Option TheProcess → Option TheProcess → NodeFault → Type 0)
     → Type 0
 Results result old new done refused = MatchResult result (λ u. done old new) (refused old new)
 
@@ -31,12 +31,12 @@ abbrev pub OnFault : ℕ → Type 0 → Type 0
 OnFault code kept = (code ≡ 0) ⊎ kept
 
 -- writes the number of the fault if bytes are refused, and nothing otherwise
-abbrev pub written : Fault → ℕ → ℕ
+abbrev pub written : NodeFault → ℕ → ℕ
 written (Bytes f) was = f
 written other was = was
 
 -- the meaning of a code when bytes are handed in, with the number of their fault before and after
-abbrev pub AnswersOfBytes : ℕ → Option TheProcess → Option TheProcess → ℕ → ℕ → (Option TheProcess → Option TheProcess → Type 0) → (Option TheProcess → Option TheProcess → Fault → Type 0)
+abbrev pub AnswersOfBytes : ℕ → Option TheProcess → Option TheProcess → ℕ → ℕ → (Option TheProcess → Option TheProcess → Type 0) → (Option TheProcess → Option TheProcess → NodeFault → Type 0)
     → Type 0
 AnswersOfBytes code old new was fault done refused =
     Answers code old new (λ o n. done o n × (fault ≡ was)) (λ o n why. refused o n why × (fault ≡ written why was))

@@ -19,10 +19,10 @@ use Rattle.process.specs.Process.{TheProcess}
 use Rattle.process.specs.Revival.{IsOpened, IsRevived, IsUnrevived}
 use Rattle.process.specs.declared.fault.Unrevived.{Unrevived}
 use Rattle.process.specs.declared.fault.Unrevived.TheVariants as why
-use Rattle.embed_node.specs.declared.lifetime.Limits.{Limits}
+use Rattle.embed_node.specs.declared.lifetime.NodeLimits.{NodeLimits}
 use Rattle.embed_node.specs.declared.lifetime.TheConstants.{MOST_PAGE}
-use Rattle.embed_node.specs.declared.fault.Fault.{Fault}
-use Rattle.embed_node.specs.declared.fault.Fault.TheVariants.{Memory, Handle, Image, Bytes, Limit}
+use Rattle.embed_node.specs.declared.fault.NodeFault.{NodeFault}
+use Rattle.embed_node.specs.declared.fault.NodeFault.TheVariants.{Memory, Handle, Image, Bytes, Limit}
 use Rattle.embed_node.specs.Answers.{Answers, AnswersOfBytes}
 
 -- the file is that of this image, of any form, whose code is typable in it, and of no image with another form, code or length
@@ -36,24 +36,24 @@ abbrev pub IsNoImage : List ℕ → Type 0
 IsNoImage file = (e : ImageError) × (e ≢ error.Memory) × IsRefusal file e
 
 -- why no image was loaded
-abbrev pub IsNotLoaded : List ℕ → Fault → Type 0
+abbrev pub IsNotLoaded : List ℕ → NodeFault → Type 0
 IsNotLoaded file Memory = Unit {0}
 IsNotLoaded file Image = IsNoImage file
 IsNotLoaded file other = ⊥
 
 -- the fault that tells why no process came back
-abbrev pub IsTold : Unrevived → Fault → Type 0
+abbrev pub IsTold : Unrevived → NodeFault → Type 0
 IsTold why.Memory fault = fault ≡ Memory
 IsTold (why.Kept e) fault = fault ≡ Bytes (kept_fault_number e)
 IsTold why.State fault = fault ≡ Bytes 9
 IsTold why.Incarnation fault = fault ≡ Limit
 
 -- limits, as C passes them
-abbrev pub limits_from : ℕ → ℕ → ℕ → ℕ → ℕ → Limits
+abbrev pub limits_from : ℕ → ℕ → ℕ → ℕ → ℕ → NodeLimits
 limits_from page tick numbers receipts durable = record { page = page; tick = tick; numbers = numbers; receipts = receipts; durable = durable }
 
 -- each limit is in range
-pub record AreLimits (l : Limits) : Type 0 where
+pub record AreLimits (l : NodeLimits) : Type 0 where
   pub page : (LEAST_PAGE ≤ l.page) × (l.page ≤ MOST_PAGE)
   pub tick : 1 ≤ l.tick
   pub numbers : (1 ≤ l.numbers) × (l.numbers ≤ WINDOW)
@@ -61,7 +61,7 @@ pub record AreLimits (l : Limits) : Type 0 where
   pub durable : l.durable ≤ 1
 
 -- the node's limits from these
-abbrev pub limits_of : Limits → node.Limits
+abbrev pub limits_of : NodeLimits → node.Limits
 limits_of l = record { page = l.page; tick = l.tick; numbers = l.numbers; receipts = l.receipts; durable = l.durable == 1 }
 
 -- a process of a cluster
@@ -71,7 +71,7 @@ pub record IsSeat (me n : ℕ) : Type 0 where
   pub few : n ≤ PROCESSES
 
 -- a handle that was closed holds the process of an image, which received nothing
-pub record Opens (file : List ℕ) (me n : ℕ) (l : Limits) (old new : Option TheProcess) : Type 0 where
+pub record Opens (file : List ℕ) (me n : ℕ) (l : NodeLimits) (old new : Option TheProcess) : Type 0 where
   pub was : old ≡ None
   pub seat : IsSeat me n
   pub limits : AreLimits l
@@ -83,7 +83,7 @@ pub record Opens (file : List ℕ) (me n : ℕ) (l : Limits) (old new : Option T
 
 -- why it doesn't: the first of these: the handle is open, a limit is out of range, the file is not that of an image, or memory ran out. The
 -- handle stays as it was
-abbrev pub DoesNotOpen : List ℕ → ℕ → ℕ → Limits → Option TheProcess → Option TheProcess → Fault → Type 0
+abbrev pub DoesNotOpen : List ℕ → ℕ → ℕ → NodeLimits → Option TheProcess → Option TheProcess → NodeFault → Type 0
 DoesNotOpen file me n l old new Handle = ((p : TheProcess) × (old ≡ Some p)) × (new ≡ old)
 DoesNotOpen file me n l old new Limit = (old ≡ None) × (new ≡ None) × ¬ (IsSeat me n × AreLimits l)
 DoesNotOpen file me n l old new Image = (old ≡ None) × (new ≡ None) × (IsSeat me n × AreLimits l) × IsNoImage file
@@ -91,7 +91,7 @@ DoesNotOpen file me n l old new Memory = (old ≡ None) × (new ≡ None) × (Is
 DoesNotOpen file me n l old new other = ⊥
 
 -- a handle that was closed holds the process of an image that comes back from these bytes in this incarnation
-pub record Revives (file kept : List ℕ) (life : ℕ) (l : Limits) (old new : Option TheProcess) : Type 0 where
+pub record Revives (file kept : List ℕ) (life : ℕ) (l : NodeLimits) (old new : Option TheProcess) : Type 0 where
   pub was : old ≡ None
   pub limits : AreLimits l
   pub image : AnyImage
@@ -108,7 +108,7 @@ AreRefused file kept life f =
 
 -- why no process comes back: the first of these: the handle is open, a limit or the incarnation is out of range, the file is not that of an
 -- image, the bytes are refused, or memory ran out. The handle stays as it was
-abbrev pub DoesNotRevive : List ℕ → List ℕ → ℕ → Limits → Option TheProcess → Option TheProcess → Fault → Type 0
+abbrev pub DoesNotRevive : List ℕ → List ℕ → ℕ → NodeLimits → Option TheProcess → Option TheProcess → NodeFault → Type 0
 DoesNotRevive file kept life l old new Handle = ((p : TheProcess) × (old ≡ Some p)) × (new ≡ old)
 DoesNotRevive file kept life l old new Limit = (old ≡ None) × (new ≡ None) × ¬ (AreLimits l × IsPositive life)
 DoesNotRevive file kept life l old new Image = (old ≡ None) × (new ≡ None) × (AreLimits l × IsPositive life) × IsNoImage file
@@ -117,10 +117,10 @@ DoesNotRevive file kept life l old new Memory = (old ≡ None) × (new ≡ None)
 DoesNotRevive file kept life l old new other = ⊥
 
 -- the meaning of a code when a process is opened, by its image file, its number, the number of processes and its limits
-abbrev pub AnswersOpening : List ℕ → ℕ → ℕ → Limits → ℕ → Option TheProcess → Option TheProcess → Type 0
+abbrev pub AnswersOpening : List ℕ → ℕ → ℕ → NodeLimits → ℕ → Option TheProcess → Option TheProcess → Type 0
 AnswersOpening file me n l code old new = Answers code old new (Opens file me n l) (DoesNotOpen file me n l)
 
 -- the meaning of a code when a process comes back, by its image file, its kept state, its incarnation and its limits, with the number of
 -- the fault before and after
-abbrev pub AnswersRevival : List ℕ → List ℕ → ℕ → Limits → ℕ → Option TheProcess → Option TheProcess → ℕ → ℕ → Type 0
+abbrev pub AnswersRevival : List ℕ → List ℕ → ℕ → NodeLimits → ℕ → Option TheProcess → Option TheProcess → ℕ → ℕ → Type 0
 AnswersRevival file kept life l code old new was fault = AnswersOfBytes code old new was fault (Revives file kept life l) (DoesNotRevive file kept life l)

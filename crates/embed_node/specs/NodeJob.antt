@@ -6,14 +6,14 @@ use Rattle.images.specs.declared.any_image.AnyImage.{AnyImage}
 use Rattle.images.specs.declared.any_image.AnyImage.TheVariants as any
 use Rattle.images.specs.AnyImage.{state_of as image_state}
 use Rattle.node.specs.declared.job.OpenJob.{OpenJob}
-use Rattle.process.specs.declared.call.Ticket.{Ticket}
+use Rattle.process.specs.declared.call.HandlerTicket.{HandlerTicket}
 use Rattle.process.specs.Process.{TheProcess}
 use Rattle.process.specs.Work.{Rests}
 use Rattle.process.specs.Job.{TheJob, array_size, shown_by, ticket_at, HasNext, IsJobOf, IsLaid, IsNext, IsAnswered, WorksAs}
 use Rattle.embed_node.specs.declared.node_job.NodeJob.{NodeJob}
 use Rattle.embed_node.specs.declared.node_job.TheConstants.{STATE_AT, SPAN_STATE_AT}
-use Rattle.embed_node.specs.declared.fault.Fault.{Fault}
-use Rattle.embed_node.specs.declared.fault.Fault.TheVariants.{Memory, Handle, Room, Absent, Unready, Left}
+use Rattle.embed_node.specs.declared.fault.NodeFault.{NodeFault}
+use Rattle.embed_node.specs.declared.fault.NodeFault.TheVariants.{Memory, Handle, Room, Absent, Unready, Left}
 use Rattle.embed_node.specs.Answers.{OfBoth, OfSame, StaysClosed, IsCopied, IsUntouched}
 use Rattle.embed_node.specs.Outcome.{IsLeft}
 
@@ -55,14 +55,14 @@ IsGiven out out' size words old new = OfSame old new (GivesJob out out' size wor
 
 -- why none is given out, if the handle is open: there is nothing to run on; there is, and the buffer is too short for the array, or memory
 -- ran out
-abbrev pub GivesNone : List ℕ → List ℕ → ℕ → ℕ → TheProcess → Fault → Type 0
+abbrev pub GivesNone : List ℕ → List ℕ → ℕ → ℕ → TheProcess → NodeFault → Type 0
 GivesNone out out' was size p Absent = Rests p × IsUntouched out out' was size
 GivesNone out out' was size p Room = (j : TheJob) × IsJobOf p j × DoesNotLayOut j out out' size
 GivesNone out out' was size p Memory = HasNext p × IsUntouched out out' was size
 GivesNone out out' was size p other = ⊥
 
 -- why none is given out: one of these, or the handle is closed
-abbrev pub IsNotGiven : List ℕ → List ℕ → ℕ → ℕ → Option TheProcess → Option TheProcess → Fault → Type 0
+abbrev pub IsNotGiven : List ℕ → List ℕ → ℕ → ℕ → Option TheProcess → Option TheProcess → NodeFault → Type 0
 IsNotGiven out out' was size old new Handle = StaysClosed old new × IsUntouched out out' was size
 IsNotGiven out out' was size old new why = OfSame old new (λ p. GivesNone out out' was size p why)
 
@@ -87,7 +87,7 @@ pub record IsLeftBy (image : AnyImage) (who : Who) (array bytes : List ℕ) (e :
   pub left : IsLeft who bytes e
 
 -- what it left is taken as the answer to the next message; if the handler answers exactly that, it has worked
-pub record TakesLeft (ticket : Ticket) (array bytes : List ℕ) (old new : TheProcess) : Type 0 where
+pub record TakesLeft (ticket : HandlerTicket) (array bytes : List ℕ) (old new : TheProcess) : Type 0 where
   pub message : OpenJob
   pub who : Who
   pub effects : Emitted
@@ -97,7 +97,7 @@ pub record TakesLeft (ticket : Ticket) (array bytes : List ℕ) (old new : ThePr
   pub works : WorksAs (state_in old.image array) effects old new
 
 -- the same of a handle
-abbrev pub IsDone : Ticket → List ℕ → List ℕ → Option TheProcess → Option TheProcess → Type 0
+abbrev pub IsDone : HandlerTicket → List ℕ → List ℕ → Option TheProcess → Option TheProcess → Type 0
 IsDone ticket array bytes old new = OfBoth old new (TakesLeft ticket array bytes)
 
 -- no call on the next message left array and record
@@ -109,7 +109,7 @@ pub record IsLeftByNone (array bytes : List ℕ) (p : TheProcess) : Type 0 where
 
 -- why it isn't taken, if the handle is open: the first of these: there is nothing to run on, it is of another call, no call left it, or
 -- memory ran out. Nothing has changed
-abbrev pub LeavesOut : Ticket → List ℕ → List ℕ → TheProcess → Fault → Type 0
+abbrev pub LeavesOut : HandlerTicket → List ℕ → List ℕ → TheProcess → NodeFault → Type 0
 LeavesOut ticket array bytes p Absent = Rests p
 LeavesOut ticket array bytes p Unready = HasNext p × (ticket_at p.course ≢ ticket)
 LeavesOut ticket array bytes p Left = IsLeftByNone array bytes p × (ticket_at p.course ≡ ticket)
@@ -117,10 +117,10 @@ LeavesOut ticket array bytes p Memory = HasNext p × (ticket_at p.course ≡ tic
 LeavesOut ticket array bytes p other = ⊥
 
 -- why it isn't taken: one of these, or the handle is closed
-abbrev pub IsNotDone : Ticket → List ℕ → List ℕ → Option TheProcess → Option TheProcess → Fault → Type 0
+abbrev pub IsNotDone : HandlerTicket → List ℕ → List ℕ → Option TheProcess → Option TheProcess → NodeFault → Type 0
 IsNotDone ticket array bytes old new Handle = StaysClosed old new
 IsNotDone ticket array bytes old new why = OfSame old new (λ p. LeavesOut ticket array bytes p why)
 
 -- the ticket in a job's words
-abbrev pub ticket_from : ℕ → ℕ → Ticket
+abbrev pub ticket_from : ℕ → ℕ → HandlerTicket
 ticket_from incarnation received = record { incarnation = incarnation; received = received }

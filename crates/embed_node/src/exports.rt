@@ -12,10 +12,10 @@ ghost use Rattle.embed_node.specs.Status.{IsStanding};
 use crate::fault::{code, code_of_bytes};
 use crate::handle::NodeHandle;
 use crate::node_job::NodeJob;
-use crate::lifetime::Limits;
+use crate::lifetime::NodeLimits;
 use crate::status::NodeStanding;
 use crate::{calls, results, node_job, lifetime, status};
-use process::Ticket;
+use process::HandlerTicket;
 use std::alloc::Global;
 
 /// Opens the process `me` of `n`, which received nothing, with the image file of its handler. The
@@ -35,7 +35,7 @@ pub extern "C" fn sblog_node_open(
 ) -> u32
     ensures { AnswersOpening image.now me n (limits_from page tick numbers receipts durable) result node.old.process.value node.new.process.value }
 {
-    let limits = Limits {
+    let limits = NodeLimits {
         page,
         tick,
         numbers,
@@ -63,7 +63,7 @@ pub extern "C" fn sblog_node_revive(
 ) -> u32
     ensures { AnswersRevival image.now kept.now incarnation (limits_from page tick numbers receipts durable) result node.old.process.value node.new.process.value fault.old fault.new }
 {
-    let limits = Limits {
+    let limits = NodeLimits {
         page,
         tick,
         numbers,
@@ -148,7 +148,7 @@ pub extern "C" fn sblog_node_done(
 ) -> u32
     ensures { Answers result node.old.process.value node.new.process.value (IsDone (ticket_from incarnation received) array.now left.now) (IsNotDone (ticket_from incarnation received) array.now left.now) }
 {
-    let ticket = Ticket {
+    let ticket = HandlerTicket {
         incarnation,
         received,
     };

@@ -7,7 +7,7 @@ use thiserror::Error;
 
 /// Why a function did nothing, by number.
 #[derive(Debug, Drop, Error)]
-pub enum Fault {
+pub enum NodeFault {
     /// 15: memory ran out.
     #[error("out of memory")]
     Memory,
@@ -38,27 +38,27 @@ pub enum Fault {
     Left,
 }
 
-impl Fault {
+impl NodeFault {
     /// Its number, 15 to 24.
     pub fn number(&self) -> u32
         ensures { result ≡ fault_number self.now }
     {
         match *self {
-            Fault::Memory => 15,
-            Fault::Handle => 16,
-            Fault::Image => 17,
-            Fault::Room => 19,
-            Fault::Absent => 20,
-            Fault::Bytes(_) => 21,
-            Fault::Unready => 22,
-            Fault::Limit => 23,
-            Fault::Left => 24,
+            NodeFault::Memory => 15,
+            NodeFault::Handle => 16,
+            NodeFault::Image => 17,
+            NodeFault::Room => 19,
+            NodeFault::Absent => 20,
+            NodeFault::Bytes(_) => 21,
+            NodeFault::Unready => 22,
+            NodeFault::Limit => 23,
+            NodeFault::Left => 24,
         }
     }
 }
 
 /// The code of a result: 0, or the number of the fault.
-pub(crate) fn code(done: Result<(), Fault>) -> u32
+pub(crate) fn code(done: Result<(), NodeFault>) -> u32
     ensures done { IfOk done (λ _. result ≡ 0) }
     ensures fault { IfErr done (λ why. result ≡ fault_number why) }
 {
@@ -69,11 +69,11 @@ pub(crate) fn code(done: Result<(), Fault>) -> u32
 }
 
 /// The same; if bytes were refused, writes the number of their fault.
-pub(crate) fn code_of_bytes(done: Result<(), Fault>, number: &mut u32) -> u32
+pub(crate) fn code_of_bytes(done: Result<(), NodeFault>, number: &mut u32) -> u32
     ensures done { IfOk done (λ _. (result ≡ 0) × (number.new ≡ number.old)) }
     ensures fault { IfErr done (λ why. (result ≡ fault_number why) × (number.new ≡ written why number.old)) }
 {
-    if let Err(Fault::Bytes(fault)) = &done {
+    if let Err(NodeFault::Bytes(fault)) = &done {
         *number = u32::from(*fault);
     }
     code(done)

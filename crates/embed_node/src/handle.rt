@@ -5,7 +5,7 @@ ghost use Rattle.std.specs.Ptr.{null_ptr};
 
 use crate::loose::LooseProcess;
 use crate::parts::Parts;
-use process::Process;
+use process::Member;
 use std::alloc::Global;
 use std::mem::replace;
 
@@ -33,7 +33,7 @@ impl NodeHandle {
 
     /// Takes the process out, and leaves the handle closed.
     #[inline(always)]
-    pub(crate) fn take(&mut self, alloc: Global) -> Option<Box<Process>>
+    pub(crate) fn take(&mut self, alloc: Global) -> Option<Box<Member>>
         ensures closed { self.new.process.value ≡ None }
         ensures none { IfNone result (self.old.process.value ≡ None) }
         ensures some { IfSome result (λ b. self.old.process.value ≡ Some b.value) }
@@ -47,7 +47,7 @@ impl NodeHandle {
 
     /// Puts a process into a closed handle.
     #[inline(always)]
-    pub(crate) fn put(&mut self, process: Box<Process>)
+    pub(crate) fn put(&mut self, process: Box<Member>)
         ensures { self.new.process.value ≡ Some process.value }
     {
         *self = NodeHandle {

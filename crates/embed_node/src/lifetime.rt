@@ -4,16 +4,16 @@ ghost use Rattle.std.specs.Prelude.{◌≡◌, ◌↔◌, Some, None, IsTrue, Ma
 ghost use Rattle.std.specs.Arc.{arc_value};
 ghost use Rattle.handlers.specs.Handler.{image_of};
 ghost use Rattle.node.specs.Node.{IsPositive};
-ghost use Rattle.embed_node.specs.declared.fault.Fault.TheVariants.{Memory};
+ghost use Rattle.embed_node.specs.declared.fault.NodeFault.TheVariants.{Memory};
 ghost use Rattle.embed_node.specs.Answers.{Results};
 ghost use Rattle.embed_node.specs.Lifetime.{AreLimits, limits_of, IsSeat, IsImageIn, IsNotLoaded, Opens, DoesNotOpen, Revives, DoesNotRevive, IsTold};
 
-use crate::fault::Fault;
+use crate::fault::NodeFault;
 use crate::handle::NodeHandle;
 use handlers::Handler;
 use limits::PROCESSES;
 use packets::NUMBER_LIMIT;
-use process::{Process, Unrevived};
+use process::{Member, Unrevived};
 use std::alloc::Global;
 use std::sync::Arc;
 use verifier::ImageError;
@@ -23,7 +23,7 @@ pub const MOST_PAGE: u32 = 65_535;
 
 /// The limits of a node, as a program passes them.
 #[derive(Clone, Copy)]
-pub struct Limits {
+pub struct NodeLimits {
     pub page: u32,
     pub tick: u32,
     pub numbers: u32,
@@ -31,7 +31,7 @@ pub struct Limits {
     pub durable: u32,
 }
 
-impl Limits {
+impl NodeLimits {
     /// The node's limits, if each is in range.
     fn of_node(self) -> Option<node::Limits>
         ensures { MatchOption result (¬ AreLimits self) (λ l. AreLimits self × (l ≡ limits_of self)) }
@@ -54,27 +54,27 @@ impl Limits {
 }
 
 /// The handler of a file.
-fn handler_of(alloc: Global, file: &[u8]) -> Result<Arc<Handler>, Fault>
+fn handler_of(alloc: Global, file: &[u8]) -> Result<Arc<Handler>, NodeFault>
     ensures { MatchResult result (λ image. IsImageIn file.now (image_of (arc_value image))) (IsNotLoaded file.now) }
 {
     let image = match Handler::load(alloc, file) {
         Ok(image) => image,
-        Err(ImageError::Memory) => return Err(Fault::Memory),
-        Err(_) => return Err(Fault::Image),
+        Err(ImageError::Memory) => return Err(NodeFault::Memory),
+        Err(_) => return Err(NodeFault::Image),
     };
     match Arc::new(alloc, image) {
         Ok(image) => Ok(image),
-        Err(_) => Err(Fault::Memory),
+        Err(_) => Err(NodeFault::Memory),
     }
 }
 
 /// Puts a process into a closed handle.
-fn put(alloc: Global, process: Process, handle: &mut NodeHandle) -> Result<(), Fault>
+fn put(alloc: Global, process: Member, handle: &mut NodeHandle) -> Result<(), NodeFault>
     ensures ok { OnOk result (handle.new.process.value ≡ Some process) }
     ensures err { IfErr result (λ why. (why ≡ Memory) × (handle.new.process.value ≡ handle.old.process.value)) }
 {
     let Ok(boxed) = Box::new(alloc, process) else {
-        return Err(Fault::Memory);
+        return Err(NodeFault::Memory);
     };
     handle.put(boxed);
     Ok(())
@@ -86,23 +86,23 @@ pub(crate) fn open(
     image: &[u8],
     me: u8,
     n: u8,
-    limits: Limits,
+    limits: NodeLimits,
     handle: &mut NodeHandle,
-) -> Result<(), Fault>
+) -> Result<(), NodeFault>
     ensures { Results result handle.old.process.value handle.new.process.value (Opens image.now me n limits) (DoesNotOpen image.now me n limits) }
 {
     if handle.is_open() {
-        return Err(Fault::Handle);
+        return Err(NodeFault::Handle);
     }
     if !is_seat(me, n) {
-        return Err(Fault::Limit);
+        return Err(NodeFault::Limit);
     }
     let Some(limits) = limits.of_node() else {
-        return Err(Fault::Limit);
+        return Err(NodeFault::Limit);
     };
     let image = handler_of(alloc, image)?;
-    let Ok(process) = Process::open(alloc, image, limits, me, n) else {
-        return Err(Fault::Memory);
+    let Ok(process) = Member::open(alloc, image, limits, me, n) else {
+        return Err(NodeFault::Memory);
     };
     put(alloc, process, handle)
 }
@@ -113,22 +113,22 @@ pub(crate) fn revive(
     image: &[u8],
     kept: &[u8],
     incarnation: u64,
-    limits: Limits,
+    limits: NodeLimits,
     handle: &mut NodeHandle,
-) -> Result<(), Fault>
+) -> Result<(), NodeFault>
     ensures { Results result handle.old.process.value handle.new.process.value (Revives image.now kept.now incarnation limits) (DoesNotRevive image.now kept.now incarnation limits) }
 {
     if handle.is_open() {
-        return Err(Fault::Handle);
+        return Err(NodeFault::Handle);
     }
     if !is_incarnation(incarnation) {
-        return Err(Fault::Limit);
+        return Err(NodeFault::Limit);
     }
     let Some(limits) = limits.of_node() else {
-        return Err(Fault::Limit);
+        return Err(NodeFault::Limit);
     };
     let image = handler_of(alloc, image)?;
-    match Process::revive(alloc, image, limits, kept, incarnation) {
+    match Member::revive(alloc, image, limits, kept, incarnation) {
         Ok(process) => put(alloc, process, handle),
         Err(why) => Err(refused(why)),
     }
@@ -149,13 +149,13 @@ fn is_incarnation(incarnation: u64) -> bool
 }
 
 /// The fault that tells why no process came back.
-fn refused(why: Unrevived) -> Fault
+fn refused(why: Unrevived) -> NodeFault
     ensures { IsTold why result }
 {
     match why {
-        Unrevived::Memory => Fault::Memory,
-        Unrevived::Kept(fault) => Fault::Bytes(fault.number()),
-        Unrevived::State => Fault::Bytes(9),
-        Unrevived::Incarnation => Fault::Limit,
+        Unrevived::Memory => NodeFault::Memory,
+        Unrevived::Kept(fault) => NodeFault::Bytes(fault.number()),
+        Unrevived::State => NodeFault::Bytes(9),
+        Unrevived::Incarnation => NodeFault::Limit,
     }
 }

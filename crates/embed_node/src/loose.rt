@@ -6,7 +6,7 @@ ghost use Rattle.process.specs.Process.{TheProcess};
 ghost use Rattle.embed_node.specs.Inside.Held.{held};
 
 use crate::parts::Parts;
-use process::Process;
+use process::Member;
 use std::alloc::Global;
 use std::marker::Model;
 use std::ptr::null_mut;
@@ -36,7 +36,7 @@ impl LooseProcess {
     }
 
     /// The process of a box.
-    pub(crate) fn of(parts: Parts<Process, Global>) -> LooseProcess
+    pub(crate) fn of(parts: Parts<Member, Global>) -> LooseProcess
         ensures { result.value ≡ Some parts.value }
     {
         let Parts { ptr, alloc } = parts;
@@ -47,14 +47,14 @@ impl LooseProcess {
     }
 
     /// Puts the box together again.
-    pub(crate) fn into_parts(self) -> Parts<Process, Global>
+    pub(crate) fn into_parts(self) -> Parts<Member, Global>
         ghost v: { TheProcess }
         requires { self.value ≡ Some v }
         ensures { result.value ≡ v }
     {
         let LooseProcess { at, alloc } = self;
         Parts {
-            ptr: at as *mut Process,
+            ptr: at as *mut Member,
             alloc,
         }
     }

@@ -3,17 +3,17 @@
 ghost use Rattle.std.specs.Prelude.{◌≡◌, ◌≤◌, ◌<◌, ◌+◌, ◌↔◌, length, IfErr, IsTrue, MatchOption, MatchResult, OnErr, OnOk};
 ghost use Rattle.handlers.specs.Handler.{image_of};
 ghost use Rattle.process.specs.Job.{array_size, ticket_at};
-ghost use Rattle.embed_node.specs.declared.fault.Fault.TheVariants.{Room};
+ghost use Rattle.embed_node.specs.declared.fault.NodeFault.TheVariants.{Room};
 ghost use Rattle.embed_node.specs.Answers.{Results};
 ghost use Rattle.embed_node.specs.NodeJob.{words_of, state_place, IsStateIn, LaysOut, DoesNotLayOut, GivesJob, GivesNone, IsGiven, IsNotGiven, TakesLeft, LeavesOut, IsDone, IsNotDone};
 
-use crate::fault::Fault;
+use crate::fault::NodeFault;
 use crate::handle::NodeHandle;
 use crate::outcome::left_in;
 use crate::output::copy;
 use handlers::Handler;
 use limits::{STACK_BYTES, STATE_BYTES};
-use process::{Job, Process, Ticket, Undone};
+use process::{HandlerJob, Member, HandlerTicket, Undone};
 use span_steps::ARRAY_BYTES;
 use std::alloc::Global;
 
@@ -42,7 +42,7 @@ pub struct NodeJob {
 }
 
 impl NodeJob {
-    fn of(job: &Job) -> NodeJob
+    fn of(job: &HandlerJob) -> NodeJob
         ensures { result ≡ words_of job.now }
     {
         let ticket = job.ticket();
@@ -65,12 +65,12 @@ pub(crate) fn job(
     array: &mut [u8],
     size: &mut usize,
     words: &mut NodeJob,
-) -> Result<(), Fault>
+) -> Result<(), NodeFault>
     ensures given { Results result handle.old.process.value handle.new.process.value (IsGiven array.old array.new size.new words.new) (IsNotGiven array.old array.new size.old size.new) }
     ensures kept { OnErr result (words.new ≡ words.old) }
 {
     let Some(process) = handle.take(alloc) else {
-        return Err(Fault::Handle);
+        return Err(NodeFault::Handle);
     };
     let given = job_of(alloc, &process, array, size, words);
     handle.put(process);
@@ -79,18 +79,18 @@ pub(crate) fn job(
 
 fn job_of(
     alloc: Global,
-    process: &Process,
+    process: &Member,
     array: &mut [u8],
     size: &mut usize,
     words: &mut NodeJob,
-) -> Result<(), Fault>
+) -> Result<(), NodeFault>
     ensures given { MatchResult result (λ _. GivesJob array.old array.new size.new words.new process.now) (GivesNone array.old array.new size.old size.new process.now) }
     ensures kept { OnErr result (words.new ≡ words.old) }
 {
     let job = match process.job(alloc) {
         Ok(Some(job)) => job,
-        Ok(None) => return Err(Fault::Absent),
-        Err(_) => return Err(Fault::Memory),
+        Ok(None) => return Err(NodeFault::Absent),
+        Err(_) => return Err(NodeFault::Memory),
     };
     lay(&job, array, size)?;
     *words = NodeJob::of(&job);
@@ -98,7 +98,7 @@ fn job_of(
 }
 
 /// Writes the array of a job to the front of a buffer.
-fn lay(job: &Job, array: &mut [u8], size: &mut usize) -> Result<(), Fault>
+fn lay(job: &HandlerJob, array: &mut [u8], size: &mut usize) -> Result<(), NodeFault>
     ensures laid { OnOk result (LaysOut job.now array.old array.new size.new) }
     ensures room { IfErr result (λ why. (why ≡ Room) × DoesNotLayOut job.now array.old array.new size.new) }
 {
@@ -109,7 +109,7 @@ fn lay(job: &Job, array: &mut [u8], size: &mut usize) -> Result<(), Fault>
 }
 
 /// The size of the array of a job in bytes.
-fn array_len(job: &Job) -> usize
+fn array_len(job: &HandlerJob) -> usize
     ensures value { result ≡ array_size job.now.image }
     ensures bound { result ≤ ARRAY_BYTES }
 {
@@ -120,14 +120,14 @@ fn array_len(job: &Job) -> usize
 pub(crate) fn done(
     alloc: Global,
     handle: &mut NodeHandle,
-    ticket: Ticket,
+    ticket: HandlerTicket,
     array: &[u8],
     left: &[u8],
-) -> Result<(), Fault>
+) -> Result<(), NodeFault>
     ensures { Results result handle.old.process.value handle.new.process.value (IsDone ticket array.now left.now) (IsNotDone ticket array.now left.now) }
 {
     let Some(mut process) = handle.take(alloc) else {
-        return Err(Fault::Handle);
+        return Err(NodeFault::Handle);
     };
     let taken = done_of(alloc, &mut process, ticket, array, left);
     handle.put(process);
@@ -136,37 +136,37 @@ pub(crate) fn done(
 
 fn done_of(
     alloc: Global,
-    process: &mut Process,
-    ticket: Ticket,
+    process: &mut Member,
+    ticket: HandlerTicket,
     array: &[u8],
     left: &[u8],
-) -> Result<(), Fault>
+) -> Result<(), NodeFault>
     ensures taken { MatchResult result (λ _. TakesLeft ticket array.now left.now process.old process.new) (LeavesOut ticket array.now left.now process.old) }
     ensures kept { OnErr result (process.new ≡ process.old) }
 {
     let Some((_, who)) = process.next_call() else {
-        return Err(Fault::Absent);
+        return Err(NodeFault::Absent);
     };
     if !is_next(process, ticket) {
-        return Err(Fault::Unready);
+        return Err(NodeFault::Unready);
     }
     let Some(state) = state_of(process.handler(), array) else {
-        return Err(Fault::Left);
+        return Err(NodeFault::Left);
     };
     let Some(effects) = left_in(who, left) else {
-        return Err(Fault::Left);
+        return Err(NodeFault::Left);
     };
     match process.done_unchecked(alloc, ticket, state, &effects) {
         Ok(()) => Ok(()),
-        Err(Undone::Memory) => Err(Fault::Memory),
-        Err(Undone::Absent) => Err(Fault::Absent),
-        Err(Undone::Other) => Err(Fault::Unready),
-        Err(Undone::State) => Err(Fault::Left),
+        Err(Undone::Memory) => Err(NodeFault::Memory),
+        Err(Undone::Absent) => Err(NodeFault::Absent),
+        Err(Undone::Other) => Err(NodeFault::Unready),
+        Err(Undone::State) => Err(NodeFault::Left),
     }
 }
 
 /// Whether the next call of a process has this ticket.
-fn is_next(process: &Process, ticket: Ticket) -> bool
+fn is_next(process: &Member, ticket: HandlerTicket) -> bool
     ensures { IsTrue result ↔ (ticket_at process.now.course ≡ ticket) }
 {
     let standing = process.standing();

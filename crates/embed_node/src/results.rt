@@ -4,10 +4,10 @@ ghost use Rattle.std.specs.Prelude.{◌≡◌, MatchResult, OnErr};
 ghost use Rattle.embed_node.specs.Answers.{Results};
 ghost use Rattle.embed_node.specs.Results.{IsTaken, IsUntaken, IsMade, IsUnmade, IsRead, IsUnread, TakesOut, LeavesIn, Makes, DoesNotMake};
 
-use crate::fault::Fault;
+use crate::fault::NodeFault;
 use crate::handle::NodeHandle;
 use crate::output::copy;
-use process::Process;
+use process::Member;
 use std::alloc::Global;
 
 /// Writes the first packet that waits, and its receiver. If the buffer is long enough, the packet
@@ -18,12 +18,12 @@ pub(crate) fn take(
     out: &mut [u8],
     size: &mut usize,
     to: &mut u8,
-) -> Result<(), Fault>
+) -> Result<(), NodeFault>
     ensures taken { Results result handle.old.process.value handle.new.process.value (IsTaken out.old out.new size.new to.new) (IsUntaken out.old out.new size.old size.new) }
     ensures kept { OnErr result (to.new ≡ to.old) }
 {
     let Some(mut process) = handle.take(alloc) else {
-        return Err(Fault::Handle);
+        return Err(NodeFault::Handle);
     };
     let taken = take_of(alloc, &mut process, out, size, to);
     handle.put(process);
@@ -32,18 +32,18 @@ pub(crate) fn take(
 
 fn take_of(
     alloc: Global,
-    process: &mut Process,
+    process: &mut Member,
     out: &mut [u8],
     size: &mut usize,
     to: &mut u8,
-) -> Result<(), Fault>
+) -> Result<(), NodeFault>
     ensures taken { MatchResult result (λ _. TakesOut out.old out.new size.new to.new process.old process.new) (LeavesIn out.old out.new size.old size.new process.old process.new) }
     ensures kept { OnErr result (to.new ≡ to.old) }
 {
     let bytes = match process.front_bytes(alloc) {
         Ok(Some(bytes)) => bytes,
-        Ok(None) => return Err(Fault::Absent),
-        Err(_) => return Err(Fault::Memory),
+        Ok(None) => return Err(NodeFault::Absent),
+        Err(_) => return Err(NodeFault::Memory),
     };
     copy(bytes.as_slice(), out, size)?;
     if let Some(packet) = process.take() {
@@ -59,11 +59,11 @@ pub(crate) fn checkpoint(
     handle: &mut NodeHandle,
     out: &mut [u8],
     size: &mut usize,
-) -> Result<(), Fault>
+) -> Result<(), NodeFault>
     ensures { Results result handle.old.process.value handle.new.process.value (IsMade out.old out.new size.new) (IsUnmade out.old out.new size.old size.new) }
 {
     let Some(mut process) = handle.take(alloc) else {
-        return Err(Fault::Handle);
+        return Err(NodeFault::Handle);
     };
     let made = checkpoint_of(alloc, &mut process, out, size);
     handle.put(process);
@@ -72,16 +72,16 @@ pub(crate) fn checkpoint(
 
 fn checkpoint_of(
     alloc: Global,
-    process: &mut Process,
+    process: &mut Member,
     out: &mut [u8],
     size: &mut usize,
-) -> Result<(), Fault>
+) -> Result<(), NodeFault>
     ensures { MatchResult result (λ _. Makes out.old out.new size.new process.old process.new) (DoesNotMake out.old out.new size.old size.new process.old process.new) }
 {
     let bytes = match process.kept_bytes(alloc) {
         Ok(Some(bytes)) => bytes,
-        Ok(None) => return Err(Fault::Unready),
-        Err(_) => return Err(Fault::Memory),
+        Ok(None) => return Err(NodeFault::Unready),
+        Err(_) => return Err(NodeFault::Memory),
     };
     copy(bytes.as_slice(), out, size)?;
     let _made = process.freeze();
@@ -94,11 +94,11 @@ pub(crate) fn state(
     handle: &mut NodeHandle,
     out: &mut [u8],
     size: &mut usize,
-) -> Result<(), Fault>
+) -> Result<(), NodeFault>
     ensures { Results result handle.old.process.value handle.new.process.value (IsRead out.old out.new size.new) (IsUnread out.old out.new size.old size.new) }
 {
     let Some(process) = handle.take(alloc) else {
-        return Err(Fault::Handle);
+        return Err(NodeFault::Handle);
     };
     let read = copy(process.state(), out, size);
     handle.put(process);

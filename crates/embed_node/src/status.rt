@@ -5,7 +5,7 @@ ghost use Rattle.embed_node.specs.Answers.{Results};
 ghost use Rattle.embed_node.specs.Calls.{WasClosed};
 ghost use Rattle.embed_node.specs.Status.{words_of, IsStanding};
 
-use crate::fault::Fault;
+use crate::fault::NodeFault;
 use crate::handle::NodeHandle;
 use node::Standing;
 use std::alloc::Global;
@@ -76,12 +76,12 @@ pub(crate) fn standing(
     alloc: Global,
     handle: &mut NodeHandle,
     out: &mut NodeStanding,
-) -> Result<(), Fault>
+) -> Result<(), NodeFault>
     ensures standing { Results result handle.old.process.value handle.new.process.value (IsStanding out.new) WasClosed }
     ensures kept { OnErr result (out.new ≡ out.old) }
 {
     let Some(process) = handle.take(alloc) else {
-        return Err(Fault::Handle);
+        return Err(NodeFault::Handle);
     };
     let standing = process.standing();
     *out = NodeStanding::of(&standing);

@@ -7,8 +7,8 @@ use Rattle.verifier.specs.declared.fault.ImageError.TheVariants as error
 use Rattle.handlers.specs.Image.{TheImage}
 use Rattle.world.specs.declared.refusal.Refusal.TheVariants.{NoSuchProcess, Memory}
 use Rattle.sessions.specs.Journal.{TheSession}
-use Rattle.embed_session.specs.declared.fault.Fault.{Fault}
-use Rattle.embed_session.specs.declared.fault.Fault.TheVariants.{Session, Handle, File}
+use Rattle.embed_session.specs.declared.fault.SessionFault.{SessionFault}
+use Rattle.embed_session.specs.declared.fault.SessionFault.TheVariants.{Session, Handle, File}
 
 -- the file is that of this image, of any form, whose code is typable
 abbrev pub IsImageIn : List ℕ → TheImage → Type 0
@@ -39,7 +39,7 @@ AreCounted lengths = (1 ≤ length lengths) × (length lengths ≤ PROCESSES)
 
 -- why a handle wasn't opened, and is as it was: it was open, there are no files or too many, the files don't fit, or memory ran
 -- out. The first of these is told
-abbrev pub IsUnopened : List ℕ → List ℕ → Option TheSession → Option TheSession → Fault → Type 0
+abbrev pub IsUnopened : List ℕ → List ℕ → Option TheSession → Option TheSession → SessionFault → Type 0
 IsUnopened files lengths old new Handle = (old ≢ None) × (new ≡ old)
 IsUnopened files lengths old new (Session NoSuchProcess) = (old ≡ None) × (¬ AreCounted lengths) × (new ≡ old)
 IsUnopened files lengths old new (Session Memory) = (old ≡ None) × AreCounted lengths × (new ≡ old)

@@ -12,8 +12,8 @@ use Rattle.machine.specs.Checkpoints.{IsSavedOf}
 use Rattle.scenario.specs.Trace.{trace_text}
 use Rattle.sessions.specs.Journal.{TheSession, is_exact, world_at}
 use Rattle.sessions.specs.Service.{KeepsPromises}
-use Rattle.embed_session.specs.declared.fault.Fault.{Fault}
-use Rattle.embed_session.specs.declared.fault.Fault.TheVariants.{Session, Handle, Room, Absent}
+use Rattle.embed_session.specs.declared.fault.SessionFault.{SessionFault}
+use Rattle.embed_session.specs.declared.fault.SessionFault.TheVariants.{Session, Handle, Room, Absent}
 
 -- the number of a phase
 abbrev pub phase_number : PhaseName → ℕ
@@ -36,7 +36,7 @@ abbrev pub OfPromised : (TheSession → Type 0) → Option TheSession → Type 0
 OfPromised holds handle = OfOpen (λ s. KeepsPromises s × holds s) handle
 
 -- why nothing is told of a process: the handle is closed, or there is no such process
-abbrev pub IsUntold : ℕ → Option TheSession → Fault → Type 0
+abbrev pub IsUntold : ℕ → Option TheSession → SessionFault → Type 0
 IsUntold p handle Handle = handle ≡ None
 IsUntold p handle (Session NoSuchProcess) = OfOpen (λ s. ¬ IsInside s p) handle
 IsUntold p handle other = ⊥
@@ -54,7 +54,7 @@ abbrev pub IsReadOf : ℕ → (ℕ → TheSession → List ℕ → Type 0) → L
 IsReadOf p Is old new size handle = OfOpen (λ s. IsInside s p × ((bytes : List ℕ) × Is p s bytes × IsCopied bytes old new size)) handle
 
 -- why the bytes weren't written: the buffer is too short for them, or nothing is told of the process
-abbrev pub IsUnreadOf : ℕ → (ℕ → TheSession → List ℕ → Type 0) → List ℕ → List ℕ → ℕ → ℕ → Option TheSession → Fault → Type 0
+abbrev pub IsUnreadOf : ℕ → (ℕ → TheSession → List ℕ → Type 0) → List ℕ → List ℕ → ℕ → ℕ → Option TheSession → SessionFault → Type 0
 IsUnreadOf p Is old new was size handle Room = OfOpen (λ s. IsInside s p × ((bytes : List ℕ) × Is p s bytes × IsUncopied bytes old new size)) handle
 IsUnreadOf p Is old new was size handle why = IsUntold p handle why × (new ≡ old) × (size ≡ was)
 
@@ -74,7 +74,7 @@ IsStanding p length phase handle =
     OfOpen (λ s. IsInside s p × (length ≡ length_of (world_at s) p) × (phase ≡ phase_number (name_of ((world_at s).phase p)))) handle
 
 -- why these two aren't told, and both are as they were
-abbrev pub IsNotStanding : ℕ → ℕ → ℕ → ℕ → ℕ → Option TheSession → Fault → Type 0
+abbrev pub IsNotStanding : ℕ → ℕ → ℕ → ℕ → ℕ → Option TheSession → SessionFault → Type 0
 IsNotStanding p length length' phase phase' handle why = IsUntold p handle why × (length' ≡ length) × (phase' ≡ phase)
 
 -- an output that was shown, by its place from 0: its sender, its SSN and its bytes
@@ -83,7 +83,7 @@ IsShown k sender ssn old new size handle =
     OfPromised (λ s. (m : Message) × (slice_get (world_at s).shown k ≡ Some m) × (sender ≡ m.sender) × (ssn ≡ m.ssn) × IsCopied m.payload old new size) handle
 
 -- why no output is written: there is none at this place, the buffer is too short for it, or the handle is closed
-abbrev pub IsUnshown : ℕ → List ℕ → List ℕ → ℕ → ℕ → Option TheSession → Fault → Type 0
+abbrev pub IsUnshown : ℕ → List ℕ → List ℕ → ℕ → ℕ → Option TheSession → SessionFault → Type 0
 IsUnshown k old new was size handle Absent = OfOpen (λ s. slice_get (world_at s).shown k ≡ None) handle × (new ≡ old) × (size ≡ was)
 IsUnshown k old new was size handle Room = OfOpen (λ s. (m : Message) × (slice_get (world_at s).shown k ≡ Some m) × IsUncopied m.payload old new size) handle
 IsUnshown k old new was size handle Handle = (handle ≡ None) × (new ≡ old) × (size ≡ was)
@@ -98,7 +98,7 @@ abbrev pub IsTraced : List ℕ → List ℕ → ℕ → Option TheSession → Ty
 IsTraced old new size handle = OfPromised (λ s. IsCopied (trace_text s.entries) old new size) handle
 
 -- why the trace isn't written: memory ran out, the buffer is too short for it, or the handle is closed
-abbrev pub IsUntraced : List ℕ → List ℕ → ℕ → ℕ → Option TheSession → Fault → Type 0
+abbrev pub IsUntraced : List ℕ → List ℕ → ℕ → ℕ → Option TheSession → SessionFault → Type 0
 IsUntraced old new was size handle (Session Memory) = OfOpen (λ s. Unit {0}) handle × (new ≡ old) × (size ≡ was)
 IsUntraced old new was size handle Room = OfOpen (λ s. IsUncopied (trace_text s.entries) old new size) handle
 IsUntraced old new was size handle Handle = (handle ≡ None) × (new ≡ old) × (size ≡ was)

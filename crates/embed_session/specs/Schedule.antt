@@ -9,8 +9,8 @@ use Rattle.machine.specs.Dispatch.{job_of}
 use Rattle.sessions.specs.Journal.{TheSession, entry, world_at}
 use Rattle.sessions.specs.Service.{KeepsPromises, Owes}
 use Rattle.embed_session.specs.declared.entry.Record.{Record}
-use Rattle.embed_session.specs.declared.fault.Fault.{Fault}
-use Rattle.embed_session.specs.declared.fault.Fault.TheVariants.{Session, Handle}
+use Rattle.embed_session.specs.declared.fault.SessionFault.{SessionFault}
+use Rattle.embed_session.specs.declared.fault.SessionFault.TheVariants.{Session, Handle}
 use Rattle.embed_session.specs.Entries.{record_of}
 
 -- the packet with this key arrived and started no job, and e is the entry of the arrival
@@ -52,7 +52,7 @@ IsReceived key record_is old new =
     (s s' : TheSession) × (old ≡ Some s) × (new ≡ Some s') × ((e : Entry) × Arrives key s s' e × (record_is ≡ record_of e)) × KeepsPromises s'
 
 -- why no packet arrived: the session refused it, memory ran out for its job, or the handle is closed. The record is as it was
-abbrev pub IsUnreceived : ℕ → Record → Record → Option TheSession → Option TheSession → Fault → Type 0
+abbrev pub IsUnreceived : ℕ → Record → Record → Option TheSession → Option TheSession → SessionFault → Type 0
 IsUnreceived key was record_is old new (Session r) =
     ((s s' : TheSession) × (old ≡ Some s) × (new ≡ Some s') × IsUnarrived key s s' r × KeepsPromises s') × (record_is ≡ was)
 IsUnreceived key was record_is old new Handle = (old ≡ None) × (new ≡ old) × (record_is ≡ was)

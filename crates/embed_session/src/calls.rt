@@ -5,7 +5,7 @@ ghost use Rattle.machine.specs.Dispatch.{IsJobless};
 ghost use Rattle.embed_session.specs.Session.{number_of, IsCalled, IsClosed, IsDriven, IsHandedBack, IsHandedIn, IsUncalled, IsUndriven, Results, WasClosed};
 ghost use Rattle.embed_session.specs.Inside.Calls.{HasKey};
 
-use crate::fault::Fault;
+use crate::fault::SessionFault;
 use crate::handle::SessionHandle;
 use crate::places::{is_stopped, refusal_of_input};
 use helpers::Payload;
@@ -36,12 +36,12 @@ pub(crate) fn call(
     handle: &mut SessionHandle,
     call: Call,
     number: &mut u32,
-) -> Result<(), Fault>
+) -> Result<(), SessionFault>
     requires { IsJobless call }
     ensures { Results result handle.old.session.value handle.new.session.value (IsCalled call number.new) (IsUncalled call number.old number.new) }
 {
     let Some(mut service) = handle.take(alloc) else {
-        return Err(Fault::Handle);
+        return Err(SessionFault::Handle);
     };
     let answered = service.call(&call);
     service.promises();
@@ -51,7 +51,7 @@ pub(crate) fn call(
             *number = number_of(&reply.answer);
             Ok(())
         }
-        Err(refusal) => Err(Fault::Session(refusal)),
+        Err(refusal) => Err(SessionFault::Session(refusal)),
     }
 }
 
@@ -62,25 +62,25 @@ pub(crate) fn drive(
     handle: &mut SessionHandle,
     budget: u32,
     accepted: &mut u32,
-) -> Result<(), Fault>
+) -> Result<(), SessionFault>
     ensures { Results result handle.old.session.value handle.new.session.value (IsDriven budget accepted.new) (IsUndriven budget accepted.old accepted.new) }
 {
     let Some(mut service) = handle.take(alloc) else {
-        return Err(Fault::Handle);
+        return Err(SessionFault::Handle);
     };
     let driven = service.drive(budget);
     let stopped = is_stopped(&service);
     service.promises();
     handle.put(service);
     let Ok(count) = driven else {
-        return Err(Fault::Session(Refusal::Memory));
+        return Err(SessionFault::Session(Refusal::Memory));
     };
     *accepted = count;
     if count >= budget {
         return Ok(());
     }
     if stopped {
-        return Err(Fault::Session(Refusal::JournalFull));
+        return Err(SessionFault::Session(Refusal::JournalFull));
     }
     Ok(())
 }
@@ -94,30 +94,30 @@ pub(crate) fn input(
     feed: u32,
     payload: &[u8],
     ssn: &mut u32,
-) -> Result<(), Fault>
+) -> Result<(), SessionFault>
     ensures { Results result handle.old.session.value handle.new.session.value (IsHandedIn to feed payload.now ssn.new) (IsHandedBack to feed payload.now ssn.old ssn.new) }
 {
     if payload.len() > PAYLOAD_BYTES {
-        return Err(Fault::Payload);
+        return Err(SessionFault::Payload);
     }
     let payload = Payload::from_slice(payload);
     let Some(service) = handle.take(alloc) else {
-        return Err(Fault::Handle);
+        return Err(SessionFault::Handle);
     };
     let refusal = refusal_of_input(&service, to);
     handle.put(service);
     if let Some(refusal) = refusal {
-        return Err(Fault::Session(refusal));
+        return Err(SessionFault::Session(refusal));
     }
     call(alloc, handle, Call::Input { to, feed, payload }, ssn)
 }
 
 /// Closes a handle, and frees its session's memory.
-pub(crate) fn close(alloc: Global, handle: &mut SessionHandle) -> Result<(), Fault>
+pub(crate) fn close(alloc: Global, handle: &mut SessionHandle) -> Result<(), SessionFault>
     ensures { Results result handle.old.session.value handle.new.session.value IsClosed WasClosed }
 {
     match handle.take(alloc) {
         Some(_service) => Ok(()),
-        None => Err(Fault::Handle),
+        None => Err(SessionFault::Handle),
     }
 }

@@ -8,7 +8,7 @@ use world::Refusal;
 
 /// Why a function did nothing, by number.
 #[derive(Debug, Drop, Error)]
-pub enum Fault {
+pub enum SessionFault {
     /// 1 to 15: the session refused the call.
     #[error(transparent)]
     Session(Refusal),
@@ -29,24 +29,24 @@ pub enum Fault {
     Absent,
 }
 
-impl Fault {
+impl SessionFault {
     /// Its number, 1 to 20.
     pub fn number(&self) -> u32
         ensures { result ≡ fault_number self.now }
     {
         match *self {
-            Fault::Session(refusal) => refusal.number() as u32,
-            Fault::Handle => 16,
-            Fault::File => 17,
-            Fault::Payload => 18,
-            Fault::Room => 19,
-            Fault::Absent => 20,
+            SessionFault::Session(refusal) => refusal.number() as u32,
+            SessionFault::Handle => 16,
+            SessionFault::File => 17,
+            SessionFault::Payload => 18,
+            SessionFault::Room => 19,
+            SessionFault::Absent => 20,
         }
     }
 }
 
 /// The code of a result: 0, or the number of the fault.
-pub(crate) fn code(done: Result<(), Fault>) -> u32
+pub(crate) fn code(done: Result<(), SessionFault>) -> u32
     ensures done { IfOk done (λ _. result ≡ 0) }
     ensures fault { IfErr done (λ why. result ≡ fault_number why) }
 {

@@ -6,7 +6,7 @@ ghost use Rattle.embed_session.specs.Session.{Results};
 ghost use Rattle.embed_session.specs.Schedule.{Arrives, IsReceived, IsUnarrived, IsUnreceived};
 
 use crate::entry::Record;
-use crate::fault::Fault;
+use crate::fault::SessionFault;
 use crate::handle::SessionHandle;
 use sessions::Service;
 use std::alloc::Global;
@@ -43,11 +43,11 @@ pub(crate) fn arrive(
     handle: &mut SessionHandle,
     key: usize,
     out: &mut Record,
-) -> Result<(), Fault>
+) -> Result<(), SessionFault>
     ensures { Results result handle.old.session.value handle.new.session.value (IsReceived key out.new) (IsUnreceived key out.old out.new) }
 {
     let Some(mut service) = handle.take(alloc) else {
-        return Err(Fault::Handle);
+        return Err(SessionFault::Handle);
     };
     let received = receive(&mut service, key);
     service.promises();
@@ -57,6 +57,6 @@ pub(crate) fn arrive(
             *out = Record::of(&entry);
             Ok(())
         }
-        Err(refusal) => Err(Fault::Session(refusal)),
+        Err(refusal) => Err(SessionFault::Session(refusal)),
     }
 }

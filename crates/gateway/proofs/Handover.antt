@@ -7,7 +7,7 @@ use Rattle.cluster.specs.Parcels.{Body, Delivery, Number, Ask, Resume, Saved, Pa
 use Rattle.packets.specs.Packet.{in_range}
 use Rattle.packets.specs.declared.packet.Body as bodies
 use Rattle.packets.specs.declared.packet.Body.TheVariants as packets
-use Rattle.packets.specs.declared.packet.Packet.{Packet}
+use Rattle.packets.specs.declared.packet.NodePacket.{NodePacket}
 use Rattle.stores.specs.declared.change.Output.{Output}
 use Rattle.stores.specs.declared.change.Change.TheVariants as changes
 use Rattle.stores.specs.Peer.{ThePeer, last_of, is_kept, shows, hears, forgets}
@@ -89,7 +89,7 @@ said-is ps p to b d here e i =
     let same : d ≡ b = (cc) in
     subst (λ z. In (parcel p z b) ps) here (subst (λ z. In (parcel p to z) ps) same i)
 
-told-so : (x : Packet) (g : TheGateway) → IsOf x.from g.store → x.to ≡ 0 → (b : bodies.Body) → x.body ≡ b → IsHanded x g (told x.from b g)
+told-so : (x : NodePacket) (g : TheGateway) → IsOf x.from g.store → x.to ≡ 0 → (b : bodies.Body) → x.body ≡ b → IsHanded x g (told x.from b g)
 told-so x g o me (packets.Delivery i ssn y) e c s w = arrives i (record { process = x.from; ssn = ssn; payload = y }) g o c s (said-is c.parcels x.from x.to (Delivery i ssn y) w.body me (subst (λ z. Says x.from z w.body) e w.says) w.among)
 told-so x g o me (packets.Number i ssn k) e c s w = records x.from i ssn k g o c s (said-is c.parcels x.from x.to (Number i ssn k) w.body me (subst (λ z. Says x.from z w.body) e w.says) w.among)
 told-so x g o me (packets.Saved k) e c s w = drops x.from k g o c s (said-is c.parcels x.from x.to (Saved k) w.body me (subst (λ z. Says x.from z w.body) e w.says) w.among)
@@ -99,7 +99,7 @@ told-so x g o me (packets.Told i j k flags entries) e c s w = stays g c s
 told-so x g o me (packets.Resume i k n) e c s w = resumes x.from i k n g o c s (said-is c.parcels x.from x.to (Resume i k n) w.body me (subst (λ z. Says x.from z w.body) e w.says) w.among)
 told-so x g o me (packets.Restored i j n k flags pairs) e c s w = stays g c s
 
-pub handed-so : (x : Packet) (g : TheGateway) → IsHanded x g (handed x g)
+pub handed-so : (x : NodePacket) (g : TheGateway) → IsHanded x g (handed x g)
 handed-so x g = by-if (IsHanded x g) (is_for g x) (told x.from x.body g) g (λ e. here (both ((x.count == length g.store.peers) && (x.to == 0) && nat_lt 0 x.from && nat_le x.from x.count) (in_range x.body) e)) (λ e c s w. stays g c s)
   where
     here : (((x.count == length g.store.peers) && (x.to == 0) && nat_lt 0 x.from && nat_le x.from x.count) ≡ true) × (in_range x.body ≡ true) → IsHanded x g (told x.from x.body g)

@@ -6,7 +6,7 @@ use Rattle.cluster.specs.Parcels.{Body, Parcel, parcel, In}
 use Rattle.cluster.specs.Cluster.{Cluster, is_well, takes}
 use Rattle.cluster.specs.Rules.{Act, Puts, May, MayPut, does, Run, after_run, IsNode}
 use Rattle.packets.specs.declared.packet.Body as bodies
-use Rattle.packets.specs.declared.packet.Packet.{Packet}
+use Rattle.packets.specs.declared.packet.NodePacket.{NodePacket}
 use Rattle.packets.specs.Outbox.{pushed}
 use Rattle.packets.specs.declared.outbox.TheConstants.{OUTBOX}
 use Rattle.gateway.specs.Gateway.{TheGateway, posts, packet_of}
@@ -24,7 +24,7 @@ all-append P [] ys h g = g
 all-append P (x ∷ xs) ys h g = (h.0, all-append P xs ys h.1 g)
 
 -- a packet more, where there is room
-all-pushed : (P : Packet → Type 0) (xs : List Packet) (x : Packet) → AllByRecursion P xs → P x → AllByRecursion P (pushed x xs)
+all-pushed : (P : NodePacket → Type 0) (xs : List NodePacket) (x : NodePacket) → AllByRecursion P xs → P x → AllByRecursion P (pushed x xs)
 all-pushed P xs x h e = by_room (nat_lt (length xs) OUTBOX)
   where
     by_room : (b : Bool) → AllByRecursion P (if b then xs ++ x ∷ [] else xs)
@@ -32,7 +32,7 @@ all-pushed P xs x h e = by_room (nat_lt (length xs) OUTBOX)
     by_room false = h
 
 -- a packet that was put out still is among more parcels
-pub put-still : (n : ℕ) (ps qs : List Parcel) (x : Packet) → ((y : Parcel) → In y ps → In y qs) → PutOut n ps x → PutOut n qs x
+pub put-still : (n : ℕ) (ps qs : List Parcel) (x : NodePacket) → ((y : Parcel) → In y ps → In y qs) → PutOut n ps x → PutOut n qs x
 put-still n ps qs x more s = record { count_is = s.count_is; from = s.from; said = record { body = s.said.body; says = s.said.says; among = more (parcel 0 x.to s.said.body) s.said.among } }
 
 -- what waits was put out, where one more packet was

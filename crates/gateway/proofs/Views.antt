@@ -1,7 +1,7 @@
 -- Results, and what waits to be taken
 use Rattle.std.proofs.Common.{◌≡◌, List, [], ◌∷◌, Option, Some, None, Result, Ok, Err, IfOk, OnOk, ap, subst, ◌∙◌}
 use Rattle.std.specs.List.{AllByRecursion}
-use Rattle.packets.specs.declared.packet.Packet.{Packet}
+use Rattle.packets.specs.declared.packet.NodePacket.{NodePacket}
 use Rattle.cluster.specs.Cluster.{Cluster}
 use Rattle.packets.specs.Outbox.{Pops}
 use Rattle.gateway.specs.Gateway.{TheGateway}
@@ -20,7 +20,7 @@ if-ok (Ok x) P Q f p = f x p
 if-ok (Err e) P Q f p = tt
 
 -- the first packet that waits leaves
-pub takes-so : (o : Option Packet) (g : TheGateway) (rest : List Packet) → Pops o g.out rest → Takes o g (record g { out = rest })
+pub takes-so : (o : Option NodePacket) (g : TheGateway) (rest : List NodePacket) → Pops o g.out rest → Takes o g (record g { out = rest })
 takes-so None g rest e = (e.0, ap (λ xs. record g { out = xs }) e.1 ∙ ap (λ xs. record g { out = xs }) (let back : [] ≡ g.out = (cc) in back))
 takes-so (Some x) g rest e = (ap (λ xs. record g { out = xs }) e, λ c s. taken c s (subst (AllByRecursion (PutOut c.count c.parcels)) e s.out))
   where

@@ -1,10 +1,10 @@
 -- The gateway after it takes a packet
 use Rattle.std.specs.Prelude.{ℕ, ◌+◌, List, [], length, map, min, Bool, true, false, not, ◌&&◌, ◌||◌, ◌==◌, nat_lt, nat_le, if◌then◌else◌}
 use Rattle.packets.specs.Packet.{in_range, flags_of}
-use Rattle.packets.specs.declared.page.Entry.{Entry}
+use Rattle.packets.specs.declared.page.LoggedMessage.{LoggedMessage}
 use Rattle.packets.specs.declared.packet.Body.{Body}
 use Rattle.packets.specs.declared.packet.Body.TheVariants.{Delivery, Number, Acknowledgement, Ask, Told, Resume, Restored, Saved}
-use Rattle.packets.specs.declared.packet.Packet.{Packet}
+use Rattle.packets.specs.declared.packet.NodePacket.{NodePacket}
 use Rattle.packets.specs.Pages.{entries_above, page_of}
 use Rattle.stores.specs.declared.peer.Logged.{Logged}
 use Rattle.stores.specs.declared.change.Output.{Output}
@@ -13,7 +13,7 @@ use Rattle.stores.specs.Peer.{ThePeer, last_of, is_kept}
 use Rattle.gateway.specs.Gateway.{TheGateway, peer_of, posts, happens}
 
 -- a packet is from a process of this cluster to the gateway, and its fields are in range
-abbrev pub is_for : TheGateway → Packet → Bool
+abbrev pub is_for : TheGateway → NodePacket → Bool
 is_for g x = (x.count == length g.store.peers) && (x.to == 0) && nat_lt 0 x.from && nat_le x.from x.count && in_range x.body
 
 -- tells the process p how many of its outputs were shown
@@ -39,11 +39,11 @@ abbrev pub dropped_by : ℕ → ℕ → TheGateway → TheGateway
 dropped_by p k g = let s = min k (last_of (peer_of p g)) in if nat_le s (peer_of p g).dropped then g else happens (Dropped p s) g
 
 -- the entries of the log for a process with an RSN above k, by RSN
-abbrev pub entries_in : ℕ → ThePeer → List Entry
+abbrev pub entries_in : ℕ → ThePeer → List LoggedMessage
 entries_in k p = entries_above k p.dropped (map (λ (e : Logged). e.payload) p.entries) (map (λ (e : Logged). e.number) p.entries)
 
 -- the first page of them, and whether that has all
-abbrev pub told_page : ℕ → ℕ → TheGateway → List Entry
+abbrev pub told_page : ℕ → ℕ → TheGateway → List LoggedMessage
 told_page p k g = page_of g.page (entries_in k (peer_of p g))
 
 abbrev pub told_all : ℕ → ℕ → TheGateway → Bool
@@ -84,5 +84,5 @@ told p (Resume i k s) g = resumed_by p i k s g
 told p body g = g
 
 -- takes a packet
-abbrev pub handed : Packet → TheGateway → TheGateway
+abbrev pub handed : NodePacket → TheGateway → TheGateway
 handed x g = if is_for g x then told x.from x.body g else g

@@ -3,7 +3,7 @@ use Rattle.std.specs.Prelude.{◌≡◌, ℕ, zero, suc, ◌+◌, ◌<◌, ◌�
 use Rattle.std.specs.List.{AllByRecursion}
 use Rattle.packets.specs.declared.packet.Body.{Body}
 use Rattle.packets.specs.declared.packet.Body.TheVariants.{Delivery}
-use Rattle.packets.specs.declared.packet.Packet.{Packet}
+use Rattle.packets.specs.declared.packet.NodePacket.{NodePacket}
 use Rattle.packets.specs.Packet.{in_range}
 use Rattle.packets.specs.Format.{HasRoom, Fits}
 use Rattle.packets.specs.Outbox.{pushed}
@@ -21,9 +21,9 @@ pub record TheGateway : Type 0 where
   pub tick : ℕ
   pub store : TheStore
   pub changes : List Change
-  pub out : List Packet
+  pub out : List NodePacket
 
-pub record IsGateway (page tick : ℕ) (out : List Packet) : Type 0 where
+pub record IsGateway (page tick : ℕ) (out : List NodePacket) : Type 0 where
   pub room : LEAST_PAGE ≤ page
   pub some : 1 ≤ tick
   -- each packet that waits can be written
@@ -38,7 +38,7 @@ abbrev pub peer_of : ℕ → TheGateway → ThePeer
 peer_of p g = peer_at p g.store
 
 -- a packet from the gateway
-abbrev pub packet_of : TheGateway → ℕ → Body → Packet
+abbrev pub packet_of : TheGateway → ℕ → Body → NodePacket
 packet_of g to body = record { count = length g.store.peers; from = 0; to = to; body = body }
 
 -- puts one more packet into the outbox, if there is room

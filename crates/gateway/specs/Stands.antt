@@ -7,7 +7,7 @@ use Rattle.world.specs.Phases.{Up}
 use Rattle.cluster.specs.Parcels.{Body, Parcel, parcel, In}
 use Rattle.cluster.specs.Cluster.{Cluster, Live}
 use Rattle.cluster.specs.Rules.{Act, Run, after_run, IsNode, message}
-use Rattle.packets.specs.declared.packet.Packet.{Packet}
+use Rattle.packets.specs.declared.packet.NodePacket.{NodePacket}
 use Rattle.stores.specs.declared.peer.Logged.{Logged}
 use Rattle.stores.specs.declared.change.Output.{Output}
 use Rattle.stores.specs.Peer.{ThePeer, no_entry}
@@ -16,13 +16,13 @@ use Rattle.packets.specs.Says.{Says}
 use Rattle.gateway.specs.Deeds.{IsByGateway}
 
 -- p sent a body that the packet says
-pub record WasSaid (parcels : List Parcel) (p : ℕ) (x : Packet) : Type 0 where
+pub record WasSaid (parcels : List Parcel) (p : ℕ) (x : NodePacket) : Type 0 where
   pub body : Body
   pub says : Says p x.body body
   pub among : In (parcel p x.to body) parcels
 
 -- the packet is from the gateway of a cluster of `count` processes, and was sent
-pub record PutOut (count : ℕ) (parcels : List Parcel) (x : Packet) : Type 0 where
+pub record PutOut (count : ℕ) (parcels : List Parcel) (x : NodePacket) : Type 0 where
   pub count_is : x.count ≡ count
   pub from : x.from ≡ 0
   pub said : WasSaid parcels 0 x
@@ -77,10 +77,10 @@ abbrev pub Acts : TheGateway → TheGateway → Type 0
 Acts old new = Owes (λ c. Unit {0}) old new
 
 -- what a call owes that is handed a packet, if that was sent
-abbrev pub IsHanded : Packet → TheGateway → TheGateway → Type 0
+abbrev pub IsHanded : NodePacket → TheGateway → TheGateway → Type 0
 IsHanded x old new = Owes (λ c. WasSaid c.parcels x.from x) old new
 
 -- what `take` owes: it gives the first packet that waited, which was sent, and the gateway no longer has it
-abbrev pub Takes : Option Packet → TheGateway → TheGateway → Type 0
+abbrev pub Takes : Option NodePacket → TheGateway → TheGateway → Type 0
 Takes None old new = (old.out ≡ []) × (new ≡ old)
 Takes (Some x) old new = (old ≡ record new { out = x ∷ new.out }) × ((c : Cluster) → Stands old c → PutOut c.count c.parcels x × Stands new c)

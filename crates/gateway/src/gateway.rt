@@ -11,8 +11,8 @@ ghost use Rattle.gateway.specs.Since.{Since, KeepsSince};
 
 use helpers::Payload;
 use limits::PROCESSES;
-use packets::Outbox;
-use packets::{Body, NUMBER_LIMIT, Packet};
+use packets::PacketQueue;
+use packets::{Body, NUMBER_LIMIT, NodePacket};
 use packets::LEAST_PAGE;
 use std::alloc::{AllocError, Global};
 use std::marker::Model;
@@ -28,7 +28,7 @@ pub struct Gateway {
     pub(crate) store: Store,
     /// The changes of the store since the host asked for them.
     pub(crate) changes: Vec<Change>,
-    pub(crate) out: Outbox,
+    pub(crate) out: PacketQueue,
 }
 
 impl Model for Gateway {
@@ -53,7 +53,7 @@ impl Gateway {
         ensures stands { IfOk result (λ g. (f : Handlers) → Stands g (opening count f)) }
     {
         let store = Store::new(alloc, count)?;
-        let out = Outbox::new(alloc)?;
+        let out = PacketQueue::new(alloc)?;
         Ok(Gateway {
             page,
             tick,
@@ -136,7 +136,7 @@ impl Gateway {
     }
 
     /// Takes the first packet that waits to be sent, if there is one.
-    pub fn take(&mut self) -> Option<Packet>
+    pub fn take(&mut self) -> Option<NodePacket>
         ensures { Takes result self.old self.new }
     {
         self.out.pop()
@@ -259,7 +259,7 @@ impl Gateway {
         requires { CanSay self.old to body }
         ensures { self.new ≡ posts to body self.old }
     {
-        let packet = Packet {
+        let packet = NodePacket {
             count: self.store.count(),
             from: 0,
             to,

@@ -8,14 +8,14 @@ ghost use Rattle.gateway.specs.Stands.{IsHanded};
 ghost use Rattle.gateway.specs.Since.{KeepsSince, IsShort};
 
 use crate::gateway::Gateway;
-use packets::{Body, Packet};
+use packets::{Body, NodePacket};
 use std::alloc::{AllocError, Global};
 use stores::{Change, Output};
 
 impl Gateway {
     /// Takes a packet. It drops one that isn't from a process of this cluster to the gateway. A
     /// refusal changes nothing.
-    pub fn receive(&mut self, alloc: Global, packet: &Packet) -> Result<(), AllocError>
+    pub fn receive(&mut self, alloc: Global, packet: &NodePacket) -> Result<(), AllocError>
         ensures value { OnOk result (self.new ≡ handed packet.now self.old) }
         ensures since { OnOk result (KeepsSince self.old self.new) }
         ensures acts { OnOk result (IsHanded packet.now self.old self.new) }
@@ -25,7 +25,7 @@ impl Gateway {
         self.hand(alloc, packet)
     }
 
-    fn hand(&mut self, alloc: Global, packet: &Packet) -> Result<(), AllocError>
+    fn hand(&mut self, alloc: Global, packet: &NodePacket) -> Result<(), AllocError>
         ensures ok { OnOk result (self.new ≡ handed packet.now self.old) }
         ensures err { OnErr result (self.new ≡ self.old) }
     {
@@ -67,7 +67,7 @@ impl Gateway {
 
     /// Whether the packet is from a process of this cluster to the gateway, and its fields are in
     /// range.
-    fn is_for(&self, packet: &Packet) -> bool
+    fn is_for(&self, packet: &NodePacket) -> bool
         ensures { result ≡ is_for self.now packet.now }
     {
         packet.count == self.store.count()

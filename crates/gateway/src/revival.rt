@@ -5,7 +5,7 @@ ghost use Rattle.stores.specs.Store.{FitAll, applied_all, IsApplyReason};
 ghost use Rattle.gateway.specs.Since.{revived, StandsFor};
 
 use crate::gateway::Gateway;
-use packets::Outbox;
+use packets::PacketQueue;
 use packets::LEAST_PAGE;
 use std::alloc::{AllocError, Global};
 use stores::{ApplyError, Change, Store};
@@ -27,7 +27,7 @@ impl Gateway {
         requires tick { 1 ≤ tick }
         ensures { IfOk result (λ g. g ≡ revived page tick store) }
     {
-        let out = Outbox::new(alloc)?;
+        let out = PacketQueue::new(alloc)?;
         Ok(Gateway {
             page,
             tick,

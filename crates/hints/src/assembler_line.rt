@@ -1,7 +1,7 @@
 //! Hints on a refused line of assembler text.
 
 use crate::shown::{hexadecimal_of, line_at, meant};
-use assemble::{Mistake, Wanted, mistake_of};
+use assemble::{TextMistake, Wanted, mistake_of};
 use std::alloc::{AllocError, Global};
 
 /// Words that no instruction has, and what they may be meant for.
@@ -121,16 +121,16 @@ fn range_words(alloc: Global, line: &str, word: &str) -> Result<String, AllocErr
 }
 
 /// What a line may be meant for; empty if that isn't known.
-fn meant_words(alloc: Global, line: &str, mistake: &Mistake<'_>) -> Result<String, AllocError> {
+fn meant_words(alloc: Global, line: &str, mistake: &TextMistake<'_>) -> Result<String, AllocError> {
     match *mistake {
-        Mistake::Word { word } => match meant(&MEANT, word) {
+        TextMistake::Word { word } => match meant(&MEANT, word) {
             Some(right) => format!(in alloc;
                 "no instruction has the word {word}: {right} is meant?"
             ),
             None => Ok(String::new(alloc)),
         },
-        Mistake::Shape { word, wanted } => shape_words(alloc, line, word, wanted),
-        Mistake::Range {
+        TextMistake::Shape { word, wanted } => shape_words(alloc, line, word, wanted),
+        TextMistake::Range {
             word,
             wanted: Wanted::Source | Wanted::Number,
         } => range_words(alloc, line, word),

@@ -5,7 +5,7 @@ ghost use Rattle.hints.specs.Told.{IsAdded};
 use crate::rest::Rest;
 use crate::why::{Act, Told, Why, named_in};
 use indexmap::IndexMap;
-use scenario::{Order, Process, Scenario, Step};
+use scenario::{Order, NamedProcess, Scenario, Step};
 use std::alloc::{AllocError, Global};
 use std::fmt;
 use scenario::name_at;
@@ -137,7 +137,7 @@ fn left(rest: Rest) -> (&'static str, u8, u8, u64) {
 }
 
 /// The name of a process, or of the outside.
-fn name_of(processes: &IndexMap<String, Process>, process: u8) -> &str {
+fn name_of(processes: &IndexMap<String, NamedProcess>, process: u8) -> &str {
     if process == 0 {
         return "outside";
     }
@@ -162,7 +162,7 @@ fn step_words(step: &Step) -> &'static str {
 fn push_told(
     alloc: Global,
     note: &mut String,
-    processes: &IndexMap<String, Process>,
+    processes: &IndexMap<String, NamedProcess>,
     told: &[Told],
 ) -> Result<(), AllocError> {
     for one in told {
@@ -192,7 +192,7 @@ fn push_steps(alloc: Global, note: &mut String, steps: &[Step]) -> Result<(), Al
 fn push_left(
     alloc: Global,
     note: &mut String,
-    processes: &IndexMap<String, Process>,
+    processes: &IndexMap<String, NamedProcess>,
     rest: Rest,
 ) -> Result<(), AllocError> {
     let (words, process, other, n) = left(rest);

@@ -6,7 +6,7 @@ use Rattle.std.proofs.Math.Seq.{drop-cons}
 use Rattle.std.specs.List.{onto_first, slice_split}
 use Rattle.assemble.specs.Refusal as assembling
 use Rattle.assemble.specs.Text.{is_silent, lines_of}
-use Rattle.assemble.specs.declared.fault.Rule.{Rule}
+use Rattle.assemble.specs.declared.fault.TextRule.{TextRule}
 use Rattle.image_commands.specs.Judged.{AreWholeLines, IsJudged, IsLastFeed}
 use Rattle.image_commands.specs.declared.asm.TheConstants.{SOURCE_LIMIT}
 use Rattle.image_commands.specs.declared.judged.TheConstants.{TEXT_LIMIT}
@@ -83,7 +83,7 @@ lines_behind n whole end feed =
     ap lines_of cut ∙ split_parts (λ c. c == 10) (take end b) 10 (drop (suc end) b ++ drop n whole) refl
 
 -- more lines behind a fault leave it
-fault_before : (whole head : List ℕ) (rest : List (List ℕ)) (rule : Rule) (line : ℕ) → lines_of whole ≡ lines_of head ++ rest
+fault_before : (whole head : List ℕ) (rest : List (List ℕ)) (rule : TextRule) (line : ℕ) → lines_of whole ≡ lines_of head ++ rest
     → assembling.IsFault head rule line → assembling.IsFault whole rule line
 fault_before whole head rest rule line lines f = record {
   before = f.before;
@@ -106,7 +106,7 @@ no_fault (x ∷ []) line after is speaks = absurd (cc)
 no_fault (x ∷ y ∷ ys) line after is speaks = absurd (cc)
 
 -- a fault in what is judged is one of the source
-pub fault_of_judged : (whole head : List ℕ) (rule : Rule) (line : ℕ) → IsJudged whole head → assembling.IsFault head rule line → assembling.IsFault whole rule line
+pub fault_of_judged : (whole head : List ℕ) (rule : TextRule) (line : ℕ) → IsJudged whole head → assembling.IsFault head rule line → assembling.IsFault whole rule line
 fault_of_judged whole head rule line (inl all) f = subst (λ (t : List ℕ). assembling.IsFault t rule line) all.1 f
 fault_of_judged whole head rule line (inr (long, inl (end, is, feed))) f =
     fault_before whole (take end (take TEXT_LIMIT whole)) (lines_of (drop (suc end) (take TEXT_LIMIT whole) ++ drop TEXT_LIMIT whole)) rule line

@@ -10,7 +10,7 @@ use Rattle.handlers.specs.Image.{TheImage}
 use Rattle.scenario.specs.Scenario as scenario
 use Rattle.scenario.specs.Scenario.{IsScenario}
 use Rattle.scenario.specs.declared.order.Allowed.{Allowed}
-use Rattle.scenario.specs.declared.process.Process.{Process}
+use Rattle.scenario.specs.declared.process.NamedProcess.{NamedProcess}
 use Rattle.scenario.specs.declared.scenario.Scenario.{Scenario}
 use Rattle.scenario.specs.declared.scenario.ScenarioError.{ScenarioError}
 use Rattle.scenario.specs.declared.scenario.ScenarioError.TheVariants as error
@@ -23,7 +23,7 @@ use Rattle.image_commands.specs.declared.fault.Fault.{Fault}
 use Rattle.image_commands.specs.declared.fault.Fault.TheVariants as fault
 
 abbrev Entry : Type 0
-Entry = String Global × Process
+Entry = String Global × NamedProcess
 
 -- ---- lists
 

@@ -5,8 +5,8 @@ use Rattle.std.specs.String.{string_bytes}
 use Rattle.assemble.specs.Refusal as assembling
 use Rattle.assemble.specs.declared.fault.AsmError.{AsmError}
 use Rattle.assemble.specs.declared.fault.AsmError.TheVariants as text
-use Rattle.cli.specs.declared.refusal.Refusal.{Refusal}
-use Rattle.cli.specs.declared.refusal.Refusal.TheVariants as refusal
+use Rattle.cli.specs.declared.refusal.UsageRefusal.{UsageRefusal}
+use Rattle.cli.specs.declared.refusal.UsageRefusal.TheVariants as refusal
 use Rattle.decode.specs.Refusal.{rule_number}
 use Rattle.decode.specs.declared.fault.DecodeError.{DecodeError}
 use Rattle.decode.specs.declared.fault.DecodeError.TheVariants as code
@@ -50,7 +50,7 @@ fault_text InputOutput = codes "input or output\n"
 -- ---- the fault that an error of a part is
 
 -- the fault of a command line: the text on usage, or want of memory
-abbrev pub fault_of_refusal : Refusal → Fault
+abbrev pub fault_of_refusal : UsageRefusal → Fault
 fault_of_refusal (refusal.Usage usage) = Usage usage
 fault_of_refusal refusal.Memory = Memory
 

@@ -3,7 +3,7 @@ use Rattle.std.specs.Prelude.{◌≡◌, ◌⊎◌, ℕ, Bool, true, List, Some,
 use Rattle.std.specs.declared.alloc.Global.{Global}
 use Rattle.images.specs.ImageFile as any
 use Rattle.verifier.specs.declared.fault.ImageError.{ImageError}
-use Rattle.scenario.specs.declared.process.Process.{Process}
+use Rattle.scenario.specs.declared.process.NamedProcess.{NamedProcess}
 use Rattle.image_commands.specs.Fault.{fault_of_image}
 use Rattle.image_commands.specs.Files.{Content}
 use Rattle.image_commands.specs.Loads.{AreRefused}
@@ -20,7 +20,7 @@ HandlerFault content failed path f =
     IsPlainFault failed f ⊎ ((e : ImageError) × (f ≡ fault_of_image e) × ((bytes : List ℕ) → content path ≡ Some bytes → any.IsRefusal bytes e))
 
 -- memory ran out, a file has failed, or the image of a process is refused
-abbrev pub ImagesFault : Content → Bool → List (String Global × Process) → Fault → Type 0
+abbrev pub ImagesFault : Content → Bool → List (String Global × NamedProcess) → Fault → Type 0
 ImagesFault content failed processes f =
     IsPlainFault failed f ⊎ ((e : ImageError) × (f ≡ fault_of_image e) × AreRefused content processes f)
 

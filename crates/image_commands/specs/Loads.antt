@@ -6,7 +6,7 @@ use Rattle.std.specs.String.{string_bytes}
 use Rattle.handlers.specs.Image.{TheImage}
 use Rattle.scenario.specs.Scenario as scenario
 use Rattle.scenario.specs.declared.order.Allowed.{Allowed}
-use Rattle.scenario.specs.declared.process.Process.{Process}
+use Rattle.scenario.specs.declared.process.NamedProcess.{NamedProcess}
 use Rattle.scenario.specs.declared.scenario.Scenario.{Scenario}
 use Rattle.scenario.specs.declared.scenario.ScenarioError.TheVariants.{Line}
 use Rattle.image_commands.specs.Check.{HasImage, IsUnaccepted}
@@ -15,7 +15,7 @@ use Rattle.image_commands.specs.declared.fault.Fault.{Fault}
 use Rattle.image_commands.specs.declared.fault.Fault.TheVariants as fault
 
 -- these are the images of the processes, in their order
-abbrev pub AreLoaded : Content → List (String Global × Process) → List TheImage → Type 0
+abbrev pub AreLoaded : Content → List (String Global × NamedProcess) → List TheImage → Type 0
 AreLoaded content [] [] = Unit {0}
 AreLoaded content (e ∷ es) (image ∷ images) = HasImage content (string_bytes e.1.path) image × AreLoaded content es images
 AreLoaded content processes images = ⊥
@@ -26,10 +26,10 @@ pub record IsScenarioWithImages (content : Content) (allowed : Allowed) (bytes :
   pub loaded : AreLoaded content s.processes.entries images
 
 -- the file of one process comes to the fault, and those of the processes before it are images
-pub record AreRefused (content : Content) (processes : List (String Global × Process)) (f : Fault) : Type 0 where
-  pub before : List (String Global × Process)
-  pub process : String Global × Process
-  pub after : List (String Global × Process)
+pub record AreRefused (content : Content) (processes : List (String Global × NamedProcess)) (f : Fault) : Type 0 where
+  pub before : List (String Global × NamedProcess)
+  pub process : String Global × NamedProcess
+  pub after : List (String Global × NamedProcess)
   pub whole : processes ≡ before ++ process ∷ after
   pub images : List TheImage
   pub loaded : AreLoaded content before images
@@ -45,8 +45,8 @@ IsUnloadable content allowed bytes (fault.Usage usage) = ⊥
 IsUnloadable content allowed bytes f = (s : Scenario) × scenario.IsScenario allowed bytes s × AreRefused content s.processes.entries f
 
 -- a process has the image at this path
-abbrev pub IsImagePath : List (String Global × Process) → List ℕ → Type 0
-IsImagePath processes path = (i : ℕ) × (e : String Global × Process) × (slice_get processes i ≡ Some e) × (path ≡ string_bytes e.1.path)
+abbrev pub IsImagePath : List (String Global × NamedProcess) → List ℕ → Type 0
+IsImagePath processes path = (i : ℕ) × (e : String Global × NamedProcess) × (slice_get processes i ≡ Some e) × (path ≡ string_bytes e.1.path)
 
 -- the scenario is that of the file at the path
 abbrev pub IsReadAs : Content → Allowed → List ℕ → Scenario → Type 0

@@ -9,7 +9,7 @@ ghost use Rattle.image_commands.specs.OwnInput.{IsMakeFault};
 use crate::fault::Fault;
 use crate::files::Files;
 use crate::judged::{TEXT_LIMIT, judged};
-use crate::kind::Kind;
+use crate::kind::FileKind;
 use crate::look::broken_line;
 use crate::own_input::spare;
 use crate::site::Site;
@@ -72,7 +72,7 @@ pub fn asm_at(
 
 /// What is wrong with the refused line of a source, or with the line that is no text, as a line of text; empty for any other
 /// fault.
-fn said(alloc: Global, source: &[u8], fault: &Fault, kind: Kind) -> Result<String, AllocError> {
+fn said(alloc: Global, source: &[u8], fault: &Fault, kind: FileKind) -> Result<String, AllocError> {
     if matches!(fault, Fault::InputOutput) {
         return broken_line(alloc, judged(source), kind);
     }

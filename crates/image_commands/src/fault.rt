@@ -7,7 +7,7 @@ ghost use Rattle.image_commands.specs.declared.fault.Fault.TheVariants.{Memory};
 use crate::files::Failure;
 use crate::stream::Stream;
 use assemble::AsmError;
-use cli::{Refusal, Usage};
+use cli::{UsageRefusal, Usage};
 use decode::DecodeError;
 use std::alloc::{AllocError, AllocFailed};
 use std::fmt;
@@ -21,11 +21,11 @@ pub enum Fault {
     /// An image's header, or the length of its file.
     Header(HeaderFault),
     /// An image's code breaks a rule of its encoding at this slot.
-    Decode { rule: decode::Rule, slot: usize },
+    Decode { rule: decode::EncodingRule, slot: usize },
     /// An image's code breaks a rule of the verifier at this slot.
     Verify { rule: regtypes::Rule, slot: usize },
     /// This line of an assembler text, counted from 1, breaks a rule.
-    Assemble { rule: assemble::Rule, line: usize },
+    Assemble { rule: assemble::TextRule, line: usize },
     /// This line of a scenario, counted from 1, is the first faulty one; line 0 if there is no process.
     Scenario { line: usize },
     Memory,
@@ -130,13 +130,13 @@ impl<T: Drop> From<AllocFailed<T>> for Fault {
     }
 }
 
-impl From<Refusal> for Fault {
+impl From<UsageRefusal> for Fault {
     ghost from_gives = { λ e f. f ≡ fault_of_refusal e };
 
-    fn from(e: Refusal) -> Fault {
+    fn from(e: UsageRefusal) -> Fault {
         match e {
-            Refusal::Usage(usage) => Fault::Usage(usage),
-            Refusal::Memory => Fault::Memory,
+            UsageRefusal::Usage(usage) => Fault::Usage(usage),
+            UsageRefusal::Memory => Fault::Memory,
         }
     }
 }

@@ -2,7 +2,7 @@
 
 /// What a file looks like by its first bytes.
 #[derive(Clone, Copy, Debug, PartialEq, Eq)]
-pub enum Kind {
+pub enum FileKind {
     /// An image file of form 1.
     Sbi1,
     /// An image file of form 2.
@@ -14,16 +14,16 @@ pub enum Kind {
     Other,
 }
 
-pub fn kind_of(bytes: &[u8]) -> Kind {
+pub fn kind_of(bytes: &[u8]) -> FileKind {
     if bytes.starts_with(b"SBI1") {
-        Kind::Sbi1
+        FileKind::Sbi1
     } else if bytes.starts_with(b"SBI2") {
-        Kind::Sbi2
+        FileKind::Sbi2
     } else if bytes.starts_with(b"SBI3") {
-        Kind::Sbi3
+        FileKind::Sbi3
     } else if bytes.starts_with(b"\x7fELF") {
-        Kind::Object
+        FileKind::Object
     } else {
-        Kind::Other
+        FileKind::Other
     }
 }

@@ -44,7 +44,7 @@ pub use explanation::explain_image;
 pub use fault::Fault;
 pub use files::{Failure, Files, Reason};
 pub use hint_word::hints_in;
-pub use kind::Kind;
+pub use kind::FileKind;
 pub use loader::{Loaded, load_scenario};
 pub use machine_code::write_machine_code;
 pub use own_input::{spare, spare_images};

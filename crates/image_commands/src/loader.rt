@@ -15,7 +15,7 @@ use crate::site::Site;
 use handlers::Handler;
 use hints::scenario_words;
 use indexmap::IndexMap;
-use scenario::{Allowed, Process, Scenario, ScenarioError, parse};
+use scenario::{Allowed, NamedProcess, Scenario, ScenarioError, parse};
 use std::alloc::Global;
 use std::sync::Arc;
 
@@ -91,7 +91,7 @@ pub fn load_handler<F: Files>(
 /// Loads the images of processes in their order.
 fn load_images<F: Files>(
     alloc: Global,
-    processes: &IndexMap<String, Process>,
+    processes: &IndexMap<String, NamedProcess>,
     files: &mut F,
     site: &mut Site,
 ) -> Result<Vec<Arc<Handler>>, Fault>

@@ -1,6 +1,6 @@
 //! What a file that is no image looks like, in words.
 
-use crate::kind::Kind;
+use crate::kind::FileKind;
 use assemble::is_compiled;
 use scenario::is_begun;
 use std::alloc::{AllocError, Global};
@@ -70,8 +70,8 @@ pub fn lost_words(path: &str, is_of_process: bool) -> &'static str {
 }
 
 /// A line that names the first line that is not UTF-8; empty if the file isn't meant as a text.
-pub fn broken_line(alloc: Global, bytes: &[u8], kind: Kind) -> Result<String, AllocError> {
-    if kind != Kind::Other {
+pub fn broken_line(alloc: Global, bytes: &[u8], kind: FileKind) -> Result<String, AllocError> {
+    if kind != FileKind::Other {
         return Ok(String::new(alloc));
     }
     let mut number = 0usize;

@@ -8,7 +8,7 @@ use crate::fault::Fault;
 use crate::files::Files;
 use cli::Usage;
 use indexmap::IndexMap;
-use scenario::Process;
+use scenario::NamedProcess;
 use std::alloc::Global;
 
 /// Refuses to write over the input.
@@ -25,7 +25,7 @@ pub fn spare<F: Files>(alloc: Global, input: &str, output: &str, files: &F) -> R
 /// Refuses to write over the image of a process.
 pub fn spare_images<F: Files>(
     alloc: Global,
-    processes: &IndexMap<String, Process>,
+    processes: &IndexMap<String, NamedProcess>,
     output: &str,
     files: &F,
 ) -> Result<(), Fault>

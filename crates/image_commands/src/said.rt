@@ -2,24 +2,24 @@
 
 use crate::fault::Fault;
 use crate::files::Reason;
-use crate::kind::Kind;
+use crate::kind::FileKind;
 use crate::site::Site;
 use listing::explain_file;
 use std::alloc::{AllocError, Global};
 use verifier::HeaderFault;
 
 /// What a file is that is no image.
-fn magic_words(kind: Kind) -> &'static str {
+fn magic_words(kind: FileKind) -> &'static str {
     match kind {
-        Kind::Object => "an object file, not an image (./sblog pack writes one of its code)",
-        Kind::Sbi1 | Kind::Sbi2 | Kind::Sbi3 | Kind::Other => {
+        FileKind::Object => "an object file, not an image (./sblog pack writes one of its code)",
+        FileKind::Sbi1 | FileKind::Sbi2 | FileKind::Sbi3 | FileKind::Other => {
             "not an image file (assembler text? sblog asm writes images)"
         }
     }
 }
 
 /// What is wrong with an image's header, or with the length of its file.
-fn header_words(kind: Kind, fault: HeaderFault) -> &'static str {
+fn header_words(kind: FileKind, fault: HeaderFault) -> &'static str {
     match fault {
         HeaderFault::TooShort => "fewer than the 8 bytes of a header",
         HeaderFault::Magic => magic_words(kind),
@@ -32,15 +32,15 @@ fn header_words(kind: Kind, fault: HeaderFault) -> &'static str {
 }
 
 /// What is wrong with the bytes of a slot.
-fn code_words(rule: decode::Rule) -> &'static str {
+fn code_words(rule: decode::EncodingRule) -> &'static str {
     match rule {
-        decode::Rule::Length => "the code isn't whole slots, of 8 bytes each",
-        decode::Rule::Opcode => "no instruction has this opcode",
-        decode::Rule::Field => "a field that the instruction doesn't use isn't zero",
-        decode::Rule::Register => "there is no register above r10",
-        decode::Rule::Cut => "a wide instruction lacks its second slot",
-        decode::Rule::Width => "bytes are swapped in 16, 32 or 64 bits",
-        decode::Rule::Profile => "a call of what is no helper, or a wide value that is no number",
+        decode::EncodingRule::Length => "the code isn't whole slots, of 8 bytes each",
+        decode::EncodingRule::Opcode => "no instruction has this opcode",
+        decode::EncodingRule::Field => "a field that the instruction doesn't use isn't zero",
+        decode::EncodingRule::Register => "there is no register above r10",
+        decode::EncodingRule::Cut => "a wide instruction lacks its second slot",
+        decode::EncodingRule::Width => "bytes are swapped in 16, 32 or 64 bits",
+        decode::EncodingRule::Profile => "a call of what is no helper, or a wide value that is no number",
     }
 }
 
@@ -56,44 +56,44 @@ fn is_of_form(rule: regtypes::Rule) -> bool {
 }
 
 /// Which command shows why a slot breaks a rule of the verifier, and the image's form, if that may be the cause.
-fn rule_words(kind: Kind, rule: regtypes::Rule) -> &'static str {
+fn rule_words(kind: FileKind, rule: regtypes::Rule) -> &'static str {
     if !is_of_form(rule) {
         return "sblog explain shows why";
     }
     match kind {
-        Kind::Sbi1 => {
+        FileKind::Sbi1 => {
             "sblog explain shows why (the image is of form 1; ordinary C wants --form 3)"
         }
-        Kind::Sbi2 => {
+        FileKind::Sbi2 => {
             "sblog explain shows why (the image is of form 2; ordinary C wants --form 3)"
         }
-        Kind::Sbi3 | Kind::Object | Kind::Other => "sblog explain shows why",
+        FileKind::Sbi3 | FileKind::Object | FileKind::Other => "sblog explain shows why",
     }
 }
 
 /// What is wrong with a line of an assembler text.
-fn line_words(rule: assemble::Rule) -> &'static str {
+fn line_words(rule: assemble::TextRule) -> &'static str {
     match rule {
-        assemble::Rule::Word => "no instruction has the line's first word",
-        assemble::Rule::Shape => "the operands aren't those of the line's first word",
-        assemble::Rule::Range => "a number is out of its range",
-        assemble::Rule::Limit => "with this line there are more than 1,024 slots",
+        assemble::TextRule::Word => "no instruction has the line's first word",
+        assemble::TextRule::Shape => "the operands aren't those of the line's first word",
+        assemble::TextRule::Range => "a number is out of its range",
+        assemble::TextRule::Limit => "with this line there are more than 1,024 slots",
     }
 }
 
 /// What a file is that is no text.
-fn text_words(kind: Kind) -> &'static str {
+fn text_words(kind: FileKind) -> &'static str {
     match kind {
-        Kind::Sbi1 | Kind::Sbi2 | Kind::Sbi3 => {
+        FileKind::Sbi1 | FileKind::Sbi2 | FileKind::Sbi3 => {
             "an image, not a text (sblog check verifies it, sblog dis prints its text)"
         }
-        Kind::Object => "an object file, not a text (./sblog pack writes an image of its code)",
-        Kind::Other => "not UTF-8, so no text",
+        FileKind::Object => "an object file, not a text (./sblog pack writes an image of its code)",
+        FileKind::Other => "not UTF-8, so no text",
     }
 }
 
 /// Why a file was not read or written; without a reason it was read and is no text.
-fn reason_words(kind: Kind, reason: Option<Reason>) -> &'static str {
+fn reason_words(kind: FileKind, reason: Option<Reason>) -> &'static str {
     match reason {
         None => text_words(kind),
         Some(Reason::Missing) => "no such file or folder",

@@ -5,7 +5,7 @@ ghost use Rattle.image_commands.specs.Files.{up_to};
 ghost use Rattle.image_commands.specs.declared.files.Failure.TheVariants.{Memory};
 
 use crate::files::{Failure, Files, Reason};
-use crate::kind::{Kind, kind_of};
+use crate::kind::{FileKind, kind_of};
 use crate::look::{look_of, lost_words};
 use std::alloc::{AllocError, Global};
 use std::fmt;
@@ -18,7 +18,7 @@ pub struct Site {
     /// Why it was not read or written, if that failed.
     pub reason: Option<Reason>,
     /// What it looks like, if it was read.
-    pub kind: Kind,
+    pub kind: FileKind,
     /// What is wrong with the line that the fault names, or what the file looks like in place of an image, as a line of text; or
     /// empty.
     pub words: String,
@@ -35,7 +35,7 @@ impl Site {
             process: None,
             path: String::new(alloc),
             reason: None,
-            kind: Kind::Other,
+            kind: FileKind::Other,
             words: String::new(alloc),
             image: Vec::new(alloc),
             note: String::new(alloc),
@@ -56,7 +56,7 @@ impl Site {
     /// The file at this path is read or written next.
     fn reach(&mut self, path: &str) -> Result<(), AllocError> {
         self.reason = None;
-        self.kind = Kind::Other;
+        self.kind = FileKind::Other;
         self.words.clear();
         self.image.clear();
         self.path.clear();
@@ -88,9 +88,9 @@ impl Site {
         match files.read(alloc, path, limit) {
             Ok(bytes) => {
                 self.kind = kind_of(bytes.as_slice());
-                if self.kind == Kind::Other {
+                if self.kind == FileKind::Other {
                     self.words.push_str(look_of(bytes.as_slice()))?;
-                } else if self.kind != Kind::Object {
+                } else if self.kind != FileKind::Object {
                     self.image.extend_from_slice(bytes.as_slice())?;
                 }
                 Ok(bytes)

@@ -3,7 +3,7 @@ use Rattle.std.proofs.Common.{◌≡◌, ◌≢◌, ◌⊎◌, ℕ, ◌*◌, ◌
 use Rattle.std.specs.List.{AllByRecursion}
 use Rattle.std.proofs.Math.Seq.{drop-append_seam}
 use Rattle.decode.specs.declared.insn.Insn.{Insn}
-use Rattle.decode.specs.declared.fault.Rule.{Rule}
+use Rattle.decode.specs.declared.fault.EncodingRule.{EncodingRule}
 use Rattle.decode.specs.Slots.{slots, slots_of}
 use Rattle.decode.specs.Encoding.{Fits, encoding}
 use Rattle.decode.specs.First.{IsFirst}
@@ -84,7 +84,7 @@ faultless : (bytes : List ℕ) (fault : HeaderFault) → ((q : HeaderFault) → 
 faultless bytes fault none first = none fault (firsts.first_holds (HasFault bytes) _ fault first)
 
 -- behind a sound header a fault of the code is one of the file
-pub code_fault : (h : FileHeader) (rest bytes : List ℕ) (rule : Rule) (slot : ℕ) → HasHeader h rest bytes → IsSound h rest → decoding.IsFault rest rule slot → IsCodeFault bytes rule slot
+pub code_fault : (h : FileHeader) (rest bytes : List ℕ) (rule : EncodingRule) (slot : ℕ) → HasHeader h rest bytes → IsSound h rest → decoding.IsFault rest rule slot → IsCodeFault bytes rule slot
 code_fault h rest bytes rule slot has s fault =
     (sound_has h rest bytes has s, subst (λ (r : List ℕ). decoding.IsFault r rule slot) (sym (fields_of h rest bytes has).code) fault)
 
@@ -132,7 +132,7 @@ pub no_header_fault : (is : List Insn) (len : ℕ) (bytes : List ℕ) (fault : H
 no_header_fault is len bytes fault f b =
     faultless bytes fault (sound_has (file_fields is len) (encoding is) bytes (file_has is len bytes f) (file_sound is len bytes f)) b
 
-pub no_code_fault : (is : List Insn) (len : ℕ) (bytes : List ℕ) (rule : Rule) (slot : ℕ) → IsFile is len bytes → IsCodeFault bytes rule slot → ⊥
+pub no_code_fault : (is : List Insn) (len : ℕ) (bytes : List ℕ) (rule : EncodingRule) (slot : ℕ) → IsFile is len bytes → IsCodeFault bytes rule slot → ⊥
 no_code_fault is len bytes rule slot f b =
     let k = fields_of (file_fields is len) (encoding is) bytes (file_has is len bytes f) in
     no_fault is rule slot f.fits (subst (λ (r : List ℕ). decoding.IsFault r rule slot) k.code b.1)
@@ -166,10 +166,10 @@ not_typable is js m n bytes rule slot f g h typable =
 one_header_fault : (bytes : List ℕ) (a b : HeaderFault) → IsHeaderFault bytes a → IsHeaderFault bytes b → a ≡ b
 one_header_fault bytes a b x y = firsts.first_once (HasFault bytes) _ a b x y
 
-header_or_code : (bytes : List ℕ) (fault : HeaderFault) (rule : Rule) (slot : ℕ) → IsHeaderFault bytes fault → IsCodeFault bytes rule slot → ⊥
+header_or_code : (bytes : List ℕ) (fault : HeaderFault) (rule : EncodingRule) (slot : ℕ) → IsHeaderFault bytes fault → IsCodeFault bytes rule slot → ⊥
 header_or_code bytes fault rule slot x y = faultless bytes fault y.0 x
 
-one_code_fault : (bytes : List ℕ) (q r : Rule) (m n : ℕ) → IsCodeFault bytes q m → IsCodeFault bytes r n → (q ≡ r) × (m ≡ n)
+one_code_fault : (bytes : List ℕ) (q r : EncodingRule) (m n : ℕ) → IsCodeFault bytes q m → IsCodeFault bytes r n → (q ≡ r) × (m ≡ n)
 one_code_fault bytes q r m n x y = one_fault (drop 8 bytes) q r m n x.1 y.1
 
 one_rule : (is js : List Insn) (l k : ℕ) (bytes : List ℕ) (q r : rules.Rule) (m n : ℕ) → IsFile is l bytes → IsFile js k bytes → IsFault is l q m → IsFault js k r n → (q ≡ r) × (m ≡ n)

@@ -2,7 +2,7 @@
 use Rattle.std.specs.Prelude.{◌≢◌, ℕ, take, drop, List, [], ◌∷◌}
 use Rattle.decode.specs.declared.insn.Insn.{Insn}
 use Rattle.decode.specs.Slots.{slots_of}
-use Rattle.decode.specs.declared.fault.Rule.{Rule}
+use Rattle.decode.specs.declared.fault.EncodingRule.{EncodingRule}
 use Rattle.decode.specs.First.{IsFirst}
 use Rattle.decode.specs.Refusal as decoding
 use Rattle.regtypes.specs.declared.image_form.ImageForm.TheVariants as two
@@ -50,7 +50,7 @@ IsHeaderFault bytes fault =
     IsFirst (HasFault bytes) (TooShort ∷ Magic ∷ StateLength ∷ SlotCount ∷ FileLength ∷ []) fault
 
 -- the header has no fault, and the code after it breaks this rule of the encoding, at this slot
-abbrev pub IsCodeFault : List ℕ → Rule → ℕ → Type 0
+abbrev pub IsCodeFault : List ℕ → EncodingRule → ℕ → Type 0
 IsCodeFault bytes rule slot =
     ((fault : HeaderFault) → ¬ HasFault bytes fault) × decoding.IsFault (drop 8 bytes) rule slot
 

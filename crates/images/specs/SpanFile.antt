@@ -6,7 +6,7 @@ use Rattle.limits.specs.declared.TheConstants.{SLOTS, STATE_BYTES}
 use Rattle.decode.specs.declared.insn.Insn.{Insn}
 use Rattle.decode.specs.Slots.{slots}
 use Rattle.decode.specs.Encoding.{Fits, encoding}
-use Rattle.decode.specs.declared.fault.Rule.{Rule}
+use Rattle.decode.specs.declared.fault.EncodingRule.{EncodingRule}
 use Rattle.decode.specs.First.{IsFirst}
 use Rattle.decode.specs.Refusal as decoding
 use Rattle.verifier.specs.declared.fault.HeaderFault.{HeaderFault}
@@ -42,7 +42,7 @@ IsHeaderFault bytes fault =
     IsFirst (HasFault bytes) (TooShort ∷ Magic ∷ StateLength ∷ SlotCount ∷ FileLength ∷ []) fault
 
 -- the header has no fault, and the code after it breaks this rule of the encoding, at this slot
-abbrev pub IsCodeFault : List ℕ → Rule → ℕ → Type 0
+abbrev pub IsCodeFault : List ℕ → EncodingRule → ℕ → Type 0
 IsCodeFault bytes rule slot =
     ((fault : HeaderFault) → ¬ HasFault bytes fault) × decoding.IsFault (drop 8 bytes) rule slot
 

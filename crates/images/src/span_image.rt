@@ -9,7 +9,7 @@ ghost use Rattle.span_verifier.specs.Verdict.{IsWhy};
 
 use decode::Insn;
 use limits::{SLOTS, STATE_BYTES};
-use span_verifier::{Frames, VerifyError, verify};
+use span_verifier::{SpanFrames, SpanVerifyError, verify};
 use std::alloc::{AllocError, Global};
 use std::marker::Model;
 
@@ -82,13 +82,13 @@ impl SpanImage {
 
     /// What is known at each slot of registers and of the stack's words: the least typing. Each call computes it anew;
     /// it takes memory only as long as the caller keeps it.
-    pub fn frames(&self, alloc: Global) -> Result<Frames, AllocError>
+    pub fn frames(&self, alloc: Global) -> Result<SpanFrames, AllocError>
         ensures { IfOk result (λ frames. IsFramesOf self.now.code self.now.len frames) }
     {
         match verify(alloc, &self.code, self.state_len) {
             Ok(frames) => Ok(frames),
-            Err(VerifyError::Memory) => Err(AllocError),
-            Err(VerifyError::Fault { .. }) => unreachable!(),
+            Err(SpanVerifyError::Memory) => Err(AllocError),
+            Err(SpanVerifyError::Fault { .. }) => unreachable!(),
         }
     }
 }
@@ -99,7 +99,7 @@ pub fn verified(
     code: Vec<Insn>,
     bytes: Vec<u8>,
     state_len: u16,
-) -> Result<SpanImage, VerifyError>
+) -> Result<SpanImage, SpanVerifyError>
     requires slots { length (slots_of code.items) ≤ SLOTS }
     requires state { state_len ≤ STATE_BYTES }
     requires fits { AllByRecursion Fits code.items }

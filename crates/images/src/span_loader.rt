@@ -9,7 +9,7 @@ ghost use Rattle.verifier.specs.declared.fault.ImageError.TheVariants.{Memory};
 use crate::header::{HEADER, read_header};
 use crate::span_image::{SpanImage, verified};
 use decode::{DecodeError, Insn, decode};
-use span_verifier::VerifyError;
+use span_verifier::SpanVerifyError;
 use std::alloc::Global;
 use verifier::ImageError;
 
@@ -51,8 +51,8 @@ fn image_of(
     };
     match verified(alloc, code, encoded, state_len) {
         Ok(image) => Ok(image),
-        Err(VerifyError::Memory) => Err(ImageError::Memory),
-        Err(VerifyError::Fault { rule, slot }) => Err(ImageError::Verify { rule, slot }),
+        Err(SpanVerifyError::Memory) => Err(ImageError::Memory),
+        Err(SpanVerifyError::Fault { rule, slot }) => Err(ImageError::Verify { rule, slot }),
     }
 }
 

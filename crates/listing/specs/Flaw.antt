@@ -5,15 +5,15 @@ use Rattle.decode.specs.declared.insn.Reg.{Reg}
 use Rattle.regtypes.specs.declared.attributes.Access.{Access}
 use Rattle.regtypes.specs.declared.frame.Region.TheVariants.{Message, State, Stack}
 use Rattle.spans.specs.declared.kind.Reach.{Reach}
-use Rattle.spans.specs.declared.kind.Kind.{Kind}
-use Rattle.spans.specs.declared.kind.Kind.TheVariants.{Unset, Num, Place}
+use Rattle.spans.specs.declared.kind.SpanKind.{SpanKind}
+use Rattle.spans.specs.declared.kind.SpanKind.TheVariants.{Unset, Num, Place}
 use Rattle.spans.specs.Access.{is_reached}
 use Rattle.spans.specs.Frame.{Frame}
 use Rattle.listing.specs.declared.flaw.Flaw.{Flaw}
 use Rattle.listing.specs.declared.flaw.Flaw.TheVariants.{Missing, Pointing, NotNumber}
 
 -- whether a kind has the flaw: nothing is known, it is a place, or it is no number
-abbrev pub has_flaw : Flaw → Kind → Bool
+abbrev pub has_flaw : Flaw → SpanKind → Bool
 has_flaw Missing Unset = true
 has_flaw Missing (Num s) = false
 has_flaw Missing (Place r s) = false
@@ -44,7 +44,7 @@ first_word zero w f s o n = None
 first_word (suc k) w f s o n = option_or (first_word k w f s o n) (flawed_cell w f s o n (11 + k))
 
 -- the first such cell among all words, for an access through a base of this kind
-abbrev pub flawed_word : Flaw → Frame → Kind → ℤ → ℕ → Option ℕ
+abbrev pub flawed_word : Flaw → Frame → SpanKind → ℤ → ℕ → Option ℕ
 flawed_word w f Unset o n = None
 flawed_word w f (Num s) o n = None
 flawed_word w f (Place Message s) o n = None

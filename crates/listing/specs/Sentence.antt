@@ -6,8 +6,8 @@ use Rattle.listing.specs.Kinds.{reg_text}
 use Rattle.regtypes.specs.declared.frame.Region.{Region}
 use Rattle.regtypes.specs.declared.frame.Region.TheVariants.{Message, State, Stack}
 use Rattle.spans.specs.declared.span.Span.{Span}
-use Rattle.listing.specs.declared.span_cause.Cause.{Cause}
-use Rattle.listing.specs.declared.span_cause.Cause.TheVariants.{Nothing, Jump, NothingFollows, FramePointer, NoAnswer, OfRegister, OfWord, SumOfPlaces, Outside, MovedBy, ShiftedBy, NoHelper, NoCount, NoPayload}
+use Rattle.listing.specs.declared.span_cause.SpanCause.{SpanCause}
+use Rattle.listing.specs.declared.span_cause.SpanCause.TheVariants.{Nothing, Jump, NothingFollows, FramePointer, NoAnswer, OfRegister, OfWord, SumOfPlaces, Outside, MovedBy, ShiftedBy, NoHelper, NoCount, NoPayload}
 use Rattle.listing.specs.declared.span_cause.RegisterFault.{RegisterFault}
 use Rattle.listing.specs.declared.span_cause.RegisterFault.TheVariants as register
 use Rattle.listing.specs.declared.span_cause.WordFault.{WordFault}
@@ -30,7 +30,7 @@ word_words (word.Read n) = codes " holds a place, of which " ++ decimal n ++ cod
 word_words (word.Written n) = codes " holds a place, of which " ++ decimal n ++ codes " bytes " ++ codes "are written"
 
 -- what breaks a rule at a slot, in code of this many slots, with a state of this many bytes
-abbrev pub cause_text : ℕ → ℕ → ℕ → Cause → List ℕ
+abbrev pub cause_text : ℕ → ℕ → ℕ → SpanCause → List ℕ
 cause_text state slots s Nothing = []
 cause_text state slots s (Jump d) = jump_cause slots s d
 cause_text state slots s NothingFollows = codes "nothing follows this instruction"
@@ -93,7 +93,7 @@ abbrev pub moved_advice : Span → List ℕ
 moved_advice t = if t.hi == 2 ^ 64 - 1 then any_index_advice else index_advice
 
 -- what to do about a cause
-abbrev pub cause_advice : Cause → List ℕ
+abbrev pub cause_advice : SpanCause → List ℕ
 cause_advice Nothing = codes "read the listing from here upward"
 cause_advice (Jump d) = codes "jump forward, to where an instruction begins: write unrolled above a loop of known length, and turn() first in it where clang leaves it as one"
 cause_advice NothingFollows = codes "end each way with exit"

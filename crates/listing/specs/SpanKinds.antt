@@ -2,8 +2,8 @@
 use Rattle.std.specs.Prelude.{ℕ, ◌-◌, ◌*◌, ◌^◌, ◌==◌, ◌&&◌, ◌++◌, int_le, Bool, List, [], ℤ, codes, decimal, if◌then◌else◌}
 use Rattle.std.specs.Fmt.{signed_decimal}
 use Rattle.regtypes.specs.declared.frame.Region.{Region}
-use Rattle.spans.specs.declared.kind.Kind.{Kind}
-use Rattle.spans.specs.declared.kind.Kind.TheVariants.{Unset, Num, Place}
+use Rattle.spans.specs.declared.kind.SpanKind.{SpanKind}
+use Rattle.spans.specs.declared.kind.SpanKind.TheVariants.{Unset, Num, Place}
 use Rattle.spans.specs.Access.{region_size}
 use Rattle.spans.specs.declared.span.Span.{Span}
 use Rattle.listing.specs.Kinds.{region_text, signed_text}
@@ -29,7 +29,7 @@ abbrev pub places_text : ℕ → Region → ℤ → ℤ → List ℕ
 places_text state r lo hi = region_text r ++ distances_text lo hi ++ codes " of " ++ decimal (region_size state r)
 
 -- what is known of a register or word: nothing, a number, or a place. The state has state bytes
-abbrev pub kind_text : ℕ → Kind → List ℕ
+abbrev pub kind_text : ℕ → SpanKind → List ℕ
 kind_text state Unset = codes "unset"
 kind_text state (Num s) = codes "number" ++ span_text s
 kind_text state (Place r s) = places_text state r s.lo s.hi

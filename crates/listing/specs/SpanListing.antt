@@ -11,8 +11,8 @@ use Rattle.regtypes.specs.declared.image_form.ImageForm.TheVariants.{Sbi2}
 use Rattle.regtypes.specs.declared.frame.Region.TheVariants.{Message, State, Stack}
 use Rattle.regtypes.specs.declared.rule.Rule.{Rule}
 use Rattle.regtypes.specs.Rules.{rule_number}
-use Rattle.spans.specs.declared.kind.Kind.{Kind}
-use Rattle.spans.specs.declared.kind.Kind.TheVariants.{Unset, Num, Place}
+use Rattle.spans.specs.declared.kind.SpanKind.{SpanKind}
+use Rattle.spans.specs.declared.kind.SpanKind.TheVariants.{Unset, Num, Place}
 use Rattle.spans.specs.Access.{is_inside, whole_word}
 use Rattle.spans.specs.Frame.{Frame}
 use Rattle.spans.specs.Ways.{operand_kind}
@@ -20,7 +20,7 @@ use Rattle.spans.specs.Narrowing.{SpanPair, opposite, shown}
 use Rattle.listing.specs.Listing.{texts_below, verdict_text}
 use Rattle.listing.specs.Reads.{is_read}
 use Rattle.images.specs.SpanFile.{IsFile}
-use Rattle.listing.specs.declared.span_cause.Cause.{Cause}
+use Rattle.listing.specs.declared.span_cause.SpanCause.{SpanCause}
 use Rattle.listing.specs.declared.span_study.SpanStudy.{SpanStudy}
 use Rattle.listing.specs.SpanCause.{cause_of}
 use Rattle.listing.specs.SpanKinds.{kind_text, word_text}
@@ -35,7 +35,7 @@ register_text state i f r =
     if is_read Sbi2 i r then codes "    r" ++ decimal r ++ codes " " ++ kind_text state (f r) ++ codes "\n" else []
 
 -- the cell of the stack's word that an access reads or writes as a whole, through a base of this kind
-abbrev pub word_at : Kind → ℤ → ℕ → Option ℕ
+abbrev pub word_at : SpanKind → ℤ → ℕ → Option ℕ
 word_at Unset o n = None
 word_at (Num s) o n = None
 word_at (Place Message s) o n = None
@@ -43,7 +43,7 @@ word_at (Place State s) o n = None
 word_at (Place Stack s) o n = if is_inside 512 s o n then whole_word s o n else None
 
 -- a word of the stack and what is known of it
-abbrev pub word_line : ℕ → ℕ → Kind → List ℕ
+abbrev pub word_line : ℕ → ℕ → SpanKind → List ℕ
 word_line state c k = codes "    " ++ word_text c ++ codes " " ++ kind_text state k ++ codes "\n"
 
 -- the word that is read
@@ -52,7 +52,7 @@ read_text state f None = []
 read_text state f (Some c) = word_line state c (f c)
 
 -- the word in which a place is kept
-abbrev pub kept_text : ℕ → Option ℕ → Kind → List ℕ
+abbrev pub kept_text : ℕ → Option ℕ → SpanKind → List ℕ
 kept_text state None k = []
 kept_text state (Some c) Unset = []
 kept_text state (Some c) (Num s) = []
@@ -79,7 +79,7 @@ ways_text (Some p) None = codes "    no number takes this jump\n"
 ways_text (Some p) (Some q) = []
 
 -- the note on a conditional jump that all numbers take, or none
-abbrev pub dead_by : Insn → Frame → Kind → Kind → List ℕ
+abbrev pub dead_by : Insn → Frame → SpanKind → SpanKind → List ℕ
 dead_by (JumpIf condition width dst o offset) f (Num a) (Num b) =
     ways_text (shown (opposite condition) (bits_of width) a b) (shown (Some condition) (bits_of width) a b)
 dead_by i f a b = []
@@ -96,7 +96,7 @@ ways_known i (Some f) = dead_text i f
 -- ---- slots
 
 -- the broken rule, what breaks it, and what to do about that
-abbrev pub broken_text : SpanStudy → Rule → ℕ → Cause → List ℕ
+abbrev pub broken_text : SpanStudy → Rule → ℕ → SpanCause → List ℕ
 broken_text s rule slot cause =
     codes "    refused by V" ++ decimal (rule_number rule) ++ codes ": " ++ cause_text s.state_len (length s.frames.slots.items) slot cause ++ codes "\n    to do: " ++ cause_advice cause ++ codes "\n"
 

@@ -13,8 +13,8 @@ use Rattle.regtypes.specs.Frame.{entry_frame, is_num, kind_at}
 use Rattle.regtypes.specs.Rules.{first_broken, tests_of}
 use Rattle.regtypes.specs.Typing.{frame_at}
 use Rattle.listing.specs.declared.study.Study.{Study}
-use Rattle.listing.specs.declared.why.Why.{Why}
-use Rattle.listing.specs.declared.why.Why.TheVariants.{Unknown, Never, Lost, Differs}
+use Rattle.listing.specs.declared.why.UnsetCause.{UnsetCause}
+use Rattle.listing.specs.declared.why.UnsetCause.TheVariants.{Unknown, Never, Lost, Differs}
 
 -- slot p is reached, leads to slot t, and leaves this kind in the register there
 pub record Leaves (s : Study) (r p t : ℕ) (k : Kind) : Type 0 where
@@ -69,14 +69,14 @@ pub record Agree (s : Study) (r t : ℕ) : Type 0 where
   pub all : (p : ℕ) (k : Kind) → p < t → Passes s r p t k → (k ≢ Unset) × ¬ Clash kind k
 
 -- the reason is at slot t. Unknown is answered only if there is no reason
-abbrev pub IsReason : Study → ℕ → Why → ℕ → Type 0
+abbrev pub IsReason : Study → ℕ → UnsetCause → ℕ → Type 0
 IsReason s r Unknown t = Agree s r t
 IsReason s r Never t = (t ≡ 0) × (kind_at (entry_frame s.form).kinds r ≡ Unset)
 IsReason s r (Lost p) t = Calls s r p × Leaves s r p t Unset
 IsReason s r (Differs p q at) t = (at ≡ t) × Disagree s r p q t
 
 -- the reason is at a slot from which a path leads here, on which the register stays unset
-abbrev pub IsWhy : Study → ℕ → Why → ℕ → Type 0
+abbrev pub IsWhy : Study → ℕ → UnsetCause → ℕ → Type 0
 IsWhy s r why here = (t : ℕ) × (way : List ℕ) × IsReason s r why t × StaysUnset s r t way here
 
 -- a slot is reached, and the register isn't set there
@@ -86,10 +86,10 @@ pub record IsUnsetAt (s : Study) (r here : ℕ) : Type 0 where
   pub unset : kind_at frame.kinds r ≡ Unset
 
 -- there is a reason if the register isn't set at a slot, and none if it is or no path reaches the slot
-pub record Explains (s : Study) (r : ℕ) (why : Why) (here : ℕ) : Type 0 where
+pub record Explains (s : Study) (r : ℕ) (why : UnsetCause) (here : ℕ) : Type 0 where
   pub unset : IsUnsetAt s r here → IsWhy s r why here
   pub set : ¬ IsUnsetAt s r here → why ≡ Unknown
 
 -- each register is explained
-abbrev pub AreWhys : Study → List Why → ℕ → Type 0
+abbrev pub AreWhys : Study → List UnsetCause → ℕ → Type 0
 AreWhys s whys here = (r : ℕ) → r < REGISTERS → Explains s r (slice_index_or whys r Unknown) here

@@ -7,7 +7,7 @@ ghost use Rattle.listing.specs.Flaw.{first_word, flawed_cell, flawed_word, has_f
 
 use decode::Reg;
 use regtypes::{Access, Region};
-use spans::{Cells, Kind, Reach};
+use spans::{Cells, SpanKind, Reach};
 
 /// What can be wrong with a register or a word of the stack.
 #[derive(Clone, Copy)]
@@ -20,15 +20,15 @@ pub enum Flaw {
     NotNumber,
 }
 
-fn has_flaw(flaw: Flaw, kind: Kind) -> bool
+fn has_flaw(flaw: Flaw, kind: SpanKind) -> bool
     ensures { result ≡ has_flaw flaw kind }
 {
     match (flaw, kind) {
-        (Flaw::Missing, Kind::Unset) => true,
+        (Flaw::Missing, SpanKind::Unset) => true,
         (Flaw::Missing, _) => false,
-        (Flaw::Pointing, Kind::Place(_, _)) => true,
+        (Flaw::Pointing, SpanKind::Place(_, _)) => true,
         (Flaw::Pointing, _) => false,
-        (Flaw::NotNumber, Kind::Num(_)) => false,
+        (Flaw::NotNumber, SpanKind::Num(_)) => false,
         (Flaw::NotNumber, _) => true,
     }
 }
@@ -101,11 +101,11 @@ fn first_word(flaw: Flaw, frame: &Cells, reach: Reach, offset: i16, bytes: u16) 
 }
 
 /// The first such cell for an access through a base of this kind.
-pub fn flawed_word(flaw: Flaw, frame: &Cells, base: Kind, offset: i16, bytes: u16) -> Option<usize>
+pub fn flawed_word(flaw: Flaw, frame: &Cells, base: SpanKind, offset: i16, bytes: u16) -> Option<usize>
     ensures { result ≡ flawed_word flaw (kind_at frame.now.kinds) base offset bytes }
 {
     match base {
-        Kind::Place(Region::Stack, reach) => first_word(flaw, frame, reach, offset, bytes),
+        SpanKind::Place(Region::Stack, reach) => first_word(flaw, frame, reach, offset, bytes),
         _ => None,
     }
 }

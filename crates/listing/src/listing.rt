@@ -8,7 +8,7 @@ use crate::cause::{advice, push_cause};
 use crate::kinds::{push_kind, push_with};
 use crate::reads::is_read;
 use crate::study::{Study, study_of};
-use crate::why::{Why, whys_at};
+use crate::why::{UnsetCause, whys_at};
 use assemble::disassemble;
 use decode::{Insn, Reg};
 use limits::{REGISTERS, SLOTS};
@@ -17,17 +17,17 @@ use std::alloc::{AllocError, Global};
 use verifier::ImageError;
 
 /// Writes why a register is unset, if it is.
-fn push_reason(out: &mut String, kind: Kind, why: Why) -> Result<(), AllocError>
+fn push_reason(out: &mut String, kind: Kind, why: UnsetCause) -> Result<(), AllocError>
     ensures { OnOk result (string_bytes out.new ≡ string_bytes out.old ++ reason_text kind why) }
 {
     if kind != Kind::Unset {
         return Ok(());
     }
     match why {
-        Why::Unknown => Ok(()),
-        Why::Never => out.push_str(": never set on a way that leads here"),
-        Why::Lost(slot) => write!(out, ": lost behind the helper at slot {slot}"),
-        Why::Differs(first, second, at) => {
+        UnsetCause::Unknown => Ok(()),
+        UnsetCause::Never => out.push_str(": never set on a way that leads here"),
+        UnsetCause::Lost(slot) => write!(out, ": lost behind the helper at slot {slot}"),
+        UnsetCause::Differs(first, second, at) => {
             write!(out, ": slots {first} and {second}")?;
             write!(
                 out,
@@ -41,7 +41,7 @@ fn push_reason(out: &mut String, kind: Kind, why: Why) -> Result<(), AllocError>
 fn push_register(
     out: &mut String,
     study: &Study,
-    whys: &[Why],
+    whys: &[UnsetCause],
     insn: &Insn,
     frame: &Frame,
     number: u8,
@@ -55,7 +55,7 @@ fn push_register(
     let kind = frame.kinds[number as usize];
     let why = match whys.get(number as usize) {
         Some(why) => *why,
-        None => Why::Unknown,
+        None => UnsetCause::Unknown,
     };
     write!(out, "    r{number} ")?;
     push_kind(out, kind, frame.low, study.state_len)?;
@@ -67,7 +67,7 @@ fn push_register(
 fn push_known(
     out: &mut String,
     study: &Study,
-    whys: &[Why],
+    whys: &[UnsetCause],
     insn: &Insn,
     frame: Option<Frame>,
 ) -> Result<(), AllocError>
@@ -132,7 +132,7 @@ fn push_refusal(
 fn push_notes(
     out: &mut String,
     study: &Study,
-    whys: &[Why],
+    whys: &[UnsetCause],
     slot: usize,
     insn: &Insn,
     frame: Option<Frame>,
@@ -156,7 +156,7 @@ fn push_slot(
     alloc: Global,
     out: &mut String,
     study: &Study,
-    whys: &[Why],
+    whys: &[UnsetCause],
     slot: usize,
 ) -> Result<(), AllocError>
     requires within { slot < length study.now.slots.items }
@@ -202,12 +202,12 @@ fn push_head(out: &mut String, study: &Study) -> Result<(), AllocError>
 }
 
 /// Why registers are unset at the slot that is refused.
-fn reasons_of(study: &Study) -> [Why; REGISTERS]
+fn reasons_of(study: &Study) -> [UnsetCause; REGISTERS]
     ensures { AreReasons study.now result study.now.refusal }
 {
     match study.refusal {
         Some((_, slot)) => whys_at(study, slot),
-        None => [Why::Unknown; REGISTERS],
+        None => [UnsetCause::Unknown; REGISTERS],
     }
 }
 

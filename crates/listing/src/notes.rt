@@ -14,7 +14,7 @@ use decode::{Insn, Reg};
 use limits::REGISTERS;
 use regtypes::{ImageForm, Region, bytes_in};
 use span_verifier::{is_inside, operand_kind, opposite, shown, whole_word};
-use spans::{Cells, Kind, Span};
+use spans::{Cells, SpanKind, Span};
 use std::alloc::AllocError;
 
 /// Writes a register and what is known of it, if the instruction reads it.
@@ -37,22 +37,22 @@ fn push_register(
 }
 
 /// What is known of a cell. Of cells after the last nothing is known.
-fn kind_in(frame: &Cells, cell: usize) -> Kind
+fn kind_in(frame: &Cells, cell: usize) -> SpanKind
     ensures { result ≡ kind_at frame.now.kinds cell }
 {
     if cell < 75 {
         frame.kinds[cell]
     } else {
-        Kind::Unset
+        SpanKind::Unset
     }
 }
 
 /// The cell of the stack's word that an access reads or writes as a whole.
-fn word_at(base: Kind, offset: i16, bytes: u8) -> Option<usize>
+fn word_at(base: SpanKind, offset: i16, bytes: u8) -> Option<usize>
     ensures { result ≡ word_at base offset bytes }
 {
     match base {
-        Kind::Place(Region::Stack, reach) if is_inside(512, reach, offset, bytes.into()) => {
+        SpanKind::Place(Region::Stack, reach) if is_inside(512, reach, offset, bytes.into()) => {
             whole_word(reach, offset, bytes.into())
         }
         _ => None,
@@ -64,7 +64,7 @@ fn push_word_line(
     out: &mut String,
     state_len: u16,
     cell: usize,
-    kind: Kind,
+    kind: SpanKind,
 ) -> Result<(), AllocError>
     ensures { OnOk result (string_bytes out.new ≡ string_bytes out.old ++ word_line state_len cell kind) }
 {
@@ -93,12 +93,12 @@ fn push_kept(
     out: &mut String,
     state_len: u16,
     word: Option<usize>,
-    kind: Kind,
+    kind: SpanKind,
 ) -> Result<(), AllocError>
     ensures { OnOk result (string_bytes out.new ≡ string_bytes out.old ++ kept_text state_len word kind) }
 {
     match (word, kind) {
-        (Some(cell), Kind::Place(_, _)) => push_word_line(out, state_len, cell, kind),
+        (Some(cell), SpanKind::Place(_, _)) => push_word_line(out, state_len, cell, kind),
         _ => Ok(()),
     }
 }
@@ -183,7 +183,7 @@ fn push_jump(out: &mut String, insn: &Insn, frame: &Cells) -> Result<(), AllocEr
         return Ok(());
     };
     match (frame.kind(dst), operand_kind(width, operand, frame)) {
-        (Kind::Num(a), Kind::Num(b)) => {
+        (SpanKind::Num(a), SpanKind::Num(b)) => {
             let next = shown(opposite(condition), width, a, b);
             push_dead(out, next, shown(Some(condition), width, a, b))
         }

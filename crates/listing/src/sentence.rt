@@ -7,7 +7,7 @@ ghost use Rattle.listing.specs.Sentence.{cause_advice, cause_text, moved_advice,
 
 use crate::cause::{push_count_cause, push_distance_cause, push_jump_cause};
 use crate::kinds::{push_with, push_with_signed};
-use crate::span_cause::{Cause, RegisterFault, WordFault};
+use crate::span_cause::{SpanCause, RegisterFault, WordFault};
 use crate::span_kinds::{distance_of, push_places, push_range};
 use decode::Reg;
 use limits::SLOTS;
@@ -114,33 +114,33 @@ pub fn push_cause(
     state_len: u16,
     slots: usize,
     slot: usize,
-    cause: Cause,
+    cause: SpanCause,
 ) -> Result<(), AllocError>
     requires within { slot < slots }
     requires short { slots ≤ SLOTS }
     ensures { OnOk result (string_bytes out.new ≡ string_bytes out.old ++ cause_text state_len slots slot cause) }
 {
     match cause {
-        Cause::Nothing => Ok(()),
-        Cause::Jump(distance) => push_jump_cause(out, slots, slot, distance),
-        Cause::NothingFollows => out.push_str("nothing follows this instruction"),
-        Cause::FramePointer => out.push_str("r10 is written, and is for reading"),
-        Cause::NoAnswer => out.push_str("r0 is to be a number at the end"),
-        Cause::OfRegister(reg, fault) => {
+        SpanCause::Nothing => Ok(()),
+        SpanCause::Jump(distance) => push_jump_cause(out, slots, slot, distance),
+        SpanCause::NothingFollows => out.push_str("nothing follows this instruction"),
+        SpanCause::FramePointer => out.push_str("r10 is written, and is for reading"),
+        SpanCause::NoAnswer => out.push_str("r0 is to be a number at the end"),
+        SpanCause::OfRegister(reg, fault) => {
             push_with(out, "r", reg.number.into(), register_words(fault))
         }
-        Cause::OfWord(cell, fault) => push_word_cause(out, cell, fault),
-        Cause::SumOfPlaces(first, second) => push_sum(out, first, second),
-        Cause::Outside(bytes, region, lo, hi) => {
+        SpanCause::OfWord(cell, fault) => push_word_cause(out, cell, fault),
+        SpanCause::SumOfPlaces(first, second) => push_sum(out, first, second),
+        SpanCause::Outside(bytes, region, lo, hi) => {
             push_outside(out, bytes, region, lo, hi, state_len)
         }
-        Cause::MovedBy(reg, span) => push_moved(out, reg, span),
-        Cause::ShiftedBy(reg, by) => push_distance_cause(out, reg, by),
-        Cause::NoHelper(helper) => {
+        SpanCause::MovedBy(reg, span) => push_moved(out, reg, span),
+        SpanCause::ShiftedBy(reg, by) => push_distance_cause(out, reg, by),
+        SpanCause::NoHelper(helper) => {
             push_with_signed(out, "form 3 has no helper ", helper.into(), "")
         }
-        Cause::NoCount(reg) => push_count_cause(out, reg.into()),
-        Cause::NoPayload(reg, bytes) => push_payload(out, reg, bytes),
+        SpanCause::NoCount(reg) => push_count_cause(out, reg.into()),
+        SpanCause::NoPayload(reg, bytes) => push_payload(out, reg, bytes),
     }
 }
 
@@ -215,25 +215,25 @@ fn moved_advice(span: Span) -> &'static str
 }
 
 /// What to do about a cause.
-pub fn cause_advice(cause: Cause) -> &'static str
+pub fn cause_advice(cause: SpanCause) -> &'static str
     ensures { result.now ≡ cause_advice cause }
 {
     match cause {
-        Cause::Nothing => "read the listing from here upward",
-        Cause::Jump(_) =>
+        SpanCause::Nothing => "read the listing from here upward",
+        SpanCause::Jump(_) =>
             "jump forward, to where an instruction begins: write unrolled above a loop of known length, and turn() first in it where clang leaves it as one",
-        Cause::NothingFollows => "end each way with exit",
-        Cause::FramePointer => "copy it by mov, and change the copy",
-        Cause::NoAnswer => "return a number on each way",
-        Cause::OfRegister(_, fault) => register_advice(fault),
-        Cause::OfWord(_, fault) => word_advice(fault),
-        Cause::SumOfPlaces(_, _) => "compare and compute with indices in place of pointers",
-        Cause::Outside(_, region, lo, hi) => outside_advice(region, lo, hi),
-        Cause::MovedBy(_, span) => moved_advice(span),
-        Cause::ShiftedBy(_, _) => REGION,
-        Cause::NoHelper(_) => "call helper 1 to 6",
-        Cause::NoCount(_) => "give the helper a number, set on each way that leads here",
-        Cause::NoPayload(_, _) =>
+        SpanCause::NothingFollows => "end each way with exit",
+        SpanCause::FramePointer => "copy it by mov, and change the copy",
+        SpanCause::NoAnswer => "return a number on each way",
+        SpanCause::OfRegister(_, fault) => register_advice(fault),
+        SpanCause::OfWord(_, fault) => word_advice(fault),
+        SpanCause::SumOfPlaces(_, _) => "compare and compute with indices in place of pointers",
+        SpanCause::Outside(_, region, lo, hi) => outside_advice(region, lo, hi),
+        SpanCause::MovedBy(_, span) => moved_advice(span),
+        SpanCause::ShiftedBy(_, _) => REGION,
+        SpanCause::NoHelper(_) => "call helper 1 to 6",
+        SpanCause::NoCount(_) => "give the helper a number, set on each way that leads here",
+        SpanCause::NoPayload(_, _) =>
             "compare the length with a number that fits before the call, or give a fixed one, and begin where so many bytes are left; where the C compares it already, within(length, most); right above the call does so anew; or --state is too small",
     }
 }

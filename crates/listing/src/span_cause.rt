@@ -13,7 +13,7 @@ use crate::flaw::{Flaw, distance_at, flawed_word, is_flawed, reached_word};
 use crate::reads::{base, shifted};
 use decode::{AluOp, Insn, Operand, Reg, Width};
 use regtypes::{Access, Attributes, Flow, Region, Rule, attributes_from, flow_from};
-use spans::{Cells, Kind, Span};
+use spans::{Cells, SpanKind, Span};
 
 /// What is wrong with a register.
 #[derive(Clone, Copy)]
@@ -45,7 +45,7 @@ pub enum WordFault {
 
 /// What breaks a rule.
 #[derive(Clone, Copy)]
-pub enum Cause {
+pub enum SpanCause {
     /// No cause is known.
     Nothing,
     /// A jump by this many slots.
@@ -76,13 +76,13 @@ pub enum Cause {
 }
 
 /// V1: the jump of an instruction.
-fn jump_of(flow: Flow) -> Cause
+fn jump_of(flow: Flow) -> SpanCause
     ensures { result ≡ jump_of flow }
 {
     match flow {
-        Flow::Leaps(distance) => Cause::Jump(distance),
-        Flow::Forks(distance) => Cause::Jump(distance),
-        Flow::Ends | Flow::Falls(_) => Cause::Nothing,
+        Flow::Leaps(distance) => SpanCause::Jump(distance),
+        Flow::Forks(distance) => SpanCause::Jump(distance),
+        Flow::Ends | Flow::Falls(_) => SpanCause::Nothing,
     }
 }
 
@@ -108,18 +108,18 @@ fn first_unset(frame: &Cells, what: &Attributes) -> Option<Reg>
     None
 }
 
-fn by_missing(reg: Option<Reg>, word: Option<usize>) -> Cause
+fn by_missing(reg: Option<Reg>, word: Option<usize>) -> SpanCause
     ensures { result ≡ by_missing reg word }
 {
     match (reg, word) {
-        (Some(reg), _) => Cause::OfRegister(reg, RegisterFault::Unset),
-        (None, Some(cell)) => Cause::OfWord(cell, WordFault::Unset),
-        (None, None) => Cause::Nothing,
+        (Some(reg), _) => SpanCause::OfRegister(reg, RegisterFault::Unset),
+        (None, Some(cell)) => SpanCause::OfWord(cell, WordFault::Unset),
+        (None, None) => SpanCause::Nothing,
     }
 }
 
 /// V3: the register or word that is read but not set.
-fn unset_cause(frame: &Cells, what: &Attributes) -> Cause
+fn unset_cause(frame: &Cells, what: &Attributes) -> SpanCause
     ensures { result ≡ unset_cause (kind_at frame.now.kinds) what.now }
 {
     let word = reached_word(Flaw::Missing, frame, what.access);
@@ -139,29 +139,29 @@ fn first_place(frame: &Cells, what: &Attributes) -> Option<Reg>
     None
 }
 
-fn part_cause(access: Access, word: Option<usize>) -> Cause
+fn part_cause(access: Access, word: Option<usize>) -> SpanCause
     ensures { result ≡ part_cause access word }
 {
     match word {
-        None => Cause::Nothing,
+        None => SpanCause::Nothing,
         Some(cell) => {
             if access.stores {
-                Cause::OfWord(cell, WordFault::Written(access.bytes))
+                SpanCause::OfWord(cell, WordFault::Written(access.bytes))
             } else {
-                Cause::OfWord(cell, WordFault::Read(access.bytes))
+                SpanCause::OfWord(cell, WordFault::Read(access.bytes))
             }
         }
     }
 }
 
-fn access_cause(frame: &Cells, access: Access, stored: Option<Reg>, kind: Kind) -> Cause
+fn access_cause(frame: &Cells, access: Access, stored: Option<Reg>, kind: SpanKind) -> SpanCause
     ensures { result ≡ access_cause (kind_at frame.now.kinds) access stored kind }
 {
     match (kind, stored) {
-        (Kind::Unset, _) => Cause::Nothing,
-        (Kind::Num(_), _) => Cause::OfRegister(access.base, RegisterFault::NumberAsBase),
-        (Kind::Place(_, _), Some(reg)) => Cause::OfRegister(reg, RegisterFault::PlaceStored),
-        (Kind::Place(_, _), None) => {
+        (SpanKind::Unset, _) => SpanCause::Nothing,
+        (SpanKind::Num(_), _) => SpanCause::OfRegister(access.base, RegisterFault::NumberAsBase),
+        (SpanKind::Place(_, _), Some(reg)) => SpanCause::OfRegister(reg, RegisterFault::PlaceStored),
+        (SpanKind::Place(_, _), None) => {
             let bytes = access.bytes.into();
             let word = flawed_word(Flaw::Pointing, frame, kind, access.offset, bytes);
             part_cause(access, word)
@@ -169,24 +169,24 @@ fn access_cause(frame: &Cells, access: Access, stored: Option<Reg>, kind: Kind) 
     }
 }
 
-fn mixed_by(frame: &Cells, access: Option<Access>, reg: Option<Reg>) -> Cause
+fn mixed_by(frame: &Cells, access: Option<Access>, reg: Option<Reg>) -> SpanCause
     ensures { result ≡ mixed_by (kind_at frame.now.kinds) access reg }
 {
     match (access, reg) {
-        (None, None) => Cause::Nothing,
-        (None, Some(reg)) => Cause::OfRegister(reg, RegisterFault::PlaceAsNumber),
+        (None, None) => SpanCause::Nothing,
+        (None, Some(reg)) => SpanCause::OfRegister(reg, RegisterFault::PlaceAsNumber),
         (Some(access), stored) => access_cause(frame, access, stored, frame.kind(access.base)),
     }
 }
 
-fn mixed_of(frame: &Cells, what: &Attributes) -> Cause
+fn mixed_of(frame: &Cells, what: &Attributes) -> SpanCause
     ensures { result ≡ mixed_of (kind_at frame.now.kinds) what.now }
 {
     mixed_by(frame, what.access, first_place(frame, what))
 }
 
 /// A sum of two registers, or else another cause.
-fn sum_or(insn: &Insn, other: Cause) -> Cause
+fn sum_or(insn: &Insn, other: SpanCause) -> SpanCause
     ensures { result ≡ sum_or insn.now other }
 {
     match *insn {
@@ -195,54 +195,54 @@ fn sum_or(insn: &Insn, other: Cause) -> Cause
             width: Width::W64,
             dst,
             operand: Operand::Reg(src),
-        } => Cause::SumOfPlaces(dst, src),
+        } => SpanCause::SumOfPlaces(dst, src),
         _ => other,
     }
 }
 
 /// V5: a number where a place is needed, or a place where a number is needed.
-fn mixed_cause(insn: &Insn, frame: &Cells) -> Cause
+fn mixed_cause(insn: &Insn, frame: &Cells) -> SpanCause
     ensures { result ≡ mixed_cause insn.now (kind_at frame.now.kinds) }
 {
     let what = attributes_from(insn);
     sum_or(insn, mixed_of(frame, &what))
 }
 
-fn moved_cause(dst: Reg, src: Reg, a: Kind, b: Kind) -> Cause
+fn moved_cause(dst: Reg, src: Reg, a: SpanKind, b: SpanKind) -> SpanCause
     ensures { result ≡ moved_cause dst src a b }
 {
     match (a, b) {
-        (Kind::Place(_, _), Kind::Num(span)) => Cause::MovedBy(dst, span),
-        (Kind::Num(span), Kind::Place(_, _)) => Cause::MovedBy(src, span),
-        _ => Cause::Nothing,
+        (SpanKind::Place(_, _), SpanKind::Num(span)) => SpanCause::MovedBy(dst, span),
+        (SpanKind::Num(span), SpanKind::Place(_, _)) => SpanCause::MovedBy(src, span),
+        _ => SpanCause::Nothing,
     }
 }
 
-fn reach_cause(access: Access, kind: Kind) -> Cause
+fn reach_cause(access: Access, kind: SpanKind) -> SpanCause
     ensures { result ≡ reach_cause access kind }
 {
     match kind {
-        Kind::Place(region, reach) => {
+        SpanKind::Place(region, reach) => {
             let lo = distance_at(reach.lo, access.offset);
             let hi = distance_at(reach.hi, access.offset);
-            Cause::Outside(access.bytes, region, lo, hi)
+            SpanCause::Outside(access.bytes, region, lo, hi)
         }
-        Kind::Unset | Kind::Num(_) => Cause::Nothing,
+        SpanKind::Unset | SpanKind::Num(_) => SpanCause::Nothing,
     }
 }
 
-fn out_by(frame: &Cells, access: Option<Access>, moved: Option<(Reg, i64)>) -> Cause
+fn out_by(frame: &Cells, access: Option<Access>, moved: Option<(Reg, i64)>) -> SpanCause
     ensures { result ≡ out_by (kind_at frame.now.kinds) access moved }
 {
     match (access, moved) {
         (Some(access), _) => reach_cause(access, frame.kind(access.base)),
-        (None, Some((reg, by))) => Cause::ShiftedBy(reg, by),
-        (None, None) => Cause::Nothing,
+        (None, Some((reg, by))) => SpanCause::ShiftedBy(reg, by),
+        (None, None) => SpanCause::Nothing,
     }
 }
 
 /// A register that moves another to which it is added, or else another cause.
-fn moved_or(insn: &Insn, frame: &Cells, other: Cause) -> Cause
+fn moved_or(insn: &Insn, frame: &Cells, other: SpanCause) -> SpanCause
     ensures { result ≡ moved_or insn.now (kind_at frame.now.kinds) other }
 {
     match *insn {
@@ -257,7 +257,7 @@ fn moved_or(insn: &Insn, frame: &Cells, other: Cause) -> Cause
 }
 
 /// V6: an access outside a region, or a place that is moved too far.
-fn out_cause(insn: &Insn, frame: &Cells) -> Cause
+fn out_cause(insn: &Insn, frame: &Cells) -> SpanCause
     ensures { result ≡ out_cause insn.now (kind_at frame.now.kinds) }
 {
     let what = attributes_from(insn);
@@ -265,39 +265,39 @@ fn out_cause(insn: &Insn, frame: &Cells) -> Cause
 }
 
 /// V7: the base of an access.
-fn message_cause(access: Option<Access>) -> Cause
+fn message_cause(access: Option<Access>) -> SpanCause
     ensures { result ≡ message_cause access }
 {
     match access {
-        None => Cause::Nothing,
-        Some(access) => Cause::OfRegister(access.base, RegisterFault::Message),
+        None => SpanCause::Nothing,
+        Some(access) => SpanCause::OfRegister(access.base, RegisterFault::Message),
     }
 }
 
 /// V8: the number of a helper.
-fn helper_cause(insn: &Insn) -> Cause
+fn helper_cause(insn: &Insn) -> SpanCause
     ensures { result ≡ helper_cause insn.now }
 {
     match *insn {
-        Insn::Call { helper } => Cause::NoHelper(helper),
-        _ => Cause::Nothing,
+        Insn::Call { helper } => SpanCause::NoHelper(helper),
+        _ => SpanCause::Nothing,
     }
 }
 
 /// What breaks a rule at a slot, under its frame.
-pub fn cause_of(insn: &Insn, frame: &Cells, rule: Rule) -> Cause
+pub fn cause_of(insn: &Insn, frame: &Cells, rule: Rule) -> SpanCause
     ensures { result ≡ cause_of insn.now (kind_at frame.now.kinds) rule }
 {
     match rule {
         Rule::V1 => jump_of(flow_from(insn)),
-        Rule::V2 => Cause::NothingFollows,
+        Rule::V2 => SpanCause::NothingFollows,
         Rule::V3 => unset_cause(frame, &attributes_from(insn)),
-        Rule::V4 => Cause::FramePointer,
+        Rule::V4 => SpanCause::FramePointer,
         Rule::V5 => mixed_cause(insn, frame),
         Rule::V6 => out_cause(insn, frame),
         Rule::V7 => message_cause(attributes_from(insn).access),
         Rule::V8 => helper_cause(insn),
         Rule::V9 => argument_cause(insn, frame),
-        Rule::V10 => Cause::NoAnswer,
+        Rule::V10 => SpanCause::NoAnswer,
     }
 }

@@ -7,7 +7,7 @@ ghost use Rattle.listing.specs.SpanKinds.{distances_text, is_whole, kind_text, p
 use crate::kinds::{push_signed, push_with, push_with_signed, region_word};
 use limits::STACK_BYTES;
 use regtypes::Region;
-use spans::{Kind, Span};
+use spans::{SpanKind, Span};
 use std::alloc::AllocError;
 
 /// The size of a region in bytes.
@@ -78,16 +78,16 @@ pub fn push_places(
 }
 
 /// Writes what is known of a register or of a word of the stack.
-pub fn push_kind(out: &mut String, kind: Kind, state_len: u16) -> Result<(), AllocError>
+pub fn push_kind(out: &mut String, kind: SpanKind, state_len: u16) -> Result<(), AllocError>
     ensures { OnOk result (string_bytes out.new ≡ string_bytes out.old ++ kind_text state_len kind) }
 {
     match kind {
-        Kind::Unset => out.push_str("unset"),
-        Kind::Num(span) => {
+        SpanKind::Unset => out.push_str("unset"),
+        SpanKind::Num(span) => {
             out.push_str("number")?;
             push_span(out, span)
         }
-        Kind::Place(region, reach) => {
+        SpanKind::Place(region, reach) => {
             push_places(out, region, reach.lo.into(), reach.hi.into(), state_len)
         }
     }

@@ -12,7 +12,7 @@ use crate::kinds::push_with;
 use crate::listing::push_verdict;
 use crate::notes::{push_known, push_ways};
 use crate::sentence::{cause_advice, push_cause};
-use crate::span_cause::{Cause, cause_of};
+use crate::span_cause::{SpanCause, cause_of};
 use crate::span_study::{SpanStudy, study_of};
 use assemble::disassemble;
 use decode::Insn;
@@ -27,7 +27,7 @@ fn push_broken(
     study: &SpanStudy,
     rule: Rule,
     slot: usize,
-    cause: Cause,
+    cause: SpanCause,
 ) -> Result<(), AllocError>
     requires within { slot < length study.now.frames.slots.items }
     requires short { length study.now.frames.slots.items ≤ SLOTS }

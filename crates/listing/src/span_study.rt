@@ -8,7 +8,7 @@ ghost use Rattle.listing.specs.SpanStudy.{IsStudy};
 
 use decode::Insn;
 use limits::SLOTS;
-use span_verifier::{Frames, frames_of};
+use span_verifier::{SpanFrames, frames_of};
 use spans::Cells;
 use std::alloc::{AllocError, Global};
 
@@ -20,7 +20,7 @@ pub struct SpanStudy {
     /// How many instructions there are. One of two slots counts once.
     pub count: usize,
     /// The slots, what is known at each, and the refusal, if there is one.
-    pub frames: Frames,
+    pub frames: SpanFrames,
 }
 
 impl SpanStudy {

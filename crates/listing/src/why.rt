@@ -12,7 +12,7 @@ use regtypes::{Flow, Frame, Kind, flow_from, transfer};
 
 /// Why a register isn't set.
 #[derive(Clone, Copy, Debug, PartialEq, Eq)]
-pub enum Why {
+pub enum UnsetCause {
     /// No reason was found.
     Unknown,
     /// It is unset when a call begins, and some path from there never sets it.
@@ -27,7 +27,7 @@ pub enum Why {
 #[derive(Clone, Copy)]
 enum Arrival {
     Unset(usize),
-    Reason(Why),
+    Reason(UnsetCause),
 }
 
 /// Whether a jump by this distance leads from one slot to another.
@@ -96,20 +96,20 @@ fn arrival_at(study: &Study, reg: Reg, at: usize) -> Arrival
     ensures { Arrives study.now reg.number at result }
 {
     let mut set: Option<(usize, Kind)> = None;
-    let mut reason = Why::Unknown;
+    let mut reason = UnsetCause::Unknown;
     for from in 0..at {
         match (kind_left(study, reg, from, at), set) {
             (None, _) => {}
             (Some(Kind::Unset), _) => {
                 if calls(study, reg, from) {
-                    return Arrival::Reason(Why::Lost(from));
+                    return Arrival::Reason(UnsetCause::Lost(from));
                 }
                 return Arrival::Unset(from);
             }
             (Some(kind), None) => set = Some((from, kind)),
             (Some(kind), Some((first, had))) => {
                 if clash(had, kind) {
-                    reason = Why::Differs(first, from, at);
+                    reason = UnsetCause::Differs(first, from, at);
                 }
             }
         }
@@ -118,7 +118,7 @@ fn arrival_at(study: &Study, reg: Reg, at: usize) -> Arrival
 }
 
 /// Why a register is unset at a slot.
-fn why_of(study: &Study, reg: Reg, slot: usize) -> Why
+fn why_of(study: &Study, reg: Reg, slot: usize) -> UnsetCause
     ensures { IsWhy study.now reg.number result slot }
 {
     let mut at = slot;
@@ -129,17 +129,17 @@ fn why_of(study: &Study, reg: Reg, slot: usize) -> Why
         }
     }
     if Frame::entry(study.form).kind(reg) == Kind::Unset {
-        Why::Never
+        UnsetCause::Never
     } else {
-        Why::Unknown
+        UnsetCause::Unknown
     }
 }
 
 /// For each register that is unset at a slot, why it is.
-pub fn whys_at(study: &Study, slot: usize) -> [Why; REGISTERS]
+pub fn whys_at(study: &Study, slot: usize) -> [UnsetCause; REGISTERS]
     ensures { AreWhys study.now result slot }
 {
-    let mut whys = [Why::Unknown; REGISTERS];
+    let mut whys = [UnsetCause::Unknown; REGISTERS];
     let Some(frame) = study.frame_at(slot) else {
         return whys;
     };

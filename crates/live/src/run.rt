@@ -20,7 +20,7 @@ use handlers::Handler;
 use indexmap::IndexMap;
 use limits::{SEATS, WORKERS};
 use results::{note_refused, push_results};
-use scenario::{Process, Scenario};
+use scenario::{NamedProcess, Scenario};
 use sessions::{End, Session, Share};
 use std::alloc::{AllocError, Global};
 use std::marker::Brand;
@@ -41,7 +41,7 @@ fn have_memory<L: Ledger>(shares: &[Share<L>]) -> bool
 fn push_closed<L: Ledger>(
     alloc: Global,
     out: &mut String,
-    processes: &IndexMap<String, Process>,
+    processes: &IndexMap<String, NamedProcess>,
     closed: &Closed<L>,
 ) -> Result<(), AllocError>
     requires { length processes.now.entries ≡ length closed.now.session.images }

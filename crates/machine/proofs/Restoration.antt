@@ -7,7 +7,7 @@ use Rattle.std.proofs.lemmas.List.{append-nil, drop_all, get_or_default, get_or-
 use Rattle.limits.specs.declared.TheConstants.{ENTRIES}
 use Rattle.handlers.specs.Image.{TheImage, image_in}
 use Rattle.rsn.specs.Receipts.{run_of}
-use Rattle.checkpoint.specs.declared.form.Form.TheVariants.{Second}
+use Rattle.checkpoint.specs.declared.form.CheckpointForm.TheVariants.{Second}
 use Rattle.checkpoint.specs.Saved.{TheSaved, Fits, is_sender, log_again, queue_again}
 use Rattle.replay.specs.Plan.{ThePlan}
 use Rattle.machine.specs.Process.{TheProcess, idle_process, received, restored, unnumbered_at}

@@ -1,6 +1,6 @@
 -- Checkpoints, and what is dropped after them
 use Rattle.std.specs.Prelude.{◌≡◌, ℕ, zero, suc, ◌+◌, ◌-◌, List, take, count_by, Bool, not, ◌==◌, ◌&&◌, if◌then◌else◌, slice_set}
-use Rattle.checkpoint.specs.declared.form.Form.TheVariants.{Second}
+use Rattle.checkpoint.specs.declared.form.CheckpointForm.TheVariants.{Second}
 use Rattle.checkpoint.specs.Format.{IsCheckpoint}
 use Rattle.checkpoint.specs.Saved.{TheSaved}
 use Rattle.sender_log.specs.Queue.{count_up_to, trimmed}

@@ -10,7 +10,7 @@ use Rattle.world.specs.declared.refusal.Refusal.TheVariants.{NotDown, JournalFul
 use Rattle.world.specs.World.{World}
 use Rattle.world.specs.Refusals.{refusal_of}
 use Rattle.rsn.specs.Receipts.{run_of}
-use Rattle.checkpoint.specs.declared.form.Form.TheVariants.{Second}
+use Rattle.checkpoint.specs.declared.form.CheckpointForm.TheVariants.{Second}
 use Rattle.checkpoint.specs.Saved.{Fits, log_again, receipts_again}
 use Rattle.replay.specs.Plan.{IsPlan, found}
 use Rattle.machine.specs.Fields.{IsLogOf}

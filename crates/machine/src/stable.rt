@@ -2,7 +2,7 @@
 
 ghost use Rattle.std.specs.Prelude.{◌≡◌, ◌+◌, ◌≤◌, ◌<◌, ◌==◌, true, length, count_by, IfOk};
 ghost use Rattle.std.specs.List.{list_all};
-ghost use Rattle.checkpoint.specs.declared.form.Form.TheVariants.{Second};
+ghost use Rattle.checkpoint.specs.declared.form.CheckpointForm.TheVariants.{Second};
 ghost use Rattle.checkpoint.specs.Format.{IsCheckpoint};
 ghost use Rattle.checkpoint.specs.Saved.{Fits, is_sender, saved_of, receipts_again};
 ghost use Rattle.machine.specs.Outbox.{outbox_again};

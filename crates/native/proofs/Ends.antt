@@ -12,7 +12,7 @@ use Rattle.x86.specs.Machine as machine
 use Rattle.x86.specs.Machine.{Value, Word, At, Block, Array, Record, Flags, Unknown, State, Outcome, Goes, Leaps, Returns, Stuck, by_outcome, returned, is_named, value, with_word, word_or_stuck, behind, extended, reach, written, block, act, HasAt, Runs}
 use Rattle.native.specs.declared.prologue.Opening.{Opening}
 use Rattle.native.specs.declared.prologue.Opening.TheVariants as opening
-use Rattle.native.specs.declared.saved.Saved.{Saved}
+use Rattle.native.specs.declared.saved.SavedRegisters.{SavedRegisters}
 use Rattle.native.specs.Saved.{may_write, push_if, pop_if, saving, restoring}
 use Rattle.native.specs.Openings.{entering_by, placing}
 use Rattle.native.specs.Code.{gpr, codes, clear, beginning, entering, ending, leaving}
@@ -33,7 +33,7 @@ abbrev pub kept_if : Bool → Value → List Value → List Value
 kept_if b v vs = if b then v ∷ vs else vs
 
 -- what is pushed, the last first
-abbrev pub saved_by : Saved → State → List Value
+abbrev pub saved_by : SavedRegisters → State → List Value
 saved_by s c =
     kept_if s.r15 (value c 15) (kept_if s.r14 (value c 14) (kept_if s.r13 (value c 13) (kept_if s.r12 (value c 12)
     (kept_if s.rbp (value c 5) (kept_if s.rbx (value c 3) [])))))
@@ -82,10 +82,10 @@ module _ (code : List ℕ) (arr rec : List ℕ) (start : State) where
     pub record_is : last.record_ ≡ rec
 
   -- the registers that weren't pushed are as they were
-  abbrev pub Still : Saved → State → Type 0
+  abbrev pub Still : SavedRegisters → State → Type 0
   Still s c = (r : ℕ) → may_write s r ≡ false → r < 10 → value c (gpr r) ≡ value start (gpr r)
 
-  popped : (s : Saved) (c : State) → length c.regs ≡ 16 → c.array ≡ arr → c.record_ ≡ rec → c.pushed ≡ saved_by s start → Still s c → (last : State) × GoesAll (restoring s) c last × (last.pushed ≡ []) × Left (value c 0) last
+  popped : (s : SavedRegisters) (c : State) → length c.regs ≡ 16 → c.array ≡ arr → c.record_ ≡ rec → c.pushed ≡ saved_by s start → Still s c → (last : State) × GoesAll (restoring s) c last × (last.pushed ≡ []) × Left (value c 0) last
   popped s c l ea er e still =
       let v3 = value start 3 in
       let v5 = value start 5 in
@@ -148,7 +148,7 @@ module _ (code : List ℕ) (arr rec : List ℕ) (start : State) where
       )
 
   -- the saved registers are popped, and the code returns
-  pub left : (s : Saved) (c : State) (q : ℕ) → length c.regs ≡ 16 → c.array ≡ arr → c.record_ ≡ rec → c.pushed ≡ saved_by s start → Still s c → HasAt code q (codes (restoring s ++ instr.Return ∷ [])) → (last : State) × Ends code last q c × Left (value c 0) last
+  pub left : (s : SavedRegisters) (c : State) (q : ℕ) → length c.regs ≡ 16 → c.array ≡ arr → c.record_ ≡ rec → c.pushed ≡ saved_by s start → Still s c → HasAt code q (codes (restoring s ++ instr.Return ∷ [])) → (last : State) × Ends code last q c × Left (value c 0) last
   left s c q l ea er e still h =
       let x = popped s c l ea er e still in
       let last = x.0 in
@@ -160,7 +160,7 @@ module _ (code : List ℕ) (arr rec : List ℕ) (start : State) where
       (last, all_go code last (restoring s) q c last h1 x.1 r, x.3)
 
 -- the last store and all that follows
-module _ {who : Who} (saved : Saved) (start : State) {c : State} {words mem : List ℕ} {e : Emitted} {count : ℕ} (a : Agrees who (saved_by saved start) c words mem e count) where
+module _ {who : Who} (saved : SavedRegisters) (start : State) {c : State} {words mem : List ℕ} {e : Emitted} {count : ℕ} (a : Agrees who (saved_by saved start) c words mem e count) where
   abbrev pub counted : List ℕ
   counted = overwritten c.record_ 16 (le_bytes 8 count)
 
@@ -210,7 +210,7 @@ module _ (who : Who) (m : ℕ) (c : State) (e : IsCalled who m c) where
       ∷ (e.words 10 (omega arith) (omega arith)).0 ∷ (e.words 3 (omega arith) (omega arith)).0 ∷ (e.words 5 (omega arith) (omega arith)).0
       ∷ (e.words 13 (omega arith) (omega arith)).0 ∷ (e.words 14 (omega arith) (omega arith)).0 ∷ (e.words 15 (omega arith) (omega arith)).0 ∷ 0 ∷ []
 
-  abbrev pub entered : Saved → State
+  abbrev pub entered : SavedRegisters → State
   entered saved = state_of (g 0 ∷ g 1 ∷ g 2 ∷ g 3 ∷ g 4 ∷ g 5 ∷ g 6 ∷ behind (g 7) 384 ∷ g 8 ∷ g 2 ∷ g 10 ∷ Word 0 ∷ g 12 ∷ g 13 ∷ g 14 ∷ g 15 ∷ []) c.long Unknown c.array c.record_ (saved_by saved c)
 
   -- the same with any value in r11
@@ -218,10 +218,10 @@ module _ (who : Who) (m : ℕ) (c : State) (e : IsCalled who m c) where
   begun v = state_of (g 0 ∷ g 1 ∷ g 2 ∷ g 3 ∷ g 4 ∷ g 5 ∷ g 6 ∷ g 7 ∷ g 8 ∷ g 9 ∷ g 10 ∷ v ∷ g 12 ∷ g 13 ∷ g 14 ∷ g 15 ∷ []) c.long c.flags c.array c.record_ []
 
   -- with what is kept pushed
-  abbrev kept : Saved → Value → State
+  abbrev kept : SavedRegisters → Value → State
   kept saved v = record (begun v) { pushed = saved_by saved c }
 
-  saves : (s : Saved) (v : Value) → GoesAll (saving s) (begun v) (kept s v)
+  saves : (s : SavedRegisters) (v : Value) → GoesAll (saving s) (begun v) (kept s v)
   saves s v =
       let c0 = begun v in
       let c1 = pushed_to s.rbx 3 c0 in
@@ -241,12 +241,12 @@ module _ (who : Who) (m : ℕ) (c : State) (e : IsCalled who m c) where
       let h2 = then_all (push_if s.rbp 5) is12 c1 c2 c6 (push_goes s.rbp 5 c1 refl) h3 in
       then_all (push_if s.rbx 3) is5 c0 c1 c6 (push_goes s.rbx 3 c0 refl) h2
 
-  cleared : (s : Saved) (n : ℕ) → GoesAll beginning (kept s (Word n)) (entered s)
+  cleared : (s : SavedRegisters) (n : ℕ) → GoesAll beginning (kept s (Word n)) (entered s)
   cleared s n =
       ap (λ k. state_of (g 0 ∷ g 1 ∷ g 2 ∷ g 3 ∷ g 4 ∷ g 5 ∷ g 6 ∷ behind (g 7) 384 ∷ g 8 ∷ g 2 ∷ g 10 ∷ Word k ∷ g 12 ∷ g 13 ∷ g 14 ∷ g 15 ∷ []) c.long Unknown c.array c.record_ (saved_by s c))
       (one_alike 32 (n % 2 ^ 32))
 
-  enters_listed : (saved : Saved) → GoesAll (entering saved) (state_of (listed g) c.long c.flags c.array c.record_ []) (entered saved)
+  enters_listed : (saved : SavedRegisters) → GoesAll (entering saved) (state_of (listed g) c.long c.flags c.array c.record_ []) (entered saved)
   enters_listed saved =
       let w = e.words 11 (omega arith) (omega arith) in
       let n = w.0 in
@@ -254,14 +254,14 @@ module _ (who : Who) (m : ℕ) (c : State) (e : IsCalled who m c) where
       (then_all (saving saved) beginning (begun (Word n)) (kept saved (Word n)) (entered saved) (saves saved (Word n)) (cleared saved n))
 
   -- the code of the entry leads to the state in which a call begins
-  pub enters : (saved : Saved) (code : List ℕ) (last : State) → HasAt code 0 (codes (entering saved)) → Ends code last (length (codes (entering saved))) (entered saved) → Ends code last 0 c
+  pub enters : (saved : SavedRegisters) (code : List ℕ) (last : State) → HasAt code 0 (codes (entering saved)) → Ends code last (length (codes (entering saved))) (entered saved) → Ends code last 0 c
   enters saved code last h r =
       let s : c ≡ state_of (listed g) c.long c.flags c.array c.record_ [] =
       ap (λ rs. state_of rs c.long c.flags c.array c.record_ c.pushed) (spread c.regs e.sixteen) ∙ ap (λ p. state_of (listed g) c.long c.flags c.array c.record_ p) e.pushed in
       let z : length (codes (entering saved)) ≡ 0 + length (codes (entering saved)) = omega arith in
       subst (λ x. Ends code last 0 x) (sym s) (all_go code last (entering saved) 0 (state_of (listed g) c.long c.flags c.array c.record_ []) (entered saved) h (enters_listed saved) (subst (λ n. Ends code last n (entered saved)) z r))
 
-  agrees_each : (saved : Saved) (r : ℕ) → r < 10 → value (entered saved) (gpr r) ≡ Word (slice_index opening_words r)
+  agrees_each : (saved : SavedRegisters) (r : ℕ) → r < 10 → value (entered saved) (gpr r) ≡ Word (slice_index opening_words r)
   agrees_each saved zero h = (e.words 0 (omega arith) (omega arith)).2
   agrees_each saved (suc zero) h = (e.words 8 (omega arith) (omega arith)).2
   agrees_each saved (suc (suc zero)) h = (e.words 12 (omega arith) (omega arith)).2
@@ -275,7 +275,7 @@ module _ (who : Who) (m : ℕ) (c : State) (e : IsCalled who m c) where
   agrees_each saved (suc (suc (suc (suc (suc (suc (suc (suc (suc (suc r)))))))))) h = absurd (omega arith)
 
   -- which agrees with the words, the array and no effects
-  pub entered_agrees : (saved : Saved) → Agrees who (saved_by saved c) (entered saved) opening_words c.array (record { sends = []; outputs = [] }) 0
+  pub entered_agrees : (saved : SavedRegisters) → Agrees who (saved_by saved c) (entered saved) opening_words c.array (record { sends = []; outputs = [] }) 0
   entered_agrees saved = record {
     sixteen = refl;
     eleven = refl;
@@ -290,7 +290,7 @@ module _ (who : Who) (m : ℕ) (c : State) (e : IsCalled who m c) where
   }
 
   -- the same by what the beginning sets
-  abbrev pub entered_by : Opening → Saved → State
+  abbrev pub entered_by : Opening → SavedRegisters → State
   entered_by opening.Bare saved = entered saved
   entered_by opening.Placed saved = after (after (entered saved) Unknown 8 (Word 0)) Unknown 12 (Word 512)
 
@@ -298,17 +298,17 @@ module _ (who : Who) (m : ℕ) (c : State) (e : IsCalled who m c) where
   words_by opening.Bare = opening_words
   words_by opening.Placed = slice_set (slice_set opening_words 1 0) 2 512
 
-  placed : (saved : Saved) → GoesAll placing (entered saved) (entered_by opening.Placed saved)
+  placed : (saved : SavedRegisters) → GoesAll placing (entered saved) (entered_by opening.Placed saved)
   placed saved =
       let c1 = after (entered saved) Unknown 8 (Word 0) in
       let c2 = after c1 Unknown 12 (Word 512) in
       on_then (clear 8) (instr.MovImm 12 512 ∷ []) (entered saved) c1 c2 (clears (entered_agrees saved) 1 (omega arith)) (goes_one (instr.MovImm 12 512) c1 c2 refl)
 
-  pub agrees_by : (o : Opening) (saved : Saved) → Agrees who (saved_by saved c) (entered_by o saved) (words_by o) c.array (record { sends = []; outputs = [] }) 0
+  pub agrees_by : (o : Opening) (saved : SavedRegisters) → Agrees who (saved_by saved c) (entered_by o saved) (words_by o) c.array (record { sends = []; outputs = [] }) 0
   agrees_by opening.Bare saved = entered_agrees saved
   agrees_by opening.Placed saved = put_word (put_word (entered_agrees saved) Unknown 1 0 (omega arith)) Unknown 2 512 (omega arith)
 
-  pub enters_by : (o : Opening) (saved : Saved) (code : List ℕ) (last : State) → HasAt code 0 (codes (entering_by o saved)) → Ends code last (length (codes (entering_by o saved))) (entered_by o saved) → Ends code last 0 c
+  pub enters_by : (o : Opening) (saved : SavedRegisters) (code : List ℕ) (last : State) → HasAt code 0 (codes (entering_by o saved)) → Ends code last (length (codes (entering_by o saved))) (entered_by o saved) → Ends code last 0 c
   enters_by opening.Bare saved code last h r = enters saved code last h r
   enters_by opening.Placed saved code last h r =
       let is = entering saved in
@@ -319,7 +319,7 @@ module _ (who : Who) (m : ℕ) (c : State) (e : IsCalled who m c) where
       enters saved code last (has_front code 0 (codes is) (codes placing) h') (all_go code last placing (length (codes is)) (entered saved) (entered_by opening.Placed saved) (subst (λ q. HasAt code q (codes placing)) z (has_back code 0 (codes is) (codes placing) h')) (placed saved) (subst (λ q. Ends code last q (entered_by opening.Placed saved)) n r))
 
   -- those that aren't kept are what the caller had there
-  pub opening_is : (saved : Saved) (r : ℕ) → may_write saved r ≡ false → r < 10 → value c (gpr r) ≡ Word (slice_index opening_words r)
+  pub opening_is : (saved : SavedRegisters) (r : ℕ) → may_write saved r ≡ false → r < 10 → value c (gpr r) ≡ Word (slice_index opening_words r)
   opening_is saved zero z h = absurd (true≢false z)
   opening_is saved (suc zero) z h = absurd (true≢false z)
   opening_is saved (suc (suc zero)) z h = (e.words 12 (omega arith) (omega arith)).2

@@ -18,8 +18,8 @@ use Rattle.operations.specs.Operations.{result_of}
 use Rattle.x86.specs.declared.instruction.Instr.{Instr}
 use Rattle.x86.specs.declared.instruction.Instr.TheVariants as instr
 use Rattle.x86.specs.Machine.{Value, State, HasAt}
-use Rattle.native.specs.declared.task.Task.{Task}
-use Rattle.native.specs.declared.task.Task.TheVariants as task
+use Rattle.native.specs.declared.task.SlotTask.{SlotTask}
+use Rattle.native.specs.declared.task.SlotTask.TheVariants as task
 use Rattle.native.specs.Tasks.{operand_of, holds_word, is_word, is_apt, sized_at, task_act, TaskReaches, TaskFits}
 use Rattle.native.specs.Code.{seen, codes, taken, IsCall, IsDone, IsShort, TaskIsShort, send_tests, send_end, output_tests, output_end, send_sized_tests, send_sized_end, output_sized_tests, output_sized_end}
 use Rattle.native.proofs.Runs.{codes-append}
@@ -31,7 +31,7 @@ use Rattle.native.proofs.Sized.{Given, given_at, given_by, sends_by, outputs_by,
 use Rattle.native.proofs.Helpers.{Adds, Comes, sends, outputs, send_straight, output_straight, sent, out, send_done, output_done, send_at, output_at}
 
 -- it goes on at the slot behind its own
-abbrev pub Falls : Task → Type 0
+abbrev pub Falls : SlotTask → Type 0
 Falls (task.Branch x w dst b to) = ⊥
 Falls (task.Leap to) = ⊥
 Falls task.Exit = ⊥
@@ -76,7 +76,7 @@ module _ {who : Who} {saved : List Value} {c : State} {words mem : List ℕ} {e 
   computes o w dst b j s k = plain_performs a code p slot is at l small (task.Compute o w dst b) tt tt tt j s k
 
   -- a helper answers, and its code comes to its end
-  answers : (t : Task) (x : ℕ × Emitted) → taken t ≡ 1 → task_act who slot words mem e t ≡ Answers x.0 x.1 → Comes who saved count code p (p + length (codes is)) c (slice_set words 0 x.0) mem x.1 → Performs a code p slot t is
+  answers : (t : SlotTask) (x : ℕ × Emitted) → taken t ≡ 1 → task_act who slot words mem e t ≡ Answers x.0 x.1 → Comes who saved count code p (p + length (codes is)) c (slice_set words 0 x.0) mem x.1 → Performs a code p slot t is
   answers t x one f y = record {
     c' = y.c';
     words' = slice_set words 0 x.0;
@@ -89,7 +89,7 @@ module _ {who : Who} {saved : List Value} {c : State} {words mem : List ℕ} {e 
   }
 
   -- helper 1, on these bytes
-  by_send : (t : Task) (bytes : List ℕ) (straight : List Instr) → taken t ≡ 1 → task_act who slot words mem e t ≡ Answers (sent a bytes straight code).0 (sent a bytes straight code).1 → Adds who saved words mem e count (length e.sends) (record e { sends = e.sends ++ record { dst = slice_index words 1; payload = bytes } ∷ [] }) straight → length (codes (send_done a bytes straight code)) ≤ 80 → IsCall send_tests (send_done a bytes straight code) send_end is → Performs a code p slot t is
+  by_send : (t : SlotTask) (bytes : List ℕ) (straight : List Instr) → taken t ≡ 1 → task_act who slot words mem e t ≡ Answers (sent a bytes straight code).0 (sent a bytes straight code).1 → Adds who saved words mem e count (length e.sends) (record e { sends = e.sends ++ record { dst = slice_index words 1; payload = bytes } ∷ [] }) straight → length (codes (send_done a bytes straight code)) ≤ 80 → IsCall send_tests (send_done a bytes straight code) send_end is → Performs a code p slot t is
   by_send t bytes straight one f adds short j =
       let good = send_done a bytes straight code in
       let g = length (codes good) in
@@ -100,7 +100,7 @@ module _ {who : Who} {saved : List Value} {c : State} {words mem : List ℕ} {e 
       answers t x one f (subst (λ to. Comes who saved count code p to c (slice_set words 0 x.0) mem x.1) q (send_at a bytes straight code adds p h short (omega arith)))
 
   -- helper 2
-  by_output : (t : Task) (bytes : List ℕ) (straight : List Instr) → taken t ≡ 1 → task_act who slot words mem e t ≡ Answers (out a bytes straight code).0 (out a bytes straight code).1 → Adds who saved words mem e count (length e.outputs) (record e { outputs = e.outputs ++ bytes ∷ [] }) straight → length (codes (output_done a bytes straight code)) ≤ 80 → IsCall output_tests (output_done a bytes straight code) output_end is → Performs a code p slot t is
+  by_output : (t : SlotTask) (bytes : List ℕ) (straight : List Instr) → taken t ≡ 1 → task_act who slot words mem e t ≡ Answers (out a bytes straight code).0 (out a bytes straight code).1 → Adds who saved words mem e count (length e.outputs) (record e { outputs = e.outputs ++ bytes ∷ [] }) straight → length (codes (output_done a bytes straight code)) ≤ 80 → IsCall output_tests (output_done a bytes straight code) output_end is → Performs a code p slot t is
   by_output t bytes straight one f adds short j =
       let good = output_done a bytes straight code in
       let g = length (codes good) in
@@ -111,7 +111,7 @@ module _ {who : Who} {saved : List Value} {c : State} {words mem : List ℕ} {e 
       answers t x one f (subst (λ to. Comes who saved count code p to c (slice_set words 0 x.0) mem x.1) q (output_at a bytes straight code adds p h short (omega arith)))
 
   -- helper 5, on what it takes of them
-  by_send_sized : (t : Task) (o : Option (List ℕ)) (bytes : List ℕ) (straight : List Instr) → taken t ≡ 1 → task_act who slot words mem e t ≡ Answers (sized_sent a o bytes straight code).0 (sized_sent a o bytes straight code).1 → Given o (slice_index words 3) bytes → (slice_index words 3 ≤ 256 → Adds who saved words mem e count (length e.sends) (record e { sends = e.sends ++ record { dst = slice_index words 1; payload = bytes } ∷ [] }) straight) → length (codes (sized_send_done a o bytes straight code)) ≤ 80 → IsCall send_sized_tests (sized_send_done a o bytes straight code) send_sized_end is → Performs a code p slot t is
+  by_send_sized : (t : SlotTask) (o : Option (List ℕ)) (bytes : List ℕ) (straight : List Instr) → taken t ≡ 1 → task_act who slot words mem e t ≡ Answers (sized_sent a o bytes straight code).0 (sized_sent a o bytes straight code).1 → Given o (slice_index words 3) bytes → (slice_index words 3 ≤ 256 → Adds who saved words mem e count (length e.sends) (record e { sends = e.sends ++ record { dst = slice_index words 1; payload = bytes } ∷ [] }) straight) → length (codes (sized_send_done a o bytes straight code)) ≤ 80 → IsCall send_sized_tests (sized_send_done a o bytes straight code) send_sized_end is → Performs a code p slot t is
   by_send_sized t o bytes straight one f given adds short j =
       let good = sized_send_done a o bytes straight code in
       let g = length (codes good) in
@@ -122,7 +122,7 @@ module _ {who : Who} {saved : List Value} {c : State} {words mem : List ℕ} {e 
       answers t x one f (subst (λ to. Comes who saved count code p to c (slice_set words 0 x.0) mem x.1) q (send_sized_at a o bytes straight code given adds p h short (omega arith)))
 
   -- helper 6
-  by_output_sized : (t : Task) (o : Option (List ℕ)) (bytes : List ℕ) (straight : List Instr) → taken t ≡ 1 → task_act who slot words mem e t ≡ Answers (sized_out a o bytes straight code).0 (sized_out a o bytes straight code).1 → Given o (slice_index words 2) bytes → (slice_index words 2 ≤ 256 → Adds who saved words mem e count (length e.outputs) (record e { outputs = e.outputs ++ bytes ∷ [] }) straight) → length (codes (sized_output_done a o bytes straight code)) ≤ 80 → IsCall output_sized_tests (sized_output_done a o bytes straight code) output_sized_end is → Performs a code p slot t is
+  by_output_sized : (t : SlotTask) (o : Option (List ℕ)) (bytes : List ℕ) (straight : List Instr) → taken t ≡ 1 → task_act who slot words mem e t ≡ Answers (sized_out a o bytes straight code).0 (sized_out a o bytes straight code).1 → Given o (slice_index words 2) bytes → (slice_index words 2 ≤ 256 → Adds who saved words mem e count (length e.outputs) (record e { outputs = e.outputs ++ bytes ∷ [] }) straight) → length (codes (sized_output_done a o bytes straight code)) ≤ 80 → IsCall output_sized_tests (sized_output_done a o bytes straight code) output_sized_end is → Performs a code p slot t is
   by_output_sized t o bytes straight one f given adds short j =
       let good = sized_output_done a o bytes straight code in
       let g = length (codes good) in
@@ -136,7 +136,7 @@ module _ {who : Who} {saved : List Value} {c : State} {words mem : List ℕ} {e 
   held r = slice_index words r
 
   -- code that does a task performs it
-  pub performs : (t : Task) → TaskReaches (length mem) words t → TaskFits t → Falls t → IsDone t is → TaskIsShort t → is_apt slot t ≡ true → Performs a code p slot t is
+  pub performs : (t : SlotTask) → TaskReaches (length mem) words t → TaskFits t → Falls t → IsDone t is → TaskIsShort t → is_apt slot t ≡ true → Performs a code p slot t is
   performs (task.Send k) v f on j s fit =
       by_send (task.Send k) (slice_range mem k (k + 64)) (send_straight k) refl refl (λ s b rcx few. sends b l k v rcx few) (send_few k) j
   performs (task.Output k) v f on j s fit =

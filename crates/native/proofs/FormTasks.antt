@@ -19,7 +19,7 @@ use Rattle.decode.specs.declared.insn.SignedSize.TheVariants as signed
 use Rattle.decode.specs.declared.insn.Operand.TheVariants as operand
 use Rattle.decode.specs.declared.insn.Reg.{Reg}
 use Rattle.dense.specs.Forms as forms
-use Rattle.native.specs.declared.task.Task.TheVariants as task
+use Rattle.native.specs.declared.task.SlotTask.TheVariants as task
 use Rattle.native.specs.Operations.{task_for}
 
 module _ (pool : List ℕ) where

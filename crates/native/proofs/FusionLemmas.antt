@@ -16,8 +16,8 @@ use Rattle.dense.specs.declared.execution.Next.TheVariants.{To, End}
 use Rattle.dense.specs.Acts.{Does}
 use Rattle.x86.specs.declared.instruction.Instr.{Instr}
 use Rattle.x86.specs.declared.instruction.Instr.TheVariants as instr
-use Rattle.native.specs.declared.task.Task.{Task}
-use Rattle.native.specs.declared.task.Task.TheVariants as task
+use Rattle.native.specs.declared.task.SlotTask.{SlotTask}
+use Rattle.native.specs.declared.task.SlotTask.TheVariants as task
 use Rattle.native.specs.Tasks.{operand_of, task_act, holds_word, is_apt}
 use Rattle.native.specs.SlotTasks.{task_at}
 use Rattle.native.specs.Code.{gpr}
@@ -28,7 +28,7 @@ use Rattle.native.proofs.Bodies.{word_register}
 -- ---- the tasks of fused slots
 
 -- a register is copied, and a number is added to the copy: this instruction does both
-pub record IsSum (t u : Task) (i : Instr) : Type 0 where
+pub record IsSum (t u : SlotTask) (i : Instr) : Type 0 where
   pub dst : Reg
   pub src : Reg
   pub again : Reg
@@ -40,7 +40,7 @@ pub record IsSum (t u : Task) (i : Instr) : Type 0 where
   pub from : src.number < 10
   pub is : i ≡ instr.Lea (gpr dst.number) (gpr src.number) (word_of imm)
 
-sum_is : (t u : Task) (i : Instr) → sum_of t u ≡ Some i → IsSum t u i
+sum_is : (t u : SlotTask) (i : Instr) → sum_of t u ≡ Some i → IsSum t u i
 sum_is (task.Compute op.Mov W64 d (operand.Reg s)) (task.Compute op.Add W64 e (operand.Imm z)) i h =
     by_test ((d.number == e.number) && (holds_word d.number && holds_word s.number)) refl h
   where
@@ -65,7 +65,7 @@ sum_is (task.Compute op.Mov W64 d (operand.Reg s)) (task.Compute op.Add W64 e (o
 sum_is (task.Compute op.Mov W64 d (operand.Reg s)) u i h = let x : None ≡ Some i = h in cc
 sum_is t u i h = let x : None ≡ Some i = h in cc
 
-module _ (tasks : List Task) (slot : ℕ) (i : Instr) (e : fused tasks slot ≡ Some i) where
+module _ (tasks : List SlotTask) (slot : ℕ) (i : Instr) (e : fused tasks slot ≡ Some i) where
   pub fused_sum : IsSum (task_at tasks slot) (task_at tasks (slot + 1)) i
   fused_sum = by_test (slice_index_or (targets_in tasks) (slot + 1) true) e
     where
@@ -82,20 +82,20 @@ module _ (tasks : List Task) (slot : ℕ) (i : Instr) (e : fused tasks slot ≡ 
       by_test false = ap (λ t. sum_of t (task_at tasks (slot + 1 + 1))) fused_sum.second
 
 -- a task found in the list is the task of that slot
-pub found_at : (tasks : List Task) (k : ℕ) (t : Task) → slice_get tasks k ≡ Some t → task_at tasks k ≡ t
+pub found_at : (tasks : List SlotTask) (k : ℕ) (t : SlotTask) → slice_get tasks k ≡ Some t → task_at tasks k ≡ t
 found_at tasks k t f =
     let x : Some (task_at tasks k) ≡ Some t = sym (slice_get-get_or tasks k task.Dead (slice_get_within tasks k t f)) ∙ f in
     cc
 
 -- a task other than `Dead` is found in the list
-found_in : (tasks : List Task) (k : ℕ) (t : Task) → task_at tasks k ≡ t → t ≢ task.Dead → slice_get tasks k ≡ Some t
+found_in : (tasks : List SlotTask) (k : ℕ) (t : SlotTask) → task_at tasks k ≡ t → t ≢ task.Dead → slice_get tasks k ≡ Some t
 found_in tasks k t e n = ⊎_elim
     (λ l. slice_get-get_or tasks k task.Dead l ∙ ap Some e)
     (λ g. absurd (n (sym e ∙ get_or_past tasks k task.Dead g)))
     (cases_lt k (length tasks))
 
 -- after two fused slots at most two more steps are pending than before them
-pub fused_balanced : (tasks : List Task) (pends : List ℕ) (slot : ℕ) (i : Instr) → ArePends tasks pends → fused tasks slot ≡ Some i → slice_index pends (slot + 2) ≤ slice_index pends slot + 2
+pub fused_balanced : (tasks : List SlotTask) (pends : List ℕ) (slot : ℕ) (i : Instr) → ArePends tasks pends → fused tasks slot ≡ Some i → slice_index pends (slot + 2) ≤ slice_index pends slot + 2
 fused_balanced tasks pends slot i a e =
     let s = fused_sum tasks slot i e in
     let t = task.Compute op.Mov W64 s.dst (operand.Reg s.src) in
@@ -108,7 +108,7 @@ fused_balanced tasks pends slot i a e =
 
 -- ---- slots that tasks lead to
 
-abbrev Leads : ℕ → Task → ℕ → Type 0
+abbrev Leads : ℕ → SlotTask → ℕ → Type 0
 Leads slot (task.Branch x w dst o to) k = k ≡ to
 Leads slot (task.Leap to) k = k ≡ to
 Leads slot (task.Wide dst v) k = k ≡ slot + 2
@@ -130,19 +130,19 @@ set_stays (x ∷ xs) zero (suc k) h = h
 set_stays (x ∷ xs) (suc j) zero h = h
 set_stays (x ∷ xs) (suc j) (suc k) h = set_stays xs j k h
 
-marks : (xs : List Bool) (slot : ℕ) (t : Task) (k : ℕ) → Leads slot t k → IsMarked (marked_by xs slot t) k
+marks : (xs : List Bool) (slot : ℕ) (t : SlotTask) (k : ℕ) → Leads slot t k → IsMarked (marked_by xs slot t) k
 marks xs slot (task.Branch x w dst o to) k h = subst (λ j. IsMarked (slice_set xs j true) k) h (set_marks xs k)
 marks xs slot (task.Leap to) k h = subst (λ j. IsMarked (slice_set xs j true) k) h (set_marks xs k)
 marks xs slot (task.Wide dst v) k h = subst (λ j. IsMarked (slice_set xs j true) k) h (set_marks xs k)
 marks xs slot t k h = absurd h
 
-stays : (xs : List Bool) (slot : ℕ) (t : Task) (k : ℕ) → IsMarked xs k → IsMarked (marked_by xs slot t) k
+stays : (xs : List Bool) (slot : ℕ) (t : SlotTask) (k : ℕ) → IsMarked xs k → IsMarked (marked_by xs slot t) k
 stays xs slot (task.Branch x w dst o to) k h = set_stays xs to k h
 stays xs slot (task.Leap to) k h = set_stays xs to k h
 stays xs slot (task.Wide dst v) k h = set_stays xs (slot + 2) k h
 stays xs slot t k h = h
 
-marked_at : (tasks : List Task) (n slot k : ℕ) → slot < n → Leads slot (task_at tasks slot) k → IsMarked (marked tasks n) k
+marked_at : (tasks : List SlotTask) (n slot k : ℕ) → slot < n → Leads slot (task_at tasks slot) k → IsMarked (marked tasks n) k
 marked_at tasks zero slot k l h = absurd (omega arith)
 marked_at tasks (suc n) slot k l h = ⊎_elim
     (λ e. marks (marked tasks n) n (task_at tasks n) k (subst (λ j. Leads j (task_at tasks j) k) e h))
@@ -156,19 +156,19 @@ and_false true = refl
 and_false false = refl
 
 -- behind a slot that isn't fused none is covered
-covered_next : (tasks : List Task) (slot : ℕ) → fused tasks slot ≡ None → is_covered tasks (slot + 1) ≡ false
+covered_next : (tasks : List SlotTask) (slot : ℕ) → fused tasks slot ≡ None → is_covered tasks (slot + 1) ≡ false
 covered_next tasks slot h =
     let e : slot + 1 - 1 ≡ slot = omega arith in
     ap (λ o. nat_lt 0 (slot + 1) && is_some o) (ap (fused tasks) e ∙ h) ∙ and_false (nat_lt 0 (slot + 1))
 
 -- nor behind both of two that are
-pub covered_behind : (tasks : List Task) (slot : ℕ) (i : Instr) → fused tasks slot ≡ Some i → is_covered tasks (slot + 2) ≡ false
+pub covered_behind : (tasks : List SlotTask) (slot : ℕ) (i : Instr) → fused tasks slot ≡ Some i → is_covered tasks (slot + 2) ≡ false
 covered_behind tasks slot i e =
     let n : slot + 1 + 1 ≡ slot + 2 = omega arith in
     subst (λ k. is_covered tasks k ≡ false) n (covered_next tasks (slot + 1) (fused_alone tasks slot i e))
 
 -- nor where a task leads
-covered_target : (tasks : List Task) (slot to : ℕ) (t : Task) → slice_get tasks slot ≡ Some t → Leads slot t to → is_covered tasks to ≡ false
+covered_target : (tasks : List SlotTask) (slot to : ℕ) (t : SlotTask) → slice_get tasks slot ≡ Some t → Leads slot t to → is_covered tasks to ≡ false
 covered_target tasks slot to t f h = by_test (nat_lt 0 to) refl
   where
     marked_there : IsMarked (targets_in tasks) to
@@ -182,12 +182,12 @@ covered_target tasks slot to t f h = by_test (nat_lt 0 to) refl
         ap (λ b. is_some (cond b None (sum_of (task_at tasks (to - 1)) (task_at tasks (to - 1 + 1))))) (subst (IsMarked (targets_in tasks)) n marked_there)
     by_test false e = refl
 
-module _ (who : Who) (tasks : List Task) (slot : ℕ) (words mem : List ℕ) (e : Emitted) (none : fused tasks slot ≡ None) (to : ℕ) (words' mem' : List ℕ) (e' : Emitted) where
+module _ (who : Who) (tasks : List SlotTask) (slot : ℕ) (words mem : List ℕ) (e : Emitted) (none : fused tasks slot ≡ None) (to : ℕ) (words' mem' : List ℕ) (e' : Emitted) where
   falls_there : To to ≡ To (slot + 1) → is_covered tasks to ≡ false
   falls_there x = let n : slot + 1 ≡ to = cc in subst (λ k. is_covered tasks k ≡ false) n (covered_next tasks slot none)
 
   -- so from a slot that isn't fused a call comes to one that isn't covered
-  pub uncovered : (t : Task) → slice_get tasks slot ≡ Some t → is_apt slot t ≡ true → Does slot words mem e (task_act who slot words mem e t) (To to) words' mem' e' → is_covered tasks to ≡ false
+  pub uncovered : (t : SlotTask) → slice_get tasks slot ≡ Some t → is_apt slot t ≡ true → Does slot words mem e (task_act who slot words mem e t) (To to) words' mem' e' → is_covered tasks to ≡ false
   uncovered (task.Branch x w dst o at) f apt d = by_test (holds x w (slice_index words dst.number) (operand_of words o)) d.0
     where
       by_test : (b : Bool) → To to ≡ To (cond b at (slot + 1)) → is_covered tasks to ≡ false

@@ -17,9 +17,9 @@ use Rattle.native.specs.declared.body.Body.{Body}
 use Rattle.native.specs.declared.body.Body.TheVariants.{Empty, One, Two, Three}
 use Rattle.native.specs.declared.emission.Helper.{Helper}
 use Rattle.native.specs.declared.emission.Helper.TheVariants as helper
-use Rattle.native.specs.declared.task.Task.{Task}
-use Rattle.native.specs.declared.task.Task.TheVariants as task
-use Rattle.native.specs.declared.saved.Saved.{Saved}
+use Rattle.native.specs.declared.task.SlotTask.{SlotTask}
+use Rattle.native.specs.declared.task.SlotTask.TheVariants as task
+use Rattle.native.specs.declared.saved.SavedRegisters.{SavedRegisters}
 use Rattle.native.specs.Saved.{pop_if, restoring}
 use Rattle.native.specs.SlotTasks.{task_at}
 use Rattle.native.specs.Laid.{Fuses, ServesBy}
@@ -283,7 +283,7 @@ body_few (One i) is h = omega (arith, ap length h)
 body_few (Two i j) is h = omega (arith, ap length h)
 body_few (Three i j k) is h = omega (arith, ap length h)
 
-done_few : (t : Task) (is : List Instr) → IsDone t is → length is ≤ 50
+done_few : (t : SlotTask) (is : List Instr) → IsDone t is → length is ≤ 50
 done_few (task.Send at) is h = omega (arith, ap length h)
 done_few (task.Output at) is h = omega (arith, ap length h)
 done_few (task.SendSized at) is h = omega (arith, ap length h)
@@ -316,7 +316,7 @@ pop_few : (b : Bool) (r : ℕ) → length (pop_if b r) ≤ 1
 pop_few true r = omega arith
 pop_few false r = omega arith
 
-restoring_few : (s : Saved) → length (restoring s) ≤ 6
+restoring_few : (s : SavedRegisters) → length (restoring s) ≤ 6
 restoring_few s =
     let b3 = pop_if s.rbx 3 in
     let b5 = pop_if s.rbp 5 ++ b3 in
@@ -330,7 +330,7 @@ restoring_few s =
     let n15 = length-append (pop_if s.r15 15) b14 in
     omega (arith, pop_few s.rbx 3, pop_few s.rbp 5, pop_few s.r12 12, pop_few s.r13 13, pop_few s.r14 14, pop_few s.r15 15)
 
-plain_few : (pends tails : List ℕ) (slot : ℕ) (t : Task) (is : List Instr) → Plain pends tails slot t is → Few is
+plain_few : (pends tails : List ℕ) (slot : ℕ) (t : SlotTask) (is : List Instr) → Plain pends tails slot t is → Few is
 plain_few pends tails slot t is s =
     let e = ap length s.is_are in
     let a = length-append s.bs (flushed s.k ++ skipped s.d) in
@@ -339,7 +339,7 @@ plain_few pends tails slot t is s =
     omega (arith, flushed_few s.k, skipped_few s.d)
 
 -- the code of a slot's task is at most so long
-pub serves_short : (pends tails : List ℕ) (saved : Saved) (slot : ℕ) (t : Task) (is : List Instr) → Serves pends tails saved slot t is → length (codes is) ≤ 1000
+pub serves_short : (pends tails : List ℕ) (saved : SavedRegisters) (slot : ℕ) (t : SlotTask) (is : List Instr) → Serves pends tails saved slot t is → length (codes is) ≤ 1000
 serves_short pends tails saved slot (task.Branch x w dst o to) is s =
     few_codes is (let e = ap length s.is_are in let a = length-append (flushed s.k) (compare_code x w dst.number o ∷ jump_if_code (condition_of x) s.d ∷ []) in omega (arith, flushed_few s.k))
 serves_short pends tails saved slot (task.Leap to) is s =
@@ -350,10 +350,10 @@ serves_short pends tails saved slot task.Dead is s = few_codes is (omega (arith,
 serves_short pends tails saved slot t is s = few_codes is (plain_few pends tails slot t is s)
 
 -- that of two slots too
-pub fused_short : (pends tails : List ℕ) (slot : ℕ) (i : Instr) (u : Task) (is : List Instr) → Fuses pends tails slot i u is → length (codes is) ≤ 1000
+pub fused_short : (pends tails : List ℕ) (slot : ℕ) (i : Instr) (u : SlotTask) (is : List Instr) → Fuses pends tails slot i u is → length (codes is) ≤ 1000
 fused_short pends tails slot i u is s =
     few_codes is (let e = ap length s.is_are in let a = length-append (flushed s.k) (skipped s.d) in omega (arith, flushed_few s.k, skipped_few s.d))
 
-pub slot_short : (o : Option Instr) (tasks : List Task) (pends tails : List ℕ) (saved : Saved) (slot : ℕ) (t : Task) (is : List Instr) → ServesBy o tasks pends tails saved slot t is → length (codes is) ≤ 1000
+pub slot_short : (o : Option Instr) (tasks : List SlotTask) (pends tails : List ℕ) (saved : SavedRegisters) (slot : ℕ) (t : SlotTask) (is : List Instr) → ServesBy o tasks pends tails saved slot t is → length (codes is) ≤ 1000
 slot_short None tasks pends tails saved slot t is s = serves_short pends tails saved slot t is s
 slot_short (Some i) tasks pends tails saved slot t is s = fused_short pends tails slot i (task_at tasks (slot + 1)) is s

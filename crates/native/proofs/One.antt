@@ -13,11 +13,11 @@ use Rattle.verifier.specs.Least.{IsLeastTyping}
 use Rattle.x86.specs.declared.instruction.Instr.{Instr}
 use Rattle.native.specs.declared.body.Body.{Body}
 use Rattle.native.specs.declared.body.Body.TheVariants.{Empty, One, Two, Three}
-use Rattle.native.specs.declared.saved.Saved.{Saved}
+use Rattle.native.specs.declared.saved.SavedRegisters.{SavedRegisters}
 use Rattle.native.specs.declared.prologue.Opening.{Opening}
 use Rattle.native.specs.declared.prologue.Opening.TheVariants as opening
-use Rattle.native.specs.declared.task.Task.{Task}
-use Rattle.native.specs.declared.task.Task.TheVariants as task
+use Rattle.native.specs.declared.task.SlotTask.{SlotTask}
+use Rattle.native.specs.declared.task.SlotTask.TheVariants as task
 use Rattle.native.specs.Tasks.{is_apt}
 use Rattle.native.specs.Code.{codes, body_of, flushed, skipped, leaving, condition_of, compare_code, jump_code, jump_if_code, IsBody, IsDone, Counts, Reaches, Plain, Serves, taken}
 use Rattle.native.specs.Fusion.{fused, is_covered}
@@ -35,7 +35,7 @@ body_one (One i) is js h k = h ∙ sym k
 body_one (Two i j) is js h k = h ∙ sym k
 body_one (Three i j k) is js h l = h ∙ sym l
 
-done_one : (t : Task) (is js : List Instr) → IsDone t is → IsDone t js → is ≡ js
+done_one : (t : SlotTask) (is js : List Instr) → IsDone t is → IsDone t js → is ≡ js
 done_one (task.Send at) is js h k = h ∙ sym k
 done_one (task.Output at) is js h k = h ∙ sym k
 done_one (task.SendSized at) is js h k = h ∙ sym k
@@ -56,7 +56,7 @@ counts_one pends slot to k l a b = let x = a.sums in let y = b.sums in omega ari
 reaches_one : (tails : List ℕ) (slot to d e : ℕ) → Reaches tails slot to d → Reaches tails slot to e → d ≡ e
 reaches_one tails slot to d e a b = let x = a.sums in let y = b.sums in omega arith
 
-plain_one : (pends tails : List ℕ) (slot : ℕ) (t : Task) (is js : List Instr) → Plain pends tails slot t is → Plain pends tails slot t js → is ≡ js
+plain_one : (pends tails : List ℕ) (slot : ℕ) (t : SlotTask) (is js : List Instr) → Plain pends tails slot t is → Plain pends tails slot t js → is ≡ js
 plain_one pends tails slot t is js a b =
     a.is_are
     ∙ ap (λ x. x ++ (flushed a.k ++ skipped a.d)) (done_one t a.bs b.bs a.done b.done)
@@ -64,7 +64,7 @@ plain_one pends tails slot t is js a b =
     ∙ ap (λ d. b.bs ++ (flushed b.k ++ skipped d)) (reaches_one tails slot (slot + taken t) a.d b.d a.reaches b.reaches)
     ∙ sym b.is_are
 
-serves_one : (pends tails : List ℕ) (saved : Saved) (slot : ℕ) (t : Task) (is js : List Instr) → Serves pends tails saved slot t is → Serves pends tails saved slot t js → is ≡ js
+serves_one : (pends tails : List ℕ) (saved : SavedRegisters) (slot : ℕ) (t : SlotTask) (is js : List Instr) → Serves pends tails saved slot t is → Serves pends tails saved slot t js → is ≡ js
 serves_one pends tails saved slot (task.Branch x w dst o to) is js a b =
     a.is_are
     ∙ ap (λ k. flushed k ++ compare_code x w dst.number o ∷ jump_if_code (condition_of x) a.d ∷ []) (counts_one pends slot to a.k b.k a.takes b.takes)
@@ -80,7 +80,7 @@ serves_one pends tails saved slot task.Exit is js a b =
 serves_one pends tails saved slot task.Dead is js a b = a ∙ sym b
 serves_one pends tails saved slot t is js a b = plain_one pends tails slot t is js a b
 
-fused_one : (pends tails : List ℕ) (slot : ℕ) (i : Instr) (u : Task) (is js : List Instr) → Fuses pends tails slot i u is → Fuses pends tails slot i u js → is ≡ js
+fused_one : (pends tails : List ℕ) (slot : ℕ) (i : Instr) (u : SlotTask) (is js : List Instr) → Fuses pends tails slot i u is → Fuses pends tails slot i u js → is ≡ js
 fused_one pends tails slot i u is js a b =
     let k : a.k ≡ b.k = let x = a.sums in let y = b.sums in omega arith in
     a.is_are
@@ -88,11 +88,11 @@ fused_one pends tails slot i u is js a b =
     ∙ ap (λ d. i ∷ (flushed b.k ++ skipped d)) (reaches_one tails slot (slot + 2) a.d b.d a.reaches b.reaches)
     ∙ sym b.is_are
 
-slot_one : (o : Option Instr) (tasks : List Task) (pends tails : List ℕ) (saved : Saved) (slot : ℕ) (t : Task) (is js : List Instr) → ServesBy o tasks pends tails saved slot t is → ServesBy o tasks pends tails saved slot t js → is ≡ js
+slot_one : (o : Option Instr) (tasks : List SlotTask) (pends tails : List ℕ) (saved : SavedRegisters) (slot : ℕ) (t : SlotTask) (is js : List Instr) → ServesBy o tasks pends tails saved slot t is → ServesBy o tasks pends tails saved slot t js → is ≡ js
 slot_one None tasks pends tails saved slot t is js a b = serves_one pends tails saved slot t is js a b
 slot_one (Some i) tasks pends tails saved slot t is js a b = fused_one pends tails slot i (task_at tasks (slot + 1)) is js a b
 
-piece_one : (tasks : List Task) (pends tails : List ℕ) (saved : Saved) (slot : ℕ) (t : Task) (p q : List ℕ) → IsPiece tasks pends tails saved slot t p → IsPiece tasks pends tails saved slot t q → p ≡ q
+piece_one : (tasks : List SlotTask) (pends tails : List ℕ) (saved : SavedRegisters) (slot : ℕ) (t : SlotTask) (p q : List ℕ) → IsPiece tasks pends tails saved slot t p → IsPiece tasks pends tails saved slot t q → p ≡ q
 piece_one tasks pends tails saved slot t p q a b = by_test (is_covered tasks slot) (is_apt slot t) refl refl
   where
     by_test : (u v : Bool) → is_covered tasks slot ≡ u → is_apt slot t ≡ v → p ≡ q
@@ -105,7 +105,7 @@ piece_one tasks pends tails saved slot t p q a b = by_test (is_covered tasks slo
 
 -- ---- the code of tasks
 
-stacks_one : (o : Opening) (tasks : List Task) (n : ℕ) (tails tails' code code' : List ℕ) → Stacks o tasks n tails code → Stacks o tasks n tails' code' → (tails ≡ tails') × (code ≡ code')
+stacks_one : (o : Opening) (tasks : List SlotTask) (n : ℕ) (tails tails' code code' : List ℕ) → Stacks o tasks n tails code → Stacks o tasks n tails' code' → (tails ≡ tails') × (code ≡ code')
 stacks_one o tasks zero tails tails' code code' a b = (a.0 ∙ sym b.0, a.1 ∙ sym b.1)
 stacks_one o tasks (suc n) tails tails' code code' (ts, cs, p, s, is, t, c) (ts', cs', p', s', is', t', c') =
     let slot = length tasks - suc n in
@@ -116,7 +116,7 @@ stacks_one o tasks (suc n) tails tails' code code' (ts, cs, p, s, is, t, c) (ts'
     )
 
 -- tasks have one machine code
-pub written_one : (o : Opening) (tasks : List Task) (code code' : List ℕ) → IsWritten o tasks code → IsWritten o tasks code' → code ≡ code'
+pub written_one : (o : Opening) (tasks : List SlotTask) (code code' : List ℕ) → IsWritten o tasks code → IsWritten o tasks code' → code ≡ code'
 written_one o tasks code code' a b =
     a.is ∙ ap (λ l. codes (entering_by o (saved_for o tasks)) ++ l) (stacks_one o tasks (length tasks) a.tails b.tails a.rest b.rest a.stacks b.stacks).1 ∙ sym b.is
 

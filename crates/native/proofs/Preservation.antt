@@ -2,9 +2,9 @@
 use Rattle.std.proofs.Common.{◌≡◌, ℕ, zero, suc, ◌+◌, ◌<◌, ◌≤◌, Bool, true, false, List, length, drop, Some, refl, sym, ap, ◌∙◌, subst, ⊎_elim, arith}
 use Rattle.std.specs.Prelude.{◌==◌, ◌||◌, slice_get}
 use Rattle.std.proofs.lemmas.Bool.{cases_lt}
-use Rattle.native.specs.declared.task.Task.{Task}
-use Rattle.native.specs.declared.task.Task.TheVariants as task
-use Rattle.native.specs.declared.saved.Saved.{Saved}
+use Rattle.native.specs.declared.task.SlotTask.{SlotTask}
+use Rattle.native.specs.declared.task.SlotTask.TheVariants as task
+use Rattle.native.specs.declared.saved.SavedRegisters.{SavedRegisters}
 use Rattle.native.specs.SlotTasks.{task_at}
 use Rattle.native.specs.Tasks.{Includes, WritesWithin}
 use Rattle.native.specs.Laid.{SaveAll}
@@ -18,7 +18,7 @@ or_true true = refl
 or_true false = refl
 
 -- a register that was added may be written
-pub added_may : (s : Saved) (r : ℕ) → may_write (and_register s r) r ≡ true
+pub added_may : (s : SavedRegisters) (r : ℕ) → may_write (and_register s r) r ≡ true
 added_may s zero = refl
 added_may s (suc zero) = refl
 added_may s (suc (suc zero)) = or_true s.r12
@@ -32,7 +32,7 @@ added_may s (suc (suc (suc (suc (suc (suc (suc (suc (suc zero))))))))) = or_true
 added_may s (suc (suc (suc (suc (suc (suc (suc (suc (suc (suc r)))))))))) = refl
 
 -- and those of before still may
-pub added_more : (s : Saved) (d : ℕ) → Includes s (and_register s d)
+pub added_more : (s : SavedRegisters) (d : ℕ) → Includes s (and_register s d)
 added_more s d zero h = refl
 added_more s d (suc zero) h = refl
 added_more s d (suc (suc zero)) h = ap (λ b. b || (d == 2)) h
@@ -46,7 +46,7 @@ added_more s d (suc (suc (suc (suc (suc (suc (suc (suc (suc zero))))))))) h = ap
 added_more s d (suc (suc (suc (suc (suc (suc (suc (suc (suc (suc r)))))))))) h = refl
 
 -- a task that writes within some writes within more
-pub writes_more : (s u : Saved) (t : Task) → Includes s u → WritesWithin s t → WritesWithin u t
+pub writes_more : (s u : SavedRegisters) (t : SlotTask) → Includes s u → WritesWithin s t → WritesWithin u t
 writes_more s u (task.Compute o w dst b) i h = i dst.number h
 writes_more s u (task.Extend x dst src) i h = i dst.number h
 writes_more s u (task.Negate w dst) i h = i dst.number h
@@ -76,16 +76,16 @@ writes_more s u task.Exit i h = tt
 writes_more s u task.Dead i h = tt
 
 -- the tasks before this one write no other register
-abbrev pub KeepsTo : List Task → Saved → ℕ → Type 0
-KeepsTo tasks saved index = (k : ℕ) (t : Task) → k < index → slice_get tasks k ≡ Some t → WritesWithin saved t
+abbrev pub KeepsTo : List SlotTask → SavedRegisters → ℕ → Type 0
+KeepsTo tasks saved index = (k : ℕ) (t : SlotTask) → k < index → slice_get tasks k ≡ Some t → WritesWithin saved t
 
 -- and so far the registers are those that tasks write
-pub record KeptTo (tasks : List Task) (saved : Saved) (index : ℕ) : Type 0 where
+pub record KeptTo (tasks : List SlotTask) (saved : SavedRegisters) (index : ℕ) : Type 0 where
   pub keeps : KeepsTo tasks saved index
   pub is : and_tasks saved (drop index tasks) ≡ saved_in tasks
 
 -- and of one more
-pub keeps_next : (tasks : List Task) (s u : Saved) (index : ℕ) (v : Task) → index < length tasks → v ≡ task_at tasks index → u ≡ and_task s v → Includes s u → WritesWithin u v → KeptTo tasks s index → KeptTo tasks u (index + 1)
+pub keeps_next : (tasks : List SlotTask) (s u : SavedRegisters) (index : ℕ) (v : SlotTask) → index < length tasks → v ≡ task_at tasks index → u ≡ and_task s v → Includes s u → WritesWithin u v → KeptTo tasks s index → KeptTo tasks u (index + 1)
 keeps_next tasks s u index v lt is_v is_u i w h = record {
   keeps = λ k t l f. ⊎_elim
       (λ (below : k < index). writes_more s u t i (h.keeps k t below f))
@@ -103,12 +103,12 @@ keeps_next tasks s u index v lt is_v is_u i w h = record {
 }
 
 -- and of all
-pub keeps_all : (tasks : List Task) (s : Saved) (index : ℕ) → KeptTo tasks s index → length tasks ≤ index → SaveAll tasks s
+pub keeps_all : (tasks : List SlotTask) (s : SavedRegisters) (index : ℕ) → KeptTo tasks s index → length tasks ≤ index → SaveAll tasks s
 keeps_all tasks s index h l k t f = let w = slice_get_within tasks k t f in h.keeps k t (omega arith) f
 
-pub keeps_is : (tasks : List Task) (s : Saved) (index : ℕ) → KeptTo tasks s index → length tasks ≤ index → s ≡ saved_in tasks
+pub keeps_is : (tasks : List SlotTask) (s : SavedRegisters) (index : ℕ) → KeptTo tasks s index → length tasks ≤ index → s ≡ saved_in tasks
 keeps_is tasks s index h l = ap (and_tasks s) (sym (drop_all index tasks l)) ∙ h.is
 
 -- if more registers are saved, this still holds
-pub saves_more : (tasks : List Task) (s u : Saved) → Includes s u → SaveAll tasks s → SaveAll tasks u
+pub saves_more : (tasks : List SlotTask) (s u : SavedRegisters) → Includes s u → SaveAll tasks s → SaveAll tasks u
 saves_more tasks s u i h k t f = writes_more s u t i (h k t f)

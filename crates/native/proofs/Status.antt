@@ -14,15 +14,15 @@ use Rattle.regtypes.specs.Typing.{Table}
 use Rattle.verifier.specs.Least.{IsLeastTyping}
 use Rattle.interp.specs.Flat.{IsHandledIn}
 use Rattle.interp.proofs.FlatCalls.{Going, Ready, in_ops, in_slots, op_within, going_next, later, ended_in}
-use Rattle.native.specs.declared.task.Task.{Task}
-use Rattle.native.specs.declared.task.Task.TheVariants as task
+use Rattle.native.specs.declared.task.SlotTask.{SlotTask}
+use Rattle.native.specs.declared.task.SlotTask.TheVariants as task
 use Rattle.native.specs.Tasks.{task_act, TaskWithin, TaskReaches}
 use Rattle.native.specs.SlotTasks.{AreTold}
 use Rattle.native.proofs.Reached.{has_code}
 use Rattle.native.proofs.Successors.{Call}
 
 -- what lies in the array at positions that no register holds, lies there whatever the registers hold
-within_reaches : (words : List ℕ) (t : Task) → TaskWithin t → TaskReaches 1792 words t
+within_reaches : (words : List ℕ) (t : SlotTask) → TaskWithin t → TaskReaches 1792 words t
 within_reaches words (task.Load size dst at) v = v
 within_reaches words (task.LoadSx size dst at) v = v
 within_reaches words (task.Store size src at) v = v
@@ -51,7 +51,7 @@ within_reaches words task.Me v = tt
 within_reaches words task.From v = tt
 within_reaches words task.Exit v = tt
 
-module _ {form : ImageForm} {slots : List (Option Insn)} {table : Table} {m len low : ℕ} {first : List ℕ} {ops : List Op} {pool : List ℕ} (r : Ready form slots table m len low first ops pool) (who : Who) (least : IsLeastTyping form slots len table) (tasks : List Task) (many : length tasks ≡ length slots) (told : AreTold table ops pool tasks (length slots)) where
+module _ {form : ImageForm} {slots : List (Option Insn)} {table : Table} {m len low : ℕ} {first : List ℕ} {ops : List Op} {pool : List ℕ} (r : Ready form slots table m len low first ops pool) (who : Who) (least : IsLeastTyping form slots len table) (tasks : List SlotTask) (many : length tasks ≡ length slots) (told : AreTold table ops pool tasks (length slots)) where
   -- how such a call stands at a slot, and what it leaves
   abbrev pub Stand : List ℕ → List ℕ → ℕ → ℕ → Emitted → Type 0
   Stand words mem slot steps e = Going form slots table m len low who first words mem slot steps e

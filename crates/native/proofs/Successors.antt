@@ -20,12 +20,12 @@ use Rattle.dense.specs.Acts.{Does}
 use Rattle.x86.specs.declared.instruction.Instr.{Instr}
 use Rattle.x86.specs.declared.instruction.Instr.TheVariants as instr
 use Rattle.x86.specs.Encoding.{bytes_of}
-use Rattle.x86.specs.declared.instruction.Condition as x86
+use Rattle.x86.specs.declared.instruction.ConditionCode as x86
 use Rattle.x86.specs.Machine.{State, HasAt, Word, Goes, Leaps, value, put, behind, extended, branch, act}
-use Rattle.native.specs.declared.task.Task.{Task}
-use Rattle.native.specs.declared.task.Task.TheVariants as task
+use Rattle.native.specs.declared.task.SlotTask.{SlotTask}
+use Rattle.native.specs.declared.task.SlotTask.TheVariants as task
 use Rattle.native.specs.Tasks.{operand_of, task_act, holds_word, is_word, is_apt, TaskReaches, TaskFits, WritesWithin}
-use Rattle.native.specs.declared.saved.Saved.{Saved}
+use Rattle.native.specs.declared.saved.SavedRegisters.{SavedRegisters}
 use Rattle.native.specs.Saved.{may_write}
 use Rattle.native.specs.Code as code_specs
 use Rattle.native.specs.Code.{gpr, codes, flushed, skipped, leaving, condition_of, compare_code, jump_code, jump_if_code, taken, Reaches, TaskIsShort, Plain, Forks, Jumps, Serves}
@@ -50,7 +50,7 @@ jump_acts c d = by_test (nat_lt d 128) refl
     by_test true t = ap Leaps (spread_small d (grind (arith, nat_tests)))
     by_test false t = refl
 
-jump_if_acts : (c : State) (x : x86.Condition) (d : ℕ) → act (jump_if_code x d) c ≡ act (instr.JumpIf x d) c
+jump_if_acts : (c : State) (x : x86.ConditionCode) (d : ℕ) → act (jump_if_code x d) c ≡ act (instr.JumpIf x d) c
 jump_if_acts c x d = by_test (nat_lt d 128) refl
   where
     by_test : (b : Bool) → nat_lt d 128 ≡ b → act (cond b (instr.JumpIfShort x d) (instr.JumpIf x d)) c ≡ act (instr.JumpIf x d) c
@@ -58,11 +58,11 @@ jump_if_acts c x d = by_test (nat_lt d 128) refl
     by_test false t = refl
 
 -- what is known of a call that stands at a slot: the slot's task, where the call goes on, and what it leaves where it ends
-pub record Call (who : Who) (tasks : List Task) (long count : ℕ) (Stand : List ℕ → List ℕ → ℕ → ℕ → Emitted → Type 0) (Over : List ℕ → List ℕ → ℕ → Emitted → Type 0) (words mem : List ℕ) (slot steps : ℕ) (e : Emitted) : Type 0 where
+pub record Call (who : Who) (tasks : List SlotTask) (long count : ℕ) (Stand : List ℕ → List ℕ → ℕ → ℕ → Emitted → Type 0) (Over : List ℕ → List ℕ → ℕ → Emitted → Type 0) (words mem : List ℕ) (slot steps : ℕ) (e : Emitted) : Type 0 where
   pub before : slot < count
   pub left : steps + 1 ≤ count
   pub array : length mem ≡ long
-  pub this : Task
+  pub this : SlotTask
   pub there : slice_get tasks slot ≡ Some this
   pub apt : is_apt slot this ≡ true
   pub reaches : TaskReaches long words this
@@ -86,7 +86,7 @@ pub record Finished (who : Who) (start last : State) (Over : List ℕ → List �
   pub r14 : value last 14 ≡ value start 14
   pub r15 : value last 15 ≡ value start 15
 
-module _ (who : Who) (tasks : List Task) (long count : ℕ) (small : long ≤ 2048) (few : count ≤ 1024) (Stand : List ℕ → List ℕ → ℕ → ℕ → Emitted → Type 0) (Over : List ℕ → List ℕ → ℕ → Emitted → Type 0) (pends tails : List ℕ) (saved : Saved) (code : List ℕ) (whole : length code < 2 ^ 64) (most : slice_index tails 0 ≤ length code) (falls : (j k : ℕ) → j ≤ k → slice_index tails k ≤ slice_index tails j) (start : State) (opened : List ℕ) (opened_is : (q : ℕ) → may_write saved q ≡ false → q < 10 → value start (gpr q) ≡ Word (slice_index opened q)) where
+module _ (who : Who) (tasks : List SlotTask) (long count : ℕ) (small : long ≤ 2048) (few : count ≤ 1024) (Stand : List ℕ → List ℕ → ℕ → ℕ → Emitted → Type 0) (Over : List ℕ → List ℕ → ℕ → Emitted → Type 0) (pends tails : List ℕ) (saved : SavedRegisters) (code : List ℕ) (whole : length code < 2 ^ 64) (most : slice_index tails 0 ≤ length code) (falls : (j k : ℕ) → j ≤ k → slice_index tails k ≤ slice_index tails j) (start : State) (opened : List ℕ) (opened_is : (q : ℕ) → may_write saved q ≡ false → q < 10 → value start (gpr q) ≡ Word (slice_index opened q)) where
   -- where the code of a slot stands
   abbrev pub place : ℕ → ℕ
   place k = length code - slice_index tails k
@@ -151,13 +151,13 @@ module _ (who : Who) (tasks : List Task) (long count : ℕ) (small : long ≤ 20
     short_count = omega (arith, left, few, sum)
 
     -- where the call goes on behind a task, and what it leaves where it ends
-    abbrev Nexts : Task → Type 0
+    abbrev Nexts : SlotTask → Type 0
     Nexts t = (to : ℕ) (words' mem' : List ℕ) (e' : Emitted) → Does slot words mem now (task_act who slot words mem now t) (To to) words' mem' e' → length mem' ≡ long → (slot < to) × (is_covered tasks to ≡ false) × Stand words' mem' to (steps + 1) e'
 
-    abbrev Leaves : Task → Type 0
+    abbrev Leaves : SlotTask → Type 0
     Leaves t = Does slot words mem now (task_act who slot words mem now t) End words mem now → Over words mem (steps + 1) now
 
-    module _ (t : Task) (next : Nexts t) (spares : WritesWithin saved t) where
+    module _ (t : SlotTask) (next : Nexts t) (spares : WritesWithin saved t) where
       -- on at a slot
       on : (words' mem' : List ℕ) (then_e : Emitted) (to done' : ℕ) (c' : State) → Does slot words mem now (task_act who slot words mem now t) (To to) words' mem' then_e → length mem' ≡ long → Fits c' words' mem' then_e done' → Safe (task_act who slot words mem now t) → done' + slice_index pends to ≡ steps + 1 → Done (place to) c'
       on words' mem' then_e to done' c' d w b safe s =
@@ -279,7 +279,7 @@ module _ (who : Who) (tasks : List Task) (long count : ℕ) (small : long ≤ 20
           )
 
     -- each task
-    by_task : (t : Task) (is : List Instr) → Nexts t → Leaves t → WritesWithin saved t → TaskReaches long words t → TaskFits t → is_apt slot t ≡ true → Serves pends tails saved slot t is → HasAt code (place slot) (codes is) → place slot + length (codes is) ≡ place (slot + 1) → Done (place slot) c
+    by_task : (t : SlotTask) (is : List Instr) → Nexts t → Leaves t → WritesWithin saved t → TaskReaches long words t → TaskFits t → is_apt slot t ≡ true → Serves pends tails saved slot t is → HasAt code (place slot) (codes is) → place slot + length (codes is) ≡ place (slot + 1) → Done (place slot) c
     by_task (task.Branch x w dst b to) is next e u v f k s h n =
         let y = and_parts (holds_word dst.number) (is_word b && nat_lt slot to) k in
         fork (task.Branch x w dst b to) next u x w dst b to is tt (λ u z. (ap (λ y. To (if y then to else slot + 1)) (sym z), refl, refl, refl)) (word_register dst.number y.0) (and_parts (is_word b) (nat_lt slot to) y.1).0 s h n
@@ -288,7 +288,7 @@ module _ (who : Who) (tasks : List Task) (long count : ℕ) (small : long ≤ 20
     by_task task.Dead is next e u v f k s h n = absurd v
     by_task t is next e u v f k s h n = plain t next u is v f tt k s h n
 
-  module _ (calls : (words mem : List ℕ) (slot steps : ℕ) (e : Emitted) → Stand words mem slot steps e → Call who tasks long count Stand Over words mem slot steps e) (kept_all : SaveAll tasks saved) (laid : (k : ℕ) (t : Task) → slice_get tasks k ≡ Some t → is_covered tasks k ≡ false → is_apt k t ≡ true → Laid tasks pends tails saved code k t) where
+  module _ (calls : (words mem : List ℕ) (slot steps : ℕ) (e : Emitted) → Stand words mem slot steps e → Call who tasks long count Stand Over words mem slot steps e) (kept_all : SaveAll tasks saved) (laid : (k : ℕ) (t : SlotTask) → slice_get tasks k ≡ Some t → is_covered tasks k ≡ false → is_apt k t ≡ true → Laid tasks pends tails saved code k t) where
     -- one instruction, and the call has done two slots
     fuse : (words mem : List ℕ) (e : Emitted) (slot steps done : ℕ) (c : State) → Sound words mem → Kept words → Stand words mem slot steps e → Fits c words mem e done → done + slice_index pends slot ≡ steps → More slot → (i : Instr) (is : List Instr) → fused tasks slot ≡ Some i → Fuses pends tails slot i (task_at tasks (slot + 1)) is → HasAt code (place slot) (codes is) → place slot + length (codes is) ≡ place (slot + 1) → Done (place slot) c
     fuse words mem e slot steps done c sound kept g a sum more i is f s h n =

@@ -6,8 +6,8 @@ use Rattle.helpers.specs.Effects.{Emitted}
 use Rattle.dense.specs.declared.op.Op.{Op}
 use Rattle.dense.specs.declared.op.Op.TheVariants as op
 use Rattle.dense.specs.Acts.{act_of, IsWithin}
-use Rattle.native.specs.declared.task.Task.{Task}
-use Rattle.native.specs.declared.task.Task.TheVariants as task
+use Rattle.native.specs.declared.task.SlotTask.{SlotTask}
+use Rattle.native.specs.declared.task.SlotTask.TheVariants as task
 use Rattle.native.specs.Operations.{task_for}
 use Rattle.native.specs.Tasks.{task_act, TaskWithin, TaskFits}
 use Rattle.native.specs.Laid.{IsTaskOf}
@@ -22,19 +22,19 @@ module _ (pool : List ℕ) (words : (k : ℕ) → slice_index pool k < 2 ^ 64) w
   is_task_of o = record { acts = λ who slot ws mem e. refl; within = λ h. h; fits = tt }
 
   -- so is a task that was found
-  pub found : (o : Op) (r : Option Task) → r ≡ task_for pool o → IfSome r (IsTaskOf pool o)
+  pub found : (o : Op) (r : Option SlotTask) → r ≡ task_for pool o → IfSome r (IsTaskOf pool o)
   found o r e = subst (λ x. IfSome x (IsTaskOf pool o)) (sym e) (is_task_of o)
 
 -- what is known of it, part by part
 module _ (pool : List ℕ) (o : Op) where
-  pub its_acts : (r : Option Task) → IfSome r (IsTaskOf pool o) → IfSome r (λ t. (who : Who) (slot : ℕ) (ws mem : List ℕ) (e : Emitted) → act_of who pool slot ws mem e o ≡ task_act who slot ws mem e t)
+  pub its_acts : (r : Option SlotTask) → IfSome r (IsTaskOf pool o) → IfSome r (λ t. (who : Who) (slot : ℕ) (ws mem : List ℕ) (e : Emitted) → act_of who pool slot ws mem e o ≡ task_act who slot ws mem e t)
   its_acts (Some t) h = h.acts
   its_acts None h = tt
 
-  pub its_bytes : (r : Option Task) → IfSome r (IsTaskOf pool o) → IfSome r (λ t. IsWithin (length pool) o → TaskWithin t)
+  pub its_bytes : (r : Option SlotTask) → IfSome r (IsTaskOf pool o) → IfSome r (λ t. IsWithin (length pool) o → TaskWithin t)
   its_bytes (Some t) h = h.within
   its_bytes None h = tt
 
-  pub its_numbers : (r : Option Task) → IfSome r (IsTaskOf pool o) → IfSome r TaskFits
+  pub its_numbers : (r : Option SlotTask) → IfSome r (IsTaskOf pool o) → IfSome r TaskFits
   its_numbers (Some t) h = h.fits
   its_numbers None h = tt

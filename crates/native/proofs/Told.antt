@@ -19,8 +19,8 @@ use Rattle.regtypes.specs.Typing.{Table, frame_at}
 use Rattle.verifier.specs.Least.{IsLeastTyping}
 use Rattle.verifier.specs.Places.{target_of}
 use Rattle.verifier.specs.Dense.{position, dense_of, helper_op, IsPooled, IsDense}
-use Rattle.native.specs.declared.task.Task.{Task}
-use Rattle.native.specs.declared.task.Task.TheVariants as task
+use Rattle.native.specs.declared.task.SlotTask.{SlotTask}
+use Rattle.native.specs.declared.task.SlotTask.TheVariants as task
 use Rattle.native.specs.Operations.{task_for}
 use Rattle.native.specs.Laid.{IsTaskOf}
 use Rattle.native.specs.SlotTasks.{helper_task, task_in, task_there, tasks_in, task_at, IsTold, AreTold}
@@ -79,7 +79,7 @@ module _ {form : ImageForm} {slots : List (Option Insn)} {len : ℕ} {table : Ta
       (dense_of len g.kinds slot st.at b.0, st.is)
 
   -- a task that is the operation's where a call may come to, and else nothing to do
-  module _ (r u : Task) (b : Bool) (test : b ≡ is_some (frame_at table slot)) (either : r ≡ cond b u task.Dead) (named : (o : Op) (t : Task) → slice_get ops slot ≡ Some o → task_for pool o ≡ Some t → (u ≡ t) × IsTaskOf pool o t) where
+  module _ (r u : SlotTask) (b : Bool) (test : b ≡ is_some (frame_at table slot)) (either : r ≡ cond b u task.Dead) (named : (o : Op) (t : SlotTask) → slice_get ops slot ≡ Some o → task_for pool o ≡ Some t → (u ≡ t) × IsTaskOf pool o t) where
     reached : (g : Frame) → frame_at table slot ≡ Some g → r ≡ u
     reached g there = either ∙ ap (λ v. cond v u task.Dead) (test ∙ ap is_some there)
 
@@ -101,10 +101,10 @@ module _ {form : ImageForm} {slots : List (Option Insn)} {len : ℕ} {table : Ta
 
 -- ---- slot by slot
 
-pub told_none : (table : Table) (ops : List Op) (pool : List ℕ) (tasks : List Task) → AreTold table ops pool tasks 0
+pub told_none : (table : Table) (ops : List Op) (pool : List ℕ) (tasks : List SlotTask) → AreTold table ops pool tasks 0
 told_none table ops pool tasks slot l = absurd (omega arith)
 
-pub told_more : (table : Table) (ops : List Op) (pool : List ℕ) (tasks : List Task) (n : ℕ) (t : Task) → length tasks ≡ n → AreTold table ops pool tasks n → IsTold table ops pool n t → AreTold table ops pool (tasks ++ t ∷ []) (n + 1)
+pub told_more : (table : Table) (ops : List Op) (pool : List ℕ) (tasks : List SlotTask) (n : ℕ) (t : SlotTask) → length tasks ≡ n → AreTold table ops pool tasks n → IsTold table ops pool n t → AreTold table ops pool (tasks ++ t ∷ []) (n + 1)
 told_more table ops pool tasks n t many told this slot l =
     ⊎_elim
     (λ (below : slot < n). subst (IsTold table ops pool slot) (sym (get_or_append_left tasks (t ∷ []) task.Dead slot (omega (arith, many)))) (told slot below))
@@ -116,15 +116,15 @@ told_more table ops pool tasks n t many told this slot l =
     (cases_lt slot n)
 
 -- as far as the tasks were told
-pub record Telling (slots : List (Option Insn)) (table : Table) (len : ℕ) (ops : List Op) (pool : List ℕ) (tasks : List Task) (n : ℕ) : Type 0 where
+pub record Telling (slots : List (Option Insn)) (table : Table) (len : ℕ) (ops : List Op) (pool : List ℕ) (tasks : List SlotTask) (n : ℕ) : Type 0 where
   pub value : tasks ≡ tasks_in slots table len n
   pub long : length tasks ≡ n
   pub told : AreTold table ops pool tasks n
 
-pub telling_none : (slots : List (Option Insn)) (table : Table) (len : ℕ) (ops : List Op) (pool : List ℕ) (tasks : List Task) → tasks ≡ [] → Telling slots table len ops pool tasks 0
+pub telling_none : (slots : List (Option Insn)) (table : Table) (len : ℕ) (ops : List Op) (pool : List ℕ) (tasks : List SlotTask) → tasks ≡ [] → Telling slots table len ops pool tasks 0
 telling_none slots table len ops pool tasks e = record { value = e; long = ap length e; told = told_none table ops pool tasks }
 
-pub telling_more : (slots : List (Option Insn)) (table : Table) (len : ℕ) (ops : List Op) (pool : List ℕ) (tasks : List Task) (n : ℕ) (t : Task) → t ≡ task_there len n (frame_at table n) (insn_at slots n) → IsTold table ops pool n t → Telling slots table len ops pool tasks n → Telling slots table len ops pool (tasks ++ t ∷ []) (n + 1)
+pub telling_more : (slots : List (Option Insn)) (table : Table) (len : ℕ) (ops : List Op) (pool : List ℕ) (tasks : List SlotTask) (n : ℕ) (t : SlotTask) → t ≡ task_there len n (frame_at table n) (insn_at slots n) → IsTold table ops pool n t → Telling slots table len ops pool tasks n → Telling slots table len ops pool (tasks ++ t ∷ []) (n + 1)
 telling_more slots table len ops pool tasks n t is told w = record {
   value =
       let e : suc n ≡ n + 1 = omega arith in

@@ -4,8 +4,8 @@ use Rattle.std.specs.Prelude.{◌||◌, slice_get, slice_set, slice_index, repli
 use Rattle.std.proofs.lemmas.Option.{slice_get-get_or}
 use Rattle.std.proofs.lemmas.Bool.{cases_eq, cases_lt}
 use Rattle.std.proofs.lemmas.List.{get_or-set_same, get_or-set_other, get_or_past, replicate_more}
-use Rattle.native.specs.declared.task.Task.{Task}
-use Rattle.native.specs.declared.task.Task.TheVariants as task
+use Rattle.native.specs.declared.task.SlotTask.{SlotTask}
+use Rattle.native.specs.declared.task.SlotTask.TheVariants as task
 use Rattle.native.specs.SlotTasks.{task_at}
 use Rattle.native.specs.Pends.{far, lowered_behind, is_more_behind, passed, is_passed, settled, pends_in}
 use Rattle.native.specs.Code.{IsBalanced}
@@ -24,7 +24,7 @@ pub past_zero : (xs : List ℕ) (i : ℕ) → length xs ≤ i → slice_index xs
 past_zero xs i h = get_or_past xs i 0 h
 
 -- nothing is left uncounted
-pub none_balanced : (k : ℕ) (t : Task) → IsBalanced [] k t
+pub none_balanced : (k : ℕ) (t : SlotTask) → IsBalanced [] k t
 none_balanced k (task.Branch x w dst o to) = (omega arith, refl)
 none_balanced k (task.Leap to) = omega arith
 none_balanced k task.Exit = tt
@@ -87,17 +87,17 @@ filled_more xs ys count e f = record {
 }
 
 -- the list as it is settled, after so many passes
-pub record Settling (tasks : List Task) (pends : List ℕ) (count : ℕ) : Type 0 where
+pub record Settling (tasks : List SlotTask) (pends : List ℕ) (count : ℕ) : Type 0 where
   pub few : AreFew pends
   pub is : settled tasks (16 - count) pends ≡ pends_in tasks
 
-pub settling_first : (tasks : List Task) (xs : List ℕ) (count : ℕ) → count ≡ length tasks → Filled xs count → Settling tasks xs 0
+pub settling_first : (tasks : List SlotTask) (xs : List ℕ) (count : ℕ) → count ≡ length tasks → Filled xs count → Settling tasks xs 0
 settling_first tasks xs count n f = record {
   few = f.some.few;
   is = ap (settled tasks 16) (f.is ∙ ap (λ k. 0 ∷ replicate k far) n);
 }
 
-module _ (tasks : List Task) (xs ys : List ℕ) (count : ℕ) (l : count < 16) (e : ys ≡ passed tasks xs (length tasks)) (s : Settling tasks xs count) where
+module _ (tasks : List SlotTask) (xs ys : List ℕ) (count : ℕ) (l : count < 16) (e : ys ≡ passed tasks xs (length tasks)) (s : Settling tasks xs count) where
   -- one pass more
   step : (b : Bool) → is_passed tasks xs (length tasks) ≡ b → cond b (settled tasks (16 - (count + 1)) ys) ys ≡ pends_in tasks
   step b t =
@@ -114,21 +114,21 @@ module _ (tasks : List Task) (xs ys : List ℕ) (count : ℕ) (l : count < 16) (
   settling_end t = step false t
 
 -- after all of them nothing is left uncounted
-pub settling_none : (tasks : List Task) (xs : List ℕ) (count : ℕ) → 16 ≤ count → Settling tasks xs count → [] ≡ pends_in tasks
+pub settling_none : (tasks : List SlotTask) (xs : List ℕ) (count : ℕ) → 16 ≤ count → Settling tasks xs count → [] ≡ pends_in tasks
 settling_none tasks xs count l s =
     let n : 0 ≡ 16 - count = omega arith in
     ap (λ k. settled tasks k xs) n ∙ s.is
 
 -- as far as a pass has come
-pub record Passed (tasks : List Task) (old pends : List ℕ) (changed : Bool) (slot : ℕ) : Type 0 where
+pub record Passed (tasks : List SlotTask) (old pends : List ℕ) (changed : Bool) (slot : ℕ) : Type 0 where
   pub list : pends ≡ passed tasks old slot
   pub more : changed ≡ is_passed tasks old slot
   pub same : changed ≡ false → pends ≡ old
-  pub balanced : changed ≡ false → (k : ℕ) (t : Task) → k < slot → slice_get tasks k ≡ Some t → IsBalanced old k t
+  pub balanced : changed ≡ false → (k : ℕ) (t : SlotTask) → k < slot → slice_get tasks k ≡ Some t → IsBalanced old k t
   pub falls : (k : ℕ) → slice_index pends k ≤ slice_index old k
 
 -- one more slot is passed
-pub passed_more : (tasks : List Task) (old pends pends' : List ℕ) (changed less : Bool) (slot : ℕ) (u : Task) → slot < length tasks → u ≡ task_at tasks slot → pends' ≡ lowered_behind pends slot u → less ≡ is_more_behind pends slot u → (less ≡ false → pends' ≡ pends) → (less ≡ false → IsBalanced pends slot u) → ((k : ℕ) → slice_index pends' k ≤ slice_index pends k) → Passed tasks old pends changed slot → Passed tasks old pends' (changed || less) (slot + 1)
+pub passed_more : (tasks : List SlotTask) (old pends pends' : List ℕ) (changed less : Bool) (slot : ℕ) (u : SlotTask) → slot < length tasks → u ≡ task_at tasks slot → pends' ≡ lowered_behind pends slot u → less ≡ is_more_behind pends slot u → (less ≡ false → pends' ≡ pends) → (less ≡ false → IsBalanced pends slot u) → ((k : ℕ) → slice_index pends' k ≤ slice_index pends k) → Passed tasks old pends changed slot → Passed tasks old pends' (changed || less) (slot + 1)
 passed_more tasks old pends pends' changed less slot u lt is list more same balanced falls p = record {
   list = list ∙ ap (λ xs. lowered_behind xs slot u) p.list ∙ ap (lowered_behind (passed tasks old slot) slot) is ∙ ap (passed tasks old) next;
   more = ap (λ b. b || less) p.more ∙ ap (λ b. is_passed tasks old slot || b) (more ∙ ap (λ xs. is_more_behind xs slot u) p.list ∙ ap (is_more_behind (passed tasks old slot) slot) is) ∙ ap (is_passed tasks old) next;

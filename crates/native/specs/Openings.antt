@@ -4,8 +4,8 @@ use Rattle.x86.specs.declared.instruction.Instr.{Instr}
 use Rattle.x86.specs.declared.instruction.Instr.TheVariants as instr
 use Rattle.native.specs.declared.prologue.Opening.{Opening}
 use Rattle.native.specs.declared.prologue.Opening.TheVariants as opening
-use Rattle.native.specs.declared.saved.Saved.{Saved}
-use Rattle.native.specs.declared.task.Task.{Task}
+use Rattle.native.specs.declared.saved.SavedRegisters.{SavedRegisters}
+use Rattle.native.specs.declared.task.SlotTask.{SlotTask}
 use Rattle.native.specs.Code.{clear, entering}
 use Rattle.native.specs.Needs.{saved_in}
 use Rattle.native.specs.Saved.{and_register}
@@ -14,11 +14,11 @@ use Rattle.native.specs.Saved.{and_register}
 abbrev pub placing : List Instr
 placing = clear 8 ∷ instr.MovImm 12 512 ∷ []
 
-abbrev pub entering_by : Opening → Saved → List Instr
+abbrev pub entering_by : Opening → SavedRegisters → List Instr
 entering_by opening.Bare saved = entering saved
 entering_by opening.Placed saved = entering saved ++ placing
 
 -- the registers to save for tasks, and r2's if the beginning writes it
-abbrev pub saved_for : Opening → List Task → Saved
+abbrev pub saved_for : Opening → List SlotTask → SavedRegisters
 saved_for opening.Bare ts = saved_in ts
 saved_for opening.Placed ts = and_register (saved_in ts) 2

@@ -15,11 +15,11 @@ use Rattle.decode.specs.declared.insn.SignedSize.TheVariants as signed
 use Rattle.decode.specs.declared.insn.Operand.TheVariants as operand
 use Rattle.dense.specs.declared.op.Op.{Op}
 use Rattle.dense.specs.declared.op.Op.TheVariants as op
-use Rattle.native.specs.declared.task.Task.{Task}
-use Rattle.native.specs.declared.task.Task.TheVariants as task
+use Rattle.native.specs.declared.task.SlotTask.{SlotTask}
+use Rattle.native.specs.declared.task.SlotTask.TheVariants as task
 
 -- the first of two, or the second if there is no first
-abbrev pub first_of : Option Task → Option Task → Option Task
+abbrev pub first_of : Option SlotTask → Option SlotTask → Option SlotTask
 first_of (Some t) u = Some t
 first_of None u = u
 
@@ -88,7 +88,7 @@ alu_reg (op.Arsh32Reg dst src) = Some (alu.Arsh, W32, dst, src)
 alu_reg o = None
 
 -- the task of either
-abbrev pub arithmetic : Op → Option Task
+abbrev pub arithmetic : Op → Option SlotTask
 arithmetic o =
     first_of (option_map (λ x. task.Compute x.0 x.1 x.2 (operand.Imm x.3)) (alu_imm o))
     (option_map (λ x. task.Compute x.0 x.1 x.2 (operand.Reg x.3)) (alu_reg o))
@@ -146,13 +146,13 @@ jump_reg (op.JSle32Reg dst src to) = Some (condition.SignedLessEqual, W32, dst, 
 jump_reg o = None
 
 -- the task of either
-abbrev pub jump : Op → Option Task
+abbrev pub jump : Op → Option SlotTask
 jump o =
     first_of (option_map (λ x. task.Branch x.0 x.1 x.2 (operand.Imm x.3) x.4) (jump_imm o))
     (option_map (λ x. task.Branch x.0 x.1 x.2 (operand.Reg x.3) x.4) (jump_reg o))
 
 -- the other operations on registers
-abbrev pub of_registers : Op → Option Task
+abbrev pub of_registers : Op → Option SlotTask
 of_registers (op.MovSxW32From8 dst src) = Some (task.Extend extension.W32From8 dst src)
 of_registers (op.MovSxW32From16 dst src) = Some (task.Extend extension.W32From16 dst src)
 of_registers (op.MovSxW64From8 dst src) = Some (task.Extend extension.W64From8 dst src)
@@ -172,7 +172,7 @@ of_registers (op.Swap64 dst) = Some (task.Reorder order.Swap bits.Bits64 dst)
 of_registers o = None
 
 -- loads and stores
-abbrev pub of_memory : Op → Option Task
+abbrev pub of_memory : Op → Option SlotTask
 of_memory (op.LoadDouble dst at) = Some (task.Load size.Double dst at)
 of_memory (op.LoadWord dst at) = Some (task.Load size.Word dst at)
 of_memory (op.LoadHalf dst at) = Some (task.Load size.Half dst at)
@@ -191,7 +191,7 @@ of_memory (op.StoreByteImm at imm) = Some (task.StoreImm size.Byte at imm)
 of_memory o = None
 
 -- the other operations; None for a wide value that isn't in the pool
-abbrev pub of_others : List ℕ → Op → Option Task
+abbrev pub of_others : List ℕ → Op → Option SlotTask
 of_others pool (op.Jump to) = Some (task.Leap to)
 of_others pool (op.Wide dst at) = if nat_lt at (length pool) then Some (task.Wide dst (slice_index pool at)) else None
 of_others pool (op.Send at) = Some (task.Send at)
@@ -205,5 +205,5 @@ of_others pool op.Dead = Some task.Dead
 of_others pool o = None
 
 -- the task of an operation; None for a wide value that isn't in the pool
-abbrev pub task_for : List ℕ → Op → Option Task
+abbrev pub task_for : List ℕ → Op → Option SlotTask
 task_for pool o = first_of (arithmetic o) (first_of (jump o) (first_of (of_registers o) (first_of (of_memory o) (of_others pool o))))

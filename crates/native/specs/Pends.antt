@@ -1,7 +1,7 @@
 -- How many steps are pending at each slot: executed, but not yet added to the count in r11.
 use Rattle.std.specs.Prelude.{ℕ, zero, suc, ◌+◌, Bool, false, ◌&&◌, ◌||◌, nat_lt, min, List, [], ◌∷◌, length, replicate, slice_index, slice_set, if◌then◌else◌}
-use Rattle.native.specs.declared.task.Task.{Task}
-use Rattle.native.specs.declared.task.Task.TheVariants as task
+use Rattle.native.specs.declared.task.SlotTask.{SlotTask}
+use Rattle.native.specs.declared.task.SlotTask.TheVariants as task
 use Rattle.native.specs.SlotTasks.{task_at}
 
 -- more than the steps of any call
@@ -34,7 +34,7 @@ one_more xs slot = min (slice_index xs slot) far + 1
 
 -- the list after the slots where a task leads are lowered: no more steps are pending there than after the task, and
 -- equally many on both ways of a jump
-abbrev pub lowered_behind : List ℕ → ℕ → Task → List ℕ
+abbrev pub lowered_behind : List ℕ → ℕ → SlotTask → List ℕ
 lowered_behind xs slot (task.Branch x w dst o to) = lowered_both xs (slot + 1) to (one_more xs slot)
 lowered_behind xs slot (task.Leap to) = lowered xs to (one_more xs slot)
 lowered_behind xs slot task.Exit = xs
@@ -43,7 +43,7 @@ lowered_behind xs slot (task.Wide dst value) = lowered xs (slot + 2) (one_more x
 lowered_behind xs slot t = lowered xs (slot + 1) (one_more xs slot)
 
 -- that lowers something
-abbrev pub is_more_behind : List ℕ → ℕ → Task → Bool
+abbrev pub is_more_behind : List ℕ → ℕ → SlotTask → Bool
 is_more_behind xs slot (task.Branch x w dst o to) = is_more_of_both xs (slot + 1) to (one_more xs slot)
 is_more_behind xs slot (task.Leap to) = is_more xs to (one_more xs slot)
 is_more_behind xs slot task.Exit = false
@@ -52,20 +52,20 @@ is_more_behind xs slot (task.Wide dst value) = is_more xs (slot + 2) (one_more x
 is_more_behind xs slot t = is_more xs (slot + 1) (one_more xs slot)
 
 -- the list after the first n tasks, one after another
-abbrev pub passed : List Task → List ℕ → ℕ → List ℕ
+abbrev pub passed : List SlotTask → List ℕ → ℕ → List ℕ
 passed tasks xs zero = xs
 passed tasks xs (suc n) = lowered_behind (passed tasks xs n) n (task_at tasks n)
 
 -- these lower something
-abbrev pub is_passed : List Task → List ℕ → ℕ → Bool
+abbrev pub is_passed : List SlotTask → List ℕ → ℕ → Bool
 is_passed tasks xs zero = false
 is_passed tasks xs (suc n) = is_passed tasks xs n || is_more_behind (passed tasks xs n) n (task_at tasks n)
 
 -- at most n passes, until nothing is lowered; if that isn't enough, no step is ever pending: each is counted at once
-abbrev pub settled : List Task → ℕ → List ℕ → List ℕ
+abbrev pub settled : List SlotTask → ℕ → List ℕ → List ℕ
 settled tasks zero xs = []
 settled tasks (suc n) xs =
     if is_passed tasks xs (length tasks) then settled tasks n (passed tasks xs (length tasks)) else passed tasks xs (length tasks)
 
-abbrev pub pends_in : List Task → List ℕ
+abbrev pub pends_in : List SlotTask → List ℕ
 pends_in tasks = settled tasks 16 (0 ∷ replicate (length tasks) far)

@@ -2,15 +2,15 @@
 use Rattle.std.specs.Prelude.{ℕ, ◌==◌, Bool, true, ◌||◌, List, [], ◌∷◌, ◌++◌, slice_index_or, if◌then◌else◌}
 use Rattle.x86.specs.declared.instruction.Instr.{Instr}
 use Rattle.x86.specs.declared.instruction.Instr.TheVariants as instr
-use Rattle.native.specs.declared.saved.Saved.{Saved}
+use Rattle.native.specs.declared.saved.SavedRegisters.{SavedRegisters}
 
 -- r0, r1, r3 and r4 are in registers that don't belong to the caller; r2 and r5 to r9 are in registers of the caller,
 -- and are written only if these are saved
-abbrev pub may_write : Saved → ℕ → Bool
+abbrev pub may_write : SavedRegisters → ℕ → Bool
 may_write s r = slice_index_or (true ∷ true ∷ s.r12 ∷ true ∷ true ∷ s.rbx ∷ s.rbp ∷ s.r13 ∷ s.r14 ∷ s.r15 ∷ []) r true
 
 -- the saved registers, with the caller's register of one more
-abbrev pub and_register : Saved → ℕ → Saved
+abbrev pub and_register : SavedRegisters → ℕ → SavedRegisters
 and_register s r = record {
   rbx = s.rbx || (r == 5);
   rbp = s.rbp || (r == 6);
@@ -27,10 +27,10 @@ abbrev pub pop_if : Bool → ℕ → List Instr
 pop_if kept r = if kept then instr.Pop r ∷ [] else []
 
 -- the saved registers are pushed, and popped in reverse order
-abbrev pub saving : Saved → List Instr
+abbrev pub saving : SavedRegisters → List Instr
 saving s =
     push_if s.rbx 3 ++ (push_if s.rbp 5 ++ (push_if s.r12 12 ++ (push_if s.r13 13 ++ (push_if s.r14 14 ++ push_if s.r15 15))))
 
-abbrev pub restoring : Saved → List Instr
+abbrev pub restoring : SavedRegisters → List Instr
 restoring s =
     pop_if s.r15 15 ++ (pop_if s.r14 14 ++ (pop_if s.r13 13 ++ (pop_if s.r12 12 ++ (pop_if s.rbp 5 ++ pop_if s.rbx 3))))

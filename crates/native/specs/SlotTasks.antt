@@ -10,13 +10,13 @@ use Rattle.regtypes.specs.Frame.{kind_at}
 use Rattle.regtypes.specs.Typing.{Table, frame_at}
 use Rattle.verifier.specs.Places.{target_of}
 use Rattle.verifier.specs.Dense.{position, payload_position}
-use Rattle.native.specs.declared.task.Task.{Task}
-use Rattle.native.specs.declared.task.Task.TheVariants as task
+use Rattle.native.specs.declared.task.SlotTask.{SlotTask}
+use Rattle.native.specs.declared.task.SlotTask.TheVariants as task
 use Rattle.native.specs.Operations.{task_for}
 use Rattle.native.specs.Laid.{IsTaskOf}
 
 -- the task of a helper
-abbrev pub helper_task : ℕ → List Kind → ℤ → Task
+abbrev pub helper_task : ℕ → List Kind → ℤ → SlotTask
 helper_task len kinds (pos (suc zero)) = task.Send (payload_position len (kind_at kinds 2))
 helper_task len kinds (pos (suc (suc zero))) = task.Output (payload_position len (kind_at kinds 1))
 helper_task len kinds (pos (suc (suc (suc zero)))) = task.Me
@@ -26,7 +26,7 @@ helper_task len kinds (pos (suc (suc (suc (suc (suc (suc zero))))))) = task.Outp
 helper_task len kinds z = task.Dead
 
 -- the task of an instruction, by the state's length, the kinds of the registers, and its slot
-abbrev pub task_in : ℕ → List Kind → ℕ → Insn → Task
+abbrev pub task_in : ℕ → List Kind → ℕ → Insn → SlotTask
 task_in len kinds slot (Alu a w dst o) = task.Compute a w dst o
 task_in len kinds slot (MovSx x dst src) = task.Extend x dst src
 task_in len kinds slot (Neg w dst) = task.Negate w dst
@@ -43,25 +43,25 @@ task_in len kinds slot (StoreImm size dst d imm) = task.StoreImm size (position 
 task_in len kinds slot (Wide dst value) = task.Wide dst value
 
 -- the task of a slot by its frame and the instruction that begins there; `Dead` if no call comes there
-abbrev pub task_there : ℕ → ℕ → Option Frame → Option Insn → Task
+abbrev pub task_there : ℕ → ℕ → Option Frame → Option Insn → SlotTask
 task_there len slot (Some g) (Some i) = task_in len g.kinds slot i
 task_there len slot f i = task.Dead
 
 -- the tasks of the first n slots
-abbrev pub tasks_in : List (Option Insn) → Table → ℕ → ℕ → List Task
+abbrev pub tasks_in : List (Option Insn) → Table → ℕ → ℕ → List SlotTask
 tasks_in slots table len zero = []
 tasks_in slots table len (suc n) = tasks_in slots table len n ++ task_there len n (frame_at table n) (insn_at slots n) ∷ []
 
 -- if a call may come to the slot, this is the task of the slot's operation
-abbrev pub IsTold : Table → List Op → List ℕ → ℕ → Task → Type 0
+abbrev pub IsTold : Table → List Op → List ℕ → ℕ → SlotTask → Type 0
 IsTold table ops pool slot told =
-    (g : Frame) (o : Op) (t : Task) → frame_at table slot ≡ Some g → slice_get ops slot ≡ Some o → task_for pool o ≡ Some t
+    (g : Frame) (o : Op) (t : SlotTask) → frame_at table slot ≡ Some g → slice_get ops slot ≡ Some o → task_for pool o ≡ Some t
     → (told ≡ t) × IsTaskOf pool o t
 
 -- the task of a slot of the list
-abbrev pub task_at : List Task → ℕ → Task
+abbrev pub task_at : List SlotTask → ℕ → SlotTask
 task_at tasks slot = slice_index_or tasks slot task.Dead
 
 -- this holds for each slot below n
-abbrev pub AreTold : Table → List Op → List ℕ → List Task → ℕ → Type 0
+abbrev pub AreTold : Table → List Op → List ℕ → List SlotTask → ℕ → Type 0
 AreTold table ops pool tasks n = (slot : ℕ) → slot < n → IsTold table ops pool slot (task_at tasks slot)

@@ -6,7 +6,7 @@ use Rattle.regtypes.specs.Typing.{Table}
 use Rattle.verifier.specs.Least.{IsLeastTyping}
 use Rattle.native.specs.declared.prologue.Opening.{Opening}
 use Rattle.native.specs.declared.prologue.Opening.TheVariants as opening
-use Rattle.native.specs.declared.task.Task.{Task}
+use Rattle.native.specs.declared.task.SlotTask.{SlotTask}
 use Rattle.native.specs.SlotTasks.{task_at, tasks_in}
 use Rattle.native.specs.Pends.{pends_in}
 use Rattle.native.specs.Openings.{entering_by, saved_for}
@@ -15,7 +15,7 @@ use Rattle.native.specs.Laid.{ArePends, SaveAll, IsPiece, LaidFrom}
 
 -- the code of the last n slots, and the length of the code from each of them on, 0 for the others; the code of the
 -- first of them depends on the lengths after it
-abbrev pub Stacks : Opening → List Task → ℕ → List ℕ → List ℕ → Type 0
+abbrev pub Stacks : Opening → List SlotTask → ℕ → List ℕ → List ℕ → Type 0
 Stacks o tasks zero tails code = (tails ≡ replicate (length tasks + 1) 0) × (code ≡ [])
 Stacks o tasks (suc n) tails code =
     (tails' code' piece : List ℕ) × Stacks o tasks n tails' code'
@@ -23,19 +23,19 @@ Stacks o tasks (suc n) tails code =
     × (tails ≡ slice_set tails' (length tasks - suc n) (length piece + length code')) × (code ≡ piece ++ code')
 
 -- the code of all tasks comes after the entry
-pub record IsWritten (o : Opening) (tasks : List Task) (code : List ℕ) : Type 0 where
+pub record IsWritten (o : Opening) (tasks : List SlotTask) (code : List ℕ) : Type 0 where
   pub tails : List ℕ
   pub rest : List ℕ
   pub stacks : Stacks o tasks (length tasks) tails rest
   pub is : code ≡ codes (entering_by o (saved_for o tasks)) ++ rest
 
 -- the slots from this one on are laid out, and their code is stacked
-pub record IsLaidFrom (o : Opening) (tasks : List Task) (tails code : List ℕ) (slot : ℕ) : Type 0 where
+pub record IsLaidFrom (o : Opening) (tasks : List SlotTask) (tails code : List ℕ) (slot : ℕ) : Type 0 where
   pub laid : LaidFrom tasks (pends_in tasks) tails (saved_for o tasks) code slot
   pub stacks : Stacks o tasks (length tasks - slot) tails code
 
 -- the code of all tasks is written, each slot's code is at its place, each step is counted, and each register is saved
-pub record IsServed (o : Opening) (tasks : List Task) (code : List ℕ) : Type 0 where
+pub record IsServed (o : Opening) (tasks : List SlotTask) (code : List ℕ) : Type 0 where
   pub written : IsWritten o tasks code
   pub laid : LaidFrom tasks (pends_in tasks) written.tails (saved_for o tasks) written.rest 0
   pub pended : ArePends tasks (pends_in tasks)

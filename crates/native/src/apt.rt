@@ -3,7 +3,7 @@
 ghost use Rattle.std.specs.Prelude.{◌≡◌, ◌&&◌};
 ghost use Rattle.native.specs.Tasks as specs;
 
-use crate::task::Task;
+use crate::task::SlotTask;
 use decode::{AluOp, Operand, Reg};
 
 /// Whether a register may hold a word.
@@ -39,35 +39,35 @@ fn is_read(op: AluOp, operand: Operand) -> bool
 }
 
 /// Whether a task's registers hold words and its jump goes forward. No call performs any other task.
-pub(crate) fn is_apt(slot: usize, task: &Task) -> bool
+pub(crate) fn is_apt(slot: usize, task: &SlotTask) -> bool
     ensures { result ≡ specs.is_apt slot task.now }
 {
     match *task {
-        Task::Compute {
+        SlotTask::Compute {
             op,
             dst,
             operand,
             ..
         } => both(holds_word(dst), is_read(op, operand)),
-        Task::Extend { dst, src, .. } => both(holds_word(dst), holds_word(src)),
-        Task::Negate { dst, .. } => holds_word(dst),
-        Task::Reorder { dst, .. } => holds_word(dst),
-        Task::Load { dst, .. } => holds_word(dst),
-        Task::LoadSx { dst, .. } => holds_word(dst),
-        Task::Store { src, .. } => holds_word(src),
-        Task::LoadBy { dst, base, .. } => both(holds_word(dst), holds_word(base)),
-        Task::LoadSxBy { dst, base, .. } => both(holds_word(dst), holds_word(base)),
-        Task::StoreBy { src, base, .. } => both(holds_word(src), holds_word(base)),
-        Task::StoreImmBy { base, .. } => holds_word(base),
-        Task::Wide { dst, .. } => holds_word(dst),
-        Task::Branch {
+        SlotTask::Extend { dst, src, .. } => both(holds_word(dst), holds_word(src)),
+        SlotTask::Negate { dst, .. } => holds_word(dst),
+        SlotTask::Reorder { dst, .. } => holds_word(dst),
+        SlotTask::Load { dst, .. } => holds_word(dst),
+        SlotTask::LoadSx { dst, .. } => holds_word(dst),
+        SlotTask::Store { src, .. } => holds_word(src),
+        SlotTask::LoadBy { dst, base, .. } => both(holds_word(dst), holds_word(base)),
+        SlotTask::LoadSxBy { dst, base, .. } => both(holds_word(dst), holds_word(base)),
+        SlotTask::StoreBy { src, base, .. } => both(holds_word(src), holds_word(base)),
+        SlotTask::StoreImmBy { base, .. } => holds_word(base),
+        SlotTask::Wide { dst, .. } => holds_word(dst),
+        SlotTask::Branch {
             dst,
             operand,
             to,
             ..
         } => both(holds_word(dst), both(is_word(operand), slot < to as usize)),
-        Task::Leap { to } => slot < to as usize,
-        Task::Dead => false,
+        SlotTask::Leap { to } => slot < to as usize,
+        SlotTask::Dead => false,
         _ => true,
     }
 }

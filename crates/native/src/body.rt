@@ -6,7 +6,7 @@ ghost use Rattle.x86.specs.Machine.{extended};
 ghost use Rattle.native.specs.Code as codes;
 ghost use Rattle.native.specs.Code.{IsNear, IsShort, TaskIsShort};
 
-use crate::task::Task;
+use crate::task::SlotTask;
 use decode::{AluOp, ByteOrder, Extension, Operand, Reg, SignedSize, Size, SwapBits, Width};
 use operations::word_of_imm;
 use x86::{Alu, Instr, Shift};
@@ -270,7 +270,7 @@ fn reorder_code(order: ByteOrder, bits: SwapBits, to: u8) -> Body
 }
 
 fn extend_code(extension: Extension, dst: Reg, src: Reg) -> Body
-    ensures { result ≡ codes.body_of (Task.Extend extension dst src) }
+    ensures { result ≡ codes.body_of (SlotTask.Extend extension dst src) }
 {
     let extend = Instr::MovSx {
         extension,
@@ -281,21 +281,21 @@ fn extend_code(extension: Extension, dst: Reg, src: Reg) -> Body
 }
 
 fn negate_code(width: Width, dst: Reg) -> Body
-    ensures { result ≡ codes.body_of (Task.Negate width dst) }
+    ensures { result ≡ codes.body_of (SlotTask.Negate width dst) }
 {
     let to = gpr(dst);
     Body::One(Instr::Neg { width, to })
 }
 
 fn wide_code(dst: Reg, value: u64) -> Body
-    ensures { result ≡ codes.body_of (Task.Wide dst value) }
+    ensures { result ≡ codes.body_of (SlotTask.Wide dst value) }
 {
     let to = gpr(dst);
     Body::One(Instr::MovWide { to, imm: value })
 }
 
 fn load_code(size: Size, dst: Reg, at: u16) -> Body
-    ensures { result ≡ codes.body_of (Task.Load size dst at) }
+    ensures { result ≡ codes.body_of (SlotTask.Load size dst at) }
 {
     let load = Instr::Load {
         size,
@@ -307,7 +307,7 @@ fn load_code(size: Size, dst: Reg, at: u16) -> Body
 }
 
 fn load_sx_code(size: SignedSize, dst: Reg, at: u16) -> Body
-    ensures { result ≡ codes.body_of (Task.LoadSx size dst at) }
+    ensures { result ≡ codes.body_of (SlotTask.LoadSx size dst at) }
 {
     let load = Instr::LoadSx {
         size,
@@ -319,7 +319,7 @@ fn load_sx_code(size: SignedSize, dst: Reg, at: u16) -> Body
 }
 
 fn store_code(size: Size, src: Reg, at: u16) -> Body
-    ensures { result ≡ codes.body_of (Task.Store size src at) }
+    ensures { result ≡ codes.body_of (SlotTask.Store size src at) }
 {
     let store = Instr::Store {
         size,
@@ -331,8 +331,8 @@ fn store_code(size: Size, src: Reg, at: u16) -> Body
 }
 
 fn store_imm_code(size: Size, at: u16, imm: i32) -> Body
-    ensures value { result ≡ codes.body_of (Task.StoreImm size at imm) }
-    ensures short { TaskIsShort (Task.StoreImm size at imm) }
+    ensures value { result ≡ codes.body_of (SlotTask.StoreImm size at imm) }
+    ensures short { TaskIsShort (SlotTask.StoreImm size at imm) }
 {
     Body::One(Instr::StoreImm {
         size,
@@ -356,7 +356,7 @@ fn reach_code(base: Reg, offset: i16) -> Instr
 }
 
 fn load_by_code(size: Size, dst: Reg, base: Reg, offset: i16) -> Body
-    ensures value { result ≡ codes.body_of (Task.LoadBy size dst base offset) }
+    ensures value { result ≡ codes.body_of (SlotTask.LoadBy size dst base offset) }
     ensures near { IsNear offset }
 {
     let load = Instr::Load {
@@ -369,7 +369,7 @@ fn load_by_code(size: Size, dst: Reg, base: Reg, offset: i16) -> Body
 }
 
 fn load_sx_by_code(size: SignedSize, dst: Reg, base: Reg, offset: i16) -> Body
-    ensures value { result ≡ codes.body_of (Task.LoadSxBy size dst base offset) }
+    ensures value { result ≡ codes.body_of (SlotTask.LoadSxBy size dst base offset) }
     ensures near { IsNear offset }
 {
     let load = Instr::LoadSx {
@@ -382,7 +382,7 @@ fn load_sx_by_code(size: SignedSize, dst: Reg, base: Reg, offset: i16) -> Body
 }
 
 fn store_by_code(size: Size, src: Reg, base: Reg, offset: i16) -> Body
-    ensures value { result ≡ codes.body_of (Task.StoreBy size src base offset) }
+    ensures value { result ≡ codes.body_of (SlotTask.StoreBy size src base offset) }
     ensures near { IsNear offset }
 {
     let store = Instr::Store {
@@ -395,8 +395,8 @@ fn store_by_code(size: Size, src: Reg, base: Reg, offset: i16) -> Body
 }
 
 fn store_imm_by_code(size: Size, base: Reg, offset: i16, imm: i32) -> Body
-    ensures value { result ≡ codes.body_of (Task.StoreImmBy size base offset imm) }
-    ensures short { TaskIsShort (Task.StoreImmBy size base offset imm) }
+    ensures value { result ≡ codes.body_of (SlotTask.StoreImmBy size base offset imm) }
+    ensures short { TaskIsShort (SlotTask.StoreImmBy size base offset imm) }
 {
     let store = Instr::StoreImm {
         size,
@@ -420,70 +420,70 @@ fn told_code(at: u64) -> Body
 }
 
 /// The instructions of a task that has no jump.
-pub(crate) fn body_of(task: Task) -> Body
+pub(crate) fn body_of(task: SlotTask) -> Body
     ensures value { result ≡ codes.body_of task }
     ensures short { TaskIsShort task }
 {
     match task {
-        Task::Compute {
+        SlotTask::Compute {
             op,
             width,
             dst,
             operand,
         } => compute_code(op, width, gpr(dst), operand),
-        Task::Extend {
+        SlotTask::Extend {
             extension,
             dst,
             src,
         } => extend_code(extension, dst, src),
-        Task::Negate { width, dst } => negate_code(width, dst),
-        Task::Reorder { order, bits, dst } => reorder_code(order, bits, gpr(dst)),
-        Task::Load { size, dst, at } => load_code(size, dst, at),
-        Task::LoadSx { size, dst, at } => load_sx_code(size, dst, at),
-        Task::Store { size, src, at } => store_code(size, src, at),
-        Task::StoreImm { size, at, imm } => store_imm_code(size, at, imm),
-        Task::LoadBy {
+        SlotTask::Negate { width, dst } => negate_code(width, dst),
+        SlotTask::Reorder { order, bits, dst } => reorder_code(order, bits, gpr(dst)),
+        SlotTask::Load { size, dst, at } => load_code(size, dst, at),
+        SlotTask::LoadSx { size, dst, at } => load_sx_code(size, dst, at),
+        SlotTask::Store { size, src, at } => store_code(size, src, at),
+        SlotTask::StoreImm { size, at, imm } => store_imm_code(size, at, imm),
+        SlotTask::LoadBy {
             size,
             dst,
             base,
             offset,
         } => load_by_code(size, dst, base, offset),
-        Task::LoadSxBy {
+        SlotTask::LoadSxBy {
             size,
             dst,
             base,
             offset,
         } => load_sx_by_code(size, dst, base, offset),
-        Task::StoreBy {
+        SlotTask::StoreBy {
             size,
             src,
             base,
             offset,
         } => store_by_code(size, src, base, offset),
-        Task::StoreImmBy {
+        SlotTask::StoreImmBy {
             size,
             base,
             offset,
             imm,
         } => store_imm_by_code(size, base, offset, imm),
-        Task::Wide { dst, value } => wide_code(dst, value),
-        Task::Me => told_code(24),
-        Task::From => told_code(32),
-        Task::Branch { operand, .. } => {
+        SlotTask::Wide { dst, value } => wide_code(dst, value),
+        SlotTask::Me => told_code(24),
+        SlotTask::From => told_code(32),
+        SlotTask::Branch { operand, .. } => {
             // For the proof, as above.
             let _short = alu_code(Alu::Add, Width::W64, 0, operand);
             Body::Empty
         }
-        Task::Leap { .. } => Body::Empty,
-        Task::Send { .. } => Body::Empty,
-        Task::Output { .. } => Body::Empty,
-        Task::SendSized { .. } => Body::Empty,
-        Task::OutputSized { .. } => Body::Empty,
-        Task::SendBy => Body::Empty,
-        Task::OutputBy => Body::Empty,
-        Task::SendSizedBy => Body::Empty,
-        Task::OutputSizedBy => Body::Empty,
-        Task::Exit => Body::Empty,
-        Task::Dead => Body::Empty,
+        SlotTask::Leap { .. } => Body::Empty,
+        SlotTask::Send { .. } => Body::Empty,
+        SlotTask::Output { .. } => Body::Empty,
+        SlotTask::SendSized { .. } => Body::Empty,
+        SlotTask::OutputSized { .. } => Body::Empty,
+        SlotTask::SendBy => Body::Empty,
+        SlotTask::OutputBy => Body::Empty,
+        SlotTask::SendSizedBy => Body::Empty,
+        SlotTask::OutputSizedBy => Body::Empty,
+        SlotTask::Exit => Body::Empty,
+        SlotTask::Dead => Body::Empty,
     }
 }

@@ -58,20 +58,20 @@ pub(crate) fn compare_code(condition: Condition, width: Width, dst: Reg, operand
 }
 
 /// The condition on the flags by which a jump is taken.
-pub(crate) fn condition_of(condition: Condition) -> x86::Condition
+pub(crate) fn condition_of(condition: Condition) -> x86::ConditionCode
     ensures { result ≡ codes.condition_of condition }
 {
     match condition {
-        Condition::Equal => x86::Condition::Equal,
-        Condition::NotEqual => x86::Condition::NotEqual,
-        Condition::Set => x86::Condition::NotEqual,
-        Condition::Greater => x86::Condition::Above,
-        Condition::GreaterEqual => x86::Condition::AboveEqual,
-        Condition::Less => x86::Condition::Below,
-        Condition::LessEqual => x86::Condition::BelowEqual,
-        Condition::SignedGreater => x86::Condition::Greater,
-        Condition::SignedGreaterEqual => x86::Condition::GreaterEqual,
-        Condition::SignedLess => x86::Condition::Less,
-        Condition::SignedLessEqual => x86::Condition::LessEqual,
+        Condition::Equal => x86::ConditionCode::Equal,
+        Condition::NotEqual => x86::ConditionCode::NotEqual,
+        Condition::Set => x86::ConditionCode::NotEqual,
+        Condition::Greater => x86::ConditionCode::Above,
+        Condition::GreaterEqual => x86::ConditionCode::AboveEqual,
+        Condition::Less => x86::ConditionCode::Below,
+        Condition::LessEqual => x86::ConditionCode::BelowEqual,
+        Condition::SignedGreater => x86::ConditionCode::Greater,
+        Condition::SignedGreaterEqual => x86::ConditionCode::GreaterEqual,
+        Condition::SignedLess => x86::ConditionCode::Less,
+        Condition::SignedLessEqual => x86::ConditionCode::LessEqual,
     }
 }

@@ -8,7 +8,7 @@ use crate::body::{clear, seen};
 use crate::sequence::write_all;
 use decode::{Size, Width};
 use std::alloc::AllocError;
-use x86::{Alu, Condition, Instr};
+use x86::{Alu, ConditionCode, Instr};
 
 /// A helper that emits.
 #[derive(Clone, Copy)]
@@ -43,7 +43,7 @@ fn write_room_test(code: &mut Vec<u8>, count_at: u64, none: u8) -> Result<(), Al
                 imm: 8,
             },
             Instr::JumpIfShort {
-                condition: Condition::AboveEqual,
+                condition: ConditionCode::AboveEqual,
                 distance: none,
             },
         ],
@@ -64,7 +64,7 @@ fn write_least_test(code: &mut Vec<u8>, none: u8) -> Result<(), AllocError>
                 imm: 1,
             },
             Instr::JumpIfShort {
-                condition: Condition::Below,
+                condition: ConditionCode::Below,
                 distance: none,
             },
         ],
@@ -91,7 +91,7 @@ fn write_most_test(code: &mut Vec<u8>, none: u8) -> Result<(), AllocError>
                 from: 8,
             },
             Instr::JumpIfShort {
-                condition: Condition::Below,
+                condition: ConditionCode::Below,
                 distance: none,
             },
         ],
@@ -118,7 +118,7 @@ fn write_other_test(code: &mut Vec<u8>, none: u8) -> Result<(), AllocError>
                 from: 1,
             },
             Instr::JumpIfShort {
-                condition: Condition::Equal,
+                condition: ConditionCode::Equal,
                 distance: none,
             },
         ],
@@ -148,7 +148,7 @@ fn write_length_test(code: &mut Vec<u8>, len: u8, long: u8) -> Result<(), AllocE
                 imm: 256,
             },
             Instr::JumpIfShort {
-                condition: Condition::Above,
+                condition: ConditionCode::Above,
                 distance: long,
             },
         ],

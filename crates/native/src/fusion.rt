@@ -6,20 +6,20 @@ ghost use Rattle.native.specs.Fusion as specs;
 
 use crate::apt::holds_word;
 use crate::body::{gpr, number};
-use crate::task::Task;
+use crate::task::SlotTask;
 use decode::{AluOp, Operand, Reg, Width};
 use limits::SLOTS;
 use std::alloc::{AllocError, Global};
 use x86::Instr;
 
 // The task of a slot; `Dead` after the end.
-pub(crate) fn task_at(tasks: &[Task], slot: usize) -> Task
-    ensures { result ≡ slice_index_or tasks.now slot Task.Dead }
+pub(crate) fn task_at(tasks: &[SlotTask], slot: usize) -> SlotTask
+    ensures { result ≡ slice_index_or tasks.now slot SlotTask.Dead }
 {
     if slot < tasks.len() {
         tasks[slot]
     } else {
-        Task::Dead
+        SlotTask::Dead
     }
 }
 
@@ -43,20 +43,20 @@ fn mark(targets: &mut Vec<bool>, slot: usize)
 }
 
 // Marks the slot where a task leads, if it isn't the next one.
-fn mark_behind(targets: &mut Vec<bool>, slot: usize, task: Task)
+fn mark_behind(targets: &mut Vec<bool>, slot: usize, task: SlotTask)
     requires { slot < SLOTS }
     ensures { targets.new.items ≡ specs.marked_by targets.old.items slot task }
 {
     match task {
-        Task::Branch { to, .. } => mark(targets, to as usize),
-        Task::Leap { to } => mark(targets, to as usize),
-        Task::Wide { .. } => mark(targets, slot + 2),
+        SlotTask::Branch { to, .. } => mark(targets, to as usize),
+        SlotTask::Leap { to } => mark(targets, to as usize),
+        SlotTask::Wide { .. } => mark(targets, slot + 2),
         _ => {}
     }
 }
 
 /// Which slots a call may come to from elsewhere than the slot before.
-pub(crate) fn targets_of(alloc: Global, tasks: &[Task]) -> Result<Vec<bool>, AllocError>
+pub(crate) fn targets_of(alloc: Global, tasks: &[SlotTask]) -> Result<Vec<bool>, AllocError>
     requires { length tasks.now ≤ SLOTS }
     ensures { IfOk result (λ targets. targets.items ≡ specs.targets_in tasks.now) }
 {
@@ -92,11 +92,11 @@ fn sum_by(dst: Reg, src: Reg, again: Reg, imm: i32) -> Option<Instr>
     }
 }
 
-fn added_to(dst: Reg, src: Reg, task: Task) -> Option<Instr>
+fn added_to(dst: Reg, src: Reg, task: SlotTask) -> Option<Instr>
     ensures { result ≡ specs.added_to dst.number src.number task }
 {
     match task {
-        Task::Compute {
+        SlotTask::Compute {
             op: AluOp::Add,
             width: Width::W64,
             dst: again,
@@ -106,11 +106,11 @@ fn added_to(dst: Reg, src: Reg, task: Task) -> Option<Instr>
     }
 }
 
-fn sum_of(first: Task, second: Task) -> Option<Instr>
+fn sum_of(first: SlotTask, second: SlotTask) -> Option<Instr>
     ensures { result ≡ specs.sum_of first second }
 {
     match first {
-        Task::Compute {
+        SlotTask::Compute {
             op: AluOp::Mov,
             width: Width::W64,
             dst,
@@ -121,7 +121,7 @@ fn sum_of(first: Task, second: Task) -> Option<Instr>
 }
 
 /// The one instruction of a slot and the next, if a call comes to the next only from this slot.
-pub(crate) fn fused(tasks: &[Task], targets: &[bool], slot: usize) -> Option<Instr>
+pub(crate) fn fused(tasks: &[SlotTask], targets: &[bool], slot: usize) -> Option<Instr>
     requires few { slot < SLOTS }
     requires targets { targets.now ≡ specs.targets_in tasks.now }
     ensures { result ≡ specs.fused tasks.now slot }
@@ -134,7 +134,7 @@ pub(crate) fn fused(tasks: &[Task], targets: &[bool], slot: usize) -> Option<Ins
 }
 
 /// Whether the instruction of the slot before also does this slot's task.
-pub(crate) fn is_covered(tasks: &[Task], targets: &[bool], slot: usize) -> bool
+pub(crate) fn is_covered(tasks: &[SlotTask], targets: &[bool], slot: usize) -> bool
     requires few { slot < SLOTS }
     requires targets { targets.now ≡ specs.targets_in tasks.now }
     ensures { result ≡ specs.is_covered tasks.now slot }

@@ -16,11 +16,11 @@ use crate::body::clear;
 use crate::fusion::{is_covered, targets_of, task_at};
 use crate::prologue::Opening;
 use crate::pends::pends_of;
-use crate::saved::{Saved, saved_for};
+use crate::saved::{SavedRegisters, saved_for};
 use crate::sequence::write_all;
 use crate::slot_code::{emit, emit_entry};
 use crate::slot_tasks::tasks_of;
-use crate::task::Task;
+use crate::task::SlotTask;
 use limits::SLOTS;
 use std::alloc::{AllocError, Global};
 use verifier::Image;
@@ -43,8 +43,8 @@ fn write_piece(
     piece: &mut Vec<u8>,
     pends: &[u64],
     tails: &[u64],
-    saved: Saved,
-    tasks: &[Task],
+    saved: SavedRegisters,
+    tasks: &[SlotTask],
     targets: &[bool],
     slot: usize,
 ) -> Result<(), AllocError>
@@ -75,10 +75,10 @@ fn lay_slot(
     back: &mut Vec<u8>,
     tails: &mut Vec<u64>,
     opening: Opening,
-    tasks: &[Task],
+    tasks: &[SlotTask],
     targets: &[bool],
     pends: &[u64],
-    saved: Saved,
+    saved: SavedRegisters,
     slot: usize,
 ) -> Result<(), AllocError>
     requires within { slot < length tasks.now }
@@ -108,7 +108,7 @@ fn lay_slot(
 }
 
 // The code's beginning.
-fn write_entry(code: &mut Vec<u8>, opening: Opening, saved: Saved) -> Result<(), AllocError>
+fn write_entry(code: &mut Vec<u8>, opening: Opening, saved: SavedRegisters) -> Result<(), AllocError>
     ensures { OnOk result (code.new.items ≡ code.old.items ++ codes (entering_by opening saved)) }
 {
     emit_entry(code, saved)?;
@@ -122,7 +122,7 @@ fn write_entry(code: &mut Vec<u8>, opening: Opening, saved: Saved) -> Result<(),
 }
 
 /// The machine code of tasks, one for each slot, with this opening. It fails only if memory runs out.
-pub fn write_tasks(alloc: Global, opening: Opening, tasks: &[Task]) -> Result<Vec<u8>, AllocError>
+pub fn write_tasks(alloc: Global, opening: Opening, tasks: &[SlotTask]) -> Result<Vec<u8>, AllocError>
     requires { length tasks.now ≤ SLOTS }
     ensures { IfOk result (λ code. IsServed opening tasks.now code.items) }
 {

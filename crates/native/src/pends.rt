@@ -8,7 +8,7 @@ ghost use Rattle.native.specs.Pends as specs;
 
 use crate::saved::either;
 use crate::slot_code::at;
-use crate::task::Task;
+use crate::task::SlotTask;
 use limits::SLOTS;
 use std::alloc::{AllocError, Global};
 
@@ -53,7 +53,7 @@ fn lower_both(pends: &mut Vec<u64>, next: usize, to: usize, value: u64) -> bool
 }
 
 // Lowers the pending steps of the slots where a task leads. Answers whether any became less.
-fn lower_behind(pends: &mut Vec<u64>, slot: usize, task: Task) -> bool
+fn lower_behind(pends: &mut Vec<u64>, slot: usize, task: SlotTask) -> bool
     requires { slot < SLOTS }
     ensures list { pends.new.items ≡ specs.lowered_behind pends.old.items slot task }
     ensures more { result ≡ specs.is_more_behind pends.old.items slot task }
@@ -63,17 +63,17 @@ fn lower_behind(pends: &mut Vec<u64>, slot: usize, task: Task) -> bool
 {
     let value = at(pends.as_slice(), slot).min(FAR) + 1;
     match task {
-        Task::Branch { to, .. } => lower_both(pends, slot + 1, to as usize, value),
-        Task::Leap { to } => lower(pends, to as usize, value),
-        Task::Exit => false,
-        Task::Dead => false,
-        Task::Wide { .. } => lower(pends, slot + 2, value),
+        SlotTask::Branch { to, .. } => lower_both(pends, slot + 1, to as usize, value),
+        SlotTask::Leap { to } => lower(pends, to as usize, value),
+        SlotTask::Exit => false,
+        SlotTask::Dead => false,
+        SlotTask::Wide { .. } => lower(pends, slot + 2, value),
         _ => lower(pends, slot + 1, value),
     }
 }
 
 // One pass over all slots. Answers whether any pending steps became less.
-fn pass(pends: &mut Vec<u64>, tasks: &[Task]) -> bool
+fn pass(pends: &mut Vec<u64>, tasks: &[SlotTask]) -> bool
     requires { length tasks.now ≤ SLOTS }
     ensures list { pends.new.items ≡ specs.passed tasks.now pends.old.items (length tasks.now) }
     ensures more { result ≡ specs.is_passed tasks.now pends.old.items (length tasks.now) }
@@ -91,7 +91,7 @@ fn pass(pends: &mut Vec<u64>, tasks: &[Task]) -> bool
 
 // The pending steps at each slot: at most one more than at a slot from which it is reached, and the same on both ways
 // of a jump. If the passes find no such numbers, no step is ever pending: each is counted at once.
-pub(crate) fn pends_of(alloc: Global, tasks: &[Task]) -> Result<Vec<u64>, AllocError>
+pub(crate) fn pends_of(alloc: Global, tasks: &[SlotTask]) -> Result<Vec<u64>, AllocError>
     requires { length tasks.now ≤ SLOTS }
     ensures value { IfOk result (λ pends. pends.items ≡ specs.pends_in tasks.now) }
     ensures are { IfOk result (λ pends. ArePends tasks.now pends.items) }

@@ -9,7 +9,7 @@ use crate::body::{gpr, number};
 use crate::sequence::write_all;
 use decode::{Operand, Reg, Width};
 use std::alloc::AllocError;
-use x86::{Alu, Condition, Instr};
+use x86::{Alu, ConditionCode, Instr};
 
 /// rcx gets the divisor.
 pub(crate) fn divisor_code(width: Width, operand: Operand) -> Instr
@@ -51,7 +51,7 @@ fn write_divisor_test(
                 imm,
             },
             Instr::JumpIfShort {
-                condition: Condition::Equal,
+                condition: ConditionCode::Equal,
                 distance: past,
             },
         ],

@@ -10,7 +10,7 @@ ghost use Rattle.native.specs.Saved.{may_write};
 ghost use Rattle.native.specs.Tasks.{Includes, WritesWithin};
 
 use crate::prologue::Opening;
-use crate::task::Task;
+use crate::task::SlotTask;
 use decode::Reg;
 use std::alloc::AllocError;
 use x86::Instr;
@@ -18,7 +18,7 @@ use x86::Instr;
 /// Which of the caller's registers the code saves. The handler's r5, r6, r2, r7, r8 and r9 are in rbx, rbp, r12, r13,
 /// r14 and r15.
 #[derive(Clone, Copy)]
-pub struct Saved {
+pub struct SavedRegisters {
     rbx: bool,
     rbp: bool,
     r12: bool,
@@ -34,15 +34,15 @@ pub(crate) fn either(one: bool, other: bool) -> bool
     one || other
 }
 
-impl Saved {
+impl SavedRegisters {
     // The same, with the caller's register in which this one is.
-    fn and_register(self, reg: Reg) -> Saved
+    fn and_register(self, reg: Reg) -> SavedRegisters
         ensures value { result ≡ specs.and_register self reg.number }
         ensures writes { may_write result reg.number ≡ true }
         ensures more { Includes self result }
     {
         let written = reg.number;
-        Saved {
+        SavedRegisters {
             rbx: either(self.rbx, written == 5),
             rbp: either(self.rbp, written == 6),
             r12: either(self.r12, written == 2),
@@ -53,32 +53,32 @@ impl Saved {
     }
 
     // The same, with the register that a task writes.
-    fn and_task(self, task: &Task) -> Saved
+    fn and_task(self, task: &SlotTask) -> SavedRegisters
         ensures value { result ≡ and_task self task.now }
         ensures writes { WritesWithin result task.now }
         ensures more { Includes self result }
     {
         match *task {
-            Task::Compute { dst, .. } => self.and_register(dst),
-            Task::Extend { dst, .. } => self.and_register(dst),
-            Task::Negate { dst, .. } => self.and_register(dst),
-            Task::Reorder { dst, .. } => self.and_register(dst),
-            Task::Load { dst, .. } => self.and_register(dst),
-            Task::LoadSx { dst, .. } => self.and_register(dst),
-            Task::LoadBy { dst, .. } => self.and_register(dst),
-            Task::LoadSxBy { dst, .. } => self.and_register(dst),
-            Task::Wide { dst, .. } => self.and_register(dst),
+            SlotTask::Compute { dst, .. } => self.and_register(dst),
+            SlotTask::Extend { dst, .. } => self.and_register(dst),
+            SlotTask::Negate { dst, .. } => self.and_register(dst),
+            SlotTask::Reorder { dst, .. } => self.and_register(dst),
+            SlotTask::Load { dst, .. } => self.and_register(dst),
+            SlotTask::LoadSx { dst, .. } => self.and_register(dst),
+            SlotTask::LoadBy { dst, .. } => self.and_register(dst),
+            SlotTask::LoadSxBy { dst, .. } => self.and_register(dst),
+            SlotTask::Wide { dst, .. } => self.and_register(dst),
             _ => self,
         }
     }
 }
 
 /// The registers to save for these tasks.
-fn saved_of(tasks: &[Task]) -> Saved
+fn saved_of(tasks: &[SlotTask]) -> SavedRegisters
     ensures value { result ≡ saved_in tasks.now }
     ensures all { SaveAll tasks.now result }
 {
-    let mut saved = Saved {
+    let mut saved = SavedRegisters {
         rbx: false,
         rbp: false,
         r12: false,
@@ -93,7 +93,7 @@ fn saved_of(tasks: &[Task]) -> Saved
 }
 
 /// The registers to save for these tasks and the code's beginning.
-pub(crate) fn saved_for(opening: Opening, tasks: &[Task]) -> Saved
+pub(crate) fn saved_for(opening: Opening, tasks: &[SlotTask]) -> SavedRegisters
     ensures value { result ≡ openings.saved_for opening tasks.now }
     ensures all { SaveAll tasks.now result }
 {
@@ -125,7 +125,7 @@ fn pop_if(code: &mut Vec<u8>, kept: bool, reg: u8) -> Result<(), AllocError>
 }
 
 /// Pushes the saved registers.
-pub(crate) fn write_saving(code: &mut Vec<u8>, saved: Saved) -> Result<(), AllocError>
+pub(crate) fn write_saving(code: &mut Vec<u8>, saved: SavedRegisters) -> Result<(), AllocError>
     ensures { OnOk result (code.new.items ≡ code.old.items ++ codes (specs.saving saved)) }
 {
     push_if(code, saved.rbx, 3)?;
@@ -137,7 +137,7 @@ pub(crate) fn write_saving(code: &mut Vec<u8>, saved: Saved) -> Result<(), Alloc
 }
 
 /// Pops them.
-pub(crate) fn write_restoring(code: &mut Vec<u8>, saved: Saved) -> Result<(), AllocError>
+pub(crate) fn write_restoring(code: &mut Vec<u8>, saved: SavedRegisters) -> Result<(), AllocError>
     ensures { OnOk result (code.new.items ≡ code.old.items ++ codes (specs.restoring saved)) }
 {
     pop_if(code, saved.r15, 15)?;

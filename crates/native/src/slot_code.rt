@@ -15,9 +15,9 @@ use crate::comparison::{compare_code, condition_of};
 use crate::emission::{Helper, write_end, write_good, write_tests};
 use crate::fusion::{fused, task_at};
 use crate::quotient::{Ways, divisor_code, two_size, write_quotient, write_signed};
-use crate::saved::{Saved, write_restoring, write_saving};
+use crate::saved::{SavedRegisters, write_restoring, write_saving};
 use crate::sequence::write_all;
-use crate::task::Task;
+use crate::task::SlotTask;
 use decode::{AluOp, Condition, Operand, Reg, Size, Width};
 use limits::SLOTS;
 use std::alloc::{AllocError, Global};
@@ -62,7 +62,7 @@ fn jump_code(distance: u64) -> Instr
     }
 }
 
-fn jump_if_code(condition: x86::Condition, distance: u64) -> Instr
+fn jump_if_code(condition: x86::ConditionCode, distance: u64) -> Instr
     ensures { result ≡ specs.jump_if_code condition distance }
 {
     if distance < 128 {
@@ -136,7 +136,7 @@ fn emit_body(code: &mut Vec<u8>, body: Body) -> Result<(), AllocError>
 }
 
 // The instructions of a task that has no jump.
-fn emit_body_of(code: &mut Vec<u8>, task: Task) -> Result<(), AllocError>
+fn emit_body_of(code: &mut Vec<u8>, task: SlotTask) -> Result<(), AllocError>
     ensures { OnOk result (Emits (IsBody (specs.body_of task)) code.old.items code.new.items) }
 {
     emit_body(code, body_of(task))
@@ -194,7 +194,7 @@ fn emit_signed(
 
 // An unsigned quotient.
 fn emit_div(code: &mut Vec<u8>, width: Width, dst: Reg, operand: Operand) -> Result<(), AllocError>
-    ensures { OnOk result (Emits (IsDone (Task.Compute AluOp.Div width dst operand)) code.old.items code.new.items) }
+    ensures { OnOk result (Emits (IsDone (SlotTask.Compute AluOp.Div width dst operand)) code.old.items code.new.items) }
 {
     let to = gpr(dst);
     let size = two_size(Width::W32, to);
@@ -203,7 +203,7 @@ fn emit_div(code: &mut Vec<u8>, width: Width, dst: Reg, operand: Operand) -> Res
 
 // An unsigned remainder.
 fn emit_mod(code: &mut Vec<u8>, width: Width, dst: Reg, operand: Operand) -> Result<(), AllocError>
-    ensures { OnOk result (Emits (IsDone (Task.Compute AluOp.Mod width dst operand)) code.old.items code.new.items) }
+    ensures { OnOk result (Emits (IsDone (SlotTask.Compute AluOp.Mod width dst operand)) code.old.items code.new.items) }
 {
     let to = gpr(dst);
     let same = Instr::Mov {
@@ -216,7 +216,7 @@ fn emit_mod(code: &mut Vec<u8>, width: Width, dst: Reg, operand: Operand) -> Res
 
 // A signed quotient.
 fn emit_sdiv(code: &mut Vec<u8>, width: Width, dst: Reg, operand: Operand) -> Result<(), AllocError>
-    ensures { OnOk result (Emits (IsDone (Task.Compute AluOp.Sdiv width dst operand)) code.old.items code.new.items) }
+    ensures { OnOk result (Emits (IsDone (SlotTask.Compute AluOp.Sdiv width dst operand)) code.old.items code.new.items) }
 {
     let to = gpr(dst);
     let ways = Ways {
@@ -230,7 +230,7 @@ fn emit_sdiv(code: &mut Vec<u8>, width: Width, dst: Reg, operand: Operand) -> Re
 
 // A signed remainder.
 fn emit_smod(code: &mut Vec<u8>, width: Width, dst: Reg, operand: Operand) -> Result<(), AllocError>
-    ensures { OnOk result (Emits (IsDone (Task.Compute AluOp.Smod width dst operand)) code.old.items code.new.items) }
+    ensures { OnOk result (Emits (IsDone (SlotTask.Compute AluOp.Smod width dst operand)) code.old.items code.new.items) }
 {
     let to = gpr(dst);
     let ways = Ways {
@@ -254,7 +254,7 @@ fn emit_compute(
     dst: Reg,
     operand: Operand,
 ) -> Result<(), AllocError>
-    ensures { OnOk result (Emits (IsDone (Task.Compute op width dst operand)) code.old.items code.new.items) }
+    ensures { OnOk result (Emits (IsDone (SlotTask.Compute op width dst operand)) code.old.items code.new.items) }
 {
     match op {
         AluOp::Div => emit_div(code, width, dst, operand),
@@ -262,7 +262,7 @@ fn emit_compute(
         AluOp::Sdiv => emit_sdiv(code, width, dst, operand),
         AluOp::Smod => emit_smod(code, width, dst, operand),
         _ => {
-            let task = Task::Compute {
+            let task = SlotTask::Compute {
                 op,
                 width,
                 dst,
@@ -274,19 +274,19 @@ fn emit_compute(
 }
 
 // The instructions of a task that always goes on.
-fn emit_done(alloc: Global, code: &mut Vec<u8>, task: Task) -> Result<(), AllocError>
+fn emit_done(alloc: Global, code: &mut Vec<u8>, task: SlotTask) -> Result<(), AllocError>
     ensures { OnOk result (Emits (IsDone task) code.old.items code.new.items) }
 {
     match task {
-        Task::Send { at } => emit_helper(alloc, code, Helper::Send, Some(at)),
-        Task::Output { at } => emit_helper(alloc, code, Helper::Output, Some(at)),
-        Task::SendSized { at } => emit_helper(alloc, code, Helper::SendSized, Some(at)),
-        Task::OutputSized { at } => emit_helper(alloc, code, Helper::OutputSized, Some(at)),
-        Task::SendBy => emit_helper(alloc, code, Helper::Send, None),
-        Task::OutputBy => emit_helper(alloc, code, Helper::Output, None),
-        Task::SendSizedBy => emit_helper(alloc, code, Helper::SendSized, None),
-        Task::OutputSizedBy => emit_helper(alloc, code, Helper::OutputSized, None),
-        Task::Compute {
+        SlotTask::Send { at } => emit_helper(alloc, code, Helper::Send, Some(at)),
+        SlotTask::Output { at } => emit_helper(alloc, code, Helper::Output, Some(at)),
+        SlotTask::SendSized { at } => emit_helper(alloc, code, Helper::SendSized, Some(at)),
+        SlotTask::OutputSized { at } => emit_helper(alloc, code, Helper::OutputSized, Some(at)),
+        SlotTask::SendBy => emit_helper(alloc, code, Helper::Send, None),
+        SlotTask::OutputBy => emit_helper(alloc, code, Helper::Output, None),
+        SlotTask::SendSizedBy => emit_helper(alloc, code, Helper::SendSized, None),
+        SlotTask::OutputSizedBy => emit_helper(alloc, code, Helper::OutputSized, None),
+        SlotTask::Compute {
             op,
             width,
             dst,
@@ -297,12 +297,12 @@ fn emit_done(alloc: Global, code: &mut Vec<u8>, task: Task) -> Result<(), AllocE
 }
 
 // How many slots a task takes.
-fn taken(task: Task) -> usize
+fn taken(task: SlotTask) -> usize
     ensures value { result ≡ taken task }
     ensures few { result ≤ 2 }
 {
     match task {
-        Task::Wide { .. } => 2,
+        SlotTask::Wide { .. } => 2,
         _ => 1,
     }
 }
@@ -314,7 +314,7 @@ fn emit_plain(
     pends: &[u64],
     tails: &[u64],
     slot: usize,
-    task: Task,
+    task: SlotTask,
 ) -> Result<(), AllocError>
     requires few { slot < SLOTS }
     requires small { slice_index pends.now slot < 2 ^ 31 - 1 }
@@ -339,7 +339,7 @@ fn emit_fused(
     tails: &[u64],
     slot: usize,
     instr: Instr,
-    second: Task,
+    second: SlotTask,
 ) -> Result<(), AllocError>
     requires few { slot < SLOTS }
     requires small { slice_index pends.now slot < 2 ^ 31 - 2 }
@@ -372,7 +372,7 @@ fn emit_branch(
     requires few { slot < SLOTS }
     requires later { slot < to }
     requires small { slice_index pends.now slot < 2 ^ 31 - 1 }
-    requires balanced { IsBalanced pends.now slot (Task.Branch condition width dst operand to) }
+    requires balanced { IsBalanced pends.now slot (SlotTask.Branch condition width dst operand to) }
     requires behind { IsBehind tails.now slot }
     ensures { OnOk result (Emits (Forks pends.now tails.now slot condition width dst.number operand to) code.old.items code.new.items) }
 {
@@ -405,7 +405,7 @@ fn emit_leap(
 }
 
 /// The end of a call.
-fn emit_exit(code: &mut Vec<u8>, pends: &[u64], saved: Saved, slot: usize) -> Result<(), AllocError>
+fn emit_exit(code: &mut Vec<u8>, pends: &[u64], saved: SavedRegisters, slot: usize) -> Result<(), AllocError>
     requires { slice_index pends.now slot < 2 ^ 31 - 1 }
     ensures { OnOk result (Emits (Ends pends.now saved slot) code.old.items code.new.items) }
 {
@@ -414,7 +414,7 @@ fn emit_exit(code: &mut Vec<u8>, pends: &[u64], saved: Saved, slot: usize) -> Re
 }
 
 // Stores the count of steps, and returns.
-fn emit_leaving(code: &mut Vec<u8>, saved: Saved) -> Result<(), AllocError>
+fn emit_leaving(code: &mut Vec<u8>, saved: SavedRegisters) -> Result<(), AllocError>
     ensures { OnOk result (code.new.items ≡ code.old.items ++ codes (leaving saved)) }
 {
     Instr::Store {
@@ -429,7 +429,7 @@ fn emit_leaving(code: &mut Vec<u8>, saved: Saved) -> Result<(), AllocError>
 }
 
 /// The beginning of a call.
-pub(crate) fn emit_entry(code: &mut Vec<u8>, saved: Saved) -> Result<(), AllocError>
+pub(crate) fn emit_entry(code: &mut Vec<u8>, saved: SavedRegisters) -> Result<(), AllocError>
     ensures { OnOk result (code.new.items ≡ code.old.items ++ codes (entering saved)) }
 {
     write_saving(code, saved)?;
@@ -455,9 +455,9 @@ fn emit_task(
     code: &mut Vec<u8>,
     pends: &[u64],
     tails: &[u64],
-    saved: Saved,
+    saved: SavedRegisters,
     slot: usize,
-    task: Task,
+    task: SlotTask,
 ) -> Result<(), AllocError>
     requires few { slot < SLOTS }
     requires apt { is_apt slot task ≡ true }
@@ -467,16 +467,16 @@ fn emit_task(
     ensures { OnOk result (Emits (Serves pends.now tails.now saved slot task) code.old.items code.new.items) }
 {
     match task {
-        Task::Branch {
+        SlotTask::Branch {
             condition,
             width,
             dst,
             operand,
             to,
         } => { emit_branch(code, pends, tails, slot, condition, width, dst, operand, to) }
-        Task::Leap { to } => emit_leap(code, pends, tails, slot, to),
-        Task::Exit => emit_exit(code, pends, saved, slot),
-        Task::Dead => Ok(()),
+        SlotTask::Leap { to } => emit_leap(code, pends, tails, slot, to),
+        SlotTask::Exit => emit_exit(code, pends, saved, slot),
+        SlotTask::Dead => Ok(()),
         _ => emit_plain(alloc, code, pends, tails, slot, task),
     }
 }
@@ -487,8 +487,8 @@ pub(crate) fn emit(
     code: &mut Vec<u8>,
     pends: &[u64],
     tails: &[u64],
-    saved: Saved,
-    tasks: &[Task],
+    saved: SavedRegisters,
+    tasks: &[SlotTask],
     targets: &[bool],
     slot: usize,
 ) -> Result<(), AllocError>

@@ -10,7 +10,7 @@ ghost use Rattle.native.specs.Operations.{task_for};
 ghost use Rattle.native.specs.SlotTasks as specs;
 ghost use Rattle.native.specs.SlotTasks.{AreTold, IsTold};
 
-use crate::task::{Task, task_of};
+use crate::task::{SlotTask, task_of};
 use decode::slots;
 use dense::Op;
 use std::alloc::{AllocError, Global};
@@ -28,12 +28,12 @@ fn op_at(ops: &[Op], slot: usize) -> Op
 }
 
 // Its task, if it has one.
-fn op_task(ops: &[Op], pool: &[u64], slot: usize) -> Task
-    ensures { (o : Op) (t : Task) → slice_get ops.now slot ≡ Some o → task_for pool.now o ≡ Some t → (result ≡ t) × IsTaskOf pool.now o t }
+fn op_task(ops: &[Op], pool: &[u64], slot: usize) -> SlotTask
+    ensures { (o : Op) (t : SlotTask) → slice_get ops.now slot ≡ Some o → task_for pool.now o ≡ Some t → (result ≡ t) × IsTaskOf pool.now o t }
 {
     match task_of(op_at(ops, slot), pool) {
         Some(task) => task,
-        None => Task::Dead,
+        None => SlotTask::Dead,
     }
 }
 
@@ -49,14 +49,14 @@ fn is_reached(image: &Image, slot: usize) -> bool
 }
 
 // The task if the slot is reached, else `Dead`.
-fn only_if(reached: bool, task: Task) -> Task
-    ensures { result ≡ if reached then task else Task.Dead }
+fn only_if(reached: bool, task: SlotTask) -> SlotTask
+    ensures { result ≡ if reached then task else SlotTask.Dead }
 {
-    if reached { task } else { Task::Dead }
+    if reached { task } else { SlotTask::Dead }
 }
 
 // The task of a slot, if a call may come to it.
-fn task_there(image: &Image, ops: &[Op], pool: &[u64], slot: usize) -> Task
+fn task_there(image: &Image, ops: &[Op], pool: &[u64], slot: usize) -> SlotTask
     requires { IsDense image.now.slots image.now.table image.now.len ops.now pool.now }
     ensures value { result ≡ specs.task_there image.now.len slot (frame_at image.now.table slot) (insn_at image.now.slots slot) }
     ensures told { IsTold image.now.table ops.now pool.now slot result }
@@ -71,7 +71,7 @@ pub(crate) fn tasks_of(
     image: &Image,
     ops: &[Op],
     pool: &[u64],
-) -> Result<Vec<Task>, AllocError>
+) -> Result<Vec<SlotTask>, AllocError>
     requires { IsDense image.now.slots image.now.table image.now.len ops.now pool.now }
     ensures value { IfOk result (λ tasks. tasks.items ≡ specs.tasks_in image.now.slots image.now.table image.now.len (length image.now.slots)) }
     ensures told { IfOk result (λ tasks. AreTold image.now.table ops.now pool.now tasks.items (length image.now.slots)) }

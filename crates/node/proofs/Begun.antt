@@ -2,7 +2,7 @@
 use Rattle.std.proofs.Common.{◌≡◌, ℕ, List, [], Bool, false, zero, suc, ◌+◌, ◌≤◌, length, replicate, refl, ap, ◌∙◌, arith}
 use Rattle.std.specs.Prelude.{slice_index_or, sum, true, None}
 use Rattle.rsn.specs.Receipts.{Received}
-use Rattle.packets.specs.declared.packet.Packet.{Packet}
+use Rattle.packets.specs.declared.packet.NodePacket.{NodePacket}
 use Rattle.node.specs.declared.limit.Limits.{Limits}
 use Rattle.node.specs.Limit.{AreAllowed}
 use Rattle.node.specs.Queue.{TheQueue, no_queue}
@@ -52,11 +52,11 @@ within-begun limits me count len allowed some low few = record {
   fit = tt;
 }
 
-abbrev pub begins-with : Limits → ℕ → ℕ → List ℕ → List ℕ → List ℕ → List Bool → List TheQueue → Received → List Packet → TheNode
+abbrev pub begins-with : Limits → ℕ → ℕ → List ℕ → List ℕ → List ℕ → List Bool → List TheQueue → Received → List NodePacket → TheNode
 begins-with limits me count state covered heard resumed logs receipts out =
     record { limits = limits; me = me; count = count; life = 1; state = state; base = 0; covered = covered; receipts = receipts; logs = logs; waiting = 0; heard = heard; resumed = resumed; exact = true; working = None; frozen = false; out = out }
 
 -- a new node, by its parts
-pub same-begun : (limits : Limits) (me count len : ℕ) (state covered heard : List ℕ) (resumed : List Bool) (logs : List TheQueue) (receipts : Received) (out : List Packet) → state ≡ replicate len 0 → covered ≡ replicate (count + 1) 0 → heard ≡ replicate (count + 1) 1
+pub same-begun : (limits : Limits) (me count len : ℕ) (state covered heard : List ℕ) (resumed : List Bool) (logs : List TheQueue) (receipts : Received) (out : List NodePacket) → state ≡ replicate len 0 → covered ≡ replicate (count + 1) 0 → heard ≡ replicate (count + 1) 1
     → resumed ≡ replicate (count + 1) true → logs ≡ replicate (count + 1) no_queue → receipts ≡ record { senders = []; acknowledged = [] } → out ≡ [] → begins-with limits me count state covered heard resumed logs receipts out ≡ new_node limits me count len
 same-begun limits me count len state covered heard resumed logs receipts out a b c d e f g = rw (a, b, c, d, e, f, g) refl

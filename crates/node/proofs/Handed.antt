@@ -3,7 +3,7 @@ use Rattle.std.proofs.Common.{◌≡◌, ◌≢◌, ℕ, ◌<◌, ◌^◌, List,
 use Rattle.std.specs.Prelude.{not, ◌&&◌, ◌==◌, nat_lt, nat_le}
 use Rattle.std.proofs.lemmas.Bool.Decides.{nat_tests}
 use Rattle.theorems.proofs.Tests.{both}
-use Rattle.packets.specs.declared.packet.Packet.{Packet}
+use Rattle.packets.specs.declared.packet.NodePacket.{NodePacket}
 use Rattle.packets.specs.declared.packet.Body.{Body}
 use Rattle.packets.specs.declared.packet.Body.TheVariants.{Delivery, Number, Acknowledgement, Ask, Resume, Saved, Told, Restored}
 use Rattle.packets.specs.Packet.{in_range, is_positive, is_number}
@@ -12,10 +12,10 @@ use Rattle.node.specs.Calls.{told, is_for, handed}
 
 -- ---- which are dropped, and what the others do
 
-pub drops : (x : Packet) (n : TheNode) → is_for n x ≡ false → n ≡ handed x n
+pub drops : (x : NodePacket) (n : TheNode) → is_for n x ≡ false → n ≡ handed x n
 drops x n e = rw e refl
 
-pub takes : (x : Packet) (n : TheNode) → is_for n x ≡ true → handed x n ≡ told x.from x.body n
+pub takes : (x : NodePacket) (n : TheNode) → is_for n x ≡ true → handed x n ≡ told x.from x.body n
 takes x n e = rw e refl
 
 pub no-second : (a b : Bool) → b ≡ false → (a && b) ≡ false
@@ -27,7 +27,7 @@ not-set true e = absurd cc
 not-set false e = refl
 
 -- a packet that it takes is of a peer, with its fields in their ranges, and it waits for nothing
-module _ (x : Packet) (n : TheNode) (e : is_for n x ≡ true) where
+module _ (x : NodePacket) (n : TheNode) (e : is_for n x ≡ true) where
   abbrev A : Bool
   A = not n.frozen
 

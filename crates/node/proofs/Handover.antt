@@ -4,7 +4,7 @@ use Rattle.std.specs.Prelude.{Option, Some, None, is_some, slice_get, slice_inde
 use Rattle.std.proofs.lemmas.Bool.Decides.{nat_tests}
 use Rattle.rsn.specs.Receipts.{numbers_of}
 use Rattle.theorems.proofs.Tests.{both, neither, not-false}
-use Rattle.packets.specs.declared.packet.Packet.{Packet}
+use Rattle.packets.specs.declared.packet.NodePacket.{NodePacket}
 use Rattle.packets.specs.Packet.{in_range}
 use Rattle.packets.specs.declared.packet.Body as bodies
 use Rattle.packets.specs.declared.packet.Body.TheVariants as packets
@@ -122,7 +122,7 @@ told-so from to (packets.Resume i k a) n w live low other me c s put = resumes n
 told-so from to (packets.Restored i j k a flags pairs) n w live low other me c s put = stays n c s
 
 -- a packet is handed to a node
-pub handed-so : (x : Packet) (n : TheNode) → Within n → IsHanded x n (handed x n)
+pub handed-so : (x : NodePacket) (n : TheNode) → Within n → IsHanded x n (handed x n)
 handed-so x n w =
     by-if (λ new. IsHanded x n new) (is_for n x) (told x.from x.body n) n (λ e. here (both (not n.frozen && (x.count == n.count) && (x.to == n.me) && nat_le x.from n.count) (not (x.from == n.me)) (both (not n.frozen && (x.count == n.count) && (x.to == n.me) && nat_le x.from n.count && not (x.from == n.me)) (in_range x.body) e).0)) (λ e c s put. stays n c s)
   where

@@ -1,7 +1,7 @@
 -- Lists
 use Rattle.std.proofs.Common.{◌≡◌, ℕ, suc, ◌+◌, List, [], ◌∷◌, ◌++◌, length, subst, arith}
 use Rattle.std.specs.Prelude.{Some, slice_get, Bool, true, false, nat_lt, if◌then◌else◌}
-use Rattle.packets.specs.declared.packet.Packet.{Packet}
+use Rattle.packets.specs.declared.packet.NodePacket.{NodePacket}
 use Rattle.packets.specs.declared.outbox.TheConstants.{OUTBOX}
 use Rattle.packets.specs.Outbox.{pushed}
 use Rattle.world.specs.declared.message.Message.{Message}
@@ -18,7 +18,7 @@ all-push P [] x h e = (e, tt)
 all-push P (y ∷ xs) x h e = (h.0, all-push P xs x h.1 e)
 
 -- a packet more, where there is room
-pub all-pushed : (P : Packet → Type 0) (xs : List Packet) (x : Packet) → Each P xs → P x → Each P (pushed x xs)
+pub all-pushed : (P : NodePacket → Type 0) (xs : List NodePacket) (x : NodePacket) → Each P xs → P x → Each P (pushed x xs)
 all-pushed P xs x h e = by_room (nat_lt (length xs) OUTBOX)
   where
     by_room : (b : Bool) → Each P (if b then xs ++ x ∷ [] else xs)

@@ -7,7 +7,7 @@ use Rattle.cluster.specs.Cluster.{Cluster, runs, is_well, takes}
 use Rattle.cluster.specs.Rules.{Act, Puts, May, MayPut, does}
 use Rattle.node.specs.declared.job.OpenJob.{OpenJob}
 use Rattle.packets.specs.declared.packet.Body as bodies
-use Rattle.packets.specs.declared.packet.Packet.{Packet}
+use Rattle.packets.specs.declared.packet.NodePacket.{NodePacket}
 use Rattle.node.specs.Node.{TheNode, posts, packet_of}
 use Rattle.packets.specs.Says.{Says}
 use Rattle.node.specs.Stands.{Stands, GoesOn, PutOut, phase_of, stage_of, own_act}
@@ -32,7 +32,7 @@ pub stands-well : (n : TheNode) (c : Cluster) (p : ℕ) → Stands n c p → is_
 stands-well n c p s = rw (s.stage, runs-with n.frozen, s.greeted, is-up n c p s) refl
 
 -- a packet that was put out still is among more parcels
-pub put-still : (c d : Cluster) (p : ℕ) (x : Packet) → c.count ≡ d.count → ((b : Body) → In (parcel p x.to b) c.parcels → In (parcel p x.to b) d.parcels) → PutOut c.count c.parcels p x → PutOut d.count d.parcels p x
+pub put-still : (c d : Cluster) (p : ℕ) (x : NodePacket) → c.count ≡ d.count → ((b : Body) → In (parcel p x.to b) c.parcels → In (parcel p x.to b) d.parcels) → PutOut c.count c.parcels p x → PutOut d.count d.parcels p x
 put-still c d p x same more s = record { count_is = s.count_is ∙ same; from = s.from; said = (s.said.0, s.said.1, more s.said.0 s.said.2) }
 
 -- it stands in the cluster in which the packet is put out

@@ -3,7 +3,7 @@ use Rattle.std.proofs.Common.{◌≡◌, ℕ, zero, suc, ◌+◌, ◌*◌, ◌�
 use Rattle.std.specs.Prelude.{map, None}
 use Rattle.std.proofs.lemmas.List.{length-map}
 use Rattle.rsn.specs.Receipts.{Received}
-use Rattle.packets.specs.declared.packet.Packet.{Packet}
+use Rattle.packets.specs.declared.packet.NodePacket.{NodePacket}
 use Rattle.node.specs.declared.limit.Limits.{Limits}
 use Rattle.node.specs.Queue.{TheQueue, released_again}
 use Rattle.node.specs.Node.{IsWithin, log_at}
@@ -17,7 +17,7 @@ log-released durable (q ∷ logs) zero = refl
 log-released durable (q ∷ logs) (suc d) = log-released durable logs d
 
 -- its numbers stay in their ranges
-pub within-released : (limits : Limits) (me count base : ℕ) (covered heard : List ℕ) (resumed : List Bool) (receipts : Received) (logs : List TheQueue) (life : ℕ) (out : List Packet) → IsWithin limits me count base covered heard resumed receipts logs None false 0 life out
+pub within-released : (limits : Limits) (me count base : ℕ) (covered heard : List ℕ) (resumed : List Bool) (receipts : Received) (logs : List TheQueue) (life : ℕ) (out : List NodePacket) → IsWithin limits me count base covered heard resumed receipts logs None false 0 life out
     → IsWithin limits me count base covered heard resumed receipts (map (released_again limits.durable) logs) None false 0 life out
 within-released limits me count base covered heard resumed receipts logs life out w =
     record {

@@ -15,7 +15,7 @@ use Rattle.node.specs.declared.job.OpenJob.{OpenJob}
 use Rattle.node.specs.Queue.{TheQueue, forgotten_above}
 use Rattle.node.specs.Node.{TheNode, Within, log_at, posts, covered_of}
 use Rattle.packets.specs.Packet.{flags_of}
-use Rattle.packets.specs.declared.page.Entry.{Entry}
+use Rattle.packets.specs.declared.page.LoggedMessage.{LoggedMessage}
 use Rattle.rsn.specs.Receipts.{numbers_of}
 use Rattle.node.specs.Pages.{entries_in, told_of, told_page, told_all, pairs_above, most_pairs, restored_all, restored_of}
 use Rattle.node.specs.Answers.{heard_of, hears, asked_by, works_for, obeys, resumed_by}
@@ -49,7 +49,7 @@ ordered n d k = let q = log_at n.logs d in entries-ordered k q.dropped q.payload
 telling : (n : TheNode) (d i k : ℕ) → d ≤ n.count → d ≢ n.me → heard_of d n ≡ i → Acts n (posts d (told_of d i k n) n)
 telling n d i k low other heard c s u =
     let within : d ≤ c.count = omega (arith, low, s.count) in
-    let all : List Entry = entries_in k (log_at n.logs d) in
+    let all : List LoggedMessage = entries_in k (log_at n.logs d) in
     let end : Option ℕ = told_end (flags_of (told_all d k n) false n.exact) k (told_page d k n) in
     posted n c d (told_of d i k n) (Told i n.life k end (entry_of c n.me d))
     (entry_of c n.me d, refl, lost-is (told_all d k n) n.exact, λ m above reach. log-told n c d s within other k m above ∙ page-told n.limits.page n.me k m n.exact all above (ordered n d k) reach)

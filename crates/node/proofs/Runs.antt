@@ -6,7 +6,7 @@ use Rattle.world.specs.declared.message.Message.{Message}
 use Rattle.world.specs.Handlers.{Handlers}
 use Rattle.world.specs.World.{put}
 use Rattle.theorems.specs.Growth.{Grows}
-use Rattle.packets.specs.declared.packet.Packet.{Packet}
+use Rattle.packets.specs.declared.packet.NodePacket.{NodePacket}
 use Rattle.packets.specs.declared.packet.Body as bodies
 use Rattle.packets.specs.declared.packet.Body.TheVariants as packets
 use Rattle.cluster.specs.Parcels.{Body, Parcel, In, parcel}
@@ -50,7 +50,7 @@ grows f len p h m d = (payloads_to d (f p (state_from f p (replicate (len p) 0) 
 record Holds (f : Handlers) (s : System) (c : Cluster) : Type 0 where
   stand : AllStand s.nodes c
   outside : SameOutside s.outside c
-  given : Each (λ (x : Packet). PutOut c.count c.parcels x.from x) s.given
+  given : Each (λ (x : NodePacket). PutOut c.count c.parcels x.from x) s.given
   handlers : c.handlers ≡ f
 
 -- nothing that was put out is taken back
@@ -60,13 +60,13 @@ parcels-stay c (a ∷ acts) x i =
     let apart : (suc (actor a) == actor a) ≡ false = grind (arith, nat_tests) in
     parcels-stay (does c a) acts x ((same c a (suc (actor a)) apart).parcels x i)
 
-given-still : (c : Cluster) (acts : List Act) (xs : List Packet) → Each (λ (x : Packet). PutOut c.count c.parcels x.from x) xs → Each (λ (x : Packet). PutOut (after_run c acts).count (after_run c acts).parcels x.from x) xs
+given-still : (c : Cluster) (acts : List Act) (xs : List NodePacket) → Each (λ (x : NodePacket). PutOut c.count c.parcels x.from x) xs → Each (λ (x : NodePacket). PutOut (after_run c acts).count (after_run c acts).parcels x.from x) xs
 given-still c acts xs h =
-    all-more (λ (x : Packet). PutOut c.count c.parcels x.from x) (λ (x : Packet). PutOut (after_run c acts).count (after_run c acts).parcels x.from x) xs
+    all-more (λ (x : NodePacket). PutOut c.count c.parcels x.from x) (λ (x : NodePacket). PutOut (after_run c acts).count (after_run c acts).parcels x.from x) xs
     (λ x o. put-still c (after_run c acts) x.from x (sym (count-after c acts)) (λ b i. parcels-stay c acts (parcel x.from x.to b) i) o) h
 
 -- one of them was
-pub one-was : (P : Packet → Type 0) (x : Packet) (xs : List Packet) → Each P xs → IsOne x xs → P x
+pub one-was : (P : NodePacket → Type 0) (x : NodePacket) (xs : List NodePacket) → Each P xs → IsOne x xs → P x
 one-was P x [] h i = absurd i
 one-was P x (y ∷ xs) h (inl e) = subst P (sym e) h.0
 one-was P x (y ∷ xs) h (inr i) = one-was P x xs h.1 i
@@ -106,14 +106,14 @@ said-of ps p d (packets.Ask i k) b e w = let same : w.0 ≡ b = cc (w.1) in subs
 said-of ps p d (packets.Resume i k s) b e w = let same : w.0 ≡ b = cc (w.1) in subst (λ z. In (parcel p d z) ps) same w.2
 said-of ps p d (packets.Saved n) b e w = let same : w.0 ≡ b = cc (w.1) in subst (λ z. In (parcel p d z) ps) same w.2
 
-said-here : (ps qs : List Parcel) (x : Packet) (o : Option Body) → body_of x.body ≡ o → ((y : Parcel) → In y ps → In y qs) → WasSaid qs x.from x.to x.body → (y : Parcel) → In y (with_said x o ps) → In y qs
+said-here : (ps qs : List Parcel) (x : NodePacket) (o : Option Body) → body_of x.body ≡ o → ((y : Parcel) → In y ps → In y qs) → WasSaid qs x.from x.to x.body → (y : Parcel) → In y (with_said x o ps) → In y qs
 said-here ps qs x None is more w y i = more y i
 said-here ps qs x (Some b) is more w y (inl e) = subst (λ z. In z qs) (sym e) (said-of qs x.from x.to x.body b is w)
 said-here ps qs x (Some b) is more w y (inr i) = more y i
 
 -- where a packet came from, it was put out
-put-out : (f : Handlers) (s : System) (c : Cluster) (x : Packet) → Holds f s c → CameFrom s x → PutOut c.count c.parcels x.from x
-put-out f s c x h (inl i) = one-was (λ (y : Packet). PutOut c.count c.parcels y.from y) x s.given h.given i
+put-out : (f : Handlers) (s : System) (c : Cluster) (x : NodePacket) → Holds f s c → CameFrom s x → PutOut c.count c.parcels x.from x
+put-out f s c x h (inl i) = one-was (λ (y : NodePacket). PutOut c.count c.parcels y.from y) x s.given h.given i
 put-out f s c x h (inr o) = put-still s.outside c x.from x h.outside.count (λ b i. h.outside.parcels (parcel x.from x.to b) i) o
 
 -- the handler's answer is what the cluster's handlers say

@@ -1,6 +1,6 @@
 -- Options, and what waits to be taken
 use Rattle.std.proofs.Common.{◌≡◌, List, [], ◌∷◌, Option, Some, None, Result, Ok, Err, OnOk, IfOk, is_some, false, refl, ap, subst, ◌∙◌}
-use Rattle.packets.specs.declared.packet.Packet.{Packet}
+use Rattle.packets.specs.declared.packet.NodePacket.{NodePacket}
 use Rattle.cluster.specs.Cluster.{Cluster}
 use Rattle.packets.specs.Outbox.{Pops}
 use Rattle.node.specs.Node.{TheNode}
@@ -23,7 +23,7 @@ if-both (Ok x) P Q h g = (h, g)
 if-both (Err e) P Q h g = tt
 
 -- the first packet that waits leaves
-pub takes-so : (o : Option Packet) (n : TheNode) (rest : List Packet) → Pops o n.out rest → Takes o n (record n { out = rest })
+pub takes-so : (o : Option NodePacket) (n : TheNode) (rest : List NodePacket) → Pops o n.out rest → Takes o n (record n { out = rest })
 takes-so None n rest e = (e.0, ap (λ xs. record n { out = xs }) e.1 ∙ ap (λ xs. record n { out = xs }) (let back : [] ≡ n.out = (cc) in back))
 takes-so (Some x) n rest e = (ap (λ xs. record n { out = xs }) e, λ c s. taken c s (subst (Each (PutOut c.count c.parcels n.me)) e s.out))
   where

@@ -3,7 +3,7 @@ use Rattle.std.specs.Prelude.{ℕ, ◌+◌, ◌-◌, List, length, Option, Some,
 use Rattle.rsn.specs.Receipts.{numbers_of}
 use Rattle.packets.specs.declared.packet.Body.{Body}
 use Rattle.packets.specs.declared.packet.Body.TheVariants.{Delivery, Number, Acknowledgement, Ask, Resume, Saved}
-use Rattle.packets.specs.declared.packet.Packet.{Packet}
+use Rattle.packets.specs.declared.packet.NodePacket.{NodePacket}
 use Rattle.packets.specs.Packet.{in_range}
 use Rattle.node.specs.declared.node.TheConstants.{MOST_RECEIVED}
 use Rattle.node.specs.declared.job.OpenJob.{OpenJob}
@@ -60,9 +60,9 @@ told from (Resume i k s) n = resumed_by from i k s n
 told from body n = n
 
 -- a packet is from another node of this cluster to this one, each field is in range, and the node takes what arrives
-abbrev pub is_for : TheNode → Packet → Bool
+abbrev pub is_for : TheNode → NodePacket → Bool
 is_for n x = not n.frozen && (x.count == n.count) && (x.to == n.me) && nat_le x.from n.count && not (x.from == n.me) && in_range x.body
 
 -- takes a packet
-abbrev pub handed : Packet → TheNode → TheNode
+abbrev pub handed : NodePacket → TheNode → TheNode
 handed x n = if is_for n x then told x.from x.body n else n

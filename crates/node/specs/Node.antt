@@ -5,7 +5,7 @@ use Rattle.rsn.specs.Receipts.{Received, accepted, acknowledged, numbers_of}
 use Rattle.rsn.specs.declared.receipts.TheConstants.{LIMIT}
 use Rattle.packets.specs.declared.packet.Body.{Body}
 use Rattle.packets.specs.declared.packet.Body.TheVariants.{Number}
-use Rattle.packets.specs.declared.packet.Packet.{Packet}
+use Rattle.packets.specs.declared.packet.NodePacket.{NodePacket}
 use Rattle.packets.specs.Packet.{in_range}
 use Rattle.packets.specs.Format.{HasRoom, Fits}
 use Rattle.node.specs.Queue.{TheQueue, no_queue, appended, recorded}
@@ -60,7 +60,7 @@ pub record TheNode : Type 0 where
   pub exact : Bool
   pub working : Option OpenJob
   pub frozen : Bool
-  pub out : List Packet
+  pub out : List NodePacket
 
 -- the messages to a destination that it keeps
 abbrev pub log_at : List TheQueue → ℕ → TheQueue
@@ -68,7 +68,7 @@ log_at logs d = slice_index_or logs d no_queue
 
 -- what always holds of a node's own numbers, whatever the cluster is: for each received message at most sixteen were sent to each
 -- destination; and no job is open while it is frozen
-pub record IsWithin (limits : Limits) (me count base : ℕ) (covered heard : List ℕ) (resumed : List Bool) (receipts : Received) (logs : List TheQueue) (working : Option OpenJob) (frozen : Bool) (waiting life : ℕ) (out : List Packet) : Type 0 where
+pub record IsWithin (limits : Limits) (me count base : ℕ) (covered heard : List ℕ) (resumed : List Bool) (receipts : Received) (logs : List TheQueue) (working : Option OpenJob) (frozen : Bool) (waiting life : ℕ) (out : List NodePacket) : Type 0 where
   pub allowed : AreAllowed limits
   pub inside : 1 ≤ me
   pub within : me ≤ count
@@ -100,7 +100,7 @@ abbrev pub covered_of : ℕ → TheNode → ℕ
 covered_of q n = slice_index_or n.covered q 0
 
 -- a packet from the node
-abbrev pub packet_of : TheNode → ℕ → Body → Packet
+abbrev pub packet_of : TheNode → ℕ → Body → NodePacket
 packet_of n to body = record { count = n.count; from = n.me; to = to; body = body }
 
 -- the node may say this to a peer, and each field is in range

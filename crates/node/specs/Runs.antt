@@ -4,7 +4,7 @@ use Rattle.world.specs.declared.message.Message.{Message}
 use Rattle.world.specs.History.{Payload}
 use Rattle.world.specs.Handlers.{Handlers}
 use Rattle.world.specs.World.{put}
-use Rattle.packets.specs.declared.packet.Packet.{Packet}
+use Rattle.packets.specs.declared.packet.NodePacket.{NodePacket}
 use Rattle.cluster.specs.Parcels.{Body, Ask, Resume, Parcel, parcel}
 use Rattle.cluster.specs.Cluster.{Cluster, opening}
 use Rattle.cluster.specs.Rules.{Act, Input, Puts, Shows, Records, Drops, Hears, Obeys, May, does, Run, after_run}
@@ -45,7 +45,7 @@ handlers_of f len = record { state = λ p h. state_from f p (replicate (len p) 0
 pub record System : Type 0 where
   pub nodes : ℕ → TheNode
   pub outside : Cluster
-  pub given : List Packet
+  pub given : List NodePacket
 
 -- n new nodes, each with its limits, and a gateway
 abbrev pub new_system : ℕ → (ℕ → Limits) → (ℕ → ℕ) → Handlers → System
@@ -54,9 +54,9 @@ new_system n limits len f = record { nodes = λ p. new_node (limits p) p n (len 
 -- a call of a node that isn't refused, and the node after it; or an act of the gateway
 pub data Call : Type 0 where
   -- it gave this packet
-  Gave : ℕ → Packet → TheNode → Call
+  Gave : ℕ → NodePacket → TheNode → Call
   -- it was handed this packet
-  Handed : ℕ → Packet → TheNode → Call
+  Handed : ℕ → NodePacket → TheNode → Call
   -- its handler answered
   Worked : ℕ → Answer → TheNode → Call
   -- it sent again what isn't answered
@@ -85,12 +85,12 @@ abbrev pub IsAnswer : Answering → ℕ → TheNode → Answer → Type 0
 IsAnswer f p n a = (j : OpenJob) → n.working ≡ Some j → a ≡ f p n.state (job_of j)
 
 -- a packet is one of these
-abbrev pub IsOne : Packet → List Packet → Type 0
+abbrev pub IsOne : NodePacket → List NodePacket → Type 0
 IsOne x [] = ⊥
 IsOne x (y ∷ ys) = (x ≡ y) ⊎ IsOne x ys
 
 -- a node gave the packet, or the gateway sent it
-abbrev pub CameFrom : System → Packet → Type 0
+abbrev pub CameFrom : System → NodePacket → Type 0
 CameFrom s x = IsOne x s.given ⊎ PutOut s.outside.count s.outside.parcels x.from x
 
 -- each call does what the contract of its function says: `take`; `receive`, with a packet that a node or the gateway sent, at any time and
@@ -105,7 +105,7 @@ DoesIt f s (Thawed p new) = (0 < p) × (p ≤ s.outside.count) × Saves (s.nodes
 DoesIt f s (Acted act) = IsGateway act × May s.outside act
 
 -- what a packet says becomes a parcel that the gateway may take: none of these is a page
-abbrev pub with_said : Packet → Option Body → List Parcel → List Parcel
+abbrev pub with_said : NodePacket → Option Body → List Parcel → List Parcel
 with_said x None ps = ps
 with_said x (Some b) ps = parcel x.from x.to b ∷ ps
 

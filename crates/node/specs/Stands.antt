@@ -10,7 +10,7 @@ use Rattle.world.specs.Logs.{run_to}
 use Rattle.cluster.specs.Parcels.{Body, Parcel, parcel, In}
 use Rattle.cluster.specs.Cluster.{Cluster, Stage, Live, Frozen, waiting}
 use Rattle.cluster.specs.Rules.{Act, Input, Puts, Starts, Shows, Works, Replays, Records, Counts, Drops, Hears, Collects, Recovers, Obeys, Enters, Restores, Greets, Freezes, Keeps, Thaws, Dies, Opens, May, does, Run, after_run, IsNode, message}
-use Rattle.packets.specs.declared.packet.Packet.{Packet}
+use Rattle.packets.specs.declared.packet.NodePacket.{NodePacket}
 use Rattle.node.specs.declared.job.OpenJob.{OpenJob}
 use Rattle.node.specs.declared.job.Given.{Given}
 use Rattle.node.specs.Queue.{TheQueue, leading}
@@ -23,7 +23,7 @@ Each P [] = Unit {0}
 Each P (x ∷ xs) = P x × Each P xs
 
 -- the packet is from the process p of a cluster of `count`, and was sent
-pub record PutOut (count : ℕ) (parcels : List Parcel) (p : ℕ) (x : Packet) : Type 0 where
+pub record PutOut (count : ℕ) (parcels : List Parcel) (p : ℕ) (x : NodePacket) : Type 0 where
   pub count_is : x.count ≡ count
   pub from : x.from ≡ p
   pub said : WasSaid parcels p x.to x.body
@@ -205,10 +205,10 @@ pub record BeginsWith (f : Handlers) (p len : ℕ) : Type 0 where
   pub sends_are : (d : ℕ) → f.sends p [] d ≡ []
 
 -- what a call owes that is handed a packet, if that says what was sent
-abbrev pub IsHanded : Packet → TheNode → TheNode → Type 0
+abbrev pub IsHanded : NodePacket → TheNode → TheNode → Type 0
 IsHanded x old new = Owes (λ c. WasSaid c.parcels x.from x.to x.body) old new
 
 -- what `take` owes: it gives the first packet that waited, which was sent, and the node no longer has it
-abbrev pub Takes : Option Packet → TheNode → TheNode → Type 0
+abbrev pub Takes : Option NodePacket → TheNode → TheNode → Type 0
 Takes None old new = (old.out ≡ []) × (new ≡ old)
 Takes (Some x) old new = (old ≡ record new { out = x ∷ new.out }) × ((c : Cluster) → Stands old c old.me → PutOut c.count c.parcels old.me x × Stands new c old.me)

@@ -1,7 +1,7 @@
 //! Packets as bytes.
 
 ghost use Rattle.std.specs.Prelude.{◌≡◌, None, IfNone, IfSome, IfOk, IfErr, OnOk, OnErr};
-ghost use Rattle.packets.specs.declared.packet.Packet.{Packet};
+ghost use Rattle.packets.specs.declared.packet.NodePacket.{NodePacket};
 ghost use Rattle.packets.specs.Format.{IsPacket};
 ghost use Rattle.packets.specs.Faults.{IsReason};
 ghost use Rattle.node.specs.Calls.{handed};
@@ -17,11 +17,11 @@ impl Node {
     /// refused by the first of their faults. A refusal changes nothing.
     pub fn receive_bytes(&mut self, alloc: Global, bytes: &[u8]) -> Result<(), PacketError>
         // Bytes that are taken are those of one packet.
-        ensures found { OnOk result ((p : Packet) × IsPacket p bytes.now) }
-        ensures value { OnOk result ((p : Packet) → IsPacket p bytes.now → self.new ≡ handed p self.old) }
-        ensures acts { OnOk result ((p : Packet) → IsPacket p bytes.now → IsHanded p self.old self.new) }
+        ensures found { OnOk result ((p : NodePacket) × IsPacket p bytes.now) }
+        ensures value { OnOk result ((p : NodePacket) → IsPacket p bytes.now → self.new ≡ handed p self.old) }
+        ensures acts { OnOk result ((p : NodePacket) → IsPacket p bytes.now → IsHanded p self.old self.new) }
         // The bytes of a packet are taken, unless memory runs out.
-        ensures only { (p : Packet) → IsPacket p bytes.now → IsTaken result }
+        ensures only { (p : NodePacket) → IsPacket p bytes.now → IsTaken result }
         ensures refused { IfErr result (λ e. IsReason e bytes.now) }
         ensures err { OnErr result (self.new ≡ self.old) }
     {

@@ -9,7 +9,7 @@ ghost use Rattle.node.specs.declared.node.TheConstants.{MOST_GIVEN};
 
 use crate::job::Given;
 use crate::node::Node;
-use crate::queue::Queue;
+use crate::queue::KeptQueue;
 use packets::Body;
 use std::alloc::AllocError;
 
@@ -59,7 +59,7 @@ impl Node {
 }
 
 /// Logs what a handler sent, under the RSN of its message. A refusal changes nothing.
-pub fn log(logs: &mut Vec<Queue>, given: &[Given], number: u64) -> Result<(), AllocError>
+pub fn log(logs: &mut Vec<KeptQueue>, given: &[Given], number: u64) -> Result<(), AllocError>
     requires to { (i : ℕ) (s : Given) → slice_get given.now i ≡ Some s → s.to < length logs.old.items }
     requires few { length given.now ≤ MOST_GIVEN }
     requires room { (d : ℕ) → (log_at logs.old.items d).dropped + length (log_at logs.old.items d).payloads + MOST_GIVEN < 2 ^ 63 }
@@ -76,7 +76,7 @@ pub fn log(logs: &mut Vec<Queue>, given: &[Given], number: u64) -> Result<(), Al
 }
 
 /// Takes back what was logged.
-fn unlog(logs: &mut Vec<Queue>, given: &[Given])
+fn unlog(logs: &mut Vec<KeptQueue>, given: &[Given])
     requires to { (i : ℕ) (s : Given) → slice_get given.now i ≡ Some s → s.to < length logs.old.items }
     ensures { (was : List TheQueue) (number : ℕ) → logs.old.items ≡ given_to number given.now was → logs.new.items ≡ was }
 {

@@ -50,7 +50,7 @@ pub use laws::{calls_run, kept_stays, nodes_run, others_stand};
 pub use limit::{Limits, PAGE, TICK};
 pub use node::{MOST_GIVEN, MOST_RECEIVED, Node, WINDOW};
 pub use page::{PAIR_BYTES, RESTORED_BYTES};
-pub use queue::Queue;
+pub use queue::KeptQueue;
 pub use queries::entries;
 pub use reentry::Returned;
 pub use status::{Stage, Standing};

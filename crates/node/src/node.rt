@@ -10,9 +10,9 @@ ghost use Rattle.node.specs.Stands.{Stands, BeginsWith, Takes};
 
 use crate::job::OpenJob;
 use crate::limit::Limits;
-use crate::queue::Queue;
-use packets::Outbox;
-use packets::{Body, Packet};
+use crate::queue::KeptQueue;
+use packets::PacketQueue;
+use packets::{Body, NodePacket};
 use rsn::Receipts;
 use std::alloc::{AllocError, Global};
 use std::marker::Model;
@@ -44,7 +44,7 @@ pub struct Node {
     /// How many of its RSNs aren't acknowledged.
     pub(crate) waiting: u32,
     /// By destination: what it sent.
-    pub(crate) logs: Vec<Queue>,
+    pub(crate) logs: Vec<KeptQueue>,
     /// By peer: the greatest incarnation that it heard.
     pub(crate) heard: Vec<u64>,
     /// By peer: whether it obeyed the Resume of that incarnation.
@@ -55,7 +55,7 @@ pub struct Node {
     /// Whether it waits until its checkpoint is durable. Until then it takes, does and sends
     /// nothing.
     pub(crate) frozen: bool,
-    pub(crate) out: Outbox,
+    pub(crate) out: PacketQueue,
 }
 
 impl Model for Node {
@@ -91,7 +91,7 @@ impl Node {
         let resumed = flags(alloc, wide)?;
         let logs = queues(alloc, wide)?;
         let receipts = Receipts::new(alloc, &[])?;
-        let out = Outbox::new(alloc)?;
+        let out = PacketQueue::new(alloc)?;
         Ok(Node {
             limits,
             me,
@@ -113,7 +113,7 @@ impl Node {
     }
 
     /// Takes the first packet that waits to be sent, if there is one.
-    pub fn take(&mut self) -> Option<Packet>
+    pub fn take(&mut self) -> Option<NodePacket>
         ensures { Takes result self.old self.new }
     {
         self.out.pop()
@@ -140,7 +140,7 @@ impl Node {
         requires { CanSay self.old to body }
         ensures { self.new ≡ posts to body self.old }
     {
-        let packet = Packet {
+        let packet = NodePacket {
             count: self.count,
             from: self.me,
             to,
@@ -178,12 +178,12 @@ fn flags(alloc: Global, many: usize) -> Result<Vec<bool>, AllocError>
 }
 
 /// `many` empty queues.
-fn queues(alloc: Global, many: usize) -> Result<Vec<Queue>, AllocError>
+fn queues(alloc: Global, many: usize) -> Result<Vec<KeptQueue>, AllocError>
     ensures { IfOk result (λ v. v.items ≡ replicate many no_queue) }
 {
     let mut queues = Vec::new(alloc);
     for made in 0..many {
-        queues.push(Queue::new(alloc))?;
+        queues.push(KeptQueue::new(alloc))?;
     }
     Ok(queues)
 }

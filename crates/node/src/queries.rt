@@ -1,20 +1,20 @@
 //! What the host of a node, or its owner, reads of it.
 
 ghost use Rattle.std.specs.Prelude.{◌≡◌, ◌∷◌, [], List, MatchOption};
-ghost use Rattle.packets.specs.declared.packet.Packet.{Packet};
+ghost use Rattle.packets.specs.declared.packet.NodePacket.{NodePacket};
 ghost use Rattle.packets.specs.Format.{Fits};
 ghost use Rattle.node.specs.Status.{entries_kept};
 
 use crate::job::OpenJob;
 use crate::node::Node;
-use crate::queue::Queue;
+use crate::queue::KeptQueue;
 use helpers::Who;
-use packets::Packet;
+use packets::NodePacket;
 
 impl Node {
     /// The first packet that waits, if there is one.
-    pub fn front(&self) -> Option<&Packet>
-        ensures { MatchOption result (self.now.out ≡ []) (λ x. ((rest : List Packet) × (self.now.out ≡ x.now ∷ rest)) × Fits x.now) }
+    pub fn front(&self) -> Option<&NodePacket>
+        ensures { MatchOption result (self.now.out ≡ []) (λ x. ((rest : List NodePacket) × (self.now.out ≡ x.now ∷ rest)) × Fits x.now) }
     {
         // For the proof: reading a field gives the invariant.
         let _me = self.me;
@@ -41,7 +41,7 @@ impl Node {
 }
 
 /// How many messages these queues keep, or the greatest number if there are more.
-pub fn entries(logs: &[Queue]) -> u64
+pub fn entries(logs: &[KeptQueue]) -> u64
     ensures { result ≡ entries_kept logs.now }
 {
     let mut entries: u64 = 0;

@@ -9,14 +9,14 @@ ghost use Rattle.node.specs.Stands.{IsHanded};
 use crate::job::OpenJob;
 use crate::node::{MOST_RECEIVED, Node};
 use helpers::Payload;
-use packets::{Body, Packet};
+use packets::{Body, NodePacket};
 use std::alloc::{AllocError, Global};
 
 impl Node {
     /// Takes a packet. It drops one that isn't from another node of this cluster to this one, or
     /// has a field out of range; and any packet while the node waits until its checkpoint is
     /// durable. A refusal changes nothing.
-    pub fn receive(&mut self, alloc: Global, packet: &Packet) -> Result<(), AllocError>
+    pub fn receive(&mut self, alloc: Global, packet: &NodePacket) -> Result<(), AllocError>
         ensures value { OnOk result (self.new ≡ handed packet.now self.old) }
         ensures acts { OnOk result (IsHanded packet.now self.old self.new) }
         ensures err { OnErr result (self.new ≡ self.old) }
@@ -26,7 +26,7 @@ impl Node {
         self.hand(alloc, packet)
     }
 
-    fn hand(&mut self, alloc: Global, packet: &Packet) -> Result<(), AllocError>
+    fn hand(&mut self, alloc: Global, packet: &NodePacket) -> Result<(), AllocError>
         ensures value { OnOk result (self.new ≡ handed packet.now self.old) }
         ensures err { OnErr result (self.new ≡ self.old) }
     {
@@ -65,7 +65,7 @@ impl Node {
 
     /// Whether a packet is from another node of this cluster to this one, each field is in range,
     /// and the node takes what arrives.
-    fn accepts(&self, packet: &Packet) -> bool
+    fn accepts(&self, packet: &NodePacket) -> bool
         ensures { result ≡ is_for self.now packet.now }
     {
         !self.frozen

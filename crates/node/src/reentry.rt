@@ -6,8 +6,8 @@ ghost use Rattle.node.specs.Reentry.{AreWithin, node_of};
 
 use crate::limit::Limits;
 use crate::node::Node;
-use crate::queue::Queue;
-use packets::Outbox;
+use crate::queue::KeptQueue;
+use packets::PacketQueue;
 use rsn::Receipts;
 
 /// A process that has finished its recovery: the RSNs that its peers gave are in its logs again,
@@ -25,14 +25,14 @@ pub struct Returned {
     /// What it received since then.
     pub receipts: Receipts,
     /// By destination: what it sent.
-    pub logs: Vec<Queue>,
+    pub logs: Vec<KeptQueue>,
     /// By peer: the greatest incarnation that it heard.
     pub heard: Vec<u64>,
     /// By peer: whether it obeyed the Resume of that incarnation.
     pub resumed: Vec<bool>,
     /// Whether failures came one at a time, as far as it knows.
     pub exact: bool,
-    pub out: Outbox,
+    pub out: PacketQueue,
 }
 
 impl Node {
@@ -80,7 +80,7 @@ impl Node {
 }
 
 /// Releases all messages of these queues, unless the node is durable.
-fn release_again(logs: &mut Vec<Queue>, durable: bool)
+fn release_again(logs: &mut Vec<KeptQueue>, durable: bool)
     ensures { logs.new.items ≡ map (released_again durable) logs.old.items }
 {
     for place in 0..logs.len() {

@@ -8,7 +8,7 @@ use Rattle.world.specs.World.{put}
 use Rattle.cluster.specs.Cluster.{Cluster, opening}
 use Rattle.cluster.specs.Rules.{Act, after_run}
 use Rattle.packets.specs.Packet.{in_range}
-use Rattle.packets.specs.declared.packet.Packet.{Packet}
+use Rattle.packets.specs.declared.packet.NodePacket.{NodePacket}
 use Rattle.packets.specs.declared.packet.Body.{Body}
 use Rattle.packets.specs.declared.packet.Body.TheVariants.{Restored}
 use Rattle.packets.specs.declared.kept.Kept.{Kept}
@@ -56,7 +56,7 @@ module _ (f : Answering) (len : ℕ → ℕ) (n : ℕ) (s : System) (acts : List
   is-of : (p : ℕ) → IsFirst n p → IsOf p n (s.processes p)
   is-of p first = let h = r.holds in subst (λ k. IsOf p k (s.processes p)) h.count (stands-of (s.processes p) c p (h.processes p first))
 
-  page-fits : (x : Packet) (m : TheRestoring) (p : ℕ) → WasPut c x → StandsRestoring m c p → Fits x (Restores m)
+  page-fits : (x : NodePacket) (m : TheRestoring) (p : ℕ) → WasPut c x → StandsRestoring m c p → Fits x (Restores m)
   page-fits x m p was st mine i j k a flags pairs e range reply =
       let q = of-other m.own x mine in
       let u = both ((i == m.own.life) && nat_le (slice_index_or m.own.heard x.from 0) j && not (has_answered x.from m)) (a == above_of x.from m) reply in
@@ -75,7 +75,7 @@ module _ (f : Answering) (len : ℕ → ℕ) (n : ℕ) (s : System) (acts : List
       let two : nat_le (last_ssn 0 pairs) (sent_to x.from m.own) ≡ true = (let l = fit.1 in grind (arith, nat_tests)) in
       rw (reply, one, two) refl
 
-  fits-here : (x : Packet) (process : Process) (p : ℕ) → WasPut c x → StandsAs process c p → Fits x process
+  fits-here : (x : NodePacket) (process : Process) (p : ℕ) → WasPut c x → StandsAs process c p → Fits x process
   fits-here x (Restores m) p was st = page-fits x m p was st
   fits-here x (Up m) p was st = tt
   fits-here x (Covered m) p was st = tt
@@ -106,11 +106,11 @@ kept-dead k (Restores m) c p d s = absurd d
 kept-dead k Killed c p d s = s
 
 -- one more packet was given
-with-given : (n : ℕ) (processes : ℕ → Process) (lives : ℕ → ℕ) (given out : List Packet) (x : Packet) → IsSound lives (Back n processes) x → Lone n processes lives given out → Lone n processes lives (x ∷ given) out
+with-given : (n : ℕ) (processes : ℕ → Process) (lives : ℕ → ℕ) (given out : List NodePacket) (x : NodePacket) → IsSound lives (Back n processes) x → Lone n processes lives given out → Lone n processes lives (x ∷ given) out
 with-given n processes lives given out x sound h = record { outside = h.outside; alone = h.alone; good = h.good; given = (sound, h.given); out = h.out }
 
 -- the gateway has this to send
-with-out : (n : ℕ) (processes : ℕ → Process) (lives : ℕ → ℕ) (given out new : List Packet) → AreSound lives (Back n processes) new → Lone n processes lives given out → Lone n processes lives given new
+with-out : (n : ℕ) (processes : ℕ → Process) (lives : ℕ → ℕ) (given out new : List NodePacket) → AreSound lives (Back n processes) new → Lone n processes lives given out → Lone n processes lives given new
 with-out n processes lives given out new sound h = record { outside = h.outside; alone = h.alone; good = h.good; given = h.given; out = sound }
 
 -- one comes back from what is stored, of which its number and how many there are is known
@@ -130,7 +130,7 @@ module _ (f : Answering) (len : ℕ → ℕ) (n : ℕ) (s : System) (acts : List
   here = after_run (opening n (handlers_of f len)) acts
 
   -- a packet that was given
-  sound-given : (x : Packet) → IsOne x s.given → IsSound s.lives back x
+  sound-given : (x : NodePacket) → IsOne x s.given → IsSound s.lives back x
   sound-given x one = one-was (IsSound s.lives back) x s.given h.given one
 
   only : (p : ℕ) → IsFirst n p → Returns (s.processes p) → back p × ((q : ℕ) → back q → q ≡ p)

@@ -6,7 +6,7 @@ use Rattle.images.specs.declared.any_image.AnyImage.{AnyImage}
 use Rattle.interp.specs.HandlerCall.{Handled}
 use Rattle.handlers.specs.Image.{TheImage, as_image}
 use Rattle.handlers.specs.Answer.{answered as answer_in}
-use Rattle.packets.specs.declared.packet.Packet.{Packet}
+use Rattle.packets.specs.declared.packet.NodePacket.{NodePacket}
 use Rattle.node.specs.declared.job.OpenJob.{OpenJob}
 use Rattle.theorems.proofs.Tests.{both}
 use Rattle.node.specs.Node.{TheNode}
@@ -38,7 +38,7 @@ Is Does w c d = (is_settled d ≡ true) × (Fits w d × Does (seen w c) (seen w 
 
 -- ---- a packet comes
 
-handed-absent : (x : Packet) (c d : Course) → is_settled c ≡ true → IsHanded x c d → Is (Hears x) Absent c d
+handed-absent : (x : NodePacket) (c d : Course) → is_settled c ≡ true → IsHanded x c d → Is (Hears x) Absent c d
 handed-absent x (Up n) (Up m) s g = (refl, (tt, (m, (refl, g))))
 handed-absent x (Up n) (Collecting m) s g = absurd g
 handed-absent x (Up n) (Replaying m) s g = absurd g
@@ -71,13 +71,13 @@ handed-absent x (Restoring n) (Restoring m) s g = (refl, (tt, (m, (refl, g))))
 handed-absent x (Restoring n) Passing s g = absurd g
 handed-absent x Passing d s g = unsettled s
 
-handed-rests : (x : Packet) (n : TheNode) → n.frozen ≡ true → handed x n ≡ n
+handed-rests : (x : NodePacket) (n : TheNode) → n.frozen ≡ true → handed x n ≡ n
 handed-rests x n e = rw e refl
 
-handed-frozen : (x : Packet) (n m : TheNode) → n.frozen ≡ true → m ≡ handed x n → m ≡ n
+handed-frozen : (x : NodePacket) (n m : TheNode) → n.frozen ≡ true → m ≡ handed x n → m ≡ n
 handed-frozen x n m f e = e ∙ handed-rests x n f
 
-pub handed-is : (x : Packet) (w : Checkpoint) (c d : Course) → is_settled c ≡ true → Fits w c → IsHanded x c d → Is (Hears x) w c d
+pub handed-is : (x : NodePacket) (w : Checkpoint) (c d : Course) → is_settled c ≡ true → Fits w c → IsHanded x c d → Is (Hears x) w c d
 handed-is x Absent c d s f g = handed-absent x c d s g
 handed-is x (Pending bytes) (Up n) (Up m) s f g = (refl, (subst (λ (z : TheNode). (z.frozen ≡ true) × AreOf bytes z) (sym (handed-frozen x n m f.0 g.0)) f, (m, (refl, g))))
 handed-is x (Pending bytes) (Up n) (Collecting m) s f g = absurd g
@@ -104,7 +104,7 @@ handed-is x Durable Passing d s f g = absurd f
 
 -- ---- a packet is taken
 
-taken-absent : (x : Packet) (c d : Course) → is_settled c ≡ true → Takes (Some x) c d → Is (Gives x) Absent c d
+taken-absent : (x : NodePacket) (c d : Course) → is_settled c ≡ true → Takes (Some x) c d → Is (Gives x) Absent c d
 taken-absent x (Up n) (Up m) s g = (refl, (tt, (m, (refl, g))))
 taken-absent x (Up n) (Collecting m) s g = absurd g
 taken-absent x (Up n) (Replaying m) s g = absurd g
@@ -138,7 +138,7 @@ taken-absent x (Restoring n) (Restoring m) s g = (refl, (tt, (m, (refl, g))))
 taken-absent x (Restoring n) Passing s g = absurd g
 taken-absent x Passing d s g = unsettled s
 
-pub taken-is : (x : Packet) (w : Checkpoint) (c d : Course) → is_settled c ≡ true → Fits w c → Takes (Some x) c d → Is (Gives x) w c d
+pub taken-is : (x : NodePacket) (w : Checkpoint) (c d : Course) → is_settled c ≡ true → Fits w c → Takes (Some x) c d → Is (Gives x) w c d
 taken-is x Absent c d s f g = taken-absent x c d s g
 taken-is x (Pending bytes) (Up n) (Up m) s f g = (refl, (subst (λ (z : TheNode). (z.frozen ≡ true) × AreOf bytes z) g.0 f, (m, (refl, g))))
 taken-is x (Pending bytes) (Up n) (Collecting m) s f g = absurd g

@@ -7,8 +7,8 @@ use Rattle.std.proofs.lemmas.List.{get_or-set_other, length-set, length-replicat
 use Rattle.theorems.proofs.Tests.{both}
 use Rattle.packets.specs.declared.packet.Body as bodies
 use Rattle.packets.specs.declared.packet.Body.TheVariants as packets
-use Rattle.packets.specs.declared.packet.Packet.{Packet}
-use Rattle.packets.specs.declared.page.Entry.{Entry}
+use Rattle.packets.specs.declared.packet.NodePacket.{NodePacket}
+use Rattle.packets.specs.declared.page.LoggedMessage.{LoggedMessage}
 use Rattle.packets.specs.declared.page.Flags.{Flags}
 use Rattle.packets.specs.declared.kept.Kept.{Kept}
 use Rattle.packets.specs.Packet.{in_range, is_done, is_lost, is_exact}
@@ -77,7 +77,7 @@ module _ (lives : ℕ → ℕ) (back : ℕ → Type 0) (top : ℕ) where
 
   -- ---- a page comes
 
-  page : (from j : ℕ) (flags : Flags) (entries : List Entry) (n : TheCollecting) → IsAlone lives back top n.own → from ≤ top → is_lost flags ≡ false → is_exact flags ≡ true → j ≡ lives from → On n (took_page from j flags entries n)
+  page : (from j : ℕ) (flags : Flags) (entries : List LoggedMessage) (n : TheCollecting) → IsAlone lives back top n.own → from ≤ top → is_lost flags ≡ false → is_exact flags ≡ true → j ≡ lives from → On n (took_page from j flags entries n)
   page from j flags entries n a low lost exact now =
       let m : TheCollecting = record { own = learns from j flags n.own; told = slice_set n.told from (with_page (is_done flags) entries (told_of n.told from)) } in
       let own : Keeps lives back n.own m.own = record { me = refl; count = refl; life = refl; exact = λ e. rw (e, lost, exact) refl; out = λ o. o } in
@@ -173,7 +173,7 @@ module _ (lives : ℕ → ℕ) (back : ℕ → Type 0) (top : ℕ) where
   says from to (packets.Resume i k r) n a here low other s = same n
   says from to (packets.Restored i j c r flags pairs) n a here low other s = same n
 
-  pub hands : (x : Packet) (n : TheCollecting) → IsAlone lives back top n.own → IsSound lives back x → On n (handed x n)
+  pub hands : (x : NodePacket) (n : TheCollecting) → IsAlone lives back top n.own → IsSound lives back x → On n (handed x n)
   hands x n a s =
       by-if (On n) (is_for n.own x) (heard x.from x.body n) n
       (λ e. let p = of-other n.own x e in

@@ -8,7 +8,7 @@ use Rattle.theorems.proofs.ListLemmas.{begins-self}
 use Rattle.world.specs.declared.message.Message.{Message}
 use Rattle.world.specs.History.{Payload}
 use Rattle.world.specs.Handlers.{Handlers}
-use Rattle.packets.specs.declared.packet.Packet.{Packet}
+use Rattle.packets.specs.declared.packet.NodePacket.{NodePacket}
 use Rattle.packets.specs.declared.kept.Kept.{Kept}
 use Rattle.packets.specs.Kept.{IsKept}
 use Rattle.packets.proofs.KeptLemmas.{one_kept}
@@ -38,7 +38,7 @@ use Rattle.node_laws.proofs.HeldNode.{IsGiven, OfNode, given-still, node-more}
 use Rattle.node_laws.proofs.HeldOwn as owns
 use Rattle.node_laws.proofs.HeldOwn.{OfOwn, OnCollecting, OnRestoring, Fair, planning, own-more, told-later, none-were-told}
 
-handed-rests : (x : Packet) (n : TheNode) → n.frozen ≡ true → handed x n ≡ n
+handed-rests : (x : NodePacket) (n : TheNode) → n.frozen ≡ true → handed x n ≡ n
 handed-rests x n e = rw e refl
 
 ticked-rests : (n : TheNode) → n.frozen ≡ true → ticked n ≡ n
@@ -81,14 +81,14 @@ module _ (f : Answering) (len : ℕ → ℕ) (top p : ℕ) (durable tells : Bool
   IsFor h (Restores n) = (g : List Message) × ((senders : List ℕ) × OnRestoring top F p durable tells D In g senders h g n)
   IsFor h Killed = Unit {0}
 
-  abbrev Gave : List Message → Packet → Type 0
+  abbrev Gave : List Message → NodePacket → Type 0
   Gave h x = IsGiven F p durable tells D In h x
 
-  pub gave-later : (h late : List Message) (x : Packet) → Begins h late → Gave h x → Gave late x
+  pub gave-later : (h late : List Message) (x : NodePacket) → Begins h late → Gave h x → Gave late x
   gave-later h late x b o = subst (λ z. Gave z x) b.1 (given-still F gr p durable tells D In h b.0 x o)
 
   -- a packet is taken
-  pub giving : (h : List Message) (x : Packet) (old new : Process) → Gives x old new → IsFor h old → Gave h x × IsFor h new
+  pub giving : (h : List Message) (x : NodePacket) (old new : Process) → Gives x old new → IsFor h old → Gave h x × IsFor h new
   giving h x (Up n) new g s =
       let t = nodes.taking top F gr p durable tells D In h s.0 x g.0 (subst (Node h s.0) g.1.1.0 s.1) in
       (t.0, subst (IsFor h) (sym g.1.0) (s.0, t.1))
@@ -115,10 +115,10 @@ module _ (f : Answering) (len : ℕ → ℕ) (top p : ℕ) (durable tells : Bool
   giving h x Killed new g s = absurd g
 
   -- a packet comes
-  abbrev pub IsFairHere : List Message → Packet → Type 0
+  abbrev pub IsFairHere : List Message → NodePacket → Type 0
   IsFairHere h x = x.to ≡ p → IsFair (D x.from) (D x.from) (In x.from) tells (F.sends p h x.from) x.body
 
-  pub hearing : (h : List Message) (x : Packet) (old new : Process) → IsFairHere h x → Hears x old new → IsFor h old → IsFor h new
+  pub hearing : (h : List Message) (x : NodePacket) (old new : Process) → IsFairHere h x → Hears x old new → IsFor h old → IsFor h new
   hearing h x (Up n) new fair g s = subst (IsFor h) (sym (g.1.0 ∙ ap Up g.1.1.0)) (s.0, nodes.handing top F gr p durable tells D In h s.0 x n fair s.1)
   hearing h x (Covered n) new fair g s = subst (IsFor h) (sym (g.1.0 ∙ ap Covered (g.1.1 ∙ handed-rests x n s.1.1))) s
   hearing h x (Collects n) new fair g s = subst (IsFor h) (sym (g.1.0 ∙ ap Collects g.1.1.0)) (owns.handing-collecting top F p durable tells D In h [] h h x n fair s)

@@ -9,7 +9,7 @@ use Rattle.world.specs.declared.message.Message.{Message}
 use Rattle.world.specs.History.{Payload}
 use Rattle.world.specs.Handlers.{Handlers}
 use Rattle.world.specs.World.{put}
-use Rattle.packets.specs.declared.packet.Packet.{Packet}
+use Rattle.packets.specs.declared.packet.NodePacket.{NodePacket}
 use Rattle.node.specs.declared.limit.Limits.{Limits}
 use Rattle.node.specs.Limit.{usual}
 use Rattle.node.specs.Queue.{no_queue}
@@ -69,7 +69,7 @@ module _ (f : Answering) (len : ℕ → ℕ) (top p : ℕ) (durable tells : Bool
   abbrev Is : List Message → Process → Type 0
   Is h process = IsFor f len top p durable tells D In low h process
 
-  abbrev Gives-it : List Message → Packet → Type 0
+  abbrev Gives-it : List Message → NodePacket → Type 0
   Gives-it h x = IsGiven (handlers_of f len) p durable tells D In h x
 
   abbrev Goes : List Message → System → Call → Type 0
@@ -315,7 +315,7 @@ stored-stays f n page tick limits len bytes calls more p stored first m v =
     }
 
 -- what a durable process gave
-sent-by : (f : Handlers) (p : ℕ) (h : List Message) (xs : List Packet) → Each (IsGiven f p true false (λ q. false) nothing h) xs → Each (IsSentBy f p h) xs
+sent-by : (f : Handlers) (p : ℕ) (h : List Message) (xs : List NodePacket) → Each (IsGiven f p true false (λ q. false) nothing h) xs → Each (IsSentBy f p h) xs
 sent-by f p h xs a = all-more (IsGiven f p true false (λ q. false) nothing h) (IsSentBy f p h) xs (λ x o. fair-of false (f.sends p h x.to) false [] x.body o.1) a
 
 pub durable-last : DurableLast

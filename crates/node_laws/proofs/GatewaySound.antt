@@ -3,7 +3,7 @@ use Rattle.std.proofs.Common.{◌≡◌, ℕ, zero, suc, ◌+◌, ◌≤◌, Lis
 use Rattle.std.specs.Prelude.{not, ◌&&◌, ◌||◌, ◌==◌, nat_lt, nat_le, if◌then◌else◌}
 use Rattle.packets.specs.declared.packet.Body as bodies
 use Rattle.packets.specs.declared.packet.Body.TheVariants as packets
-use Rattle.packets.specs.declared.packet.Packet.{Packet}
+use Rattle.packets.specs.declared.packet.NodePacket.{NodePacket}
 use Rattle.packets.proofs.Reports.{lost-is}
 use Rattle.stores.specs.declared.change.Output.{Output}
 use Rattle.stores.specs.declared.change.Change.TheVariants as changes
@@ -100,5 +100,5 @@ module _ (lives : ℕ → ℕ) (back : ℕ → Type 0) where
   told-on from to (packets.Told i j k flags entries) g one h = stays g
   told-on from to (packets.Restored i j n s flags pairs) g one h = stays g
 
-  pub hands : (x : Packet) (g : TheGateway) → lives 0 ≡ 1 → IsSound lives back x → On g (handed x g)
+  pub hands : (x : NodePacket) (g : TheGateway) → lives 0 ≡ 1 → IsSound lives back x → On g (handed x g)
   hands x g one h = by-if (On g) (is_for g x) (told x.from x.body g) g (λ e. told-on x.from x.to x.body g one h) (λ e. stays g)

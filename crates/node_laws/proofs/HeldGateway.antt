@@ -5,7 +5,7 @@ use Rattle.std.proofs.lemmas.Bool.Decides.{nat_tests}
 use Rattle.theorems.proofs.Tests.{both}
 use Rattle.packets.specs.declared.packet.Body as bodies
 use Rattle.packets.specs.declared.packet.Body.TheVariants as packets
-use Rattle.packets.specs.declared.packet.Packet.{Packet}
+use Rattle.packets.specs.declared.packet.NodePacket.{NodePacket}
 use Rattle.packets.specs.Packet.{in_range}
 use Rattle.stores.specs.declared.change.Output.{Output}
 use Rattle.stores.specs.declared.change.Change.{Change}
@@ -25,7 +25,7 @@ IsQuiet (packets.Number i ssn k) = ⊥
 IsQuiet (packets.Restored i j n s flags pairs) = pairs ≡ []
 IsQuiet body = Unit {0}
 
-abbrev pub IsOwn : Packet → Type 0
+abbrev pub IsOwn : NodePacket → Type 0
 IsOwn x = (x.from ≡ 0) × IsQuiet x.body
 
 -- what waits to be sent is its own; and of its store this holds
@@ -42,7 +42,7 @@ abbrev pub output : ℕ → ℕ → List ℕ → Output
 output p ssn x = record { process = p; ssn = ssn; payload = x }
 
 -- and where the output that a packet bears is shown, as the next of its process
-abbrev pub TakesOutput : (TheStore → Type 0) → Packet → TheGateway → Type 0
+abbrev pub TakesOutput : (TheStore → Type 0) → NodePacket → TheGateway → Type 0
 TakesOutput Q x g =
     x.to ≡ 0 → IsOf x.from g.store → (i ssn : ℕ) (y : List ℕ) → x.body ≡ packets.Delivery i ssn y → is_next (output x.from ssn y) g ≡ true → Q g.store → Q (applied (changes.Shown (output x.from ssn y)) g.store)
 
@@ -180,7 +180,7 @@ module _ (Q : TheStore → Type 0) (steady : Steady Q) where
   told-on from (packets.Told i j k flags entries) g good s = s
   told-on from (packets.Restored i j n r flags pairs) g good s = s
 
-  pub hands : (x : Packet) (g : TheGateway) → TakesOutput Q x g → On g → On (handed x g)
+  pub hands : (x : NodePacket) (g : TheGateway) → TakesOutput Q x g → On g → On (handed x g)
   hands x g good s = by-if On (is_for g x) (told x.from x.body g) g (λ e. let h = here e in told-on x.from x.body g (good h.0 h.1) s) (λ e. s)
     where
       here : is_for g x ≡ true → (x.to ≡ 0) × IsOf x.from g.store
@@ -210,5 +210,5 @@ each-deals P g new d s = split (deals (EachOutput P) (λ p z t e a. a) g new d s
         let goes : OfGateway (EachOutput P) (happens (changes.Taken 1) g) = record { out = s.out; store = subst (Each P) (sym (ap (drop 1) h.1.1.0)) all.1 } in
         (subst (OfGateway (EachOutput P)) (sym h.1.1.1.0) goes, subst (Each P) (sym h.1.1.1.1) (all.0, tt))
 
-pub each-hands : (P : Output → Type 0) (x : Packet) (g : TheGateway) → (x.to ≡ 0 → (i ssn : ℕ) (y : List ℕ) → x.body ≡ packets.Delivery i ssn y → P (output x.from ssn y)) → OfGateway (EachOutput P) g → OfGateway (EachOutput P) (handed x g)
+pub each-hands : (P : Output → Type 0) (x : NodePacket) (g : TheGateway) → (x.to ≡ 0 → (i ssn : ℕ) (y : List ℕ) → x.body ≡ packets.Delivery i ssn y → P (output x.from ssn y)) → OfGateway (EachOutput P) g → OfGateway (EachOutput P) (handed x g)
 each-hands P x g good s = hands (EachOutput P) (λ p z t e a. a) x g (λ to of i ssn y is next a. all-push P g.store.outputs (output x.from ssn y) a (good to i ssn y is)) s

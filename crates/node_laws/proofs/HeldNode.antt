@@ -12,7 +12,7 @@ use Rattle.world.specs.History.{Payload, nth, count_of}
 use Rattle.world.specs.Handlers.{Handlers}
 use Rattle.packets.specs.declared.packet.Body as bodies
 use Rattle.packets.specs.declared.packet.Body.TheVariants as packets
-use Rattle.packets.specs.declared.packet.Packet.{Packet}
+use Rattle.packets.specs.declared.packet.NodePacket.{NodePacket}
 use Rattle.packets.specs.Packet.{in_range}
 use Rattle.packets.specs.declared.page.Pair.{Pair}
 use Rattle.node.specs.declared.job.OpenJob.{OpenJob}
@@ -45,16 +45,16 @@ grown f gr p d h (m ∷ ms) =
     (begins-trans (f.sends p h d) (f.sends p (h ++ m ∷ []) d) (f.sends p ((h ++ m ∷ []) ++ ms) d) (gr p h m d) (grown f gr p d (h ++ m ∷ []) ms))
 
 -- a packet of p's, which these messages make it send, and which names what others sent it
-abbrev pub IsGiven : Handlers → ℕ → Bool → Bool → (ℕ → Bool) → (ℕ → List Payload) → List Message → Packet → Type 0
+abbrev pub IsGiven : Handlers → ℕ → Bool → Bool → (ℕ → Bool) → (ℕ → List Payload) → List Message → NodePacket → Type 0
 IsGiven f p durable tells D In h x = (x.from ≡ p) × IsFair durable tells (f.sends p h x.to) (D x.to) (In x.to) x.body
 
 -- it is that where more was sent
-pub given-more : (f : Handlers) → Grows f → (p : ℕ) (durable tells : Bool) (D : ℕ → Bool) (In In2 : ℕ → List Payload) (h more : List Message) (x : Packet) → ((q : ℕ) → Begins (In q) (In2 q)) → IsGiven f p durable tells D In h x
+pub given-more : (f : Handlers) → Grows f → (p : ℕ) (durable tells : Bool) (D : ℕ → Bool) (In In2 : ℕ → List Payload) (h more : List Message) (x : NodePacket) → ((q : ℕ) → Begins (In q) (In2 q)) → IsGiven f p durable tells D In h x
     → IsGiven f p durable tells D In2 (h ++ more) x
 given-more f gr p durable tells D In In2 h more x b o =
     (o.0, fair-more durable tells (f.sends p h x.to) (f.sends p (h ++ more) x.to) (D x.to) (In x.to) (In2 x.to) x.body (grown f gr p x.to h more) (b x.to) o.1)
 
-pub given-still : (f : Handlers) → Grows f → (p : ℕ) (durable tells : Bool) (D : ℕ → Bool) (In : ℕ → List Payload) (h more : List Message) (x : Packet) → IsGiven f p durable tells D In h x → IsGiven f p durable tells D In (h ++ more) x
+pub given-still : (f : Handlers) → Grows f → (p : ℕ) (durable tells : Bool) (D : ℕ → Bool) (In : ℕ → List Payload) (h more : List Message) (x : NodePacket) → IsGiven f p durable tells D In h x → IsGiven f p durable tells D In (h ++ more) x
 given-still f gr p durable tells D In h more x o = given-more f gr p durable tells D In In h more x (λ q. begins-self (In q)) o
 
 -- the job that is open is on the next message of another, and of a durable one that was sent
@@ -426,7 +426,7 @@ module _ (top : ℕ) (f : Handlers) (gr : Grows f) (p : ℕ) (durable tells : Bo
   told-on from (packets.Told i j k flags entries) n live low other fair s = s
   told-on from (packets.Restored i j c r flags pairs) n live low other fair s = s
 
-  pub handing : (x : Packet) (n : TheNode) → (x.to ≡ p → IsFair (D x.from) (D x.from) (In x.from) tells (f.sends p h x.from) x.body) → On n → On (handed x n)
+  pub handing : (x : NodePacket) (n : TheNode) → (x.to ≡ p → IsFair (D x.from) (D x.from) (In x.from) tells (f.sends p h x.from) x.body) → On n → On (handed x n)
   handing x n fair s = by-if On (is_for n x) (told x.from x.body n) n takes (λ e. s)
     where
       takes : is_for n x ≡ true → On (told x.from x.body n)
@@ -443,7 +443,7 @@ module _ (top : ℕ) (f : Handlers) (gr : Grows f) (p : ℕ) (durable tells : Bo
 
   -- ---- the first packet is taken
 
-  pub taking : (x : Packet) (m : TheNode) → On (record m { out = x ∷ m.out }) → IsGiven f p durable tells D In h x × On m
+  pub taking : (x : NodePacket) (m : TheNode) → On (record m { out = x ∷ m.out }) → IsGiven f p durable tells D In h x × On m
   taking x m s = (
     s.out.0,
     record {

@@ -11,8 +11,8 @@ use Rattle.world.specs.History.{Payload}
 use Rattle.world.specs.Handlers.{Handlers}
 use Rattle.packets.specs.declared.packet.Body as bodies
 use Rattle.packets.specs.declared.packet.Body.TheVariants as packets
-use Rattle.packets.specs.declared.packet.Packet.{Packet}
-use Rattle.packets.specs.declared.page.Entry.{Entry}
+use Rattle.packets.specs.declared.packet.NodePacket.{NodePacket}
+use Rattle.packets.specs.declared.page.LoggedMessage.{LoggedMessage}
 use Rattle.packets.specs.declared.page.Pair.{Pair}
 use Rattle.packets.specs.declared.page.Flags.{Flags}
 use Rattle.packets.specs.declared.kept.Kept.{Kept}
@@ -108,14 +108,14 @@ module _ (top : ℕ) (f : Handlers) (p : ℕ) (durable tells : Bool) (D : ℕ �
       }
 
   -- the first packet is taken
-  pub taking-rest : (x : Packet) (rest : List Packet) (o : TheOwn) → o.out ≡ x ∷ rest → On o → IsGiven f p durable tells D In h x × On (record o { out = rest })
+  pub taking-rest : (x : NodePacket) (rest : List NodePacket) (o : TheOwn) → o.out ≡ x ∷ rest → On o → IsGiven f p durable tells D In h x × On (record o { out = rest })
   taking-rest x rest o e s =
       let all : Each (IsGiven f p durable tells D In h) (x ∷ rest) = subst (Each (IsGiven f p durable tells D In h)) e s.out in (
         all.0,
         record { me = s.me; count = s.count; wide = s.wide; base = s.base; more = s.more; begins = s.begins; taken = s.taken; state = s.state; logs = s.logs; out = all.1; is_durable = s.is_durable },
       )
 
-  pub taking : (x : Packet) (o : TheOwn) → On (record o { out = x ∷ o.out }) → IsGiven f p durable tells D In h x × On o
+  pub taking : (x : NodePacket) (o : TheOwn) → On (record o { out = x ∷ o.out }) → IsGiven f p durable tells D In h x × On o
   taking x o s = (
     s.out.0,
     record { me = s.me; count = s.count; wide = s.wide; base = s.base; more = s.more; begins = s.begins; taken = s.taken; state = s.state; logs = s.logs; out = s.out.1; is_durable = s.is_durable },
@@ -146,7 +146,7 @@ module _ (top : ℕ) (f : Handlers) (p : ℕ) (durable tells : Bool) (D : ℕ �
   heard-on from (packets.Told i j k flags entries) o s = s
   heard-on from (packets.Restored i j c r flags pairs) o s = s
 
-  pub handing : (x : Packet) (o : TheOwn) → On o → On (meeting.handed x o)
+  pub handing : (x : NodePacket) (o : TheOwn) → On o → On (meeting.handed x o)
   handing x o s = by-if On (is_for o x && in_range x.body) (meeting.heard x.from x.body o) o (λ e. heard-on x.from x.body o s) (λ e. s)
 
   -- ---- one that collects
@@ -180,7 +180,7 @@ module _ (top : ℕ) (f : Handlers) (p : ℕ) (durable tells : Bool) (D : ℕ �
     set-holds (λ (t : TheCollected). t.entries ≡ []) told from x p (none_told 0) (λ e. absurd (other (sym e))) a.1,
   )
 
-  taking-page : (from j : ℕ) (flags : Flags) (page : List Entry) (n : TheCollecting) → from ≢ p → (D from ≡ true → Each (IsSent (In from)) page) → OnCollecting n → OnCollecting (collects.took_page from j flags page n)
+  taking-page : (from j : ℕ) (flags : Flags) (page : List LoggedMessage) (n : TheCollecting) → from ≢ p → (D from ≡ true → Each (IsSent (In from)) page) → OnCollecting n → OnCollecting (collects.took_page from j flags page n)
   taking-page from j flags page n other good s =
       let o : TheOwn = learns from j flags n.own in
       let t : TheCollected = with_page (is_done flags) page (told_of n.told from) in
@@ -211,7 +211,7 @@ module _ (top : ℕ) (f : Handlers) (p : ℕ) (durable tells : Bool) (D : ℕ �
   heard-collecting from (packets.Restored i j c r flags pairs) n other fair s = s
 
   -- whom a packet is of, and to
-  from-other : (x : Packet) (o : TheOwn) → On o → is_for o x ≡ true → (x.to ≡ p) × (x.from ≢ p)
+  from-other : (x : NodePacket) (o : TheOwn) → On o → is_for o x ≡ true → (x.to ≡ p) × (x.from ≢ p)
   from-other x o s e =
       let a = both ((x.count == o.count) && (x.to == o.me) && nat_le x.from o.count) (not (x.from == o.me)) e in
       let b = both ((x.count == o.count) && (x.to == o.me)) (nat_le x.from o.count) a.0 in
@@ -219,10 +219,10 @@ module _ (top : ℕ) (f : Handlers) (p : ℕ) (durable tells : Bool) (D : ℕ �
       let apart : x.from ≢ o.me = (let z : (x.from == o.me) ≡ false = off (x.from == o.me) a.1 in grind (arith, nat_tests)) in
       (here ∙ s.me, λ z. apart (z ∙ sym s.me))
 
-  abbrev pub Fair : Packet → Type 0
+  abbrev pub Fair : NodePacket → Type 0
   Fair x = x.to ≡ p → IsFair (D x.from) (D x.from) (In x.from) tells (f.sends p h x.from) x.body
 
-  pub handing-collecting : (x : Packet) (n : TheCollecting) → Fair x → OnCollecting n → OnCollecting (collects.handed x n)
+  pub handing-collecting : (x : NodePacket) (n : TheCollecting) → Fair x → OnCollecting n → OnCollecting (collects.handed x n)
   handing-collecting x n fair s =
       by-if OnCollecting (is_for n.own x) (collects.heard x.from x.body n) n (λ e. let t = from-other x n.own s.0 e in heard-collecting x.from x.body n t.1 (fair t.0) s) (λ e. s)
 
@@ -300,7 +300,7 @@ module _ (top : ℕ) (f : Handlers) (p : ℕ) (durable tells : Bool) (D : ℕ �
   heard-restoring from (packets.Resume i k r) n fair s = s
   heard-restoring from (packets.Told i j k flags entries) n fair s = s
 
-  pub handing-restoring : (x : Packet) (n : TheRestoring) → Fair x → OnRestoring n → OnRestoring (restores.handed x n)
+  pub handing-restoring : (x : NodePacket) (n : TheRestoring) → Fair x → OnRestoring n → OnRestoring (restores.handed x n)
   handing-restoring x n fair s = by-if OnRestoring (is_for n.own x) (restores.heard x.from x.body n) n (λ e. heard-restoring x.from x.body n (fair (from-other x n.own s.0 e).0) s) (λ e. s)
 
   -- it is up

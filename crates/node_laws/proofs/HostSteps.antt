@@ -5,7 +5,7 @@ use Rattle.std.proofs.lemmas.Bool.Decides.{nat_tests}
 use Rattle.world.specs.World.{put}
 use Rattle.images.specs.declared.any_image.AnyImage.{AnyImage}
 use Rattle.handlers.specs.Image.{as_image}
-use Rattle.packets.specs.declared.packet.Packet.{Packet}
+use Rattle.packets.specs.declared.packet.NodePacket.{NodePacket}
 use Rattle.packets.specs.Format.{IsPacket}
 use Rattle.packets.proofs.WholeLemmas.{one_packet}
 use Rattle.node.specs.declared.limit.Limits.{Limits}
@@ -189,7 +189,7 @@ module _ (images : ℕ → AnyImage) (n : ℕ) (s : System) (t : Lived) (st : Is
 
   -- ---- packets
 
-  took : (k : HostCall) (p : ℕ) (x : Packet) (old new : TheProcess) (w : Checkpoint) → IsFirst n p → s.processes p ≡ Runs old w → Stays (Takes (Some x)) old new
+  took : (k : HostCall) (p : ℕ) (x : NodePacket) (old new : TheProcess) (w : Checkpoint) → IsFirst n p → s.processes p ≡ Runs old w → Stays (Takes (Some x)) old new
       → after_call s k ≡ record s { processes = put s.processes p (Runs new w); given = x ∷ s.given } → shown_by s k ≡ [] → ((q : ℕ) → (if p == q then x ∷ [] else []) ≡ gave_by q k) → Steps images n s t k
   took k p x old new w l e g is o gave =
       let good = good-of p old w l e in
@@ -208,7 +208,7 @@ module _ (images : ℕ → AnyImage) (n : ℕ) (s : System) (t : Lived) (st : Is
       by-call k p (Runs new w) (called.Gave p x to) to [] l (l, subst (λ z. Gives x z to) (sym (here p old w l e)) a.1.1) tt (raised-here t.processes p to) refl (subst (λ z. Beside n p z (called.after_call t (called.Gave p x to))) (sym is) b)
       (ap (λ (z : System). z.processes) is) (ap as_image g.image ∙ good.0, (a.0, a.1.0)) (λ z. tt) (λ q z. tt) refl o gave tt (λ from c. let it = subst (λ z. Gives x z to) (sym (here p old w l e) ∙ c) a.1.1 in inl (it.0, it.1.0))
 
-  heard : (k : HostCall) (p : ℕ) (x : Packet) (old new : TheProcess) (w : Checkpoint) → IsFirst n p → IsOne x s.given → s.processes p ≡ Runs old w → process.Calls (IsHanded x) old new
+  heard : (k : HostCall) (p : ℕ) (x : NodePacket) (old new : TheProcess) (w : Checkpoint) → IsFirst n p → IsOne x s.given → s.processes p ≡ Runs old w → process.Calls (IsHanded x) old new
       → after_call s k ≡ record s { processes = put s.processes p (Runs new w) } → shown_by s k ≡ [] → ((q : ℕ) → gave_by q k ≡ []) → Steps images n s t k
   heard k p x old new w l one e g is o gave =
       let good = good-of p old w l e in
@@ -321,7 +321,7 @@ module _ (images : ℕ → AnyImage) (n : ℕ) (s : System) (t : Lived) (st : Is
   gateways-are : (P : TheGateway → TheGateway → List Output → Type 0) → P s.gateway s.durable s.taken → P t.gateway t.durable t.taken
   gateways-are P h = subst (λ z. P z t.durable t.taken) (sym st.gateway) (subst (λ z. P s.gateway z t.taken) (sym st.durable) (subst (P s.gateway s.durable) (sym st.taken) h))
 
-  gave-out : (x : Packet) (new : TheGateway) → called.DoesIt f n (as_lives s) (called.GaveOut x new) → by-gateway (called.GaveOut x new)
+  gave-out : (x : NodePacket) (new : TheGateway) → called.DoesIt f n (as_lives s) (called.GaveOut x new) → by-gateway (called.GaveOut x new)
   gave-out x new g =
       record {
         calls = called.GaveOut x new ∷ [];
@@ -338,7 +338,7 @@ module _ (images : ℕ → AnyImage) (n : ℕ) (s : System) (t : Lived) (st : Is
         moment = λ q l from at now w is rec. unmoved q l from at now w is rec;
       }
 
-  handed-out : (x : Packet) (new : TheGateway) → called.DoesIt f n (as_lives s) (called.HandedOut x new) → by-gateway (called.HandedOut x new)
+  handed-out : (x : NodePacket) (new : TheGateway) → called.DoesIt f n (as_lives s) (called.HandedOut x new) → by-gateway (called.HandedOut x new)
   handed-out x new g =
       let P : TheGateway → Type 0 = λ z. (new ≡ outside.handed x z) × gateways.IsHanded x z new in
       record {
@@ -470,7 +470,7 @@ module _ (images : ℕ → AnyImage) (n : ℕ) (s : System) (t : Lived) (st : Is
       (ap (λ z. record s { processes = put s.processes p z; given = x ∷ s.given }) (on-by p old new w e)) refl (λ q. refl))
   steps (Handed p x new) g = alive (λ old. process.Calls (IsHanded x) old new) (Handed p x new) (s.processes p) p refl g.1.1
       (λ old w e does. heard (Handed p x new) p x old new w g.0 g.1.0 e does (ap (λ z. record s { processes = put s.processes p z }) (on-by p old new w e)) refl (λ q. refl))
-  steps (HandedBytes p x bytes new) g = alive (λ old. (y : Packet) → IsPacket y bytes → process.Calls (IsHanded y) old new) (HandedBytes p x bytes new) (s.processes p) p refl g.1.1.1
+  steps (HandedBytes p x bytes new) g = alive (λ old. (y : NodePacket) → IsPacket y bytes → process.Calls (IsHanded y) old new) (HandedBytes p x bytes new) (s.processes p) p refl g.1.1.1
       (λ old w e does. heard (HandedBytes p x bytes new) p x old new w g.0 g.1.0 e (does x g.1.1.0) (ap (λ z. record s { processes = put s.processes p z }) (on-by p old new w e)) refl (λ q. refl))
   steps (Worked p new) g = alive (λ old. working.Works old new) (Worked p new) (s.processes p) p refl g.1
       (λ old w e does. worked (Worked p new) p old new w g.0 e does (ap (λ z. record s { processes = put s.processes p z }) (on-by p old new w e)) refl (λ q. refl))

@@ -4,7 +4,7 @@ use Rattle.std.specs.List.{AllByRecursion}
 use Rattle.cluster.specs.Parcels.{Body, Parcel, parcel, In}
 use Rattle.cluster.specs.Cluster.{Cluster}
 use Rattle.cluster.specs.Rules.{Act, Input, Puts, Starts, Shows, Works, Replays, Records, Counts, Drops, Hears, Collects, Recovers, Obeys, Enters, Restores, Greets, Freezes, Keeps, Thaws, Dies, Opens, after_run, IsNode}
-use Rattle.packets.specs.declared.packet.Packet.{Packet}
+use Rattle.packets.specs.declared.packet.NodePacket.{NodePacket}
 use Rattle.node.specs.Stands.{Each, actor}
 use Rattle.node.proofs.Outside.{SameOutside, outside-self, outside-still}
 use Rattle.gateway.specs.Deeds.{IsByGateway}
@@ -33,7 +33,7 @@ stands-same g c d e s =
     there : (p : ℕ) → IsNode d p → IsNode c p
     there p n = (n.0, subst (λ k. p ≤ k) (sym e.count) n.1)
 
-    still : (x : Packet) → PutOut c.count c.parcels x → PutOut d.count d.parcels x
+    still : (x : NodePacket) → PutOut c.count c.parcels x → PutOut d.count d.parcels x
     still x o = record { count_is = o.count_is ∙ e.count; from = o.from; said = record { body = o.said.body; says = o.said.says; among = e.parcels (parcel 0 x.to o.said.body) o.said.among } }
 
 -- it stands after the acts of a node

@@ -6,7 +6,7 @@ use Rattle.std.proofs.lemmas.List.{take-append-drop}
 use Rattle.theorems.proofs.Changes.{at-itself}
 use Rattle.world.specs.Handlers.{Handlers}
 use Rattle.world.specs.World.{put}
-use Rattle.packets.specs.declared.packet.Packet.{Packet}
+use Rattle.packets.specs.declared.packet.NodePacket.{NodePacket}
 use Rattle.cluster.specs.Parcels.{parcel}
 use Rattle.cluster.specs.Cluster.{Cluster, opening}
 use Rattle.cluster.specs.Rules.{Act, Run, does, after_run}
@@ -46,7 +46,7 @@ use Rattle.node_laws.proofs.Untaken.{goes-fewer, goes-taken-out, dealing, handin
 use Rattle.node_laws.proofs.Gateways.{Ahead, PutsMore, ahead-none, ahead-still, ahead-acts, out-more, stands-as}
 
 -- a packet was put out by whoever it says, unless it says that all is lost
-abbrev pub WasPut : Cluster → Packet → Type 0
+abbrev pub WasPut : Cluster → NodePacket → Type 0
 WasPut c x = IsSent c.count c.parcels x.from x
 
 -- a cluster of n in which all of a system stand, of which a lawful world is believed, and in which was put out what was given
@@ -73,7 +73,7 @@ believed-along : (c : Cluster) (ran : List Act) → c.count ≤ 15 → worlds.Ho
 believed-along c [] few h r = h
 believed-along c (a ∷ ran) few h r = let t = worlds.step-holds c a few h r.0 in believed-along (does c a) ran t.1 t.0 r.1
 
-given-still : (c : Cluster) (ran : List Act) (xs : List Packet) → Each (WasPut c) xs → Each (WasPut (after_run c ran)) xs
+given-still : (c : Cluster) (ran : List Act) (xs : List NodePacket) → Each (WasPut c) xs → Each (WasPut (after_run c ran)) xs
 given-still c ran xs h = all-more (WasPut c) (WasPut (after_run c ran)) xs (λ x o. sent-still c (after_run c ran) x.from x (sym (count-after c ran)) (λ b i. parcels-stay c ran (parcel x.from x.to b) i) o) h
 
 -- of a function that is changed at p, what holds at each place
@@ -150,7 +150,7 @@ module _ (f : Handlers) (n : ℕ) (s : System) (c : Cluster) (h : Holds f n s c)
       }
 
 -- a packet more was given, where it was put out
-given-there : (f : Handlers) (n : ℕ) (c : Cluster) (s : System) (x : Packet) → (w : Onward f n c s) → WasPut (after_run c w.acts) x → Onward f n c (record s { given = x ∷ s.given })
+given-there : (f : Handlers) (n : ℕ) (c : Cluster) (s : System) (x : NodePacket) → (w : Onward f n c s) → WasPut (after_run c w.acts) x → Onward f n c (record s { given = x ∷ s.given })
 given-there f n c s x w o =
     let h = w.holds in
     record {
@@ -171,30 +171,30 @@ given-there f n c s x w o =
     }
 
 -- or had been before
-given-more : (f : Handlers) (n : ℕ) (c : Cluster) (s : System) (x : Packet) → WasPut c x → Onward f n c s → Onward f n c (record s { given = x ∷ s.given })
+given-more : (f : Handlers) (n : ℕ) (c : Cluster) (s : System) (x : NodePacket) → WasPut c x → Onward f n c s → Onward f n c (record s { given = x ∷ s.given })
 given-more f n c s x o w = given-there f n c s x w (given-still c w.acts (x ∷ []) (o, tt)).0
 
 -- what a packet of a process says, as one of its own number
-from-own : (c : Cluster) (p : ℕ) (x : Packet) → IsSent c.count c.parcels p x → WasPut c x
+from-own : (c : Cluster) (p : ℕ) (x : NodePacket) → IsSent c.count c.parcels p x → WasPut c x
 from-own c p x o e = let put = o e in subst (λ k. PutOut c.count c.parcels k x) (sym put.from) put
 
 -- what one of the gateway says
-from-gateway : (c : Cluster) (x : Packet) → gateways.PutOut c.count c.parcels x → WasPut c x
+from-gateway : (c : Cluster) (x : NodePacket) → gateways.PutOut c.count c.parcels x → WasPut c x
 from-gateway c x o = from-own c 0 x (λ e. record { count_is = o.count_is; from = o.from; said = (o.said.body, o.said.says, o.said.among) })
 
 -- and what the gateway is told by it, wherever all was put out that was here
-to-gateway : (c d : Cluster) (x : Packet) → PutsMore c d → PutOut c.count c.parcels x.from x → gateways.WasSaid d.parcels x.from x
+to-gateway : (c d : Cluster) (x : NodePacket) → PutsMore c d → PutOut c.count c.parcels x.from x → gateways.WasSaid d.parcels x.from x
 to-gateway c d x more o = record { body = o.said.0; says = o.said.1; among = more (parcel x.from x.to o.said.0) o.said.2 }
 
 -- a packet comes to the gateway: it drops one that says that all is lost
-handing-out : (s : System) (c : Cluster) (x : Packet) (new : TheGateway) (loss : Bool) → is_loss x.body ≡ loss → WasPut c x → new ≡ outside.handed x s.gateway → Ahead s.durable (untaken s.taken s.gateway) c
+handing-out : (s : System) (c : Cluster) (x : NodePacket) (new : TheGateway) (loss : Bool) → is_loss x.body ≡ loss → WasPut c x → new ≡ outside.handed x s.gateway → Ahead s.durable (untaken s.taken s.gateway) c
     → Ahead s.durable (untaken s.taken new) c
 handing-out s c x new true e o g a = subst (λ z. Ahead s.durable (untaken s.taken z) c) (sym (g ∙ loss-is-dropped.1 x s.gateway e)) a
 handing-out s c x new false e o g a =
     ahead-acts (λ d. gateways.WasSaid d.parcels x.from x) s.durable (untaken s.taken s.gateway) (untaken s.taken new) c (λ d more. to-gateway c d x more (o e)) (handing s.taken x s.gateway new g) a
 
 -- the gateway gives a packet: its store is durable, but which outputs were taken, and so is where it was put out
-giving-out : (f : Handlers) (n : ℕ) (s : System) (c : Cluster) (x : Packet) (new : TheGateway) → Holds f n s c → s.durable.store ≡ (untaken s.taken s.gateway).store → gateways.Takes (Some x) s.gateway new
+giving-out : (f : Handlers) (n : ℕ) (s : System) (c : Cluster) (x : NodePacket) (new : TheGateway) → Holds f n s c → s.durable.store ≡ (untaken s.taken s.gateway).store → gateways.Takes (Some x) s.gateway new
     → Onward f n c (record s { gateway = new; given = x ∷ s.given })
 unfolding gateway-moves
 giving-out f n s c x new h lasts m =

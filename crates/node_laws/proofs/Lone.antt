@@ -3,7 +3,7 @@ use Rattle.std.proofs.Common.{◌≡◌, ◌≢◌, ℕ, ◌<◌, List, [], Bool
 use Rattle.std.specs.Prelude.{◌==◌, if◌then◌else◌}
 use Rattle.std.proofs.lemmas.Bool.Decides.{nat_tests}
 use Rattle.world.specs.World.{put}
-use Rattle.packets.specs.declared.packet.Packet.{Packet}
+use Rattle.packets.specs.declared.packet.NodePacket.{NodePacket}
 use Rattle.cluster.specs.Cluster.{Cluster}
 use Rattle.node_laws.specs.Together.{IsFirst}
 use Rattle.node_laws.specs.Process.{Process, Up, Covered, Collects, Replays, Replayed, Restores, Killed, StandsAs, is_exact}
@@ -43,7 +43,7 @@ Knows lives top (Restores n) = HasHeard lives top n.own
 Knows lives top process = Unit {0}
 
 -- what it has to send
-abbrev pub out_of : Process → List Packet
+abbrev pub out_of : Process → List NodePacket
 out_of (Up n) = n.out
 out_of (Covered n) = n.out
 out_of (Collects n) = n.own.out
@@ -94,7 +94,7 @@ abbrev pub Back : ℕ → (ℕ → Process) → ℕ → Type 0
 Back n processes q = IsFirst n q × Returns (processes q)
 
 -- one at most isn't up; each is good; and so is what was given, and what the gateway has to send
-pub record Lone (n : ℕ) (processes : ℕ → Process) (lives : ℕ → ℕ) (xs ys : List Packet) : Type 0 where
+pub record Lone (n : ℕ) (processes : ℕ → Process) (lives : ℕ → ℕ) (xs ys : List NodePacket) : Type 0 where
   pub outside : lives 0 ≡ 1
   pub alone : (p q : ℕ) → IsFirst n p → IsFirst n q → p ≢ q → is_up (processes p) ≡ false → is_up (processes q) ≡ true
   pub good : (p : ℕ) → IsFirst n p → Good lives (Back n processes) n p (processes p)
@@ -109,7 +109,7 @@ good-still : (lives : ℕ → ℕ) (b d : ℕ → Type 0) (top p : ℕ) (process
 good-still lives b d top p process less g = record { exact = g.exact; life = g.life; knows = g.knows; out = sound-still lives b d less (out_of process) g.out }
 
 -- nobody else comes back where p isn't up
-pub only-one : (n : ℕ) (processes : ℕ → Process) (lives : ℕ → ℕ) (given out : List Packet) (p : ℕ) → Lone n processes lives given out → IsFirst n p → is_up (processes p) ≡ false → (q : ℕ) → Back n processes q → q ≡ p
+pub only-one : (n : ℕ) (processes : ℕ → Process) (lives : ℕ → ℕ) (given out : List NodePacket) (p : ℕ) → Lone n processes lives given out → IsFirst n p → is_up (processes p) ≡ false → (q : ℕ) → Back n processes q → q ≡ p
 only-one n processes lives given out p h first down q b = split (q == p) refl
   where
     split : (t : Bool) → (q == p) ≡ t → q ≡ p
@@ -120,7 +120,7 @@ only-one n processes lives given out p h first down q b = split (q == p) refl
         absurd (let z : true ≡ false = sym up ∙ returns-down (processes q) b.1 in cc (z))
 
 -- so one that comes back is alone
-pub is-alone : (n : ℕ) (processes : ℕ → Process) (lives : ℕ → ℕ) (given out : List Packet) (p : ℕ) → Lone n processes lives given out → IsFirst n p → Returns (processes p) → (q : ℕ) → Back n processes q → q ≡ p
+pub is-alone : (n : ℕ) (processes : ℕ → Process) (lives : ℕ → ℕ) (given out : List NodePacket) (p : ℕ) → Lone n processes lives given out → IsFirst n p → Returns (processes p) → (q : ℕ) → Back n processes q → q ≡ p
 is-alone n processes lives given out p h first r = only-one n processes lives given out p h first (returns-down (processes p) r)
 
 -- ---- a process goes on
@@ -149,7 +149,7 @@ at-two {X} P f p x q r apart neither first second = split (q == p) (r == p) refl
         subst Q (sym v) (second u)
     split false false e d = neither (let u : q ≢ p = grind (arith, nat_tests) in u) (let v : r ≢ p = grind (arith, nat_tests) in v)
 
-module _ (n : ℕ) (processes : ℕ → Process) (lives : ℕ → ℕ) (given out : List Packet) (h : Lone n processes lives given out) (p : ℕ) (first : IsFirst n p) (new : Process) where
+module _ (n : ℕ) (processes : ℕ → Process) (lives : ℕ → ℕ) (given out : List NodePacket) (h : Lone n processes lives given out) (p : ℕ) (first : IsFirst n p) (new : Process) where
   abbrev changed : ℕ → Process
   changed = put processes p new
 
@@ -211,7 +211,7 @@ module _ (n : ℕ) (processes : ℕ → Process) (lives : ℕ → ℕ) (given ou
         out = anew out h.out;
       }
     where
-      anew : (xs : List Packet) → AreSound lives (Back n processes) xs → AreSound (put lives p life) (Back n changed) xs
+      anew : (xs : List NodePacket) → AreSound lives (Back n processes) xs → AreSound (put lives p life) (Back n changed) xs
       anew xs s = sound-anew lives (Back n processes) (Back n changed) p life above (only-comes down) xs s
 
       -- each other is up

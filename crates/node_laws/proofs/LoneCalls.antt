@@ -1,7 +1,7 @@
 -- What each call makes of a process, where failures come one at a time
 use Rattle.std.proofs.Common.{◌≡◌, inl, inr, ℕ, List, ◌∷◌, true, refl, sym, ap, ◌∙◌, subst}
 use Rattle.std.specs.Prelude.{Option, Some, None, ◌⊎◌}
-use Rattle.packets.specs.declared.packet.Packet.{Packet}
+use Rattle.packets.specs.declared.packet.NodePacket.{NodePacket}
 use Rattle.node.specs.declared.job.OpenJob.{OpenJob}
 use Rattle.node.specs.declared.job.Given.{Given}
 use Rattle.node.specs.Node.{TheNode}
@@ -23,7 +23,7 @@ use Rattle.node_laws.proofs.RestoringSound as restoring
 use Rattle.node_laws.proofs.Lone.{Returns, IsOf, Good, Goes}
 
 -- no page that it is to take in tells of more than was sent
-abbrev pub Fits : Packet → Process → Type 0
+abbrev pub Fits : NodePacket → Process → Type 0
 Fits x (Restores n) = restoring.Fits x n
 Fits x process = Unit {0}
 
@@ -67,7 +67,7 @@ module _ (lives : ℕ → ℕ) (back : ℕ → Type 0) (top p : ℕ) where
 
   -- ---- a packet is taken
 
-  pub giving : (x : Packet) (old new : Process) → Gives x old new → IsGood old → IsSound lives back x × On old new
+  pub giving : (x : NodePacket) (old new : Process) → Gives x old new → IsGood old → IsSound lives back x × On old new
   giving x (Up n) new g h =
       let m : TheNode = g.0 in
       let e : n ≡ record m { out = x ∷ m.out } = g.1.1.0 in
@@ -118,7 +118,7 @@ module _ (lives : ℕ → ℕ) (back : ℕ → Type 0) (top p : ℕ) where
 
   -- ---- a packet comes
 
-  pub hearing : (x : Packet) (old new : Process) → Hears x old new → IsSound lives back x → Fits x old → IsOf p top old → IsOnly old → IsGood old → On old new
+  pub hearing : (x : NodePacket) (old new : Process) → Hears x old new → IsSound lives back x → Fits x old → IsOf p top old → IsOnly old → IsGood old → On old new
   hearing x (Up n) new g s fits is only h =
       let k : nodes.Keeps lives back n g.0 = subst (nodes.Keeps lives back n) (sym g.1.1.0) (nodes.hands lives back x n h.exact (h.life ∙ ap lives (sym is)) s) in
       becomes (Up n) (Up g.0) new g.1.0 (up-goes n g.0 k h)

@@ -4,7 +4,7 @@ use Rattle.std.specs.Prelude.{Option, Some, None, is_none, is_some, not, ◌&&�
 use Rattle.rsn.specs.Receipts.{numbers_of, acknowledged_of, run_of}
 use Rattle.packets.specs.declared.packet.Body as bodies
 use Rattle.packets.specs.declared.packet.Body.TheVariants as packets
-use Rattle.packets.specs.declared.packet.Packet.{Packet}
+use Rattle.packets.specs.declared.packet.NodePacket.{NodePacket}
 use Rattle.packets.specs.Packet.{is_exact, flags_of}
 use Rattle.packets.proofs.Reports.{lost-is}
 use Rattle.node.specs.declared.job.OpenJob.{OpenJob}
@@ -191,5 +191,5 @@ module _ (lives : ℕ → ℕ) (back : ℕ → Type 0) where
   told-on from to (packets.Told i j k flags entries) n exact life h = stays n
   told-on from to (packets.Restored i j c s flags pairs) n exact life h = stays n
 
-  pub hands : (x : Packet) (n : TheNode) → n.exact ≡ true → n.life ≡ lives n.me → IsSound lives back x → On n (handed x n)
+  pub hands : (x : NodePacket) (n : TheNode) → n.exact ≡ true → n.life ≡ lives n.me → IsSound lives back x → On n (handed x n)
   hands x n exact life h = by-if (On n) (is_for n x) (told x.from x.body n) n (λ e. told-on x.from x.to x.body n exact life h) (λ e. stays n)

@@ -8,7 +8,7 @@ use Rattle.world.specs.declared.message.Message.{Message}
 use Rattle.world.specs.History.{count_of, nth}
 use Rattle.world.specs.Handlers.{Handlers}
 use Rattle.world.specs.World.{put}
-use Rattle.packets.specs.declared.packet.Packet.{Packet}
+use Rattle.packets.specs.declared.packet.NodePacket.{NodePacket}
 use Rattle.stores.specs.declared.change.Output.{Output}
 use Rattle.stores.specs.declared.change.Change.TheVariants as changes
 use Rattle.stores.specs.Peer.{ThePeer, no_peer, shows}
@@ -213,7 +213,7 @@ module _ (c d : ℕ → ℕ) (s : System) (a : UpTo c d s) where
   rests : (k : Call) → UpTo c d (after_call s k) → shown_by s k ≡ [] → Turns c d s k
   rests k u n = record { from = c; kept = d; up = u; leads = inl (inl (n, refl)); on = λ l. inl (n, refl); kept_is = inl refl }
 
-  gives-out : (x : Packet) (new : TheGateway) → s.gateway ≡ record new { out = x ∷ new.out } → Turns c d s (GaveOut x new)
+  gives-out : (x : NodePacket) (new : TheGateway) → s.gateway ≡ record new { out = x ∷ new.out } → Turns c d s (GaveOut x new)
   gives-out x new e =
       let was : OfGateway (InTurn c) (record new { out = x ∷ new.out }) = subst (OfGateway (InTurn c)) e a.gateway in
       let old : OfGateway (InTurn d) (untaken s.taken (record new { out = x ∷ new.out })) = subst (λ z. OfGateway (InTurn d) (untaken s.taken z)) e a.shadow in
@@ -221,13 +221,13 @@ module _ (c d : ℕ → ℕ) (s : System) (a : UpTo c d s) where
       rests (GaveOut x new) (record { gateway = record { out = was.out.1; store = was.store }; durable = a.durable; shadow = goes; leads = a.leads }) refl
 
   -- a packet comes
-  hears : (e : ℕ → ℕ) (x : Packet) (g : TheGateway) → OfGateway (InTurn e) g → OfGateway (InTurn e) (outside.handed x g)
+  hears : (e : ℕ → ℕ) (x : NodePacket) (g : TheGateway) → OfGateway (InTurn e) g → OfGateway (InTurn e) (outside.handed x g)
   hears e x g o = hands (InTurn e) (steady e) x g (λ to of i ssn y is next t. shown-turn e (output x.from ssn y) g.store of (numbered ssn y next) t) o
     where
       numbered : (ssn : ℕ) (y : List ℕ) → is_next (output x.from ssn y) g ≡ true → ssn ≡ suc (peer_at x.from g.store).shown
       numbered ssn y next = let h : (ssn == (peer_at x.from g.store).shown + 1) ≡ true = next in grind (arith, nat_tests)
 
-  hears-out : (x : Packet) (new : TheGateway) → new ≡ outside.handed x s.gateway → Turns c d s (HandedOut x new)
+  hears-out : (x : NodePacket) (new : TheGateway) → new ≡ outside.handed x s.gateway → Turns c d s (HandedOut x new)
   hears-out x new e =
       let alike : outside.handed x (untaken s.taken s.gateway) ≡ untaken s.taken new = handed-alike s.taken x s.gateway ∙ ap (untaken s.taken) (sym e) in
       rests (HandedOut x new) (record {

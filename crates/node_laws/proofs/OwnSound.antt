@@ -6,7 +6,7 @@ use Rattle.std.proofs.lemmas.List.{get_or-set_same, get_or-set_other, length-set
 use Rattle.theorems.proofs.Tests.{both}
 use Rattle.packets.specs.declared.packet.Body as bodies
 use Rattle.packets.specs.declared.packet.Body.TheVariants as packets
-use Rattle.packets.specs.declared.packet.Packet.{Packet}
+use Rattle.packets.specs.declared.packet.NodePacket.{NodePacket}
 use Rattle.packets.specs.Packet.{in_range}
 use Rattle.node.proofs.Lists.{all-pushed}
 use Rattle.gateway.proofs.Steps.{by-if}
@@ -39,7 +39,7 @@ off true e = absurd (cc (e))
 off false e = refl
 
 -- a packet for it is of another
-pub of-other : (o : TheOwn) (x : Packet) → is_for o x ≡ true → (x.to ≡ o.me) × ((x.from ≤ o.count) × (x.from ≢ o.me))
+pub of-other : (o : TheOwn) (x : NodePacket) → is_for o x ≡ true → (x.to ≡ o.me) × ((x.from ≤ o.count) × (x.from ≢ o.me))
 of-other o x e =
     let a = both ((x.count == o.count) && (x.to == o.me) && nat_le x.from o.count) (not (x.from == o.me)) e in
     let b = both ((x.count == o.count) && (x.to == o.me)) (nat_le x.from o.count) a.0 in
@@ -115,7 +115,7 @@ module _ (lives : ℕ → ℕ) (back : ℕ → Type 0) where
       Q m = On o m × HasHeard lives top m
 
   -- a packet comes
-  pub hands : (top : ℕ) (x : Packet) (o : TheOwn) → IsAlone lives back top o → HasHeard lives top o → IsSound lives back x → On o (handed x o) × HasHeard lives top (handed x o)
+  pub hands : (top : ℕ) (x : NodePacket) (o : TheOwn) → IsAlone lives back top o → HasHeard lives top o → IsSound lives back x → On o (handed x o) × HasHeard lives top (handed x o)
   hands top x o h known sound =
       by-if Q (is_for o x && in_range x.body) (heard x.from x.body o) o
       (λ e. let t = both (is_for o x) (in_range x.body) e in

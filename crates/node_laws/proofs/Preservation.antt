@@ -11,7 +11,7 @@ use Rattle.world.specs.Handlers.{Handlers}
 use Rattle.world.specs.World.{put}
 use Rattle.packets.specs.declared.packet.Body as bodies
 use Rattle.packets.specs.declared.packet.Body.TheVariants as packets
-use Rattle.packets.specs.declared.packet.Packet.{Packet}
+use Rattle.packets.specs.declared.packet.NodePacket.{NodePacket}
 use Rattle.stores.specs.declared.change.Output.{Output}
 use Rattle.stores.specs.Store.{TheStore}
 use Rattle.gateway.specs.Gateway.{TheGateway, new_gateway}
@@ -37,7 +37,7 @@ abbrev pub sent_to : Handlers → (ℕ → List Message) → ℕ → ℕ → Lis
 sent_to F H p q = F.sends q (H q) p
 
 -- what a packet says is borne out by what is stored of its sender and of its receiver
-abbrev pub IsTrue : Handlers → (ℕ → Bool) → (ℕ → List Message) → Packet → Type 0
+abbrev pub IsTrue : Handlers → (ℕ → Bool) → (ℕ → List Message) → NodePacket → Type 0
 IsTrue F D H x = IsFair (D x.from) (D x.from) (F.sends x.from (H x.from) x.to) (D x.to) (F.sends x.to (H x.to) x.from) x.body
 
 -- what is to be shown of a durable process is what is stored of it
@@ -81,7 +81,7 @@ module _ (f : Answering) (len : ℕ → ℕ) (n : ℕ) (D : ℕ → Bool) (prope
   sent-more : (H G : ℕ → List Message) → ((q : ℕ) → Begins (H q) (G q)) → (p q : ℕ) → Begins (In H p q) (In G p q)
   sent-more H G b p q = subst (λ z. Begins (F.sends q (H q) p) (F.sends q z p)) (b q).1 (grown F (grows f len) q p (H q) (b q).0)
 
-  true-more : (H G : ℕ → List Message) → ((q : ℕ) → Begins (H q) (G q)) → (x : Packet) → IsTrue F D H x → IsTrue F D G x
+  true-more : (H G : ℕ → List Message) → ((q : ℕ) → Begins (H q) (G q)) → (x : NodePacket) → IsTrue F D H x → IsTrue F D G x
   true-more H G b x o =
       fair-more (D x.from) (D x.from) (F.sends x.from (H x.from) x.to) (F.sends x.from (G x.from) x.to) (D x.to) (F.sends x.to (H x.to) x.from) (F.sends x.to (G x.to) x.from) x.body (sent-more H G b x.to x.from) (sent-more H G b x.from x.to) o
 
@@ -92,7 +92,7 @@ module _ (f : Answering) (len : ℕ → ℕ) (n : ℕ) (D : ℕ → Bool) (prope
   gateway-more H G b g s = record { out = s.out; store = shown-more H G b g.store.outputs s.store }
 
   -- a packet of a process
-  gave-true : (H : ℕ → List Message) (s : System) (q : ℕ) (x : Packet) (new : Process) → All f len n D H s → IsFirst n q → Gives x (s.processes q) new → IsTrue F D H x
+  gave-true : (H : ℕ → List Message) (s : System) (q : ℕ) (x : NodePacket) (new : Process) → All f len n D H s → IsFirst n q → Gives x (s.processes q) new → IsTrue F D H x
   gave-true H s q x new a l g =
       let t = giving f len n q (D q) (D q) D (In H q) l.1 (H q) x (s.processes q) new g (a.each q l).holds in
       let P : ℕ → Type 0 = λ z. IsFair (D z) (D z) (F.sends z (H z) x.to) (D x.to) (F.sends x.to (H x.to) z) x.body in
@@ -116,20 +116,20 @@ module _ (f : Answering) (len : ℕ → ℕ) (n : ℕ) (D : ℕ → Bool) (prope
   shown-untaken : (H : ℕ → List Message) (outputs : List Output) (g : TheGateway) → Each (IsShown F D H) outputs → OfGateway (AreShown F D H) g → OfGateway (AreShown F D H) (untaken outputs g)
   shown-untaken H outputs g a s = record { out = s.out; store = each-append (IsShown F D H) outputs g.store.outputs a s.store }
 
-  gave-out : (H : ℕ → List Message) (x : Packet) (g new : TheGateway) → g ≡ record new { out = x ∷ new.out } → OfGateway (AreShown F D H) g → IsTrue F D H x × OfGateway (AreShown F D H) new
+  gave-out : (H : ℕ → List Message) (x : NodePacket) (g new : TheGateway) → g ≡ record new { out = x ∷ new.out } → OfGateway (AreShown F D H) g → IsTrue F D H x × OfGateway (AreShown F D H) new
   gave-out H x g new e s =
       let t = subst (OfGateway (AreShown F D H)) e s in
       let P : ℕ → Type 0 = λ z. IsFair (D z) (D z) (F.sends z (H z) x.to) (D x.to) (F.sends x.to (H x.to) z) x.body in
       (subst P (sym t.out.0.0) (quiet-true (F.sends 0 (H 0) x.to) (D x.to) (F.sends x.to (H x.to) 0) x.body t.out.0.1), record { out = t.out.1; store = t.store })
 
   -- it is handed to its receiver
-  handed-true : (H : ℕ → List Message) (x : Packet) (p : ℕ) → IsTrue F D H x → x.to ≡ p → IsFair (D x.from) (D x.from) (In H p x.from) (D p) (F.sends p (H p) x.from) x.body
+  handed-true : (H : ℕ → List Message) (x : NodePacket) (p : ℕ) → IsTrue F D H x → x.to ≡ p → IsFair (D x.from) (D x.from) (In H p x.from) (D p) (F.sends p (H p) x.from) x.body
   handed-true H x p o e =
       let P : ℕ → Type 0 = λ z. IsFair (D x.from) (D x.from) (F.sends x.from (H x.from) z) (D z) (F.sends z (H z) x.from) x.body in
       subst P e o
 
   -- what it bears is to be shown
-  shown-true : (H : ℕ → List Message) (x : Packet) → IsTrue F D H x → x.to ≡ 0 → (i ssn : ℕ) (y : List ℕ) → x.body ≡ packets.Delivery i ssn y → IsShown F D H (record { process = x.from; ssn = ssn; payload = y })
+  shown-true : (H : ℕ → List Message) (x : NodePacket) → IsTrue F D H x → x.to ≡ 0 → (i ssn : ℕ) (y : List ℕ) → x.body ≡ packets.Delivery i ssn y → IsShown F D H (record { process = x.from; ssn = ssn; payload = y })
   shown-true H x o e i ssn y is =
       let there = handed-true H x 0 o e in
       subst (IsFair (D x.from) (D x.from) (In H 0 x.from) (D 0) (F.sends 0 (H 0) x.from)) is there
@@ -288,10 +288,10 @@ durable-keep f n page tick limits len bytes calls durable stored lasting m v w =
       stored = λ p l. after-of n (handlers_of f len) p durable (sent_to (handlers_of f len) t.messages p) (t.messages p) (end.stored p) (t.all.each p l).stored;
       received = λ p l. record { ordered = (t.all.each p l).stored.1.1.1.ordered; known = (t.all.each p l).stored.1.1.1.known };
       up = λ p l node e. up-knows f len n durable proper t.messages p l (end.processes p) node (t.all.each p l).holds e;
-      given = all-more (IsTrue (handlers_of f len) durable t.messages) (λ (x : Packet). durable x.from ≡ true → IsSentBy (handlers_of f len) x.from (t.messages x.from) x) end.given (λ x o d. said (durable x.from) d (handlers_of f len) x (durable x.to) t.messages o) t.all.given;
+      given = all-more (IsTrue (handlers_of f len) durable t.messages) (λ (x : NodePacket). durable x.from ≡ true → IsSentBy (handlers_of f len) x.from (t.messages x.from) x) end.given (λ x o d. said (durable x.from) d (handlers_of f len) x (durable x.to) t.messages o) t.all.given;
       shown = t.shown;
     }
   where
-    said : (b : Bool) → b ≡ true → (F : Handlers) (x : Packet) (c : Bool) (H : ℕ → List Message) → IsFair b b (F.sends x.from (H x.from) x.to) c (F.sends x.to (H x.to) x.from) x.body → IsSentBy F x.from (H x.from) x
+    said : (b : Bool) → b ≡ true → (F : Handlers) (x : NodePacket) (c : Bool) (H : ℕ → List Message) → IsFair b b (F.sends x.from (H x.from) x.to) c (F.sends x.to (H x.to) x.from) x.body → IsSentBy F x.from (H x.from) x
     said true d F x c H o = fair-of true (F.sends x.from (H x.from) x.to) c (F.sends x.to (H x.to) x.from) x.body o
     said false d F x c H o = absurd (cc (d))

@@ -5,7 +5,7 @@ use Rattle.world.specs.Handlers.{Handlers}
 use Rattle.world.specs.History.{count_of, nth}
 use Rattle.images.specs.declared.any_image.AnyImage.{AnyImage}
 use Rattle.handlers.specs.Image.{as_image}
-use Rattle.packets.specs.declared.packet.Packet.{Packet}
+use Rattle.packets.specs.declared.packet.NodePacket.{NodePacket}
 use Rattle.stores.specs.declared.change.Output.{Output}
 use Rattle.cluster.specs.Cluster.{Cluster, opening}
 use Rattle.cluster.specs.Rules.{after_run}
@@ -87,7 +87,7 @@ keep-of n f durable s t xs ys st same k =
       stored = λ p l. subst (AreAfter n f p (k.messages p)) (st.stored p l) (k.stored p l);
       received = k.received;
       up = λ p l m e. k.up p l m (st.processes p l ∙ e);
-      given = subst (Each (λ (x : Packet). durable x.from ≡ true → IsSentBy f x.from (k.messages x.from) x)) st.given k.given;
+      given = subst (Each (λ (x : NodePacket). durable x.from ≡ true → IsSentBy f x.from (k.messages x.from) x)) st.given k.given;
       shown = subst (Each (λ (o : Output). durable o.process ≡ true → nth (f.sends o.process (k.messages o.process) 0) o.ssn ≡ Some o.payload)) same k.shown;
     }
 
@@ -123,7 +123,7 @@ stays-of n f p s s2 t t2 l st st2 k =
       up = λ m e. k.up m (st2.processes p l ∙ e);
     }
 
-lasts-of : (n : ℕ) (f : Handlers) (p : ℕ) (s s2 : System) (t t2 : Lived) (xs xs2 ys ys2 : List Packet) → IsFirst n p → IsAs n s t → IsAs n s2 t2 → xs ≡ ys → xs2 ≡ ys2 → Lasts n f p t t2 xs xs2 → Lasts n f p (as_lives s) (as_lives s2) ys ys2
+lasts-of : (n : ℕ) (f : Handlers) (p : ℕ) (s s2 : System) (t t2 : Lived) (xs xs2 ys ys2 : List NodePacket) → IsFirst n p → IsAs n s t → IsAs n s2 t2 → xs ≡ ys → xs2 ≡ ys2 → Lasts n f p t t2 xs xs2 → Lasts n f p (as_lives s) (as_lives s2) ys ys2
 lasts-of n f p s s2 t t2 xs xs2 ys ys2 l st st2 same same2 k =
     record {
       was = k.was;

@@ -5,7 +5,7 @@ use Rattle.std.proofs.lemmas.Bool.Decides.{nat_tests}
 use Rattle.theorems.proofs.Tests.{both}
 use Rattle.packets.specs.declared.packet.Body as bodies
 use Rattle.packets.specs.declared.packet.Body.TheVariants as packets
-use Rattle.packets.specs.declared.packet.Packet.{Packet}
+use Rattle.packets.specs.declared.packet.NodePacket.{NodePacket}
 use Rattle.packets.specs.declared.page.Pair.{Pair}
 use Rattle.packets.specs.declared.page.Flags.{Flags}
 use Rattle.packets.specs.Packet.{in_range, is_done, is_exact}
@@ -23,7 +23,7 @@ pub record Goes (lives : ℕ → ℕ) (back : ℕ → Type 0) (top : ℕ) (old n
   pub hears : HasHeard lives top old.own → HasHeard lives top new.own
 
 -- no page that it is to take in tells of more than was sent
-abbrev pub Fits : Packet → TheRestoring → Type 0
+abbrev pub Fits : NodePacket → TheRestoring → Type 0
 Fits x n = is_for n.own x ≡ true → (i j c s : ℕ) (flags : Flags) (pairs : List Pair) → x.body ≡ packets.Restored i j c s flags pairs → in_range (packets.Restored i j c s flags pairs) ≡ true → is_reply x.from i j s n ≡ true
     → answers x.from i j c s pairs n ≡ true
 
@@ -108,7 +108,7 @@ module _ (lives : ℕ → ℕ) (back : ℕ → Type 0) (top : ℕ) where
   says from to (packets.Resume i k r) n known a here low other fits h = same n
   says from to (packets.Told i j k flags entries) n known a here low other fits h = same n
 
-  pub hands : (x : Packet) (n : TheRestoring) → HasHeard lives top n.own → IsAlone lives back top n.own → Fits x n → IsSound lives back x → On n (handed x n)
+  pub hands : (x : NodePacket) (n : TheRestoring) → HasHeard lives top n.own → IsAlone lives back top n.own → Fits x n → IsSound lives back x → On n (handed x n)
   hands x n known a fits h =
       by-if (On n) (is_for n.own x) (heard x.from x.body n) n
       (λ e. let p = of-other n.own x e in

@@ -6,7 +6,7 @@ use Rattle.world.specs.World.{put}
 use Rattle.theorems.proofs.Changes.{at-itself}
 use Rattle.packets.specs.declared.packet.Body.{Body}
 use Rattle.packets.specs.declared.packet.Body.TheVariants.{Delivery, Number, Acknowledgement, Ask, Told, Resume, Restored, Saved}
-use Rattle.packets.specs.declared.packet.Packet.{Packet}
+use Rattle.packets.specs.declared.packet.NodePacket.{NodePacket}
 use Rattle.packets.specs.Packet.{is_lost, is_exact, flags_of}
 use Rattle.node.specs.Stands.{Each}
 use Rattle.node.proofs.Lists.{all-more}
@@ -20,10 +20,10 @@ Says lives back from to (Told i j k flags entries) = (i ≤ lives to) × (back t
 Says lives back from to (Restored i j n s flags pairs) = (i ≤ lives to) × (back to → i ≡ lives to → (is_exact flags ≡ true) × (j ≡ lives from))
 Says lives back from to body = Unit {0}
 
-abbrev pub IsSound : (ℕ → ℕ) → (ℕ → Type 0) → Packet → Type 0
+abbrev pub IsSound : (ℕ → ℕ) → (ℕ → Type 0) → NodePacket → Type 0
 IsSound lives back x = Says lives back x.from x.to x.body
 
-abbrev pub AreSound : (ℕ → ℕ) → (ℕ → Type 0) → List Packet → Type 0
+abbrev pub AreSound : (ℕ → ℕ) → (ℕ → Type 0) → List NodePacket → Type 0
 AreSound lives back xs = Each (IsSound lives back) xs
 
 -- where no more come back
@@ -37,7 +37,7 @@ says-still lives b d less from to (Number i ssn k) h = tt
 says-still lives b d less from to (Acknowledgement i k) h = tt
 says-still lives b d less from to (Saved k) h = tt
 
-pub sound-still : (lives : ℕ → ℕ) (b d : ℕ → Type 0) → ((q : ℕ) → d q → b q) → (xs : List Packet) → AreSound lives b xs → AreSound lives d xs
+pub sound-still : (lives : ℕ → ℕ) (b d : ℕ → Type 0) → ((q : ℕ) → d q → b q) → (xs : List NodePacket) → AreSound lives b xs → AreSound lives d xs
 sound-still lives b d less xs h = all-more (IsSound lives b) (IsSound lives d) xs (λ x s. says-still lives b d less x.from x.to x.body s) h
 
 -- ---- p comes back in a life above all that were, and nobody else does
@@ -79,7 +79,7 @@ says-anew lives b d p life above only from to (Number i ssn k) h = tt
 says-anew lives b d p life above only from to (Acknowledgement i k) h = tt
 says-anew lives b d p life above only from to (Saved k) h = tt
 
-pub sound-anew : (lives : ℕ → ℕ) (b d : ℕ → Type 0) (p life : ℕ) → lives p < life → ((q : ℕ) → d q → q ≡ p) → (xs : List Packet) → AreSound lives b xs → AreSound (put lives p life) d xs
+pub sound-anew : (lives : ℕ → ℕ) (b d : ℕ → Type 0) (p life : ℕ) → lives p < life → ((q : ℕ) → d q → q ≡ p) → (xs : List NodePacket) → AreSound lives b xs → AreSound (put lives p life) d xs
 sound-anew lives b d p life above only xs h = all-more (IsSound lives b) (IsSound (put lives p life) d) xs (λ x s. says-anew lives b d p life above only x.from x.to x.body s) h
 
 -- ---- what one that is exact answers

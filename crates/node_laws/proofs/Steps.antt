@@ -9,7 +9,7 @@ use Rattle.cluster.specs.Cluster.{Cluster, Live, Dead, Collecting}
 use Rattle.cluster.specs.Rules.{Act, Keeps, Dies, Opens, May, IsNode, does}
 use Rattle.cluster.proofs.Runs as worlds
 use Rattle.cluster.proofs.Promised.{received-once-node}
-use Rattle.packets.specs.declared.packet.Packet.{Packet}
+use Rattle.packets.specs.declared.packet.NodePacket.{NodePacket}
 use Rattle.packets.specs.declared.kept.Kept.{Kept}
 use Rattle.packets.specs.Kept.{IsKept}
 use Rattle.packets.proofs.KeptLemmas.{one_kept}
@@ -42,7 +42,7 @@ use Rattle.node_laws.proofs.Losses.{loss-is-dropped}
 
 -- ---- a node that waits for its checkpoint is as it was
 
-handed-rests : (x : Packet) (n : TheNode) → n.frozen ≡ true → handed x n ≡ n
+handed-rests : (x : NodePacket) (n : TheNode) → n.frozen ≡ true → handed x n ≡ n
 handed-rests x n e = rw e refl
 
 ticked-rests : (n : TheNode) → n.frozen ≡ true → ticked n ≡ n
@@ -95,7 +95,7 @@ module _ (c : Cluster) (p : ℕ) (bytes : List ℕ) (life : ℕ) (low : c.stored
   own new k plain are g = moves-own p new bytes life c k plain are.0 are.1 low g
 
   -- a packet is taken
-  pub giving : (x : Packet) (old new : Process) → Gives x old new → StandsAs old c p → AreStoredOf bytes old c p → IsSent c.count c.parcels p x × Goes new
+  pub giving : (x : NodePacket) (old new : Process) → Gives x old new → StandsAs old c p → AreStoredOf bytes old c p → IsSent c.count c.parcels p x × Goes new
   giving x (Up n) new g s are =
       let P : ℕ → Type 0 = λ q. PutOut c.count c.parcels q x × Stands g.0 c q in
       let took : P p = subst P s.me (g.1.1.1 c (subst (Stands n c) (sym s.me) s)) in
@@ -123,12 +123,12 @@ module _ (c : Cluster) (p : ℕ) (bytes : List ℕ) (life : ℕ) (low : c.stored
   giving x Killed new g s are = absurd g
 
   -- a packet comes to a node that is up: it drops one that says that all is lost
-  hearing-up : (x : Packet) (n new : TheNode) (loss : Bool) → is_loss x.body ≡ loss → (new ≡ handed x n) × IsHanded x n new → IsSaid c.parcels x.from x.to x.body → Stands n c p → GoesTo p (λ d. Stands new d p) c
+  hearing-up : (x : NodePacket) (n new : TheNode) (loss : Bool) → is_loss x.body ≡ loss → (new ≡ handed x n) × IsHanded x n new → IsSaid c.parcels x.from x.to x.body → Stands n c p → GoesTo p (λ d. Stands new d p) c
   hearing-up x n new true e g said s = goes-self p (λ d. Stands new d p) c (subst (λ z. Stands z c p) (sym (g.0 ∙ loss-is-dropped.0 x n e)) s)
   hearing-up x n new false e g said s = owes-at (λ d. WasSaid d.parcels x.from x.to x.body) n new c p g.1 s (said e)
 
   -- a packet comes, and the process stays exact
-  pub hearing : (x : Packet) (old new : Process) → Hears x old new → is_exact new ≡ true → IsSaid c.parcels x.from x.to x.body → StandsAs old c p → AreStoredOf bytes old c p → Goes new
+  pub hearing : (x : NodePacket) (old new : Process) → Hears x old new → is_exact new ≡ true → IsSaid c.parcels x.from x.to x.body → StandsAs old c p → AreStoredOf bytes old c p → Goes new
   hearing x (Up n) new g exact said s are = becomes p (Up g.0) new bytes life c g.1.0 (own (Up g.0) are.0 (λ k d z. z) are.1 (hearing-up x n g.0 (is_loss x.body) refl g.1.1 said s))
   hearing x (Covered n) new g exact said s are =
       becomes p (Covered n) new bytes life c (g.1.0 ∙ ap Covered (g.1.1 ∙ handed-rests x n s.0)) (moves-none p (Covered n) bytes life c s are low)

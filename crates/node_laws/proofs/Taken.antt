@@ -13,7 +13,7 @@ use Rattle.world.specs.Plan.{if_next, or_else}
 use Rattle.cluster.specs.Rules.{message}
 use Rattle.packets.specs.declared.packet.Body.{Body}
 use Rattle.packets.specs.declared.packet.Body.TheVariants.{Delivery, Number, Acknowledgement, Ask, Told, Resume, Restored, Saved}
-use Rattle.packets.specs.declared.page.Entry.{Entry}
+use Rattle.packets.specs.declared.page.LoggedMessage.{LoggedMessage}
 use Rattle.packets.specs.declared.page.Pair.{Pair}
 use Rattle.packets.specs.Pages.{entry_at, before, entries_from, inserted, all_inserted, entries_above, entry_size, fitting, page_of}
 use Rattle.packets.specs.Says.{first_told, first_number}
@@ -32,7 +32,7 @@ use Rattle.node_laws.specs.Durable.{IsOf}
 
 -- ---- what a packet says
 
-abbrev pub IsSent : List Payload → Entry → Type 0
+abbrev pub IsSent : List Payload → LoggedMessage → Type 0
 IsSent sent e = nth sent e.ssn ≡ Some e.payload
 
 abbrev pub IsLow : ℕ → Pair → Type 0
@@ -92,21 +92,21 @@ entries-sent sent k s (x ∷ xs) (n ∷ ns) h =
     first : (o : Option ℕ) → ((m : ℕ) → o ≡ Some m → nth sent (suc s) ≡ Some x) → Each (IsSent sent) (entries_from k (suc s) xs ns) → Each (IsSent sent) (before (entry_at k (suc s) x o) (entries_from k (suc s) xs ns))
     first None g rest = rest
     first (Some m) g rest =
-        by-if (λ (o : Option Entry). Each (IsSent sent) (before o (entries_from k (suc s) xs ns))) (nat_lt k m) (Some (record { number = m; ssn = suc s; payload = x })) None (λ e. (g m refl, rest)) (λ e. rest)
+        by-if (λ (o : Option LoggedMessage). Each (IsSent sent) (before o (entries_from k (suc s) xs ns))) (nat_lt k m) (Some (record { number = m; ssn = suc s; payload = x })) None (λ e. (g m refl, rest)) (λ e. rest)
 
-each-inserted : (P : Entry → Type 0) (e : Entry) (xs : List Entry) → P e → Each P xs → Each P (inserted e xs)
+each-inserted : (P : LoggedMessage → Type 0) (e : LoggedMessage) (xs : List LoggedMessage) → P e → Each P xs → Each P (inserted e xs)
 each-inserted P e [] h a = (h, tt)
-each-inserted P e (x ∷ xs) h a = by-if (λ (l : List Entry). Each P l) (nat_lt e.number x.number) (e ∷ (x ∷ xs)) (x ∷ inserted e xs) (λ t. (h, a)) (λ t. (a.0, each-inserted P e xs h a.1))
+each-inserted P e (x ∷ xs) h a = by-if (λ (l : List LoggedMessage). Each P l) (nat_lt e.number x.number) (e ∷ (x ∷ xs)) (x ∷ inserted e xs) (λ t. (h, a)) (λ t. (a.0, each-inserted P e xs h a.1))
 
-each-sorted : (P : Entry → Type 0) (xs es : List Entry) → Each P xs → Each P es → Each P (all_inserted xs es)
+each-sorted : (P : LoggedMessage → Type 0) (xs es : List LoggedMessage) → Each P xs → Each P es → Each P (all_inserted xs es)
 each-sorted P xs [] a b = a
 each-sorted P xs (e ∷ es) a b = each-sorted P (inserted e xs) es (each-inserted P e xs b.0 a) b.1
 
-each-fitting : (P : Entry → Type 0) (room : ℕ) (es : List Entry) → Each P es → Each P (fitting room es)
+each-fitting : (P : LoggedMessage → Type 0) (room : ℕ) (es : List LoggedMessage) → Each P es → Each P (fitting room es)
 each-fitting P room [] a = tt
-each-fitting P room (e ∷ es) a = by-if (λ (l : List Entry). Each P l) (nat_le (entry_size e) room) (e ∷ fitting (room - entry_size e) es) [] (λ t. (a.0, each-fitting P (room - entry_size e) es a.1)) (λ t. tt)
+each-fitting P room (e ∷ es) a = by-if (λ (l : List LoggedMessage). Each P l) (nat_le (entry_size e) room) (e ∷ fitting (room - entry_size e) es) [] (λ t. (a.0, each-fitting P (room - entry_size e) es a.1)) (λ t. tt)
 
-each-page : (P : Entry → Type 0) (size : ℕ) (es : List Entry) → Each P es → Each P (page_of size es)
+each-page : (P : LoggedMessage → Type 0) (size : ℕ) (es : List LoggedMessage) → Each P es → Each P (page_of size es)
 each-page P size [] a = tt
 each-page P size (e ∷ es) a = (a.0, each-fitting P _ es a.1)
 
@@ -259,7 +259,7 @@ module _ (D : ℕ → Bool) (In : ℕ → List Payload) (top p : ℕ) where
       (subst (λ z. Has h ((hh ++ m ∷ []) ++ ms) covered z) (append_assoc senders (m.sender ∷ []) (map sender_of ms)) rest)
 
   -- a message that was told is of its teller, and of a durable one it is sent
-  told-first : (q : ℕ) (es : List Entry) (k : ℕ) (m : Message) → (D q ≡ true → Each (IsSent (In q)) es) → first_told q es k ≡ Some m → (m.sender ≡ q) × IsIn D In m
+  told-first : (q : ℕ) (es : List LoggedMessage) (k : ℕ) (m : Message) → (D q ≡ true → Each (IsSent (In q)) es) → first_told q es k ≡ Some m → (m.sender ≡ q) × IsIn D In m
   told-first q [] k m a e = absurd (cc (e))
   told-first q (x ∷ es) k m a e = split (x.number == k) (told-first q es k m (λ d. (a d).1)) e
     where
@@ -281,7 +281,7 @@ module _ (D : ℕ → Bool) (In : ℕ → List Payload) (top p : ℕ) where
           let same : q ≡ p = sym s ∙ z in
           let P : ℕ → Type 0 = λ y. first_told y (told_of told y).entries k ≡ Some m in
           let here : first_told p (told_of told p).entries k ≡ Some m = subst P same u in
-          let none : first_told p [] k ≡ Some m = subst (λ (l : List Entry). first_told p l k ≡ Some m) alone here in
+          let none : first_told p [] k ≡ Some m = subst (λ (l : List LoggedMessage). first_told p l k ≡ Some m) alone here in
           absurd (cc (none))
 
 -- where more is sent

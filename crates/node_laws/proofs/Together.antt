@@ -3,7 +3,7 @@ use Rattle.std.proofs.Common.{◌≡◌, ℕ, zero, suc, ◌<◌, ◌≤◌, Lis
 use Rattle.std.specs.Prelude.{Some}
 use Rattle.world.specs.Handlers.{Handlers}
 use Rattle.world.specs.World.{put}
-use Rattle.packets.specs.declared.packet.Packet.{Packet}
+use Rattle.packets.specs.declared.packet.NodePacket.{NodePacket}
 use Rattle.cluster.specs.Parcels.{parcel, In}
 use Rattle.cluster.specs.Cluster.{Cluster, opening}
 use Rattle.cluster.specs.Rules.{Act, Run, after_run}
@@ -27,7 +27,7 @@ use Rattle.node_laws.specs.Together.{System, new_system, Call, Gave, Handed, Wor
 use Rattle.node_laws.proofs.JointGateways.{gateway-stands, all-by-gateway}
 
 -- a packet was put out by whoever it says
-abbrev WasPut : Cluster → Packet → Type 0
+abbrev WasPut : Cluster → NodePacket → Type 0
 WasPut c x = PutOut c.count c.parcels x.from x
 
 -- a cluster of n in which all nodes of a system and its gateway stand, and in which was put out what was given
@@ -44,7 +44,7 @@ record Onward (f : Handlers) (n : ℕ) (c : Cluster) (s : System) : Type 0 where
   run : Run c acts
   holds : Holds f n s (after_run c acts)
 
-given-still : (c : Cluster) (acts : List Act) (xs : List Packet) → Each (WasPut c) xs → Each (WasPut (after_run c acts)) xs
+given-still : (c : Cluster) (acts : List Act) (xs : List NodePacket) → Each (WasPut c) xs → Each (WasPut (after_run c acts)) xs
 given-still c acts xs h = all-more (WasPut c) (WasPut (after_run c acts)) xs (λ x o. put-still c (after_run c acts) x.from x (sym (count-after c acts)) (λ b i. parcels-stay c acts (parcel x.from x.to b) i) o) h
 
 -- a node goes on
@@ -82,15 +82,15 @@ stands-at : (f : Handlers) (n : ℕ) (s : System) (c : Cluster) (p : ℕ) → Is
 stands-at f n s c p first h = h.stand p first.0 (subst (λ k. p ≤ k) (sym h.count) first.1)
 
 -- what a packet of a node says, as one of its own number
-from-own : (c : Cluster) (p : ℕ) (x : Packet) → PutOut c.count c.parcels p x → WasPut c x
+from-own : (c : Cluster) (p : ℕ) (x : NodePacket) → PutOut c.count c.parcels p x → WasPut c x
 from-own c p x o = subst (λ k. PutOut c.count c.parcels k x) (sym o.from) o
 
 -- what one of the gateway says
-from-gateway : (c : Cluster) (x : Packet) → gateways.PutOut c.count c.parcels x → WasPut c x
+from-gateway : (c : Cluster) (x : NodePacket) → gateways.PutOut c.count c.parcels x → WasPut c x
 from-gateway c x o = from-own c 0 x (record { count_is = o.count_is; from = o.from; said = (o.said.body, o.said.says, o.said.among) })
 
 -- and what the gateway is told by it
-to-gateway : (c : Cluster) (x : Packet) → WasPut c x → gateways.WasSaid c.parcels x.from x
+to-gateway : (c : Cluster) (x : NodePacket) → WasPut c x → gateways.WasSaid c.parcels x.from x
 to-gateway c x o = record { body = o.said.0; says = o.said.1; among = o.said.2 }
 
 -- each call

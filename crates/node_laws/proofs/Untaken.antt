@@ -5,7 +5,7 @@ use Rattle.std.proofs.lemmas.Bool.Decides.{nat_tests}
 use Rattle.std.proofs.lemmas.List.{map-append}
 use Rattle.packets.specs.declared.packet.Body as bodies
 use Rattle.packets.specs.declared.packet.Body.TheVariants as packets
-use Rattle.packets.specs.declared.packet.Packet.{Packet}
+use Rattle.packets.specs.declared.packet.NodePacket.{NodePacket}
 use Rattle.cluster.specs.Cluster.{Cluster}
 use Rattle.stores.specs.declared.change.Output.{Output}
 use Rattle.stores.specs.declared.change.Change.{Change}
@@ -175,7 +175,7 @@ module _ (outputs : List Output) where
   told-so p (packets.Told i j k flags entries) g = refl
   told-so p (packets.Restored i j n s flags pairs) g = refl
 
-  pub handed-alike : (x : Packet) (g : TheGateway) → handed x (U g) ≡ U (handed x g)
+  pub handed-alike : (x : NodePacket) (g : TheGateway) → handed x (U g) ≡ U (handed x g)
   handed-alike x g = both-so (is_for g x) (told x.from x.body (U g)) (U g) (told x.from x.body g) g (told-so x.from x.body g) refl
 
   each-so : (p : ℕ) (ss : List ℕ) (g : TheGateway) → delivers_each p ss (U g) ≡ U (delivers_each p ss g)
@@ -231,5 +231,5 @@ dealing outputs g new d = by (deals-so g new d)
     by (inr r) = rests r.0 r.1
 
 -- a packet that it is handed
-pub handing : (outputs : List Output) (x : Packet) (g new : TheGateway) → new ≡ handed x g → IsHanded x (untaken outputs g) (untaken outputs new)
+pub handing : (outputs : List Output) (x : NodePacket) (g new : TheGateway) → new ≡ handed x g → IsHanded x (untaken outputs g) (untaken outputs new)
 handing outputs x g new e = subst (IsHanded x (untaken outputs g)) (handed-alike outputs x g ∙ ap (untaken outputs) (sym e)) (handed-so x (untaken outputs g))

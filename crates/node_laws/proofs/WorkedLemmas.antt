@@ -12,7 +12,7 @@ use Rattle.images.specs.AnyImage.{state_of, code_of}
 use Rattle.interp.specs.HandlerCall.{Handled, handled_by}
 use Rattle.interp.specs.Configuration.{entry}
 use Rattle.handlers.specs.Answer.{answer_by, run_of, shown}
-use Rattle.packets.specs.declared.packet.Packet.{Packet}
+use Rattle.packets.specs.declared.packet.NodePacket.{NodePacket}
 use Rattle.packets.specs.Kept.{IsKept, KeptFits, kept_bytes}
 use Rattle.packets.specs.Packet.{entries_in_range, pairs_in_range}
 use Rattle.node.specs.declared.limit.TheConstants.{PAGE, TICK}
@@ -151,7 +151,7 @@ stays-up n = record { told = Up n; ran = Up n; asks = Up n; recovers = refl; fin
 replays-on : (n : TheReplaying) → is_over n ≡ false → Passes (Replaying n) (Replaying n)
 replays-on n e = record { told = Replaying n; ran = Replaying n; asks = Replaying n; recovers = refl; finishes = (e, refl); begins = refl; returns = refl }
 
-hears-up : (image : AnyImage) (x : Packet) (n m : TheNode) → calls.IsHanded x (Up n) (Up m) → calls.Calls (calls.IsHanded x) (process image (Up n)) (process image (Up m))
+hears-up : (image : AnyImage) (x : NodePacket) (n m : TheNode) → calls.IsHanded x (Up n) (Up m) → calls.Calls (calls.IsHanded x) (process image (Up n)) (process image (Up m))
 hears-up image x n m h = record { image = refl; mid = Up m; does = h; passes = stays-up m }
 
 -- as whom its handler runs on a message of the gateway

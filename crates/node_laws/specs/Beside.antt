@@ -3,7 +3,7 @@
 use Rattle.std.specs.Prelude.{◌≡◌, ℕ, List, [], ◌∷◌, true, false}
 use Rattle.packets.specs.declared.packet.Body.{Body}
 use Rattle.packets.specs.declared.packet.Body.TheVariants.{Ask, Told, Resume, Restored}
-use Rattle.packets.specs.declared.packet.Packet.{Packet}
+use Rattle.packets.specs.declared.packet.NodePacket.{NodePacket}
 use Rattle.packets.specs.Packet.{flags_of}
 use Rattle.node.specs.Limit.{usual}
 use Rattle.node.specs.Node.{TheNode, new_node}
@@ -25,21 +25,21 @@ use Rattle.node_laws.specs.Worked.{sent}
 
 -- ---- packets between the first process, the second and the gateway
 
-abbrev pub packet : ℕ → ℕ → Body → Packet
+abbrev pub packet : ℕ → ℕ → Body → NodePacket
 packet from to b = record { count = 2; from = from; to = to; body = b }
 
 -- its questions in its second incarnation
-abbrev pub ask : ℕ → Packet
+abbrev pub ask : ℕ → NodePacket
 ask to = packet 1 to (Ask 2 0)
 
-abbrev pub resume : ℕ → Packet
+abbrev pub resume : ℕ → NodePacket
 resume to = packet 1 to (Resume 2 0 0)
 
 -- the answers: there is nothing
-abbrev pub told : ℕ → Packet
+abbrev pub told : ℕ → NodePacket
 told from = packet from 1 (Told 2 1 0 (flags_of true false true) [])
 
-abbrev pub restored : ℕ → Packet
+abbrev pub restored : ℕ → NodePacket
 restored from = packet from 1 (Restored 2 1 0 0 (flags_of true false true) [])
 
 -- ---- the gateway, with this size of a page and of a tick
@@ -67,7 +67,7 @@ other_resumed len = nodes.handed (resume 2) (without (other_asked len))
 abbrev pub comes : ℕ → TheCollecting
 comes len = revived usual (kept_of (new_node usual 1 2 len)) 2
 
-abbrev pub asks : ℕ → List Packet → TheCollecting
+abbrev pub asks : ℕ → List NodePacket → TheCollecting
 asks len out = record (comes len) { own = record (comes len).own { out = out } }
 
 -- the gateway has answered it, and then the other process
@@ -83,7 +83,7 @@ replays len = record { own = (has_all len).own; plan = []; done = 0 }
 abbrev pub begins : ℕ → TheRestoring
 begins len = begun (replayed_of (replays len))
 
-abbrev pub resumes : ℕ → List Packet → TheRestoring
+abbrev pub resumes : ℕ → List NodePacket → TheRestoring
 resumes len out = record (begins len) { own = record (begins len).own { out = out } }
 
 abbrev pub enters : ℕ → TheRestoring

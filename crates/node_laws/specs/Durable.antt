@@ -5,7 +5,7 @@ use Rattle.world.specs.History.{Payload, nth}
 use Rattle.world.specs.Handlers.{Handlers}
 use Rattle.packets.specs.declared.packet.Body.{Body}
 use Rattle.packets.specs.declared.packet.Body.TheVariants.{Delivery}
-use Rattle.packets.specs.declared.packet.Packet.{Packet}
+use Rattle.packets.specs.declared.packet.NodePacket.{NodePacket}
 use Rattle.packets.specs.declared.kept.Kept.{Kept}
 use Rattle.packets.specs.Kept.{IsKept}
 use Rattle.node.specs.declared.limit.Limits.{Limits}
@@ -49,11 +49,11 @@ IsOf sent (Delivery i ssn x) = nth sent ssn ≡ Some x
 IsOf sent body = Unit {0}
 
 -- these messages make p send the one that the packet carries
-abbrev pub IsSentBy : Handlers → ℕ → List Message → Packet → Type 0
+abbrev pub IsSentBy : Handlers → ℕ → List Message → NodePacket → Type 0
 IsSentBy f p h x = IsOf (f.sends p h x.to) x.body
 
 -- the packets that p gave
-abbrev pub given_by : ℕ → List Call → List Packet
+abbrev pub given_by : ℕ → List Call → List NodePacket
 given_by p [] = []
 given_by p (Gave q x new ∷ ks) = if q == p then x ∷ given_by p ks else given_by p ks
 given_by p (k ∷ ks) = given_by p ks
@@ -115,7 +115,7 @@ StoredStays = (f : Answering) (n page tick : ℕ) (limits : ℕ → Limits) (len
     → Stays n (handlers_of f len) p (after_calls (new_system n limits len bytes page tick) calls) (after_calls (new_system n limits len bytes page tick) (calls ++ more))
 
 -- at each of two moments the messages that are stored of a durable process send all that it gave by then, each in its place
-pub record Lasts (n : ℕ) (f : Handlers) (p : ℕ) (s t : System) (before after : List Packet) : Type 0 where
+pub record Lasts (n : ℕ) (f : Handlers) (p : ℕ) (s t : System) (before after : List NodePacket) : Type 0 where
   pub was : List Message
   pub more : List Message
   pub stored_was : AreAfter n f p was (s.stored p)
@@ -144,7 +144,7 @@ pub record Keep (n : ℕ) (f : Handlers) (durable : ℕ → Bool) (s : System) (
   pub stored : (p : ℕ) → IsFirst n p → AreAfter n f p (messages p) (s.stored p)
   pub received : (p : ℕ) → IsFirst n p → Knows f durable messages p (messages p)
   pub up : (p : ℕ) → IsFirst n p → (m : TheNode) → s.processes p ≡ Up m → (has : HasAfter f p (messages p) m) × Knows f durable messages p (messages p ++ has.rest)
-  pub given : Each (λ (x : Packet). durable x.from ≡ true → IsSentBy f x.from (messages x.from) x) s.given
+  pub given : Each (λ (x : NodePacket). durable x.from ≡ true → IsSentBy f x.from (messages x.from) x) s.given
   pub shown : Each (λ (o : Output). durable o.process ≡ true → nth (f.sends o.process (messages o.process) 0) o.ssn ≡ Some o.payload) outputs
 
 -- whichever processes are durable

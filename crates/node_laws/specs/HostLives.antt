@@ -3,7 +3,7 @@ use Rattle.std.specs.Prelude.{◌≡◌, ◌≢◌, ℕ, ◌≤◌, List, [], �
 use Rattle.world.specs.Handlers.{Handlers}
 use Rattle.images.specs.declared.any_image.AnyImage.{AnyImage}
 use Rattle.images.specs.AnyImage.{state_of}
-use Rattle.packets.specs.declared.packet.Packet.{Packet}
+use Rattle.packets.specs.declared.packet.NodePacket.{NodePacket}
 use Rattle.stores.specs.declared.change.Output.{Output}
 use Rattle.node.specs.declared.limit.Limits.{Limits}
 use Rattle.node.specs.Node.{TheNode}
@@ -121,13 +121,13 @@ HostedStays = (images : ℕ → AnyImage) (n page tick : ℕ) (limits : ℕ → 
     → Stays n (handlers n images) p (as_lives (after_calls (new_system n processes bytes page tick) calls)) (as_lives (after_calls (new_system n processes bytes page tick) (calls ++ more)))
 
 -- the packets that p gave by a call
-abbrev pub gave_by : ℕ → HostCall → List Packet
+abbrev pub gave_by : ℕ → HostCall → List NodePacket
 gave_by p (Gave q x new) = if q == p then x ∷ [] else []
 gave_by p (GaveBytes q x bytes new) = if q == p then x ∷ [] else []
 gave_by p call = []
 
 -- by these calls
-abbrev pub given_by : ℕ → List HostCall → List Packet
+abbrev pub given_by : ℕ → List HostCall → List NodePacket
 given_by p [] = []
 given_by p (k ∷ ks) = gave_by p k ++ given_by p ks
 

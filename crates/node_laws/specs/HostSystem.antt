@@ -1,7 +1,7 @@
 -- Calls of processes by their hosts, and of the gateway, one after another
 use Rattle.std.specs.Prelude.{◌≡◌, ℕ, ◌<◌, List, [], ◌∷◌, Some}
 use Rattle.world.specs.World.{put}
-use Rattle.packets.specs.declared.packet.Packet.{Packet}
+use Rattle.packets.specs.declared.packet.NodePacket.{NodePacket}
 use Rattle.packets.specs.Format.{IsPacket}
 use Rattle.helpers.specs.declared.effects.Who.{Who}
 use Rattle.helpers.specs.Effects.{Emitted}
@@ -16,7 +16,7 @@ use Rattle.gateway.specs.Gateway.{TheGateway, new_gateway}
 use Rattle.node_laws.specs.Together.{IsFirst}
 use Rattle.node_laws.specs.System as called
 use Rattle.node_laws.specs.System.{Call, GaveOut, HandedOut, DidOut, StoredOut, StoredBut, RevivedOut}
-use Rattle.process.specs.declared.call.Ticket.{Ticket}
+use Rattle.process.specs.declared.call.HandlerTicket.{HandlerTicket}
 use Rattle.process.specs.Process.{TheProcess, state_of}
 use Rattle.process.specs.Job.{IsAnswered, WorksAs}
 use Rattle.process.specs.Calls.{Calls, Stays, IsHanded, Ticks, Takes, Freezes, Thaws}
@@ -36,7 +36,7 @@ pub record System : Type 0 where
   pub gateway : TheGateway
   pub durable : TheGateway
   pub taken : List Output
-  pub given : List Packet
+  pub given : List NodePacket
 
 -- the system at the start: each process is opened, and its kept state stored; and the gateway
 pub record Opens (n : ℕ) (images : ℕ → AnyImage) (limits : ℕ → Limits) (processes : ℕ → TheProcess) (bytes : ℕ → List ℕ) : Type 0 where
@@ -58,17 +58,17 @@ new_system n processes bytes page tick =
 -- a call that isn't refused and changes a process, and the process after it; or something that its host does with it
 pub data HostCall : Type 0 where
   -- `take` gave this packet
-  Gave : ℕ → Packet → TheProcess → HostCall
+  Gave : ℕ → NodePacket → TheProcess → HostCall
   -- `take_bytes` gave these bytes, which are those of this packet
-  GaveBytes : ℕ → Packet → List ℕ → TheProcess → HostCall
+  GaveBytes : ℕ → NodePacket → List ℕ → TheProcess → HostCall
   -- `receive`, with this packet
-  Handed : ℕ → Packet → TheProcess → HostCall
+  Handed : ℕ → NodePacket → TheProcess → HostCall
   -- `receive_bytes`, with the bytes of this packet
-  HandedBytes : ℕ → Packet → List ℕ → TheProcess → HostCall
+  HandedBytes : ℕ → NodePacket → List ℕ → TheProcess → HostCall
   -- `work`, or `done`
   Worked : ℕ → TheProcess → HostCall
   -- `done_unchecked`, for this job with this state and these messages and outputs
-  Answered : ℕ → Ticket → List ℕ → Emitted → TheProcess → HostCall
+  Answered : ℕ → HandlerTicket → List ℕ → Emitted → TheProcess → HostCall
   -- `tick`
   Ticked : ℕ → TheProcess → HostCall
   -- `checkpoint` gave these bytes; or `kept_bytes` did, and then `freeze` was called
@@ -117,7 +117,7 @@ DoesIt images n s (Gave p x new) = IsFirst n p × Alive (λ old. Stays (Takes (S
 DoesIt images n s (GaveBytes p x bytes new) = IsFirst n p × (IsPacket x bytes × Alive (λ old. GivesBytes bytes old new) (s.processes p))
 DoesIt images n s (Handed p x new) = IsFirst n p × (IsOne x s.given × Alive (λ old. Calls (IsHanded x) old new) (s.processes p))
 DoesIt images n s (HandedBytes p x bytes new) =
-    IsFirst n p × (IsOne x s.given × (IsPacket x bytes × Alive (λ old. (y : Packet) → IsPacket y bytes → Calls (IsHanded y) old new) (s.processes p)))
+    IsFirst n p × (IsOne x s.given × (IsPacket x bytes × Alive (λ old. (y : NodePacket) → IsPacket y bytes → Calls (IsHanded y) old new) (s.processes p)))
 DoesIt images n s (Worked p new) = IsFirst n p × Alive (λ old. Works old new) (s.processes p)
 DoesIt images n s (Answered p ticket state e new) =
     IsFirst n p × Alive (λ old. AnswersSo state e old × (IsAnswered ticket state e old new × WorksAs state e old new)) (s.processes p)

@@ -2,8 +2,8 @@
 -- two are acknowledged, and comes back with all, of which it replays two
 use Rattle.std.specs.Prelude.{◌≡◌, ℕ, List, [], ◌∷◌, Some, true, false}
 use Rattle.packets.specs.declared.packet.Body.TheVariants.{Delivery, Number, Acknowledgement, Saved, Ask, Told, Resume, Restored}
-use Rattle.packets.specs.declared.packet.Packet.{Packet}
-use Rattle.packets.specs.declared.page.Entry.{Entry}
+use Rattle.packets.specs.declared.packet.NodePacket.{NodePacket}
+use Rattle.packets.specs.declared.page.LoggedMessage.{LoggedMessage}
 use Rattle.packets.specs.Packet.{flags_of}
 use Rattle.packets.specs.Kept.{IsKept}
 use Rattle.node.specs.declared.job.OpenJob.{OpenJob}
@@ -43,38 +43,38 @@ answer k = record { state = input k; given = [] }
 
 -- ---- its packets
 
-abbrev pub delivery : ℕ → Packet
+abbrev pub delivery : ℕ → NodePacket
 delivery k = from_gateway (Delivery 1 k (input k))
 
 -- the k-th message has the RSN k
-abbrev pub number : ℕ → Packet
+abbrev pub number : ℕ → NodePacket
 number k = from_process (Number 1 k k)
 
-abbrev pub acknowledgement : ℕ → Packet
+abbrev pub acknowledgement : ℕ → NodePacket
 acknowledgement k = from_gateway (Acknowledgement 1 k)
 
 -- its checkpoint covers one
-abbrev pub covers : Packet
+abbrev pub covers : NodePacket
 covers = from_process (Saved 1)
 
-abbrev pub ask : Packet
+abbrev pub ask : NodePacket
 ask = from_process (Ask 2 1)
 
-abbrev pub entry : ℕ → Entry
+abbrev pub entry : ℕ → LoggedMessage
 entry k = record { number = k; ssn = k; payload = input k }
 
-abbrev pub told : Packet
+abbrev pub told : NodePacket
 told = from_gateway (Told 2 1 1 (flags_of true false true) (entry 2 ∷ entry 3 ∷ []))
 
-abbrev pub resume : Packet
+abbrev pub resume : NodePacket
 resume = from_process (Resume 2 3 0)
 
-abbrev pub restored : Packet
+abbrev pub restored : NodePacket
 restored = from_gateway (Restored 2 1 0 0 (flags_of true false true) [])
 
 -- ---- the gateway
 
-abbrev pub gave : List Packet → TheGateway → TheGateway
+abbrev pub gave : List NodePacket → TheGateway → TheGateway
 gave out g = record g { out = out }
 
 abbrev pub g1 : TheGateway

@@ -1,7 +1,7 @@
 -- A worked list of calls of two durable processes that are killed at once and whose recoveries meet: these failures overlap
 use Rattle.std.specs.Prelude.{◌≡◌, ℕ, List, [], ◌∷◌, true, false}
 use Rattle.packets.specs.declared.packet.Body.TheVariants.{Ask, Told}
-use Rattle.packets.specs.declared.packet.Packet.{Packet}
+use Rattle.packets.specs.declared.packet.NodePacket.{NodePacket}
 use Rattle.packets.specs.Packet.{flags_of}
 use Rattle.node.specs.declared.limit.Limits.{Limits}
 use Rattle.node.specs.Limit.{usual}
@@ -19,17 +19,17 @@ abbrev pub lasting : Limits
 lasting = record usual { durable = true }
 
 -- the question of a process in its second incarnation, and the answer of the first process that all is lost
-abbrev pub ask : ℕ → ℕ → Packet
+abbrev pub ask : ℕ → ℕ → NodePacket
 ask from to = packet from to (Ask 2 0)
 
-abbrev pub loss : Packet
+abbrev pub loss : NodePacket
 loss = packet 1 2 (Told 2 2 0 (flags_of true true false) [])
 
 -- it comes back; and the packets that it has still to give
 abbrev pub comes : ℕ → ℕ → TheCollecting
 comes len p = revived lasting (kept_of (new_node usual p 2 len)) 2
 
-abbrev pub gives : TheCollecting → List Packet → TheCollecting
+abbrev pub gives : TheCollecting → List NodePacket → TheCollecting
 gives n out = record n { own = record n.own { out = out } }
 
 -- the first process hears that the other is recovering too; and the other hears of the first

@@ -2,7 +2,7 @@
 use Rattle.std.specs.Prelude.{◌≡◌, ◌⊎◌, ℕ, List, Some, Bool, true, false}
 use Rattle.cluster.specs.Cluster.{Cluster, Dead}
 use Rattle.cluster.specs.Rules.{Keeps, May, does, IsNode}
-use Rattle.packets.specs.declared.packet.Packet.{Packet}
+use Rattle.packets.specs.declared.packet.NodePacket.{NodePacket}
 use Rattle.packets.specs.declared.kept.Kept.{Kept}
 use Rattle.packets.specs.Kept.{IsKept}
 use Rattle.packets.specs.Outbox.{Pops}
@@ -75,7 +75,7 @@ abbrev pub Becomes : {X : Type 0} → (X → Process) → Process → (X → Typ
 Becomes {X} stage new P = (it : X) × ((new ≡ stage it) × P it)
 
 -- it gave this packet
-abbrev pub Gives : Packet → Process → Process → Type 0
+abbrev pub Gives : NodePacket → Process → Process → Type 0
 Gives x (Up n) new = Becomes Up new (λ m. nodes.Takes (Some x) n m)
 Gives x (Covered n) new = Becomes Covered new (λ m. nodes.Takes (Some x) n m)
 Gives x (Collects n) new = Becomes Collects new (λ m. collecting.Takes (Some x) n m)
@@ -85,7 +85,7 @@ Gives x (Restores n) new = Becomes Restores new (λ m. restoring.Takes (Some x) 
 Gives x Killed new = ⊥
 
 -- it was handed this packet
-abbrev pub Hears : Packet → Process → Process → Type 0
+abbrev pub Hears : NodePacket → Process → Process → Type 0
 Hears x (Up n) new = Becomes Up new (λ m. (m ≡ handed x n) × nodes.IsHanded x n m)
 Hears x (Covered n) new = Becomes Covered new (λ m. m ≡ handed x n)
 Hears x (Collects n) new = Becomes Collects new (λ m. (m ≡ collects.handed x n) × collecting.IsHanded x n m)

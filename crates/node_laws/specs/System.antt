@@ -3,7 +3,7 @@ use Rattle.std.specs.Prelude.{◌≡◌, ◌⊎◌, ℕ, ◌-◌, ◌<◌, ◌�
 use Rattle.world.specs.History.{count_of}
 use Rattle.world.specs.Handlers.{Handlers}
 use Rattle.world.specs.World.{put}
-use Rattle.packets.specs.declared.packet.Packet.{Packet}
+use Rattle.packets.specs.declared.packet.NodePacket.{NodePacket}
 use Rattle.packets.specs.declared.kept.Kept.{Kept}
 use Rattle.packets.specs.Kept.{IsKept}
 use Rattle.cluster.specs.Cluster.{Cluster, opening}
@@ -35,7 +35,7 @@ pub record System : Type 0 where
   pub gateway : TheGateway
   pub durable : TheGateway
   pub taken : List Output
-  pub given : List Packet
+  pub given : List NodePacket
 
 -- n new processes, each with its limits, and their gateway
 abbrev pub new_system : ℕ → (ℕ → Limits) → (ℕ → ℕ) → (ℕ → List ℕ) → ℕ → ℕ → System
@@ -57,9 +57,9 @@ AreStored n len bytes = (p : ℕ) → IsFirst n p → IsKept (kept_of (new_node 
 -- a call that isn't refused, and the process or the gateway after it; or something that happens to one of them
 pub data Call : Type 0 where
   -- a process gave this packet
-  Gave : ℕ → Packet → Process → Call
+  Gave : ℕ → NodePacket → Process → Call
   -- a process was handed this packet
-  Handed : ℕ → Packet → Process → Call
+  Handed : ℕ → NodePacket → Process → Call
   -- the handler of a process answered
   Worked : ℕ → Answer → Process → Call
   -- a process sent again what isn't answered, made a checkpoint, or went on to its next stage
@@ -73,9 +73,9 @@ pub data Call : Type 0 where
   -- a process came back in this incarnation
   Revived : ℕ → ℕ → TheCollecting → Call
   -- the gateway gave this packet
-  GaveOut : Packet → TheGateway → Call
+  GaveOut : NodePacket → TheGateway → Call
   -- the gateway was handed this packet
-  HandedOut : Packet → TheGateway → Call
+  HandedOut : NodePacket → TheGateway → Call
   -- the gateway took an input, gave an output, sent again what isn't answered, or told its changes
   DidOut : TheGateway → Call
   -- all changes of the gateway are stored
@@ -138,7 +138,7 @@ after_call s (RevivedOut new) = record s { gateway = new; durable = new; taken =
 
 -- as their functions say, nodes that are up and the gateway drop a packet that says that all is lost
 abbrev pub LossIsDropped : Type 0
-LossIsDropped = ((x : Packet) (n : TheNode) → is_loss x.body ≡ true → nodes.handed x n ≡ n) × ((x : Packet) (g : TheGateway) → is_loss x.body ≡ true → outside.handed x g ≡ g)
+LossIsDropped = ((x : NodePacket) (n : TheNode) → is_loss x.body ≡ true → nodes.handed x n ≡ n) × ((x : NodePacket) (g : TheGateway) → is_loss x.body ≡ true → outside.handed x g ≡ g)
 
 -- calls, one after another
 abbrev pub Calls : Answering → ℕ → System → List Call → Type 0

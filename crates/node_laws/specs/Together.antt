@@ -3,7 +3,7 @@ use Rattle.std.specs.Prelude.{◌≡◌, ℕ, ◌<◌, ◌≤◌, List, [], ◌�
 use Rattle.world.specs.History.{count_of}
 use Rattle.world.specs.Handlers.{Handlers}
 use Rattle.world.specs.World.{put}
-use Rattle.packets.specs.declared.packet.Packet.{Packet}
+use Rattle.packets.specs.declared.packet.NodePacket.{NodePacket}
 use Rattle.cluster.specs.Cluster.{opening}
 use Rattle.cluster.specs.Rules.{Act, Run, after_run}
 use Rattle.cluster.specs.Promises.{NoOrphanNode, OutputOnce, ReceivedOnce}
@@ -19,7 +19,7 @@ use Rattle.gateway.specs.Stands as gateways
 pub record System : Type 0 where
   pub nodes : ℕ → TheNode
   pub gateway : TheGateway
-  pub given : List Packet
+  pub given : List NodePacket
 
 -- n new nodes, each with its limits, and their gateway
 abbrev pub new_system : ℕ → (ℕ → Limits) → (ℕ → ℕ) → ℕ → ℕ → System
@@ -28,9 +28,9 @@ new_system n limits len page tick = record { nodes = λ p. new_node (limits p) p
 -- a call that isn't refused, and the node or the gateway after it
 pub data Call : Type 0 where
   -- a node gave this packet
-  Gave : ℕ → Packet → TheNode → Call
+  Gave : ℕ → NodePacket → TheNode → Call
   -- a node was handed this packet
-  Handed : ℕ → Packet → TheNode → Call
+  Handed : ℕ → NodePacket → TheNode → Call
   -- the handler of a node answered
   Worked : ℕ → Answer → TheNode → Call
   -- a node sent again what isn't answered, or made a checkpoint
@@ -38,9 +38,9 @@ pub data Call : Type 0 where
   -- a node was told that its checkpoint is durable
   Saved : ℕ → TheNode → Call
   -- the gateway gave this packet
-  GaveOut : Packet → TheGateway → Call
+  GaveOut : NodePacket → TheGateway → Call
   -- the gateway was handed this packet
-  HandedOut : Packet → TheGateway → Call
+  HandedOut : NodePacket → TheGateway → Call
   -- the gateway took an input, gave an output, sent again what isn't answered, told its changes, or came back from its store
   DidOut : TheGateway → Call
 

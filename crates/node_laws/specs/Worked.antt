@@ -2,7 +2,7 @@
 use Rattle.std.specs.Prelude.{◌≡◌, ℕ, List, [], ◌∷◌, true, false}
 use Rattle.packets.specs.declared.packet.Body.{Body}
 use Rattle.packets.specs.declared.packet.Body.TheVariants.{Ask, Told, Resume, Restored}
-use Rattle.packets.specs.declared.packet.Packet.{Packet}
+use Rattle.packets.specs.declared.packet.NodePacket.{NodePacket}
 use Rattle.packets.specs.Packet.{flags_of}
 use Rattle.node.specs.Limit.{usual}
 use Rattle.node.specs.Node.{TheNode, new_node}
@@ -24,22 +24,22 @@ use Rattle.node_laws.specs.Durable.{ReplayWhole}
 -- ---- its packets
 
 -- from the process to the gateway, and back
-abbrev pub from_process : Body → Packet
+abbrev pub from_process : Body → NodePacket
 from_process b = record { count = 1; from = 1; to = 0; body = b }
 
-abbrev pub from_gateway : Body → Packet
+abbrev pub from_gateway : Body → NodePacket
 from_gateway b = record { count = 1; from = 0; to = 1; body = b }
 
-abbrev pub ask : Packet
+abbrev pub ask : NodePacket
 ask = from_process (Ask 2 0)
 
-abbrev pub told : Packet
+abbrev pub told : NodePacket
 told = from_gateway (Told 2 1 0 (flags_of true false true) [])
 
-abbrev pub resume : Packet
+abbrev pub resume : NodePacket
 resume = from_process (Resume 2 0 0)
 
-abbrev pub restored : Packet
+abbrev pub restored : NodePacket
 restored = from_gateway (Restored 2 1 0 0 (flags_of true false true) [])
 
 -- ---- the gateway, with this size of a page and of a tick

@@ -27,7 +27,7 @@
 //! What holds of processes and the gateway by the calls that their hosts make, through crashes and
 //! recoveries.
 //!
-//! A host has each process as a [`process::Process`], one value through all its stages. The host
+//! A host has each process as a [`process::Member`], one value through all its stages. The host
 //! takes its packets and hands it others, has its handler run, has it send again what isn't
 //! answered, stores the bytes of its checkpoints, and tells it so. A process may be killed at any
 //! moment, and is revived from its stored bytes. The contract of each function says what a call

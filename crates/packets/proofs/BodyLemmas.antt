@@ -1,8 +1,8 @@
 -- The fields of a kind are read just where they are a body's
 use Rattle.std.proofs.Common.{◌≡◌, ℕ, ◌<◌, List, [], ◌∷◌, ◌++◌, Ok, Err, refl, sym, subst, inl, inr}
-use Rattle.packets.specs.declared.kind.Kind.{Kind}
-use Rattle.packets.specs.declared.kind.Kind.TheVariants as kinds
-use Rattle.packets.specs.declared.page.Entry.{Entry}
+use Rattle.packets.specs.declared.kind.PacketKind.{PacketKind}
+use Rattle.packets.specs.declared.kind.PacketKind.TheVariants as kinds
+use Rattle.packets.specs.declared.page.LoggedMessage.{LoggedMessage}
 use Rattle.packets.specs.declared.page.Pair.{Pair}
 use Rattle.packets.specs.declared.packet.Body.{Body}
 use Rattle.packets.specs.declared.packet.Body.TheVariants.{Delivery, Number, Acknowledgement, Ask, Told, Resume, Restored, Saved}
@@ -38,11 +38,11 @@ three_then B Q t q one = word_then (ℕ × (ℕ × B)) (λ x. IsLong x.0 × (IsL
     (word_then (ℕ × B) (λ x. IsLong x.0 × Q x.1) (λ x. long_bytes x.0 ++ t x.1) (both (number_at 8) q) (word_then B Q t q one))
 
 abbrev ToldFields : Type 0
-ToldFields = ℕ × (ℕ × (ℕ × (ℕ × List Entry)))
+ToldFields = ℕ × (ℕ × (ℕ × (ℕ × List LoggedMessage)))
 
 told : Codec ToldFields (λ x. IsLong x.0 × (IsLong x.1.0 × (IsLong x.1.1.0 × IsFlagged IsEntry x.1.1.1))) (λ x. long_bytes x.0 ++ (long_bytes x.1.0 ++ (long_bytes x.1.1.0 ++ flagged_bytes entry_bytes x.1.1.1)))
     (both (number_at 8) (both (number_at 8) (both (number_at 8) (both byte_at (page_at entry_at)))))
-told = three_then (ℕ × List Entry) (λ x. IsFlagged IsEntry x) (λ x. flagged_bytes entry_bytes x) (both byte_at (page_at entry_at)) (flagged Entry (λ e. IsEntry e) (λ e. entry_bytes e) entry_at entry_codec)
+told = three_then (ℕ × List LoggedMessage) (λ x. IsFlagged IsEntry x) (λ x. flagged_bytes entry_bytes x) (both byte_at (page_at entry_at)) (flagged LoggedMessage (λ e. IsEntry e) (λ e. entry_bytes e) entry_at entry_codec)
 
 abbrev RestoredFields : Type 0
 RestoredFields = ℕ × (ℕ × (ℕ × (ℕ × (ℕ × List Pair))))
@@ -56,13 +56,13 @@ restored = three_then (ℕ × (ℕ × List Pair)) (λ x. IsLong x.0 × IsFlagged
 -- ---- bodies
 
 -- the fields are this body's
-pub record IsBody (kind : Kind) (bytes : List ℕ) (b : Body) : Type 0 where
+pub record IsBody (kind : PacketKind) (bytes : List ℕ) (b : Body) : Type 0 where
   pub kind_is : kind_of b ≡ kind
   pub room : HasRoom b
   pub spelled : bytes ≡ body_bytes b
 
 -- a body of fields that were read whole
-found : (A : Type 0) (P : A → Type 0) (s : A → List ℕ) (r : Reader A) (f : A → Body) (kind : Kind) → Codec A P s r → ((a : A) → P a → IsBody kind (s a) (f a)) → (bytes : List ℕ) (b : Body) → IsBytes bytes
+found : (A : Type 0) (P : A → Type 0) (s : A → List ℕ) (r : Reader A) (f : A → Body) (kind : PacketKind) → Codec A P s r → ((a : A) → P a → IsBody kind (s a) (f a)) → (bytes : List ℕ) (b : Body) → IsBytes bytes
     → (whole r bytes >>= λ x. Ok (f x)) ≡ Ok b → IsBody kind bytes b
 found A P s r f kind one is bytes b fits e =
     let a = bind_ok (whole r bytes) (λ x. Ok (f x)) b e in
@@ -71,7 +71,7 @@ found A P s r f kind one is bytes b fits e =
     subst (λ (y : Body). IsBody kind bytes y) (ok_is (f a.0) b a.2) here
 
 -- fields that are read are the bytes of the body that they are read as
-pub body_found : (kind : Kind) (bytes : List ℕ) (b : Body) → IsBytes bytes → body_at kind bytes ≡ Ok b → IsBody kind bytes b
+pub body_found : (kind : PacketKind) (bytes : List ℕ) (b : Body) → IsBytes bytes → body_at kind bytes ≡ Ok b → IsBody kind bytes b
 unfolding body_at
 body_found kinds.Delivery = found _ _ _ _ (λ x. Delivery x.0 x.1.0 x.1.1) kinds.Delivery delivery (λ a h. record { kind_is = refl; room = h; spelled = refl })
 body_found kinds.Number = found _ _ _ _ (λ x. Number x.0 x.1.0 x.1.1) kinds.Number three_words (λ a h. record { kind_is = refl; room = h; spelled = refl })
@@ -105,7 +105,7 @@ fails A P s r f one bytes d e =
     ]
 
 -- where fields can't be read as a body, the fault is `Fields`
-pub body_fails : (kind : Kind) (bytes : List ℕ) (d : PacketFault) → body_at kind bytes ≡ Err d → d ≡ Fields
+pub body_fails : (kind : PacketKind) (bytes : List ℕ) (d : PacketFault) → body_at kind bytes ≡ Err d → d ≡ Fields
 unfolding body_at
 body_fails kinds.Delivery = fails _ _ _ _ (λ x. Delivery x.0 x.1.0 x.1.1) delivery
 body_fails kinds.Number = fails _ _ _ _ (λ x. Number x.0 x.1.0 x.1.1) three_words

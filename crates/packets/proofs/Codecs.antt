@@ -7,7 +7,7 @@ use Rattle.std.proofs.lemmas.List.{take_at, drop_at, take-append-drop, length-ap
 use Rattle.std.proofs.lemmas.Nat.{le_bytes_2, le_bytes_4, le_bytes_8}
 use Rattle.byteorder.specs.Endian.{little_bytes, little_number}
 use Rattle.byteorder.specs.Numbers.{little_number-reads_back, little_from-lt, length-bytes_low_first}
-use Rattle.packets.specs.declared.page.Entry.{Entry}
+use Rattle.packets.specs.declared.page.LoggedMessage.{LoggedMessage}
 use Rattle.packets.specs.declared.page.Pair.{Pair}
 use Rattle.packets.specs.declared.fault.PacketFault.{PacketFault}
 use Rattle.packets.specs.declared.fault.PacketFault.TheVariants.{Fields}
@@ -259,9 +259,9 @@ payload_codec = record {
 }
 
 -- an entry: its two numbers, and its payload
-pub entry_codec : Codec Entry (λ e. IsEntry e) (λ e. entry_bytes e) entry_at
+pub entry_codec : Codec LoggedMessage (λ e. IsEntry e) (λ e. entry_bytes e) entry_at
 unfolding entry_at
-entry_codec = mapped_codec (ℕ × (ℕ × List ℕ)) Entry (λ x. IsLong x.0 × (IsLong x.1.0 × IsPayload x.1.1)) (λ x. long_bytes x.0 ++ (long_bytes x.1.0 ++ payload_bytes x.1.1))
+entry_codec = mapped_codec (ℕ × (ℕ × List ℕ)) LoggedMessage (λ x. IsLong x.0 × (IsLong x.1.0 × IsPayload x.1.1)) (λ x. long_bytes x.0 ++ (long_bytes x.1.0 ++ payload_bytes x.1.1))
     (both (number_at 8) (both (number_at 8) payload_at)) (λ x. record { number = x.0; ssn = x.1.0; payload = x.1.1 }) (λ e. (e.number, (e.ssn, e.payload))) (λ x. refl) (λ e. refl)
     (both_codec ℕ (ℕ × List ℕ) (λ n. IsLong n) (λ x. IsLong x.0 × IsPayload x.1) (λ n. long_bytes n) (λ x. long_bytes x.0 ++ payload_bytes x.1) (number_at 8) (both (number_at 8) payload_at) word_codec
     (both_codec ℕ (List ℕ) (λ n. IsLong n) (λ p. IsPayload p) (λ n. long_bytes n) (λ p. payload_bytes p) (number_at 8) payload_at word_codec payload_codec))

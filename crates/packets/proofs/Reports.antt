@@ -9,7 +9,7 @@ use Rattle.world.specs.Plan.{is_number, message_of, or_else, first_below}
 use Rattle.cluster.specs.Parcels.{reaches}
 use Rattle.cluster.specs.Rules.{message}
 use Rattle.packets.specs.Packet.{is_done, is_lost, flags_of}
-use Rattle.packets.specs.declared.page.Entry.{Entry}
+use Rattle.packets.specs.declared.page.LoggedMessage.{LoggedMessage}
 use Rattle.packets.specs.declared.page.Flags.{Flags}
 use Rattle.packets.specs.declared.log_pages.TheConstants.{TOLD_BYTES}
 use Rattle.packets.specs.Pages.{entry_at, before, entries_from, entries_above, entry_size, fitting, page_of}
@@ -36,7 +36,7 @@ first-split f a (suc b) h = ap (first_below f) (let e : a + suc b ≡ suc (a + b
 abbrev pub found_as : ℕ → ℕ → ℕ → Payload → Option ℕ → Option Message
 found_as p m ssn x n = if is_number m n then Some (message p ssn x) else None
 
-told-before : (p k m ssn : ℕ) (x : Payload) (n : Option ℕ) (es : List Entry) → k < m → first_told p (before (entry_at k ssn x n) es) m ≡ or_else (found_as p m ssn x n) (first_told p es m)
+told-before : (p k m ssn : ℕ) (x : Payload) (n : Option ℕ) (es : List LoggedMessage) → k < m → first_told p (before (entry_at k ssn x n) es) m ≡ or_else (found_as p m ssn x n) (first_told p es m)
 told-before p k m ssn x None es l = refl
 told-before p k m ssn x (Some j) es l = split (nat_lt k j) refl (j == m) refl
   where
@@ -56,7 +56,7 @@ told-from p k m s (x ∷ xs) (n ∷ ns) f l long h =
     (λ i z. h (suc i) (omega (arith, z)) ∙ ap (λ y. found_as p m (suc y) (slice_index_or xs i []) (slice_index_or ns i None)) (let e : s + suc i ≡ suc s + i = omega arith in e)) in
     told-before p k m (suc s) x n (entries_from k (suc s) xs ns) l ∙ ap (or_else (found_as p m (suc s) x n)) rest ∙ ap (λ z. or_else z (first_below (λ i. f (suc i)) (length xs))) (sym here) ∙ sym (first-first f (length xs))
 
-before-over : (k ssn : ℕ) (x : Payload) (n : Option ℕ) (es : List Entry) → Over (suc k) es → Over (suc k) (before (entry_at k ssn x n) es)
+before-over : (k ssn : ℕ) (x : Payload) (n : Option ℕ) (es : List LoggedMessage) → Over (suc k) es → Over (suc k) (before (entry_at k ssn x n) es)
 before-over k ssn x None es h = h
 before-over k ssn x (Some j) es h = split (nat_lt k j) refl
   where
@@ -99,19 +99,19 @@ lost-is true false = refl
 lost-is false true = refl
 lost-is false false = refl
 
-fitting-prefix : (room : ℕ) (es : List Entry) → (rest : List Entry) × (fitting room es ++ rest ≡ es)
+fitting-prefix : (room : ℕ) (es : List LoggedMessage) → (rest : List LoggedMessage) × (fitting room es ++ rest ≡ es)
 fitting-prefix room [] = ([], refl)
 fitting-prefix room (e ∷ es) = split (nat_le (entry_size e) room) (fitting-prefix (room - entry_size e) es)
   where
-    split : (b : Bool) → (rest : List Entry) × (fitting (room - entry_size e) es ++ rest ≡ es) → (rest : List Entry) × ((if b then e ∷ fitting (room - entry_size e) es else []) ++ rest ≡ e ∷ es)
+    split : (b : Bool) → (rest : List LoggedMessage) × (fitting (room - entry_size e) es ++ rest ≡ es) → (rest : List LoggedMessage) × ((if b then e ∷ fitting (room - entry_size e) es else []) ++ rest ≡ e ∷ es)
     split true h = (h.0, ap (λ l. e ∷ l) h.1)
     split false h = (e ∷ es, refl)
 
-page-prefix : (bytes : ℕ) (es : List Entry) → (rest : List Entry) × (page_of bytes es ++ rest ≡ es)
+page-prefix : (bytes : ℕ) (es : List LoggedMessage) → (rest : List LoggedMessage) × (page_of bytes es ++ rest ≡ es)
 page-prefix bytes [] = ([], refl)
 page-prefix bytes (e ∷ es) = let h = fitting-prefix _ es in (h.0, ap (λ l. e ∷ l) h.1)
 
-told-append : (p : ℕ) (xs ys : List Entry) (m : ℕ) → first_told p (xs ++ ys) m ≡ or_else (first_told p xs m) (first_told p ys m)
+told-append : (p : ℕ) (xs ys : List LoggedMessage) (m : ℕ) → first_told p (xs ++ ys) m ≡ or_else (first_told p xs m) (first_told p ys m)
 told-append p [] ys m = refl
 told-append p (x ∷ xs) ys m = split (x.number == m) (told-append p xs ys m)
   where
@@ -119,19 +119,19 @@ told-append p (x ∷ xs) ys m = split (x.number == m) (told-append p xs ys m)
     split true e = refl
     split false e = e
 
-ordered-left : (b : ℕ) (xs ys : List Entry) → Ordered b (xs ++ ys) → Ordered b xs
+ordered-left : (b : ℕ) (xs ys : List LoggedMessage) → Ordered b (xs ++ ys) → Ordered b xs
 ordered-left b [] ys h = tt
 ordered-left b (x ∷ xs) ys h = (h.0, ordered-left x.number xs ys h.1)
 
-abbrev numbers_on : List Entry → List ℕ
-numbers_on es = map (λ (e : Entry). e.number) es
+abbrev numbers_on : List LoggedMessage → List ℕ
+numbers_on es = map (λ (e : LoggedMessage). e.number) es
 
 -- where a page ends
-end-of : (flags : Flags) (k : ℕ) (es : List Entry) (t : Bool) → is_done flags ≡ t → told_end flags k es ≡ (if t then None else Some (last_behind k (numbers_on es)))
+end-of : (flags : Flags) (k : ℕ) (es : List LoggedMessage) (t : Bool) → is_done flags ≡ t → told_end flags k es ≡ (if t then None else Some (last_behind k (numbers_on es)))
 end-of flags k es t e = ap (λ b. if b then None else Some (last_behind k (numbers_on es))) e
 
 -- up to the last number of a page nothing is behind it
-last-told : (p k b m : ℕ) (page rest : List Entry) → k < m → Ordered b (page ++ rest) → m ≤ last_behind k (numbers_on page) → first_told p (page ++ rest) m ≡ first_told p page m
+last-told : (p k b m : ℕ) (page rest : List LoggedMessage) → k < m → Ordered b (page ++ rest) → m ≤ last_behind k (numbers_on page) → first_told p (page ++ rest) m ≡ first_told p page m
 last-told p k b m [] rest l h end = absurd (omega (arith, l, end))
 last-told p k b m (x ∷ page) rest l h end = split (x.number == m) refl (nat_lt x.number m) refl (λ low. last-told p x.number x.number m page rest low h.1 end)
   where
@@ -148,10 +148,10 @@ no-rest xs [] e = refl
 no-rest xs (y ∷ ys) e = absurd (omega (arith, length-append xs (y ∷ ys), e))
 
 -- the first page of all tells of all as far as it goes
-pub page-told : (bytes p k m : ℕ) (exact : Bool) (all : List Entry) → k < m → Ordered (suc k) all → reaches (told_end (flags_of (length (page_of bytes all) == length all) false exact) k (page_of bytes all)) m ≡ true → first_told p all m ≡ first_told p (page_of bytes all) m
+pub page-told : (bytes p k m : ℕ) (exact : Bool) (all : List LoggedMessage) → k < m → Ordered (suc k) all → reaches (told_end (flags_of (length (page_of bytes all) == length all) false exact) k (page_of bytes all)) m ≡ true → first_told p all m ≡ first_told p (page_of bytes all) m
 page-told bytes p k m exact all l h reach = by_end (length (page_of bytes all) == length all) refl
   where
-    cut : (rest : List Entry) × (page_of bytes all ++ rest ≡ all)
+    cut : (rest : List LoggedMessage) × (page_of bytes all ++ rest ≡ all)
     cut = page-prefix bytes all
 
     by_end : (t : Bool) → (length (page_of bytes all) == length all) ≡ t → first_told p all m ≡ first_told p (page_of bytes all) m
@@ -166,22 +166,22 @@ page-told bytes p k m exact all l h reach = by_end (length (page_of bytes all) =
         let low : m ≤ last_behind k (numbers_on (page_of bytes all)) = grind (arith, nat_tests) in
         ap (λ es. first_told p es m) (sym cut.1) ∙ last-told p k (suc k) m (page_of bytes all) cut.0 l (subst (Ordered (suc k)) (sym cut.1) h) low
 
-last-above : (b : ℕ) (es : List Entry) → Ordered b es → b ≤ last_behind b (numbers_on es)
+last-above : (b : ℕ) (es : List LoggedMessage) → Ordered b es → b ≤ last_behind b (numbers_on es)
 last-above b [] h = omega arith
 last-above b (e ∷ es) h = let l : e.number ≤ last_behind e.number (numbers_on es) = last-above e.number es h.1 in omega (arith, h.0, l)
 
 -- a page that doesn't go to the end goes on
-pub page-goes : (bytes k v : ℕ) (exact : Bool) (all : List Entry) → Ordered (suc k) all → told_end (flags_of (length (page_of bytes all) == length all) false exact) k (page_of bytes all) ≡ Some v → k < v
+pub page-goes : (bytes k v : ℕ) (exact : Bool) (all : List LoggedMessage) → Ordered (suc k) all → told_end (flags_of (length (page_of bytes all) == length all) false exact) k (page_of bytes all) ≡ Some v → k < v
 page-goes bytes k v exact [] h e = absurd (let f : told_end (flags_of true false exact) k [] ≡ None = end-of (flags_of true false exact) k [] true (done-is true false exact) in cc)
 page-goes bytes k v exact (x ∷ all) h e = by_end (length (page_of bytes (x ∷ all)) == length (x ∷ all)) refl
   where
-    page : List Entry
+    page : List LoggedMessage
     page = page_of bytes (x ∷ all)
 
-    behind : List Entry
+    behind : List LoggedMessage
     behind = fitting (bytes - TOLD_BYTES - entry_size x) all
 
-    cut : (rest : List Entry) × (page_of bytes (x ∷ all) ++ rest ≡ x ∷ all)
+    cut : (rest : List LoggedMessage) × (page_of bytes (x ∷ all) ++ rest ≡ x ∷ all)
     cut = page-prefix bytes (x ∷ all)
 
     by_end : (t : Bool) → (length (page_of bytes (x ∷ all)) == length (x ∷ all)) ≡ t → k < v

@@ -5,11 +5,11 @@ use Rattle.std.specs.Cmp.Lexicographic.{pointwise, same_text, other_text}
 use Rattle.std.proofs.lemmas.Bool.{ltb-false, ltb-true, le-ltb, eqb-true, eqb-false, eq-eqb, ne_eqb, cases_lt}
 use Rattle.std.proofs.lemmas.List.{take_at, drop_at, take-append-drop, length-append, length-take}
 use Rattle.byteorder.specs.Endian.{little_bytes, little_number}
-use Rattle.packets.specs.declared.kind.Kind as the_kind
-use Rattle.packets.specs.declared.kind.Kind.TheVariants as kinds
-use Rattle.packets.specs.declared.head.Head.{Head}
+use Rattle.packets.specs.declared.kind.PacketKind as the_kind
+use Rattle.packets.specs.declared.kind.PacketKind.TheVariants as kinds
+use Rattle.packets.specs.declared.head.PacketHead.{PacketHead}
 use Rattle.packets.specs.declared.packet.Body.{Body}
-use Rattle.packets.specs.declared.packet.Packet.{Packet}
+use Rattle.packets.specs.declared.packet.NodePacket.{NodePacket}
 use Rattle.packets.specs.declared.fault.PacketFault.{PacketFault}
 use Rattle.packets.specs.declared.fault.PacketFault.TheVariants.{Short, Magic, Checksum, Kind, Count, Ends, Fields, Range}
 use Rattle.packets.specs.declared.fault.PacketError.{PacketError}
@@ -25,7 +25,7 @@ use Rattle.packets.proofs.BodyLemmas.{IsBody, body_found, body_again, body_fails
 
 -- ---- kinds
 
-kind_again : (k : the_kind.Kind) → kind_at (kind_number k) ≡ Some k
+kind_again : (k : the_kind.PacketKind) → kind_at (kind_number k) ≡ Some k
 kind_again kinds.Delivery = refl
 kind_again kinds.Number = refl
 kind_again kinds.Acknowledgement = refl
@@ -38,24 +38,24 @@ kind_again kinds.Saved = refl
 some_is : {A : Type 0} (x y : A) → Some x ≡ Some y → x ≡ y
 some_is x y e = cc
 
-one_kind : (k l : the_kind.Kind) → kind_number k ≡ kind_number l → k ≡ l
+one_kind : (k l : the_kind.PacketKind) → kind_number k ≡ kind_number l → k ≡ l
 one_kind k l e = some_is k l (sym (kind_again k) ∙ ap kind_at e ∙ kind_again l)
 
-picked : (b : Bool) (x k : the_kind.Kind) (rest : Option the_kind.Kind) → cond b (Some x) rest ≡ Some k → ((b ≡ true) × (x ≡ k)) ⊎ (rest ≡ Some k)
+picked : (b : Bool) (x k : the_kind.PacketKind) (rest : Option the_kind.PacketKind) → cond b (Some x) rest ≡ Some k → ((b ≡ true) × (x ≡ k)) ⊎ (rest ≡ Some k)
 picked true x k rest e = inl (refl, some_is x k e)
 picked false x k rest e = inr e
 
-this_or : (n : ℕ) (x k : the_kind.Kind) (rest : Option the_kind.Kind) → (rest ≡ Some k → kind_number k ≡ n) → cond (eqb n (kind_number x)) (Some x) rest ≡ Some k → kind_number k ≡ n
+this_or : (n : ℕ) (x k : the_kind.PacketKind) (rest : Option the_kind.PacketKind) → (rest ≡ Some k → kind_number k ≡ n) → cond (eqb n (kind_number x)) (Some x) rest ≡ Some k → kind_number k ≡ n
 this_or n x k rest others e =
     elim (picked (eqb n (kind_number x)) x k rest e) [
       | inl h ↦ ap kind_number (sym h.1) ∙ sym (eqb-true n (kind_number x) h.0)
       | inr h ↦ others h
     ]
 
-none_is : (n : ℕ) (k : the_kind.Kind) → None ≡ Some k → kind_number k ≡ n
+none_is : (n : ℕ) (k : the_kind.PacketKind) → None ≡ Some k → kind_number k ≡ n
 none_is n k e = absurd cc
 
-kind_found : (n : ℕ) (k : the_kind.Kind) → kind_at n ≡ Some k → kind_number k ≡ n
+kind_found : (n : ℕ) (k : the_kind.PacketKind) → kind_at n ≡ Some k → kind_number k ≡ n
 kind_found n k = this_or n kinds.Delivery k _ (this_or n kinds.Number k _ (this_or n kinds.Acknowledgement k _ (this_or n kinds.Ask k _
     (this_or n kinds.Told k _ (this_or n kinds.Resume k _ (this_or n kinds.Restored k _ (this_or n kinds.Saved k _ (none_is n k))))))))
 
@@ -171,7 +171,7 @@ pub either : (a b : Bool) → (a || b) ≡ true → (a ≡ true) ⊎ (b ≡ true
 either true b e = inl refl
 either false b e = inr e
 
-record Headed (bytes : List ℕ) (h : Head) : Type 0 where
+record Headed (bytes : List ℕ) (h : PacketHead) : Type 0 where
   kind : kind_number h.kind ≡ slice_index bytes 4
   some : 1 ≤ slice_index bytes 5
   few : slice_index bytes 5 ≤ 15
@@ -182,15 +182,15 @@ record Headed (bytes : List ℕ) (h : Head) : Type 0 where
   from_is : h.from ≡ slice_index bytes 6
   to_is : h.to ≡ slice_index bytes 7
 
-known_ok : (o : Option the_kind.Kind) (k : the_kind.Kind) → known o ≡ Ok k → o ≡ Some k
+known_ok : (o : Option the_kind.PacketKind) (k : the_kind.PacketKind) → known o ≡ Ok k → o ≡ Some k
 known_ok None k e = absurd cc
-known_ok (Some l) k e = ap (λ (m : the_kind.Kind). Some m) (ok_is l k e)
+known_ok (Some l) k e = ap (λ (m : the_kind.PacketKind). Some m) (ok_is l k e)
 
-known_err : (o : Option the_kind.Kind) (f : PacketFault) → known o ≡ Err f → (o ≡ None) × (Kind ≡ f)
-known_err None f e = (refl, err_is {A = the_kind.Kind} Kind f e)
+known_err : (o : Option the_kind.PacketKind) (f : PacketFault) → known o ≡ Err f → (o ≡ None) × (Kind ≡ f)
+known_err None f e = (refl, err_is {A = the_kind.PacketKind} Kind f e)
 known_err (Some l) f e = absurd cc
 
-headed : (bytes : List ℕ) (h : Head) → head_at bytes ≡ Ok h → Headed bytes h
+headed : (bytes : List ℕ) (h : PacketHead) → head_at bytes ≡ Ok h → Headed bytes h
 unfolding head_at
 headed bytes h e =
     let n = slice_index bytes 5 in
@@ -202,7 +202,7 @@ headed bytes h e =
     let a2 = neither (nat_lt n 1) (nat_lt 15 n) a.0 in
     let b2 = neither (nat_lt n from) (nat_lt n to || eqb from to) b.0 in
     let b3 = neither (nat_lt n to) (eqb from to) b2.1 in
-    let h1 : Head = record { kind = k.0; count = n; from = from; to = to } in
+    let h1 : PacketHead = record { kind = k.0; count = n; from = from; to = to } in
     let here : Headed bytes h1 = record {
       kind = kind_found (slice_index bytes 4) k.0 (known_ok _ k.0 k.1);
       some = ltb-false _ _ a2.0;
@@ -214,9 +214,9 @@ headed bytes h e =
       from_is = refl;
       to_is = refl;
     } in
-    subst (λ (g : Head). Headed bytes g) (ok_is h1 h b.1) here
+    subst (λ (g : PacketHead). Headed bytes g) (ok_is h1 h b.1) here
 
-headed_clear : (bytes : List ℕ) (h : Head) → Headed bytes h → Clear 4 bytes → Clear 7 bytes
+headed_clear : (bytes : List ℕ) (h : PacketHead) → Headed bytes h → Clear 4 bytes → Clear 7 bytes
 headed_clear bytes h s clear =
     clear_more Ends bytes (clear_more Count bytes (clear_more Kind bytes clear (λ no. no h.kind s.kind)) (λ no. no (s.some, s.few))) (λ no. no (s.from, s.to, s.apart))
 
@@ -257,25 +257,25 @@ headed_refused bytes f clear e =
                 let c5 : Clear 6 bytes = clear_more Count bytes c4 (λ no. no (ltb-false _ _ two.0, ltb-false _ _ two.1)) in
                 elim (cond_err (nat_lt n from || (nat_lt n to || eqb from to)) Ends _ f b.1) [
                   | inl h ↦ subst (λ (g : PacketFault). IsFirst g bytes) h.1 (record { holds = ends_wrong n from to h.0; first = c5 })
-                  | inr c ↦ let no : Ok (let g : Head = record { kind = a.0; count = n; from = from; to = to } in g) ≡ Err f = c.1 in absurd cc
+                  | inr c ↦ let no : Ok (let g : PacketHead = record { kind = a.0; count = n; from = from; to = to } in g) ≡ Err f = c.1 in absurd cc
                 ]
           ]
     ]
 
 -- ---- the fields
 
-spelled : (bytes fields : List ℕ) (h : Head) (b : Body) → Sealed bytes fields → Headed bytes h → IsBody h.kind fields b → Spells b bytes
+spelled : (bytes fields : List ℕ) (h : PacketHead) (b : Body) → Sealed bytes fields → Headed bytes h → IsBody h.kind fields b → Spells b bytes
 spelled bytes fields h b s t is = record { kind = ap kind_number is.kind_is ∙ t.kind; room = is.room; fields = sym s.fields_are ∙ is.spelled }
 
-read_again : (bytes fields : List ℕ) (h : Head) (b : Body) → Sealed bytes fields → Headed bytes h → Spells b bytes → body_at h.kind fields ≡ Ok b
+read_again : (bytes fields : List ℕ) (h : PacketHead) (b : Body) → Sealed bytes fields → Headed bytes h → Spells b bytes → body_at h.kind fields ≡ Ok b
 read_again bytes fields h b s t is =
     let same : kind_of b ≡ h.kind = one_kind (kind_of b) h.kind (is.kind ∙ sym t.kind) in
     let text : fields ≡ body_bytes b = s.fields_are ∙ is.fields in
-    subst (λ (k : the_kind.Kind). body_at k fields ≡ Ok b) same (subst (λ (x : List ℕ). body_at (kind_of b) x ≡ Ok b) (sym text) (body_again b is.room))
+    subst (λ (k : the_kind.PacketKind). body_at k fields ≡ Ok b) same (subst (λ (x : List ℕ). body_at (kind_of b) x ≡ Ok b) (sym text) (body_again b is.room))
 
-chosen_err : (c : Bool) (p : Packet) (f : PacketFault) → cond c (Ok p) (Err Range) ≡ Err f → (c ≡ false) × (Range ≡ f)
+chosen_err : (c : Bool) (p : NodePacket) (f : PacketFault) → cond c (Ok p) (Err Range) ≡ Err f → (c ≡ false) × (Range ≡ f)
 chosen_err true p f e = absurd cc
-chosen_err false p f e = (refl, err_is {A = Packet} Range f e)
+chosen_err false p f e = (refl, err_is {A = NodePacket} Range f e)
 
 -- the fault of bytes that are refused is the first that they have
 pub refused : (bytes : List ℕ) (f : PacketFault) → IsBytes bytes → reading bytes ≡ Err f → IsFirst f bytes
@@ -323,7 +323,7 @@ eight (a ∷ b ∷ c ∷ d ∷ e ∷ f ∷ []) m le = absurd (omega arith)
 eight (a ∷ b ∷ c ∷ d ∷ e ∷ f ∷ g ∷ []) m le = absurd (omega arith)
 eight (a ∷ b ∷ c ∷ d ∷ e ∷ f ∷ g ∷ h ∷ rest) m le = refl
 
-fits_of : (bytes : List ℕ) (h : Head) (b : Body) → Headed bytes h → HasRoom b → in_range b ≡ true → Fits (packet_of h b)
+fits_of : (bytes : List ℕ) (h : PacketHead) (b : Body) → Headed bytes h → HasRoom b → in_range b ≡ true → Fits (packet_of h b)
 fits_of bytes h b t room range = record {
   some = rw t.count_is t.some;
   few = rw t.count_is t.few;
@@ -334,7 +334,7 @@ fits_of bytes h b t room range = record {
   range = range;
 }
 
-text_of : (bytes : List ℕ) (h : Head) (b : Body) → 12 ≤ length bytes → take 4 bytes ≡ magic → Headed bytes h → Spells b bytes → take (length bytes - 4) bytes ≡ unsealed (packet_of h b)
+text_of : (bytes : List ℕ) (h : PacketHead) (b : Body) → 12 ≤ length bytes → take 4 bytes ≡ magic → Headed bytes h → Spells b bytes → take (length bytes - 4) bytes ≡ unsealed (packet_of h b)
 text_of bytes h b long magical t is =
     let m = length bytes - 4 - 8 in
     let cut : length bytes - 4 ≡ suc (suc (suc (suc (suc (suc (suc (suc m))))))) = omega (arith, long) in
@@ -352,11 +352,11 @@ last_of bytes text fits long summed front =
     let four : length (drop n bytes) ≡ 4 = omega (arith, length-append (take n bytes) (drop n bytes), ap length (take-append-drop n bytes), length-take n bytes, long) in
     sym (back_4 (drop n bytes) four (IsBytes-drop n bytes fits)) ∙ ap (λ (x : ℕ). little_bytes 4 x) (summed ∙ ap crc32c front)
 
-is_this : (bytes : List ℕ) (q p : Packet) → q ≡ p → Fits q → bytes ≡ packet_bytes q → IsPacket p bytes
-is_this bytes q p same fits text = subst (λ (x : Packet). IsPacket x bytes) same (record { fits = fits; bytes_are = text })
+is_this : (bytes : List ℕ) (q p : NodePacket) → q ≡ p → Fits q → bytes ≡ packet_bytes q → IsPacket p bytes
+is_this bytes q p same fits text = subst (λ (x : NodePacket). IsPacket x bytes) same (record { fits = fits; bytes_are = text })
 
 -- bytes that are read as a packet are its bytes
-pub found : (bytes : List ℕ) (p : Packet) → IsBytes bytes → reading bytes ≡ Ok p → IsPacket p bytes
+pub found : (bytes : List ℕ) (p : NodePacket) → IsBytes bytes → reading bytes ≡ Ok p → IsPacket p bytes
 unfolding reading
 found bytes p fits e =
     let a = bind_ok (fields_at bytes) (λ fields. head_at bytes >>= λ head. body_at head.kind fields >>= λ body. cond (in_range body) (Ok (packet_of head body)) (Err Range)) p e in
@@ -367,7 +367,7 @@ found bytes p fits e =
     let t : Headed bytes b.0 = headed bytes b.0 b.1 in
     let bytes_fit : IsBytes a.0 = subst (λ (x : List ℕ). IsBytes x) (sym s.fields_are) (IsBytes-take _ (drop 8 bytes) (IsBytes-drop 8 bytes fits)) in
     let is : Spells c.0 bytes = spelled bytes a.0 b.0 c.0 s t (body_found b.0.kind a.0 c.0 bytes_fit c.1) in
-    let q : Packet = packet_of b.0 c.0 in
+    let q : NodePacket = packet_of b.0 c.0 in
     let text : take (length bytes - 4) bytes ≡ unsealed q = text_of bytes b.0 c.0 s.long s.magical t is in
     let last : drop (length bytes - 4) bytes ≡ checksum_bytes (unsealed q) = last_of bytes (unsealed q) fits s.long s.summed text in
     let spelled_so : bytes ≡ packet_bytes q = split_as (length bytes - 4) bytes (unsealed q) (checksum_bytes (unsealed q)) text last in
@@ -380,7 +380,7 @@ pub crc_fits : (bytes : List ℕ) → crc32c bytes < 256 ^ 4
 unfolding crc32c
 crc_fits bytes = omega arith
 
-fields_again : (p : Packet) → fields_at (packet_bytes p) ≡ Ok (body_bytes p.body)
+fields_again : (p : NodePacket) → fields_at (packet_bytes p) ≡ Ok (body_bytes p.body)
 unfolding fields_at checksum_bytes
 fields_again p =
     let body = body_bytes p.body in
@@ -398,7 +398,7 @@ fields_again p =
     let text : fields_of bytes ≡ body = take_at body sum (length bytes - 4 - 8) inner in
     rw (long, summed, text) refl
 
-head_again : (p : Packet) → Fits p → head_at (packet_bytes p) ≡ Ok (record { kind = kind_of p.body; count = p.count; from = p.from; to = p.to })
+head_again : (p : NodePacket) → Fits p → head_at (packet_bytes p) ≡ Ok (record { kind = kind_of p.body; count = p.count; from = p.from; to = p.to })
 unfolding head_at
 head_again p fits =
     let a : nat_lt p.count 1 ≡ false = le-ltb _ _ fits.some in
@@ -409,7 +409,7 @@ head_again p fits =
     rw (kind_again (kind_of p.body), a, b, c, d, e) refl
 
 -- the bytes of a packet are read as it
-pub reading_again : (p : Packet) (bytes : List ℕ) → IsPacket p bytes → reading bytes ≡ Ok p
+pub reading_again : (p : NodePacket) (bytes : List ℕ) → IsPacket p bytes → reading bytes ≡ Ok p
 unfolding reading
 reading_again p bytes is =
     ap reading is.bytes_are ∙ rw (fields_again p, head_again p is.fits, body_again p.body is.fits.room, is.fits.range) refl
@@ -420,18 +420,18 @@ one_packet p q bytes a b = ok_is p q (sym (reading_again p bytes a) ∙ reading_
 -- ---- results
 
 -- what the code reads, as the definitions do, is the packet of the bytes
-pub is_found : (bytes : List ℕ) (r : Result Packet PacketError) → IsBytes bytes → Gives (λ (x : Packet). x) r (reading bytes) → IfOk r (λ p. IsPacket p bytes)
+pub is_found : (bytes : List ℕ) (r : Result NodePacket PacketError) → IsBytes bytes → Gives (λ (x : NodePacket). x) r (reading bytes) → IfOk r (λ p. IsPacket p bytes)
 is_found bytes (Ok p) fits e = found bytes p fits e
 is_found bytes (Err d) fits e = tt
 
 -- what it refuses, as they do, has this reason
-pub is_refused : (bytes : List ℕ) (r : Result Packet PacketError) → IsBytes bytes → Gives (λ (x : Packet). x) r (reading bytes) → IfErr r (λ d. IsReason d bytes)
+pub is_refused : (bytes : List ℕ) (r : Result NodePacket PacketError) → IsBytes bytes → Gives (λ (x : NodePacket). x) r (reading bytes) → IfErr r (λ d. IsReason d bytes)
 is_refused bytes (Ok p) fits e = tt
 is_refused bytes (Err errors.Memory) fits e = tt
 is_refused bytes (Err (errors.Fault f)) fits e = refused bytes f fits e
 
 -- a packet's bytes give the code nothing but the packet, or want of memory
-pub is_read : (bytes : List ℕ) (r : Result Packet PacketError) (p : Packet) → Gives (λ (x : Packet). x) r (reading bytes) → IsPacket p bytes → Reads r p
+pub is_read : (bytes : List ℕ) (r : Result NodePacket PacketError) (p : NodePacket) → Gives (λ (x : NodePacket). x) r (reading bytes) → IsPacket p bytes → Reads r p
 is_read bytes (Ok q) p e is = ok_is q p (sym e ∙ reading_again p bytes is)
 is_read bytes (Err errors.Memory) p e is = tt
 is_read bytes (Err (errors.Fault f)) p e is = let no : Ok p ≡ Err f = sym (reading_again p bytes is) ∙ e in absurd cc

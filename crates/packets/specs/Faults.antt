@@ -2,9 +2,9 @@
 use Rattle.std.specs.Prelude.{◌≡◌, ◌≢◌, ℕ, ◌-◌, ◌<◌, ◌≤◌, List, length, take, drop, slice_index, slice_range, true, ⊤, Result, Ok, Err}
 use Rattle.limits.specs.declared.TheConstants.{PROCESSES}
 use Rattle.byteorder.specs.Endian.{little_number}
-use Rattle.packets.specs.declared.kind.Kind as the_kind
+use Rattle.packets.specs.declared.kind.PacketKind as the_kind
 use Rattle.packets.specs.declared.packet.Body.{Body}
-use Rattle.packets.specs.declared.packet.Packet.{Packet}
+use Rattle.packets.specs.declared.packet.NodePacket.{NodePacket}
 use Rattle.packets.specs.declared.fault.PacketFault.{PacketFault}
 use Rattle.packets.specs.declared.fault.PacketFault.TheVariants.{Short, Magic, Checksum, Kind, Count, Ends, Fields, Range}
 use Rattle.packets.specs.declared.fault.PacketError.{PacketError}
@@ -39,7 +39,7 @@ abbrev pub HasFault : PacketFault → List ℕ → Type 0
 HasFault Short bytes = length bytes < 12
 HasFault Magic bytes = take 4 bytes ≢ magic
 HasFault Checksum bytes = little_number 4 (drop (length bytes - 4) bytes) ≢ crc32c (take (length bytes - 4) bytes)
-HasFault Kind bytes = (k : the_kind.Kind) → kind_number k ≢ slice_index bytes 4
+HasFault Kind bytes = (k : the_kind.PacketKind) → kind_number k ≢ slice_index bytes 4
 HasFault Count bytes = ¬ ((1 ≤ slice_index bytes 5) × (slice_index bytes 5 ≤ PROCESSES))
 HasFault Ends bytes = ¬ ((slice_index bytes 6 ≤ slice_index bytes 5) × (slice_index bytes 7 ≤ slice_index bytes 5) × (slice_index bytes 6 ≢ slice_index bytes 7))
 HasFault Fields bytes = (b : Body) → ¬ Spells b bytes
@@ -56,7 +56,7 @@ IsReason Memory bytes = ⊤
 IsReason (Fault f) bytes = IsFirst f bytes
 
 -- this packet was read, unless memory ran out
-abbrev pub Reads : Result Packet PacketError → Packet → Type 0
+abbrev pub Reads : Result NodePacket PacketError → NodePacket → Type 0
 Reads (Ok q) p = q ≡ p
 Reads (Err Memory) p = ⊤
 Reads (Err (Fault f)) p = ⊥

@@ -3,11 +3,11 @@ use Rattle.std.specs.Prelude.{◌≡◌, ◌≢◌, ℕ, ◌^◌, ◌<◌, ◌�
 use Rattle.std.specs.List.{flat_map, AllByRecursion}
 use Rattle.limits.specs.declared.TheConstants.{PAYLOAD_BYTES, PROCESSES}
 use Rattle.byteorder.specs.Endian.{little_bytes}
-use Rattle.packets.specs.declared.page.Entry.{Entry}
+use Rattle.packets.specs.declared.page.LoggedMessage.{LoggedMessage}
 use Rattle.packets.specs.declared.page.Pair.{Pair}
 use Rattle.packets.specs.declared.packet.Body.{Body}
 use Rattle.packets.specs.declared.packet.Body.TheVariants.{Delivery, Number, Acknowledgement, Ask, Told, Resume, Restored, Saved}
-use Rattle.packets.specs.declared.packet.Packet.{Packet}
+use Rattle.packets.specs.declared.packet.NodePacket.{NodePacket}
 use Rattle.packets.specs.Checksum.{crc32c}
 use Rattle.packets.specs.Packet.{kind_number, kind_of, in_range}
 
@@ -30,7 +30,7 @@ abbrev pub payload_bytes : List ℕ → List ℕ
 payload_bytes payload = short_bytes (length payload) ++ payload
 
 -- the RSN, the SSN and the payload
-abbrev pub entry_bytes : Entry → List ℕ
+abbrev pub entry_bytes : LoggedMessage → List ℕ
 entry_bytes e = long_bytes e.number ++ (long_bytes e.ssn ++ payload_bytes e.payload)
 
 -- the SSN and the RSN
@@ -53,7 +53,7 @@ body_bytes (Restored i j c s flags pairs) = long_bytes i ++ (long_bytes j ++ (lo
 body_bytes (Saved c) = long_bytes c
 
 -- magic, kind, the number of processes, from, to and the fields
-abbrev pub unsealed : Packet → List ℕ
+abbrev pub unsealed : NodePacket → List ℕ
 unsealed p = magic ++ (kind_number (kind_of p.body) ∷ p.count ∷ p.from ∷ p.to ∷ body_bytes p.body)
 
 -- the checksum of some bytes
@@ -65,7 +65,7 @@ abbrev pub sealed : List ℕ → List ℕ
 sealed bytes = bytes ++ checksum_bytes bytes
 
 -- a packet with its checksum
-abbrev pub packet_bytes : Packet → List ℕ
+abbrev pub packet_bytes : NodePacket → List ℕ
 packet_bytes p = sealed (unsealed p)
 
 -- ---- what can be written
@@ -79,7 +79,7 @@ abbrev pub IsPayload : List ℕ → Type 0
 IsPayload payload = length payload ≤ PAYLOAD_BYTES
 
 -- an entry's numbers and its payload fit
-abbrev pub IsEntry : Entry → Type 0
+abbrev pub IsEntry : LoggedMessage → Type 0
 IsEntry e = IsLong e.number × (IsLong e.ssn × IsPayload e.payload)
 
 -- a pair's numbers fit
@@ -102,7 +102,7 @@ HasRoom (Restored i j c s flags pairs) = IsLong i × (IsLong j × (IsLong c × (
 HasRoom (Saved c) = IsLong c
 
 -- a packet that can be sent
-pub record Fits (p : Packet) : Type 0 where
+pub record Fits (p : NodePacket) : Type 0 where
   pub some : 1 ≤ p.count
   pub few : p.count ≤ PROCESSES
   pub from : p.from ≤ p.count
@@ -112,6 +112,6 @@ pub record Fits (p : Packet) : Type 0 where
   pub range : in_range p.body ≡ true
 
 -- the bytes are this packet's
-pub record IsPacket (p : Packet) (bytes : List ℕ) : Type 0 where
+pub record IsPacket (p : NodePacket) (bytes : List ℕ) : Type 0 where
   pub fits : Fits p
   pub bytes_are : bytes ≡ packet_bytes p

@@ -1,9 +1,9 @@
 -- The kinds of packets, and the ranges of their fields
 use Rattle.std.specs.Prelude.{ℕ, ◌+◌, ◌/◌, ◌%◌, ◌^◌, List, length, drop, Bool, not, ◌&&◌, ◌||◌, ◌==◌, nat_lt, Option, Some, None, if◌then◌else◌}
 use Rattle.std.specs.List.{list_all, zip}
-use Rattle.packets.specs.declared.kind.Kind.{Kind}
-use Rattle.packets.specs.declared.kind.Kind.TheVariants as kinds
-use Rattle.packets.specs.declared.page.Entry.{Entry}
+use Rattle.packets.specs.declared.kind.PacketKind.{PacketKind}
+use Rattle.packets.specs.declared.kind.PacketKind.TheVariants as kinds
+use Rattle.packets.specs.declared.page.LoggedMessage.{LoggedMessage}
 use Rattle.packets.specs.declared.page.Pair.{Pair}
 use Rattle.packets.specs.declared.page.Flags.{Flags}
 use Rattle.packets.specs.declared.packet.Body.{Body}
@@ -12,7 +12,7 @@ use Rattle.packets.specs.declared.packet.Body.TheVariants.{Delivery, Number, Ack
 -- ---- kinds
 
 -- the byte of a kind
-abbrev pub kind_number : Kind → ℕ
+abbrev pub kind_number : PacketKind → ℕ
 kind_number kinds.Delivery = 1
 kind_number kinds.Number = 2
 kind_number kinds.Acknowledgement = 3
@@ -23,13 +23,13 @@ kind_number kinds.Restored = 7
 kind_number kinds.Saved = 8
 
 -- the kind of a byte
-abbrev pub kind_at : ℕ → Option Kind
+abbrev pub kind_at : ℕ → Option PacketKind
 kind_at n =
     if n == 1 then Some kinds.Delivery else if n == 2 then Some kinds.Number else if n == 3 then Some kinds.Acknowledgement else if n == 4 then Some kinds.Ask
     else if n == 5 then Some kinds.Told else if n == 6 then Some kinds.Resume else if n == 7 then Some kinds.Restored else if n == 8 then Some kinds.Saved else None
 
 -- the kind of a body
-abbrev pub kind_of : Body → Kind
+abbrev pub kind_of : Body → PacketKind
 kind_of (Delivery i ssn payload) = kinds.Delivery
 kind_of (Number i ssn k) = kinds.Number
 kind_of (Acknowledgement i k) = kinds.Acknowledgement
@@ -72,7 +72,7 @@ abbrev pub ascends : {A : Type 0} → (A → A → Bool) → List A → Bool
 ascends before xs = list_all (λ p. before p.0 p.1) (zip xs (drop 1 xs))
 
 -- by RSN, and by SSN if that is the same
-abbrev pub entry_before : Entry → Entry → Bool
+abbrev pub entry_before : LoggedMessage → LoggedMessage → Bool
 entry_before a b = nat_lt a.number b.number || (a.number == b.number && nat_lt a.ssn b.ssn)
 
 -- by their SSN
@@ -80,7 +80,7 @@ abbrev pub pair_before : Pair → Pair → Bool
 pair_before a b = nat_lt a.ssn b.ssn
 
 -- an entry that a page above an RSN can have
-abbrev pub is_entry_above : ℕ → Entry → Bool
+abbrev pub is_entry_above : ℕ → LoggedMessage → Bool
 is_entry_above above e = is_positive e.number && is_positive e.ssn && nat_lt above e.number
 
 -- a pair that a page above an SSN can have
@@ -92,7 +92,7 @@ abbrev pub goes_on : {A : Type 0} → Flags → List A → Bool
 goes_on flags xs = is_done flags || not (length xs == 0)
 
 -- the flags and the entries of a page above an RSN
-unfoldable pub entries_in_range : ℕ → Flags → List Entry → Bool
+unfoldable pub entries_in_range : ℕ → Flags → List LoggedMessage → Bool
 entries_in_range above flags xs =
     nat_lt flags.bits 8 && goes_on flags xs && list_all (is_entry_above above) xs && ascends entry_before xs
 

@@ -4,7 +4,7 @@ use Rattle.world.specs.declared.message.Message.{Message}
 use Rattle.cluster.specs.Parcels.{Body, Delivery, Number, Acknowledgement, Ask, Told, Resume, Restored, Saved, Parcel, parcel, In, reaches}
 use Rattle.cluster.specs.Rules.{message}
 use Rattle.packets.specs.Packet.{is_done, is_lost}
-use Rattle.packets.specs.declared.page.Entry.{Entry}
+use Rattle.packets.specs.declared.page.LoggedMessage.{LoggedMessage}
 use Rattle.packets.specs.declared.page.Pair.{Pair}
 use Rattle.packets.specs.declared.page.Flags.{Flags}
 use Rattle.packets.specs.declared.packet.Body as bodies
@@ -31,7 +31,7 @@ abbrev pub page_end : Flags → ℕ → List ℕ → Option ℕ
 page_end flags k keys = if is_done flags then None else Some (last_behind k keys)
 
 -- the first message of p that a page has with the RSN m
-abbrev pub first_told : ℕ → List Entry → ℕ → Option Message
+abbrev pub first_told : ℕ → List LoggedMessage → ℕ → Option Message
 first_told p [] m = None
 first_told p (e ∷ es) m = if e.number == m then Some (message p e.ssn e.payload) else first_told p es m
 
@@ -41,8 +41,8 @@ first_number [] ssn = None
 first_number (x ∷ xs) ssn = if x.ssn == ssn then Some x.number else first_number xs ssn
 
 -- how far the page goes
-abbrev pub told_end : Flags → ℕ → List Entry → Option ℕ
-told_end flags k entries = page_end flags k (map (λ (e : Entry). e.number) entries)
+abbrev pub told_end : Flags → ℕ → List LoggedMessage → Option ℕ
+told_end flags k entries = page_end flags k (map (λ (e : LoggedMessage). e.number) entries)
 
 abbrev pub restored_end : Flags → ℕ → List Pair → Option ℕ
 restored_end flags s pairs = page_end flags s (map (λ (x : Pair). x.ssn) pairs)

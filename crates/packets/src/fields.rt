@@ -4,7 +4,7 @@ ghost use Rattle.std.specs.Prelude.{◌≡◌, ◌≤◌, length, IfOk};
 ghost use Rattle.packets.specs.Inside.Reader.{Gives, bytes_at, byte_at, number_at, both, payload_at, entry_at, pair_at, times, page_at};
 
 use crate::fault::{PacketError, PacketFault};
-use crate::page::{Entry, Page, Pair};
+use crate::page::{LoggedMessage, Page, Pair};
 use byteorder::{ByteOrder, LittleEndian};
 use helpers::Payload;
 use limits::PAYLOAD_BYTES;
@@ -123,7 +123,7 @@ fn pair_of(bytes: &[u8]) -> Result<(Pair, &[u8]), PacketError>
 
 /// A page of entries.
 #[tactic(auto, unfolding(crate::specs::Inside::Reader::page_at))]
-pub fn entries_of(alloc: Global, bytes: &[u8]) -> Result<(Page<Entry>, &[u8]), PacketError>
+pub fn entries_of(alloc: Global, bytes: &[u8]) -> Result<(Page<LoggedMessage>, &[u8]), PacketError>
     ensures { Gives (λ x. (x.0, x.1.now)) result (page_at entry_at bytes.now) }
 {
     let (count, rest) = u16_of(bytes)?;
@@ -135,7 +135,7 @@ fn so_many_entries(
     alloc: Global,
     count: u16,
     bytes: &[u8],
-) -> Result<(Page<Entry>, &[u8]), PacketError>
+) -> Result<(Page<LoggedMessage>, &[u8]), PacketError>
     ensures { Gives (λ x. (x.0, x.1.now)) result (times entry_at count bytes.now) }
 {
     let mut entries = Page::new(alloc);
@@ -143,7 +143,7 @@ fn so_many_entries(
     for _ in 0..count {
         let (number, ssn, payload, after) = entry_of(rest)?;
         let payload = Payload::from_slice(payload);
-        entries.push(Entry {
+        entries.push(LoggedMessage {
             number,
             ssn,
             payload,

@@ -5,7 +5,7 @@ ghost use Rattle.packets.specs.Inside.Reader.{Gives, fields_at, head_at};
 
 use crate::checksum::crc32c;
 use crate::fault::{PacketError, PacketFault};
-use crate::kind::Kind;
+use crate::kind::PacketKind;
 use byteorder::{ByteOrder, LittleEndian};
 use limits::PROCESSES;
 
@@ -20,8 +20,8 @@ pub const CHECKSUM_LEN: usize = 4;
 
 /// The fields of the head.
 #[derive(Clone, Copy)]
-pub struct Head {
-    pub kind: Kind,
+pub struct PacketHead {
+    pub kind: PacketKind,
     pub count: u8,
     pub from: u8,
     pub to: u8,
@@ -48,11 +48,11 @@ pub fn fields_of(bytes: &[u8]) -> Result<&[u8], PacketError>
 
 /// Kind, the number of processes, from and to.
 #[tactic(auto, unfolding(crate::specs::Inside::Reader::head_at))]
-pub fn head_of(bytes: &[u8]) -> Result<Head, PacketError>
+pub fn head_of(bytes: &[u8]) -> Result<PacketHead, PacketError>
     requires { 8 ≤ length bytes.now }
     ensures { Gives (λ x. x) result (head_at bytes.now) }
 {
-    let Some(kind) = Kind::of(bytes[4]) else {
+    let Some(kind) = PacketKind::of(bytes[4]) else {
         return Err(PacketError::Fault(PacketFault::Kind));
     };
     let count = bytes[5];
@@ -64,7 +64,7 @@ pub fn head_of(bytes: &[u8]) -> Result<Head, PacketError>
     if from > count || to > count || from == to {
         return Err(PacketError::Fault(PacketFault::Ends));
     }
-    Ok(Head {
+    Ok(PacketHead {
         kind,
         count,
         from,

@@ -2,7 +2,7 @@
 
 /// The kind of a packet, without its fields.
 #[derive(Clone, Copy, Debug, PartialEq, Eq)]
-pub enum Kind {
+pub enum PacketKind {
     Delivery,
     Number,
     Acknowledgement,
@@ -13,7 +13,7 @@ pub enum Kind {
     Saved,
 }
 
-impl Kind {
+impl PacketKind {
     ghost use Rattle.std.specs.Prelude.{◌≡◌};
     ghost use Rattle.packets.specs.Packet.{kind_number, kind_at};
 
@@ -22,30 +22,30 @@ impl Kind {
         ensures { result ≡ kind_number self }
     {
         match self {
-            Kind::Delivery => 1,
-            Kind::Number => 2,
-            Kind::Acknowledgement => 3,
-            Kind::Ask => 4,
-            Kind::Told => 5,
-            Kind::Resume => 6,
-            Kind::Restored => 7,
-            Kind::Saved => 8,
+            PacketKind::Delivery => 1,
+            PacketKind::Number => 2,
+            PacketKind::Acknowledgement => 3,
+            PacketKind::Ask => 4,
+            PacketKind::Told => 5,
+            PacketKind::Resume => 6,
+            PacketKind::Restored => 7,
+            PacketKind::Saved => 8,
         }
     }
 
     /// The kind with this byte, if there is one.
-    pub fn of(number: u8) -> Option<Kind>
+    pub fn of(number: u8) -> Option<PacketKind>
         ensures { result ≡ kind_at number }
     {
         match number {
-            1 => Some(Kind::Delivery),
-            2 => Some(Kind::Number),
-            3 => Some(Kind::Acknowledgement),
-            4 => Some(Kind::Ask),
-            5 => Some(Kind::Told),
-            6 => Some(Kind::Resume),
-            7 => Some(Kind::Restored),
-            8 => Some(Kind::Saved),
+            1 => Some(PacketKind::Delivery),
+            2 => Some(PacketKind::Number),
+            3 => Some(PacketKind::Acknowledgement),
+            4 => Some(PacketKind::Ask),
+            5 => Some(PacketKind::Told),
+            6 => Some(PacketKind::Resume),
+            7 => Some(PacketKind::Restored),
+            8 => Some(PacketKind::Saved),
             _ => None,
         }
     }

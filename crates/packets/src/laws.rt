@@ -12,7 +12,7 @@ use crate::kept::Kept;
 use crate::kept_fault::KeptError;
 use crate::kept_reader::decode_kept;
 use crate::kept_writer::encode_kept;
-use crate::packet::Packet;
+use crate::packet::NodePacket;
 use crate::reader::decode;
 use crate::writer::encode;
 use std::alloc::Global;
@@ -23,7 +23,7 @@ pub fn one_packet()
 {}
 
 /// What is written is read back, unless memory runs out.
-pub fn there_and_back(alloc: Global, packet: &Packet) -> Result<Packet, PacketError>
+pub fn there_and_back(alloc: Global, packet: &NodePacket) -> Result<NodePacket, PacketError>
     requires { Fits packet.now }
     ensures { Reads result packet.now }
 {

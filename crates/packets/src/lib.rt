@@ -1,6 +1,6 @@
 //! The packets of nodes and the state that a node keeps in stable storage, as values and as bytes.
 //!
-//! A [`Packet`] goes from one node of a cluster to another: a process, 1 to `count`, or the
+//! A [`NodePacket`] goes from one node of a cluster to another: a process, 1 to `count`, or the
 //! gateway, 0. Its [`Body`] is one of eight kinds. [`encode`] writes it as `SBP1`: magic, kind,
 //! number of processes, both ends, fields, and a CRC-32C of all that. [`decode`] reads it.
 //!
@@ -24,7 +24,7 @@
 //!
 //! The outbox of a node or the gateway: packets that wait to be sent.
 //!
-//! An [`Outbox`] takes packets while it has room, and gives them back in the order in which they
+//! An [`PacketQueue`] takes packets while it has room, and gives them back in the order in which they
 //! came. A packet that finds no room is lost, as any packet may be.
 //!
 //! ```text
@@ -71,13 +71,13 @@ pub use kept::{Kept, KeptLog};
 pub use kept_fault::{KeptError, KeptFault};
 pub use kept_reader::decode_kept;
 pub use kept_writer::{encode_kept, put_u32};
-pub use kind::Kind;
+pub use kind::PacketKind;
 pub use laws::{
     back_and_there, kept_again, one_kept, one_packet, same_bytes_again, there_and_back,
 };
 pub use log_pages::{ENTRY_BYTES, LEAST_PAGE, TOLD_BYTES, insert, page_of};
-pub use outbox::{OUTBOX, Outbox};
-pub use packet::{Body, NUMBER_LIMIT, Packet};
-pub use page::{Entry, Flags, Page, Pair};
+pub use outbox::{OUTBOX, PacketQueue};
+pub use packet::{Body, NUMBER_LIMIT, NodePacket};
+pub use page::{LoggedMessage, Flags, Page, Pair};
 pub use reader::decode;
 pub use writer::{encode, put_checksum, put_payload, put_u64};

@@ -4,8 +4,8 @@ ghost use Rattle.std.specs.Prelude.{◌≡◌, ◌&&◌};
 ghost use Rattle.std.specs.List.{list_all};
 ghost use Rattle.packets.specs.Packet.{kind_of, is_number, is_positive, in_range, is_entry_above, is_pair_above, entry_before, pair_before, ascends, entries_in_range, pairs_in_range};
 
-use crate::kind::Kind;
-use crate::page::{Entry, Flags, Page, Pair};
+use crate::kind::PacketKind;
+use crate::page::{LoggedMessage, Flags, Page, Pair};
 use helpers::Payload;
 
 /// Each number is less than this.
@@ -13,7 +13,7 @@ pub const NUMBER_LIMIT: u64 = 0x8000_0000_0000_0000;
 
 /// A packet from one node to another. The processes are 1 to `count`, 0 is the gateway.
 #[derive(Drop)]
-pub struct Packet {
+pub struct NodePacket {
     pub count: u8,
     pub from: u8,
     pub to: u8,
@@ -52,7 +52,7 @@ pub enum Body {
         teller: u64,
         above: u64,
         flags: Flags,
-        entries: Page<Entry>,
+        entries: Page<LoggedMessage>,
     },
     /// I keep this many messages. Which of mine do you have after this SSN?
     Resume {
@@ -77,18 +77,18 @@ pub enum Body {
 
 impl Body {
     /// Its kind, without the fields.
-    pub fn kind(&self) -> Kind
+    pub fn kind(&self) -> PacketKind
         ensures { result ≡ kind_of self.now }
     {
         match self {
-            Body::Delivery { .. } => Kind::Delivery,
-            Body::Number { .. } => Kind::Number,
-            Body::Acknowledgement { .. } => Kind::Acknowledgement,
-            Body::Ask { .. } => Kind::Ask,
-            Body::Told { .. } => Kind::Told,
-            Body::Resume { .. } => Kind::Resume,
-            Body::Restored { .. } => Kind::Restored,
-            Body::Saved { .. } => Kind::Saved,
+            Body::Delivery { .. } => PacketKind::Delivery,
+            Body::Number { .. } => PacketKind::Number,
+            Body::Acknowledgement { .. } => PacketKind::Acknowledgement,
+            Body::Ask { .. } => PacketKind::Ask,
+            Body::Told { .. } => PacketKind::Told,
+            Body::Resume { .. } => PacketKind::Resume,
+            Body::Restored { .. } => PacketKind::Restored,
+            Body::Saved { .. } => PacketKind::Saved,
         }
     }
 
@@ -175,7 +175,7 @@ fn are_positive(a: u64, b: u64) -> bool
 
 /// Whether these can be the flags and the entries of a page above this RSN.
 #[tactic(auto, unfolding(crate::specs::Packet::entries_in_range))]
-fn are_entries(above: u64, flags: Flags, entries: &[Entry]) -> bool
+fn are_entries(above: u64, flags: Flags, entries: &[LoggedMessage]) -> bool
     ensures { result ≡ entries_in_range above flags entries.now }
 {
     flags.bits < 8
@@ -185,14 +185,14 @@ fn are_entries(above: u64, flags: Flags, entries: &[Entry]) -> bool
 }
 
 /// Whether the numbers of each entry are in range, and its RSN is above this one.
-fn are_entries_above(above: u64, entries: &[Entry]) -> bool
+fn are_entries_above(above: u64, entries: &[LoggedMessage]) -> bool
     ensures { result ≡ list_all (is_entry_above above) entries.now }
 {
     entries.iter().all(|e| is_positive(e.number) && is_positive(e.ssn) && above < e.number)
 }
 
 /// Whether each entry is before the next one.
-fn entries_ascend(entries: &[Entry]) -> bool
+fn entries_ascend(entries: &[LoggedMessage]) -> bool
     ensures { result ≡ ascends entry_before entries.now }
 {
     entries
@@ -202,7 +202,7 @@ fn entries_ascend(entries: &[Entry]) -> bool
 }
 
 /// Whether one entry is before another: by RSN, and by SSN if that is the same.
-fn is_before(a: &Entry, b: &Entry) -> bool
+fn is_before(a: &LoggedMessage, b: &LoggedMessage) -> bool
     ensures { result ≡ entry_before a.now b.now }
 {
     a.number < b.number || a.number == b.number && a.ssn < b.ssn

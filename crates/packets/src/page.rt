@@ -6,7 +6,7 @@ use std::marker::Model;
 
 /// A message of a log: its RSN, its SSN and its payload.
 #[derive(Clone, Copy, Debug, PartialEq, Eq)]
-pub struct Entry {
+pub struct LoggedMessage {
     pub number: u64,
     pub ssn: u64,
     pub payload: Payload,

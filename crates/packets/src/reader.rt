@@ -1,8 +1,8 @@
 //! Reads a packet.
 
 ghost use Rattle.std.specs.Prelude.{IfOk, IfErr};
-ghost use Rattle.packets.specs.declared.packet.Packet.{Packet};
-ghost use Rattle.packets.specs.declared.kind.Kind.TheVariants as kinds;
+ghost use Rattle.packets.specs.declared.packet.NodePacket.{NodePacket};
+ghost use Rattle.packets.specs.declared.kind.PacketKind.TheVariants as kinds;
 ghost use Rattle.packets.specs.Format.{IsPacket};
 ghost use Rattle.packets.specs.Faults.{IsReason, Reads};
 ghost use Rattle.packets.specs.Inside.Reader.{Gives, byte_at, number_at, page_at, entry_at, pair_at, both, whole, body_at, reading};
@@ -10,19 +10,19 @@ ghost use Rattle.packets.specs.Inside.Reader.{Gives, byte_at, number_at, page_at
 use crate::fault::{PacketError, PacketFault};
 use crate::fields::{byte_of, entries_of, pairs_of, payload_of, three_of, two_of, u64_of};
 use crate::head::{fields_of, head_of};
-use crate::kind::Kind;
-use crate::packet::{Body, Packet};
-use crate::page::{Entry, Flags, Page, Pair};
+use crate::kind::PacketKind;
+use crate::packet::{Body, NodePacket};
+use crate::page::{LoggedMessage, Flags, Page, Pair};
 use byteorder::{ByteOrder, LittleEndian};
 use helpers::Payload;
 use std::alloc::Global;
 
 /// The packet in these bytes. A refusal names the first fault by its number.
-pub fn decode(alloc: Global, bytes: &[u8]) -> Result<Packet, PacketError>
+pub fn decode(alloc: Global, bytes: &[u8]) -> Result<NodePacket, PacketError>
     // `encode` writes what is read as these bytes.
     ensures found { IfOk result (λ p. IsPacket p bytes.now) }
     // Whatever `encode` writes is read, unless memory runs out.
-    ensures only { (p : Packet) → IsPacket p bytes.now → Reads result p }
+    ensures only { (p : NodePacket) → IsPacket p bytes.now → Reads result p }
     // A refusal names a fault of the bytes, and no lesser fault is theirs.
     ensures refused { IfErr result (λ e. IsReason e bytes.now) }
 {
@@ -31,12 +31,12 @@ pub fn decode(alloc: Global, bytes: &[u8]) -> Result<Packet, PacketError>
 
 /// The packet in these bytes, read field by field.
 #[tactic(auto, unfolding(crate::specs::Inside::Reader::reading))]
-fn packet_of(alloc: Global, bytes: &[u8]) -> Result<Packet, PacketError>
+fn packet_of(alloc: Global, bytes: &[u8]) -> Result<NodePacket, PacketError>
     ensures { Gives (λ x. x) result (reading bytes.now) }
 {
     let fields = fields_of(bytes)?;
     let head = head_of(bytes)?;
-    let mut packet = Packet {
+    let mut packet = NodePacket {
         count: head.count,
         from: head.from,
         to: head.to,
@@ -50,18 +50,18 @@ fn packet_of(alloc: Global, bytes: &[u8]) -> Result<Packet, PacketError>
 }
 
 /// Reads the fields of a kind into a body, in place, since a body can take 280 bytes.
-fn read_body(alloc: Global, kind: Kind, bytes: &[u8], body: &mut Body) -> Result<(), PacketError>
+fn read_body(alloc: Global, kind: PacketKind, bytes: &[u8], body: &mut Body) -> Result<(), PacketError>
     ensures { Gives (λ _. body.new) result (body_at kind bytes.now) }
 {
     match kind {
-        Kind::Delivery => read_delivery(bytes, body),
-        Kind::Number => read_number(bytes, body),
-        Kind::Acknowledgement => read_acknowledgement(bytes, body),
-        Kind::Ask => read_ask(bytes, body),
-        Kind::Told => read_told(alloc, bytes, body),
-        Kind::Resume => read_resume(bytes, body),
-        Kind::Restored => read_restored(alloc, bytes, body),
-        Kind::Saved => read_saved(bytes, body),
+        PacketKind::Delivery => read_delivery(bytes, body),
+        PacketKind::Number => read_number(bytes, body),
+        PacketKind::Acknowledgement => read_acknowledgement(bytes, body),
+        PacketKind::Ask => read_ask(bytes, body),
+        PacketKind::Told => read_told(alloc, bytes, body),
+        PacketKind::Resume => read_resume(bytes, body),
+        PacketKind::Restored => read_restored(alloc, bytes, body),
+        PacketKind::Saved => read_saved(bytes, body),
     }
 }
 
@@ -91,7 +91,7 @@ fn three_alone(bytes: &[u8]) -> Result<(u64, u64, u64), PacketError>
 }
 
 /// Flags and a page of entries, with nothing after them.
-fn entries_alone(alloc: Global, bytes: &[u8]) -> Result<(u8, Page<Entry>), PacketError>
+fn entries_alone(alloc: Global, bytes: &[u8]) -> Result<(u8, Page<LoggedMessage>), PacketError>
     ensures { Gives (λ x. x) result (whole (both byte_at (page_at entry_at)) bytes.now) }
 {
     let (bits, rest) = byte_of(bytes)?;

@@ -6,8 +6,8 @@ ghost use Rattle.packets.specs.Format.{short_bytes, long_bytes, payload_bytes, e
 
 use crate::checksum::crc32c;
 use crate::head::MAGIC;
-use crate::packet::{Body, Packet};
-use crate::page::{Entry, Flags, Pair};
+use crate::packet::{Body, NodePacket};
+use crate::page::{LoggedMessage, Flags, Pair};
 use byteorder::{ByteOrder, LittleEndian};
 use limits::PAYLOAD_BYTES;
 use std::alloc::{AllocError, Global};
@@ -16,7 +16,7 @@ use std::alloc::{AllocError, Global};
 const WITHOUT_A_PAGE: usize = 286;
 
 /// The bytes of a packet.
-pub fn encode(alloc: Global, packet: &Packet) -> Result<Vec<u8>, AllocError>
+pub fn encode(alloc: Global, packet: &NodePacket) -> Result<Vec<u8>, AllocError>
     requires { Fits packet.now }
     ensures { IfOk result (λ v. IsPacket packet.now v.items) }
 {
@@ -26,7 +26,7 @@ pub fn encode(alloc: Global, packet: &Packet) -> Result<Vec<u8>, AllocError>
 }
 
 /// Appends the head and the fields, and then their checksum.
-fn put_packet(out: &mut Vec<u8>, packet: &Packet) -> Result<(), AllocError>
+fn put_packet(out: &mut Vec<u8>, packet: &NodePacket) -> Result<(), AllocError>
     requires { HasRoom packet.now.body }
     ensures { OnOk result (out.new.items ≡ sealed (out.old.items ++ unsealed packet.now)) }
 {
@@ -35,7 +35,7 @@ fn put_packet(out: &mut Vec<u8>, packet: &Packet) -> Result<(), AllocError>
 }
 
 /// Appends the head and the fields.
-fn put_unsealed(out: &mut Vec<u8>, packet: &Packet) -> Result<(), AllocError>
+fn put_unsealed(out: &mut Vec<u8>, packet: &NodePacket) -> Result<(), AllocError>
     requires { HasRoom packet.now.body }
     ensures { OnOk result (out.new.items ≡ out.old.items ++ unsealed packet.now) }
 {
@@ -148,7 +148,7 @@ fn put_told(
     teller: u64,
     above: u64,
     flags: Flags,
-    entries: &[Entry],
+    entries: &[LoggedMessage],
 ) -> Result<(), AllocError>
     requires { length entries.now < 2 ^ 16 }
     ensures { OnOk result (out.new.items ≡ out.old.items ++ (long_bytes incarnation ++ (long_bytes teller ++ (long_bytes above ++ (flags.bits ∷ [] ++ page_bytes entry_bytes entries.now))))) }
@@ -217,14 +217,14 @@ pub fn put_payload(out: &mut Vec<u8>, payload: &[u8]) -> Result<(), AllocError>
 }
 
 /// Appends the RSN, the SSN and the payload of an entry.
-fn put_entry(out: &mut Vec<u8>, entry: &Entry) -> Result<(), AllocError>
+fn put_entry(out: &mut Vec<u8>, entry: &LoggedMessage) -> Result<(), AllocError>
     ensures { OnOk result (out.new.items ≡ out.old.items ++ entry_bytes entry.now) }
 {
     put_message(out, entry.number, entry.ssn, entry.payload.as_slice())
 }
 
 /// Appends the number of entries, and each.
-fn put_entries(out: &mut Vec<u8>, entries: &[Entry]) -> Result<(), AllocError>
+fn put_entries(out: &mut Vec<u8>, entries: &[LoggedMessage]) -> Result<(), AllocError>
     requires { length entries.now < 2 ^ 16 }
     ensures { OnOk result (out.new.items ≡ out.old.items ++ page_bytes entry_bytes entries.now) }
 {

@@ -5,20 +5,20 @@ ghost use Rattle.page_calls.specs.Calls.{written_bytes, whole_of};
 ghost use Rattle.page_calls.specs.declared.misfit.Misfit.TheVariants.{Memory};
 
 use crate::misfit::Misfit;
-use crate::shelf::Written;
+use crate::shelf::ShelvedFile;
 use std::alloc::Global;
 
 /// The status, what went to the two streams, and the file that was written.
 #[derive(Drop)]
-pub struct Answer {
+pub struct PageAnswer {
     pub status: u8,
     pub printed: String,
     pub told: String,
     /// The file that was written, if one was.
-    pub written: Option<Written>,
+    pub written: Option<ShelvedFile>,
 }
 
-impl Answer {
+impl PageAnswer {
     /// The bytes of the file that was written, or none.
     pub fn file(&self) -> &[u8]
         ensures { result.now ≡ written_bytes self.now.written }

@@ -3,7 +3,7 @@
 ghost use Rattle.std.specs.Prelude.{◌≡◌, ◌≤◌, map, string_bytes};
 ghost use Rattle.page_calls.specs.Calls.{IsAnswer};
 
-use crate::answer::Answer;
+use crate::answer::PageAnswer;
 use crate::sheet::Sheet;
 use crate::shelf::{Shelf, Stock};
 use std::alloc::Global;
@@ -16,7 +16,7 @@ fn carry_out_in<S: Stock>(
     words: Vec<String>,
     names: Vec<String>,
     files: Vec<Vec<u8>>,
-) -> Answer
+) -> PageAnswer
     requires names { map string_bytes names.items ≡ S.names }
     requires files { map (λ v. v.items) files.items ≡ S.files }
     ensures answer { IsAnswer (map string_bytes words.items) (map string_bytes names.items) (map (λ v. v.items) files.items) result }
@@ -33,7 +33,7 @@ fn carry_out_in<S: Stock>(
     let mut out = Sheet::new(alloc);
     let mut err = Sheet::new(alloc);
     let status = sblog_alone(alloc, words.as_slice(), &mut shelf, &mut out, &mut err);
-    Answer {
+    PageAnswer {
         status,
         printed: out.text,
         told: err.text,
@@ -47,7 +47,7 @@ pub fn carry_out(
     words: Vec<String>,
     names: Vec<String>,
     files: Vec<Vec<u8>>,
-) -> Answer
+) -> PageAnswer
     ensures answer { IsAnswer (map string_bytes words.items) (map string_bytes names.items) (map (λ v. v.items) files.items) result }
     ensures status { result.status ≤ 6 }
 {

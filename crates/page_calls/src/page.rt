@@ -3,7 +3,7 @@
 ghost use Rattle.std.specs.Prelude.{◌≤◌, IfErr, IfOk, MatchResult};
 ghost use Rattle.page_calls.specs.Calls.{Answers, IsAnswered, IsNotCall, IsPut, IsNotPut, the_call};
 
-use crate::answer::Answer;
+use crate::answer::PageAnswer;
 use crate::calls::carry_out;
 use crate::misfit::Misfit;
 use crate::parts::{cut_bytes, cut_texts};
@@ -27,7 +27,7 @@ fn answer(
     name_lengths: &[u32],
     files: &[u8],
     file_lengths: &[u32],
-) -> Result<Answer, Misfit>
+) -> Result<PageAnswer, Misfit>
     ensures answered { IfOk result (IsAnswered (the_call words.now word_lengths.now names.now name_lengths.now files.now file_lengths.now)) }
     ensures status { IfOk result (λ a. a.status ≤ 6) }
     ensures misfit { IfErr result (IsNotCall (the_call words.now word_lengths.now names.now name_lengths.now files.now file_lengths.now)) }
@@ -51,7 +51,7 @@ fn answer(
 }
 
 /// Writes an answer to the front of a buffer, and the lengths of its parts. A buffer that is too short stays as it was.
-fn put(alloc: Global, answer: &Answer, out: &mut [u8], sizes: &mut Sizes) -> Result<(), Misfit>
+fn put(alloc: Global, answer: &PageAnswer, out: &mut [u8], sizes: &mut Sizes) -> Result<(), Misfit>
     ensures { MatchResult result (λ _. IsPut answer.now out.old out.new sizes.new) (IsNotPut answer.now out.old out.new sizes.old sizes.new) }
 {
     let whole = answer.whole(alloc)?;

@@ -29,7 +29,7 @@ impl Stock for Brand {
 
 /// A file that was written.
 #[derive(Drop)]
-pub struct Written {
+pub struct ShelvedFile {
     pub name: String,
     pub bytes: Vec<u8>,
 }
@@ -41,7 +41,7 @@ pub struct Shelf<S: Stock> {
     pub alloc: Global,
     pub names: Vec<String>,
     pub files: Vec<Vec<u8>>,
-    pub written: Option<Written>,
+    pub written: Option<ShelvedFile>,
     /// Whether a file was not there, or a second one was written.
     pub failed: bool,
     pub stock: PhantomData<S>,
@@ -119,7 +119,7 @@ impl<S: Stock> Files for Shelf<S> {
         let Ok(bytes) = bytes.to_vec(self.alloc) else {
             return Err(Failure::Memory);
         };
-        self.written = Some(Written { name, bytes });
+        self.written = Some(ShelvedFile { name, bytes });
         Ok(())
     }
 }

@@ -6,7 +6,7 @@ use Rattle.std.proofs.lemmas.List.{length-map}
 use Rattle.packets.specs.Packet.{is_done, in_range}
 use Rattle.packets.specs.declared.packet.Body.{Body}
 use Rattle.packets.specs.declared.packet.Body.TheVariants as body
-use Rattle.packets.specs.declared.packet.Packet.{Packet}
+use Rattle.packets.specs.declared.packet.NodePacket.{NodePacket}
 use Rattle.packets.specs.declared.page.Flags.{Flags}
 use Rattle.packets.specs.declared.page.Pair.{Pair}
 use Rattle.packets.specs.declared.kept.Kept.{Kept}
@@ -68,14 +68,14 @@ goes-on old new g l h =
       stored = λ f. let s = h.stored (sym g.frozen ∙ f) in omega arith;
     }
 
-up-handed : (x : Packet) (n : TheNode) → NodeHolds n → NodeHolds (up.handed x n)
+up-handed : (x : NodePacket) (n : TheNode) → NodeHolds n → NodeHolds (up.handed x n)
 up-handed x n h = goes-on n (up.handed x n) (nodes.handed x n) (logs.handed x n) h
 
 up-ticked : (n : TheNode) → NodeHolds n → NodeHolds (sending.ticked n)
 up-ticked n h = goes-on n (sending.ticked n) (nodes.ticked n) (logs.ticked n) h
 
 -- the packet that waits first leaves
-up-took : (x : Packet) (old new : TheNode) → old ≡ record new { out = x ∷ new.out } → NodeHolds old → NodeHolds new
+up-took : (x : NodePacket) (old new : TheNode) → old ≡ record new { out = x ∷ new.out } → NodeHolds old → NodeHolds new
 up-took x old new e h =
     let g : NodeHolds (record new { out = x ∷ new.out }) = subst NodeHolds e h in
     let n = g.numbers in
@@ -152,7 +152,7 @@ own-holds old new k g l h =
     let was = h.logs in
     record { allowed = subst AreAllowed (sym g.limits) h.allowed; logs = omega arith; packets = g.packets h.packets }
 
-own-took : (x : Packet) (o : TheOwn) (k : ℕ) → OwnHolds (record o { out = x ∷ o.out }) k → OwnHolds o k
+own-took : (x : NodePacket) (o : TheOwn) (k : ℕ) → OwnHolds (record o { out = x ∷ o.out }) k → OwnHolds o k
 own-took x o k h = let long : suc (length o.out) ≤ OUTBOX = h.packets in record { allowed = h.allowed; logs = h.logs; packets = omega arith }
 
 -- ---- one that collects
@@ -196,7 +196,7 @@ collecting_heard from (body.Saved k) n = own-stays n.own
 collecting_heard from (body.Resume i k s) n = own-stays n.own
 collecting_heard from (body.Restored i j c s flags pairs) n = own-stays n.own
 
-collecting_handed : (x : Packet) (n : TheCollecting) → OwnGoes n.own (collecting.handed x n).own
+collecting_handed : (x : NodePacket) (n : TheCollecting) → OwnGoes n.own (collecting.handed x n).own
 collecting_handed x n = either (λ (m : TheCollecting). OwnGoes n.own m.own) (own.is_for n.own x) (collecting.heard x.from x.body n) n (collecting_heard x.from x.body n) (own-stays n.own)
 
 -- ---- one that replays, or replayed
@@ -218,7 +218,7 @@ meeting_heard from (body.Saved k) o = own-stays o
 meeting_heard from (body.Resume i k s) o = own-stays o
 meeting_heard from (body.Restored i j c s flags pairs) o = own-stays o
 
-meeting_handed : (x : Packet) (o : TheOwn) → OwnGoes o (meeting.handed x o)
+meeting_handed : (x : NodePacket) (o : TheOwn) → OwnGoes o (meeting.handed x o)
 meeting_handed x o = either (λ (m : TheOwn). OwnGoes o m) (own.is_for o x && in_range x.body) (meeting.heard x.from x.body o) o (meeting_heard x.from x.body o) (own-stays o)
 
 -- ---- one that restores its numbers: what it received stays
@@ -281,7 +281,7 @@ restoring_heard from (body.Acknowledgement i k) n = back-stays n
 restoring_heard from (body.Saved k) n = back-stays n
 restoring_heard from (body.Resume i k s) n = back-stays n
 
-restoring_handed : (x : Packet) (n : TheRestoring) → Back n (restoring.handed x n)
+restoring_handed : (x : NodePacket) (n : TheRestoring) → Back n (restoring.handed x n)
 restoring_handed x n = either (Back n) (own.is_for n.own x) (restoring.heard x.from x.body n) n (restoring_heard x.from x.body n) (back-stays n)
 
 -- it holds what it held
@@ -292,7 +292,7 @@ back-holds old new b l h =
 
 -- ---- one stage
 
-pub handed : (x : Packet) (old new : Course) → IsHanded x old new → Holds old → Holds new
+pub handed : (x : NodePacket) (old new : Course) → IsHanded x old new → Holds old → Holds new
 handed x (Up old) (Up new) h b = subst NodeHolds (sym h.0) (up-handed x old b)
 handed x (Collecting old) (Collecting new) h b =
     subst (λ (m : TheCollecting). OwnHolds m.own 0) (sym h.0) (own-holds old.own (collecting.handed x old).own 0 (collecting_handed x old) (logs.same old.own.logs (collecting.handed x old).own.logs (logs.collecting_handed x old)) b)
@@ -315,7 +315,7 @@ ticks (Replayed old) new h b = subst Holds (sym h) b
 ticks Passing new h b = subst Holds (sym h) b
 ticks old new h b = absurd h
 
-pub takes : (o : Option Packet) (old new : Course) → Takes o old new → Holds old → Holds new
+pub takes : (o : Option NodePacket) (old new : Course) → Takes o old new → Holds old → Holds new
 takes None (Up old) (Up new) h b = subst NodeHolds (sym h.1) b
 takes (Some x) (Up old) (Up new) h b = up-took x old new h.0 b
 takes None (Collecting old) (Collecting new) h b = subst (λ m. Holds (Collecting m)) (sym h.1) b

@@ -6,7 +6,7 @@ use Rattle.theorems.proofs.Tests.{both, at_most}
 use Rattle.packets.specs.declared.packet.Body.{Body}
 use Rattle.packets.specs.declared.packet.Body.TheVariants as body
 use Rattle.packets.specs.Packet.{in_range}
-use Rattle.packets.specs.declared.packet.Packet.{Packet}
+use Rattle.packets.specs.declared.packet.NodePacket.{NodePacket}
 use Rattle.packets.specs.Outbox.{pushed}
 use Rattle.packets.specs.declared.outbox.TheConstants.{OUTBOX}
 use Rattle.rsn.specs.Receipts.{numbers_of, acknowledged_of, run_of}
@@ -38,8 +38,8 @@ not-true false e = refl
 
 -- ---- lists
 
-pub pushed-few : (x : Packet) (xs : List Packet) → length xs ≤ OUTBOX → length (pushed x xs) ≤ OUTBOX
-pushed-few x xs few = by-test (λ (v : List Packet). length v ≤ OUTBOX) (nat_lt (length xs) OUTBOX) (xs ++ x ∷ []) xs more (λ e. few)
+pub pushed-few : (x : NodePacket) (xs : List NodePacket) → length xs ≤ OUTBOX → length (pushed x xs) ≤ OUTBOX
+pushed-few x xs few = by-test (λ (v : List NodePacket). length v ≤ OUTBOX) (nat_lt (length xs) OUTBOX) (xs ++ x ∷ []) xs more (λ e. few)
   where
     more : nat_lt (length xs) OUTBOX ≡ true → length (xs ++ x ∷ []) ≤ OUTBOX
     more e = let less = below (length xs) OUTBOX e in let many = length-append xs (x ∷ []) in omega arith
@@ -289,7 +289,7 @@ told from (body.Resume i k s) n f = resumed_by from i k s n
 told from (body.Told i j k flags page) n f = stays n
 told from (body.Restored i j c s flags pairs) n f = stays n
 
-pub handed : (x : Packet) (n : TheNode) → Goes n (up.handed x n)
+pub handed : (x : NodePacket) (n : TheNode) → Goes n (up.handed x n)
 handed x n = by-test (λ (m : TheNode). Goes n m) (up.is_for n x) (up.told x.from x.body n) n (λ e. told x.from x.body n (live e)) (λ e. stays n)
   where
     live : up.is_for n x ≡ true → n.frozen ≡ false

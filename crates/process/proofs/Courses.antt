@@ -2,7 +2,7 @@
 use Rattle.std.proofs.Common.{◌≡◌, ◌∙◌, ◌≤◌, ◌+◌, ◌-◌, ℕ, zero, suc, List, [], ◌∷◌, length, min, refl, sym, ap, subst, arith, length-drop}
 use Rattle.std.specs.Prelude.{Option, Some, None, Bool, true, false, slice_set, if◌then◌else◌}
 use Rattle.packets.specs.declared.packet.Body.{Body}
-use Rattle.packets.specs.declared.packet.Packet.{Packet}
+use Rattle.packets.specs.declared.packet.NodePacket.{NodePacket}
 use Rattle.node.specs.declared.job.OpenJob.{OpenJob}
 use Rattle.node.specs.declared.job.Given.{Given}
 use Rattle.node.specs.declared.node.TheConstants.{MOST_GIVEN}
@@ -55,7 +55,7 @@ moved old new e = same (logs_of old) (logs_of new) (ap logs_of e)
 
 -- ---- one stage
 
-handed : (x : Packet) (old new : Course) → IsHanded x old new → No old new
+handed : (x : NodePacket) (old new : Course) → IsHanded x old new → No old new
 handed x (Up old) (Up new) h = subst (λ (m : TheNode). NoMore old.logs m.logs) (sym h.0) (logs.handed x old)
 handed x (Collecting old) (Collecting new) h = same old.own.logs new.own.logs (ap (λ m. m.own.logs) h.0 ∙ logs.collecting_handed x old)
 handed x (Restoring old) (Restoring new) h = subst (λ m. NoMore old.own.logs m.own.logs) (sym h.0) (logs.restoring_handed x old)
@@ -73,7 +73,7 @@ ticks (Replayed old) new h = moved (Replayed old) new h
 ticks Passing new h = moved Passing new h
 ticks old new h = absurd h
 
-takes : (o : Option Packet) (old new : Course) → Takes o old new → No old new
+takes : (o : Option NodePacket) (old new : Course) → Takes o old new → No old new
 takes None (Up old) (Up new) h = moved (Up old) (Up new) (ap Up h.1)
 takes (Some x) (Up old) (Up new) h = same old.logs new.logs (sym (ap (λ m. m.logs) h.0))
 takes None (Collecting old) (Collecting new) h = moved (Collecting old) (Collecting new) (ap Collecting h.1)
@@ -208,7 +208,7 @@ at_place (x ∷ xs) (suc d) q = at_place xs d q
 dropped : (k : ℕ) (q : TheQueue) → length (dropped_to k q).payloads ≤ sent_in q - k
 dropped k q = let l = length-drop (min (k - q.dropped) (length q.payloads)) q.payloads in omega arith
 
-is_up : (x : Packet) (n : TheNode) (mid : Course) → IsHanded x (Up n) mid → (m : TheNode) × (mid ≡ Up m) × (m ≡ up.handed x n)
+is_up : (x : NodePacket) (n : TheNode) (mid : Course) → IsHanded x (Up n) mid → (m : TheNode) × (mid ≡ Up m) × (m ≡ up.handed x n)
 is_up x n (Up m) h = (m, refl, h.0)
 is_up x n mid h = absurd h
 

@@ -5,7 +5,7 @@ use Rattle.std.proofs.lemmas.List.Recursion.{is_sum_by}
 use Rattle.packets.specs.Packet.{is_done, in_range}
 use Rattle.packets.specs.declared.packet.Body.{Body}
 use Rattle.packets.specs.declared.packet.Body.TheVariants as body
-use Rattle.packets.specs.declared.packet.Packet.{Packet}
+use Rattle.packets.specs.declared.packet.NodePacket.{NodePacket}
 use Rattle.packets.specs.declared.page.Flags.{Flags}
 use Rattle.packets.specs.declared.page.Pair.{Pair}
 use Rattle.node.specs.declared.job.OpenJob.{OpenJob}
@@ -210,7 +210,7 @@ told from (body.Resume i k s) n = resumed_by from i k s n
 told from (body.Told i j k flags page) n = stays n
 told from (body.Restored i j c s flags pairs) n = stays n
 
-pub handed : (x : Packet) (n : TheNode) → Up n (up.handed x n)
+pub handed : (x : NodePacket) (n : TheNode) → Up n (up.handed x n)
 handed x n = either (λ (m : TheNode). Up n m) (up.is_for n x) (up.told x.from x.body n) n (told x.from x.body n) (stays n)
 
 -- its handler worked
@@ -262,7 +262,7 @@ collecting_heard from (body.Saved k) n = refl
 collecting_heard from (body.Resume i k s) n = refl
 collecting_heard from (body.Restored i j c s flags pairs) n = refl
 
-pub collecting_handed : (x : Packet) (n : TheCollecting) → (collecting.handed x n).own.logs ≡ n.own.logs
+pub collecting_handed : (x : NodePacket) (n : TheCollecting) → (collecting.handed x n).own.logs ≡ n.own.logs
 collecting_handed x n = either (λ (m : TheCollecting). m.own.logs ≡ n.own.logs) (own.is_for n.own x) (collecting.heard x.from x.body n) n (collecting_heard x.from x.body n) refl
 
 -- ---- one that replays, or replayed
@@ -290,7 +290,7 @@ meeting_heard from (body.Saved k) o = same_own o
 meeting_heard from (body.Resume i k s) o = same_own o
 meeting_heard from (body.Restored i j c s flags pairs) o = same_own o
 
-pub meeting_handed : (x : Packet) (o : TheOwn) → Own o (meeting.handed x o)
+pub meeting_handed : (x : NodePacket) (o : TheOwn) → Own o (meeting.handed x o)
 meeting_handed x o = either (λ (m : TheOwn). Own o m) (own.is_for o x && in_range x.body) (meeting.heard x.from x.body o) o (meeting_heard x.from x.body o) (same_own o)
 
 -- ---- one that restores its numbers
@@ -349,7 +349,7 @@ restoring_heard from (body.Acknowledgement i k) n = stays_back n
 restoring_heard from (body.Saved k) n = stays_back n
 restoring_heard from (body.Resume i k s) n = stays_back n
 
-pub restoring_handed : (x : Packet) (n : TheRestoring) → Back n (restoring.handed x n)
+pub restoring_handed : (x : NodePacket) (n : TheRestoring) → Back n (restoring.handed x n)
 restoring_handed x n = either (λ (m : TheRestoring). Back n m) (own.is_for n.own x) (restoring.heard x.from x.body n) n (restoring_heard x.from x.body n) (stays_back n)
 
 -- its node has as many

@@ -9,8 +9,8 @@ use Rattle.rsn.specs.declared.receipts.TheConstants.{LIMIT}
 use Rattle.packets.specs.Packet.{flags_of, is_done, is_number, is_positive, is_entry_above, is_pair_above, entries_in_range, in_range}
 use Rattle.packets.specs.declared.packet.Body.{Body}
 use Rattle.packets.specs.declared.packet.Body.TheVariants as body
-use Rattle.packets.specs.declared.packet.Packet.{Packet}
-use Rattle.packets.specs.declared.page.Entry.{Entry}
+use Rattle.packets.specs.declared.packet.NodePacket.{NodePacket}
+use Rattle.packets.specs.declared.page.LoggedMessage.{LoggedMessage}
 use Rattle.packets.specs.declared.page.Pair.{Pair}
 use Rattle.packets.specs.declared.page.Flags.{Flags}
 use Rattle.node.specs.declared.node.TheConstants.{MOST_RECEIVED}
@@ -30,7 +30,7 @@ use Rattle.process.proofs.Holdings.{either}
 use Rattle.process.proofs.Bounds.{by-test, not-true}
 use Rattle.process.proofs.Ranges.{all-of, not-false, young-number, base-number, last-number, last-ssn, told-in-range, restored-in-range, no-page, set-any, stays, elsewhere}
 
-abbrev pub W : Packet → Type 0
+abbrev pub W : NodePacket → Type 0
 W x = is_written x ≡ true
 
 -- what it is by its number and the number of processes, and what it has written
@@ -52,7 +52,7 @@ pub record Restores (me count : ℕ) (n : TheRestoring) : Type 0 where
   pub alone : has_answered me n ≡ true
 
 module _ (me count : ℕ) (inside : 1 ≤ me) (within : me ≤ count) (few : count ≤ PROCESSES) where
-  writable : (x : Packet) → x.count ≡ count → x.from ≡ me → x.to ≤ count → (x.to == me) ≡ false → is_brief x.body ≡ true → in_range x.body ≡ true → W x
+  writable : (x : NodePacket) → x.count ≡ count → x.from ≡ me → x.to ≤ count → (x.to == me) ≡ false → is_brief x.body ≡ true → in_range x.body ≡ true → W x
   writable x n from to other brief range =
       let a : nat_le 1 x.count ≡ true = is_at_most 1 x.count (omega (arith, inside, within, n)) in
       let b : nat_le x.count PROCESSES ≡ true = is_at_most x.count PROCESSES (omega (arith, few, n)) in
@@ -89,7 +89,7 @@ module _ (me count : ℕ) (inside : 1 ≤ me) (within : me ≤ count) (few : cou
       }
 
   -- a packet is of another one
-  from-other : (x : Packet) (o : TheOwn) → Says me count o → own.is_for o x ≡ true → (x.from ≤ count) × ((x.from == me) ≡ false)
+  from-other : (x : NodePacket) (o : TheOwn) → Says me count o → own.is_for o x ≡ true → (x.from ≤ count) × ((x.from == me) ≡ false)
   from-other x o s e =
       let a = both ((x.count == o.count) && (x.to == o.me) && nat_le x.from o.count) (not (x.from == o.me)) e in
       let b = both ((x.count == o.count) && (x.to == o.me)) (nat_le x.from o.count) a.0 in
@@ -123,7 +123,7 @@ module _ (me count : ℕ) (inside : 1 ≤ me) (within : me ≤ count) (few : cou
       subst (λ p. Collects me count (collecting.asks_below p (n.own.count + 1) n)) (sym c.says.me_is)
       (subst (λ k. Collects me count (collecting.asks_below me (k + 1) n)) (sym c.says.count_is) (asks_below (count + 1) n (omega arith) c))
 
-  took_page : (from j k : ℕ) (flags : Flags) (page : List Entry) (n : TheCollecting) → from ≤ count → (from == me) ≡ false → list_all (is_entry_above k) page ≡ true → Collects me count n
+  took_page : (from j k : ℕ) (flags : Flags) (page : List LoggedMessage) (n : TheCollecting) → from ≤ count → (from == me) ≡ false → list_all (is_entry_above k) page ≡ true → Collects me count n
       → Collects me count (collecting.took_page from j flags page n)
   took_page from j k flags page n near other all c =
       let t = told_of n.told from in
@@ -166,7 +166,7 @@ module _ (me count : ℕ) (inside : 1 ≤ me) (within : me ≤ count) (few : cou
   collecting-heard from (body.Resume i k s) n near other c = c
   collecting-heard from (body.Restored i j v s flags pairs) n near other c = c
 
-  pub collecting-handed : (x : Packet) (n : TheCollecting) → Collects me count n → Collects me count (collecting.handed x n)
+  pub collecting-handed : (x : NodePacket) (n : TheCollecting) → Collects me count n → Collects me count (collecting.handed x n)
   collecting-handed x n c =
       by-test (Collects me count) (own.is_for n.own x) (collecting.heard x.from x.body n) n
       (λ e. let f = from-other x n.own c.says e in collecting-heard x.from x.body n f.0 f.1 c) (λ e. c)
@@ -190,7 +190,7 @@ module _ (me count : ℕ) (inside : 1 ≤ me) (within : me ≤ count) (few : cou
   meeting-heard from (body.Resume i k t) o near other range s = s
   meeting-heard from (body.Restored i j v t flags pairs) o near other range s = s
 
-  pub meeting-handed : (x : Packet) (o : TheOwn) → Says me count o → Says me count (meeting.handed x o)
+  pub meeting-handed : (x : NodePacket) (o : TheOwn) → Says me count o → Says me count (meeting.handed x o)
   meeting-handed x o s =
       by-test (Says me count) (own.is_for o x && in_range x.body) (meeting.heard x.from x.body o) o
       (λ e. let b = both (own.is_for o x) (in_range x.body) e in let f = from-other x o s b.0 in meeting-heard x.from x.body o f.0 f.1 b.1 s) (λ e. s)
@@ -265,7 +265,7 @@ module _ (me count : ℕ) (inside : 1 ≤ me) (within : me ≤ count) (few : cou
   restoring-heard from (body.Saved k) n near other r = r
   restoring-heard from (body.Resume i k s) n near other r = r
 
-  pub restoring-handed : (x : Packet) (n : TheRestoring) → Restores me count n → Restores me count (restoring.handed x n)
+  pub restoring-handed : (x : NodePacket) (n : TheRestoring) → Restores me count n → Restores me count (restoring.handed x n)
   restoring-handed x n r =
       by-test (Restores me count) (own.is_for n.own x) (restoring.heard x.from x.body n) n
       (λ e. let f = from-other x n.own r.says e in restoring-heard x.from x.body n f.0 f.1 r) (λ e. r)

@@ -7,7 +7,7 @@ use Rattle.theorems.proofs.Tests.{both, different}
 use Rattle.rsn.specs.declared.receipts.TheConstants.{LIMIT}
 use Rattle.packets.specs.Packet.{flags_of, is_lost, is_number, is_positive, is_entry_above, is_pair_above, ascends, entry_before, pair_before, goes_on, entries_in_range, pairs_in_range, in_range}
 use Rattle.packets.specs.declared.packet.Body.TheVariants as body
-use Rattle.packets.specs.declared.page.Entry.{Entry}
+use Rattle.packets.specs.declared.page.LoggedMessage.{LoggedMessage}
 use Rattle.packets.specs.declared.page.Pair.{Pair}
 use Rattle.packets.specs.declared.page.Flags.{Flags}
 use Rattle.node.specs.declared.node.TheConstants.{MOST_RECEIVED}
@@ -37,7 +37,7 @@ pub base-number : (n : ℕ) → n ≤ MOST_RECEIVED → is_number n ≡ true
 base-number n a = is-below n (2 ^ 63) (omega (arith, a))
 
 -- the last of a page's numbers, which are all positive
-pub last-number : (above k : ℕ) (page : List Entry) → is_number k ≡ true → list_all (is_entry_above above) page ≡ true → is_number (last_number k page) ≡ true
+pub last-number : (above k : ℕ) (page : List LoggedMessage) → is_number k ≡ true → list_all (is_entry_above above) page ≡ true → is_number (last_number k page) ≡ true
 last-number above k [] e all = e
 last-number above k (x ∷ page) e all =
     let h = both (is_entry_above above x) (list_all (is_entry_above above) page) all in
@@ -51,7 +51,7 @@ last-ssn above k (x ∷ pairs) e all =
     let g = both (is_positive x.number && is_positive x.ssn) (nat_lt above x.ssn) h.0 in
     last-ssn above x.ssn pairs (positive-number x.ssn (both (is_positive x.number) (is_positive x.ssn) g.0).1) h.1
 
-entries-above : (k : ℕ) (flags : Flags) (xs : List Entry) → entries_in_range k flags xs ≡ true → list_all (is_entry_above k) xs ≡ true
+entries-above : (k : ℕ) (flags : Flags) (xs : List LoggedMessage) → entries_in_range k flags xs ≡ true → list_all (is_entry_above k) xs ≡ true
 unfolding entries_in_range
 entries-above k flags xs e =
     let a = both (nat_lt flags.bits 8 && goes_on flags xs && list_all (is_entry_above k) xs) (ascends entry_before xs) e in
@@ -63,7 +63,7 @@ pairs-above s flags xs e =
     let a = both (nat_lt flags.bits 8 && not (is_lost flags) && goes_on flags xs && list_all (is_pair_above s) xs) (ascends pair_before xs) e in
     (both (nat_lt flags.bits 8 && not (is_lost flags) && goes_on flags xs) (list_all (is_pair_above s) xs) a.0).1
 
-pub told-in-range : (i j k : ℕ) (flags : Flags) (xs : List Entry) → in_range (body.Told i j k flags xs) ≡ true → (is_number k ≡ true) × (list_all (is_entry_above k) xs ≡ true)
+pub told-in-range : (i j k : ℕ) (flags : Flags) (xs : List LoggedMessage) → in_range (body.Told i j k flags xs) ≡ true → (is_number k ≡ true) × (list_all (is_entry_above k) xs ≡ true)
 told-in-range i j k flags xs e =
     let a = both (is_positive i && is_positive j && is_number k) (entries_in_range k flags xs) e in
     ((both (is_positive i && is_positive j) (is_number k) a.0).1, entries-above k flags xs a.1)

@@ -4,12 +4,12 @@ use Rattle.std.specs.Prelude.{not, ◌&&◌, ◌==◌, nat_lt, nat_le}
 use Rattle.std.specs.List.{list_all}
 use Rattle.std.proofs.lemmas.Bool.Decides.{nat_tests}
 use Rattle.theorems.proofs.Tests.{both}
-use Rattle.packets.specs.declared.page.Entry.{Entry}
+use Rattle.packets.specs.declared.page.LoggedMessage.{LoggedMessage}
 use Rattle.packets.specs.declared.page.Flags.{Flags}
 use Rattle.packets.specs.declared.packet.Body.{Body}
 use Rattle.packets.specs.declared.packet.Body.TheVariants.{Delivery, Number, Acknowledgement, Ask, Told, Resume, Restored, Saved}
 use Rattle.packets.specs.Packet.{is_positive, is_number, goes_on, ascends, entry_before, is_entry_above, entries_in_range, in_range}
-use Rattle.packets.specs.declared.packet.Packet.{Packet}
+use Rattle.packets.specs.declared.packet.NodePacket.{NodePacket}
 use Rattle.limits.specs.declared.TheConstants.{PROCESSES}
 use Rattle.packets.specs.Format.{Fits, HasRoom, IsLong, IsPage, IsEntry}
 use Rattle.process.specs.Packets.{is_brief, is_written}
@@ -21,7 +21,7 @@ positive-long n e = let l : nat_lt n (2 ^ 63) ≡ true = (both (nat_lt 0 n) (nat
 number-long : (n : ℕ) → is_number n ≡ true → IsLong n
 number-long n e = let k : n < 2 ^ 63 = grind (arith, nat_tests) in omega (arith, k)
 
-flags-small : (k : ℕ) (flags : Flags) (xs : List Entry) → entries_in_range k flags xs ≡ true → flags.bits < 256
+flags-small : (k : ℕ) (flags : Flags) (xs : List LoggedMessage) → entries_in_range k flags xs ≡ true → flags.bits < 256
 unfolding entries_in_range
 flags-small k flags xs e =
     let a = both (nat_lt flags.bits 8 && goes_on flags xs && list_all (is_entry_above k) xs) (ascends entry_before xs) e in
@@ -30,7 +30,7 @@ flags-small k flags xs e =
     let l : flags.bits < 8 = grind (arith, nat_tests) in
     omega (arith, l)
 
-empty-page : (xs : List Entry) → (length xs == 0) ≡ true → IsPage IsEntry xs
+empty-page : (xs : List LoggedMessage) → (length xs == 0) ≡ true → IsPage IsEntry xs
 empty-page [] e = (omega arith, tt)
 empty-page (x ∷ xs) e = absurd (let z : length (x ∷ xs) ≡ 0 = grind (arith, nat_tests) in omega (arith, z))
 
@@ -52,7 +52,7 @@ brief-room (Restored i j c s flags pairs) brief e = absurd (let z : false ≡ tr
 brief-room (Saved c) brief e = absurd (let z : false ≡ true = brief in cc)
 
 -- so it can be sent
-pub written-fits : (x : Packet) → is_written x ≡ true → Fits x
+pub written-fits : (x : NodePacket) → is_written x ≡ true → Fits x
 written-fits x e =
     let a = both (nat_le 1 x.count && nat_le x.count PROCESSES && nat_le x.from x.count && nat_le x.to x.count && not (x.from == x.to) && is_brief x.body) (in_range x.body) e in
     let b = both (nat_le 1 x.count && nat_le x.count PROCESSES && nat_le x.from x.count && nat_le x.to x.count && not (x.from == x.to)) (is_brief x.body) a.0 in

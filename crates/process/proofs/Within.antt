@@ -1,7 +1,7 @@
 -- A process keeps what its type keeps, by each of its calls and between them
 use Rattle.std.proofs.Common.{◌≡◌, ℕ, List, Result, Ok, Err, OnOk, OnErr, true, refl, sym, subst}
 use Rattle.std.specs.Prelude.{Option, Some, None}
-use Rattle.packets.specs.declared.packet.Packet.{Packet}
+use Rattle.packets.specs.declared.packet.NodePacket.{NodePacket}
 use Rattle.packets.specs.declared.kept.Kept.{Kept}
 use Rattle.packets.specs.Kept.{IsKept}
 use Rattle.node.specs.declared.limit.Limits.{Limits}
@@ -26,7 +26,7 @@ use Rattle.process.proofs.Writes as writing
 moved : (old new : Course) → new ≡ old → is_settled old ≡ true → is_settled new ≡ true
 moved old new e s = subst (λ c. is_settled c ≡ true) (sym e) s
 
-handed-settled : (x : Packet) (old new : Course) → IsHanded x old new → is_settled old ≡ true → is_settled new ≡ true
+handed-settled : (x : NodePacket) (old new : Course) → IsHanded x old new → is_settled old ≡ true → is_settled new ≡ true
 handed-settled x (Up old) (Up new) h s = refl
 handed-settled x (Collecting old) (Collecting new) h s = refl
 handed-settled x (Restoring old) (Restoring new) h s = refl
@@ -44,7 +44,7 @@ ticks-settled (Replayed old) new h s = moved (Replayed old) new h s
 ticks-settled Passing new h s = moved Passing new h s
 ticks-settled old new h s = absurd h
 
-takes-settled : (o : Option Packet) (old new : Course) → Takes o old new → is_settled old ≡ true → is_settled new ≡ true
+takes-settled : (o : Option NodePacket) (old new : Course) → Takes o old new → is_settled old ≡ true → is_settled new ≡ true
 takes-settled None (Up old) (Up new) h s = refl
 takes-settled (Some x) (Up old) (Up new) h s = refl
 takes-settled None (Collecting old) (Collecting new) h s = refl
@@ -99,13 +99,13 @@ passes-settled old new p s =
 
 -- ---- and holds no more
 
-pub handed : (x : Packet) (old new : Course) → IsHanded x old new → IsWithin old → IsWithin new
+pub handed : (x : NodePacket) (old new : Course) → IsHanded x old new → IsWithin old → IsWithin new
 handed x old new h w = record { settled = handed-settled x old new h w.settled; holds = bounded.handed x old new h w.holds; writes = writing.handed x old new h w.holds w.writes }
 
 pub ticks : (old new : Course) → Ticks old new → IsWithin old → IsWithin new
 ticks old new h w = record { settled = ticks-settled old new h w.settled; holds = bounded.ticks old new h w.holds; writes = writing.ticks old new h w.holds w.writes }
 
-pub takes : (o : Option Packet) (old new : Course) → Takes o old new → IsWithin old → IsWithin new
+pub takes : (o : Option NodePacket) (old new : Course) → Takes o old new → IsWithin old → IsWithin new
 takes o old new h w = record { settled = takes-settled o old new h w.settled; holds = bounded.takes o old new h w.holds; writes = writing.takes o old new h w.writes }
 
 pub freezes : (old new : Course) → Freezes old new → IsWithin old → IsWithin new

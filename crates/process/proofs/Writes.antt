@@ -5,7 +5,7 @@ use Rattle.std.specs.List.{list_all}
 use Rattle.theorems.proofs.Tests.{both, at_most}
 use Rattle.limits.specs.declared.TheConstants.{PROCESSES}
 use Rattle.packets.specs.Packet.{is_number, is_positive}
-use Rattle.packets.specs.declared.packet.Packet.{Packet}
+use Rattle.packets.specs.declared.packet.NodePacket.{NodePacket}
 use Rattle.packets.specs.declared.kept.Kept.{Kept}
 use Rattle.packets.specs.Kept.{kept_in_range}
 use Rattle.node.specs.declared.node.TheConstants.{MOST_GIVEN, MOST_RECEIVED}
@@ -64,7 +64,7 @@ restores-on n m w r = (goes-on n.own m.own w r.says, r.above, subst (λ p. has_a
 
 -- ---- one stage
 
-pub handed : (x : Packet) (old new : Course) → IsHanded x old new → Holds old → Writes old → Writes new
+pub handed : (x : NodePacket) (old new : Course) → IsHanded x old new → Holds old → Writes old → Writes new
 handed x (Up old) (Up new) h b w = tt
 handed x (Collecting old) (Collecting new) h b w =
     let c = collecting-handed old.own.me old.own.count w.0.inside w.0.within w.0.few x old (record { says = says old.own w.0; cursors = w.1 }) in
@@ -93,10 +93,10 @@ ticks Passing new h b w = subst Writes (sym h) w
 ticks old new h b w = absurd h
 
 -- the packet that waits first leaves
-taken : (x : Packet) (o : TheOwn) → OwnWrites (record o { out = x ∷ o.out }) → OwnWrites o
+taken : (x : NodePacket) (o : TheOwn) → OwnWrites (record o { out = x ∷ o.out }) → OwnWrites o
 taken x o w = record { inside = w.inside; within = w.within; few = w.few; alive = w.alive; young = w.young; out = w.out.1 }
 
-pub takes : (o : Option Packet) (old new : Course) → Takes o old new → Writes old → Writes new
+pub takes : (o : Option NodePacket) (old new : Course) → Takes o old new → Writes old → Writes new
 takes o (Up old) (Up new) h w = tt
 takes None (Collecting old) (Collecting new) h w = subst (λ m. Writes (Collecting m)) (sym h.1) w
 takes (Some x) (Collecting old) (Collecting new) h w = let g = subst (λ m. Writes (Collecting m)) h.0 w in (taken x new.own g.0, g.1)
@@ -188,7 +188,7 @@ came-back limits k life comes positive =
 
 -- ---- what waits first
 
-pub first-written : (c : Course) (x : Packet) (rest : List Packet) → is_node c ≡ false → Writes c → out_of c ≡ x ∷ rest → is_written x ≡ true
+pub first-written : (c : Course) (x : NodePacket) (rest : List NodePacket) → is_node c ≡ false → Writes c → out_of c ≡ x ∷ rest → is_written x ≡ true
 first-written (Up n) x rest up w e = absurd (cc)
 first-written (Collecting n) x rest up w e = let all : Each W (x ∷ rest) = subst (Each W) e w.0.out in all.0
 first-written (Replaying n) x rest up w e = let all : Each W (x ∷ rest) = subst (Each W) e w.out in all.0

@@ -1,6 +1,6 @@
 -- The calls of a process: each is the call of its stage
 use Rattle.std.specs.Prelude.{◌≡◌, [], ◌∷◌, Option, Some, None, Bool, true, false, ◌&&◌, nat_lt}
-use Rattle.packets.specs.declared.packet.Packet.{Packet}
+use Rattle.packets.specs.declared.packet.NodePacket.{NodePacket}
 use Rattle.node.specs.declared.status.Standing.{Standing}
 use Rattle.node.specs.declared.status.Stage.TheVariants as stage
 use Rattle.node.specs.Calls as up
@@ -25,7 +25,7 @@ use Rattle.process.specs.Process.{TheProcess}
 use Rattle.process.specs.Transitions.{Passes}
 
 -- takes a packet
-abbrev pub IsHanded : Packet → Course → Course → Type 0
+abbrev pub IsHanded : NodePacket → Course → Course → Type 0
 IsHanded x (Up old) (Up new) = (new ≡ up.handed x old) × up_owes.IsHanded x old new
 IsHanded x (Collecting old) (Collecting new) = (new ≡ collecting.handed x old) × collecting_owes.IsHanded x old new
 IsHanded x (Restoring old) (Restoring new) = (new ≡ restoring.handed x old) × restoring_owes.IsHanded x old new
@@ -57,7 +57,7 @@ pub record Stays (Does : Course → Course → Type 0) (old new : TheProcess) : 
   pub does : Does old.course new.course
 
 -- takes the first packet that waits. A process that has finished its replay owes nothing else
-abbrev pub Takes : Option Packet → Course → Course → Type 0
+abbrev pub Takes : Option NodePacket → Course → Course → Type 0
 Takes o (Up old) (Up new) = up_owes.Takes o old new
 Takes o (Collecting old) (Collecting new) = collecting_owes.Takes o old new
 Takes o (Replaying old) (Replaying new) = replaying_owes.Takes o old new

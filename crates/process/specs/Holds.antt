@@ -1,7 +1,7 @@
 -- How many messages a process keeps, and how many more after each call
 use Rattle.std.specs.Prelude.{◌≡◌, ◌+◌, ◌-◌, ◌≤◌, ℕ, List, length, Option, true}
 use Rattle.packets.specs.declared.packet.Body.TheVariants.{Saved}
-use Rattle.packets.specs.declared.packet.Packet.{Packet}
+use Rattle.packets.specs.declared.packet.NodePacket.{NodePacket}
 use Rattle.node.specs.declared.job.Given.{Given}
 use Rattle.node.specs.Queue.{TheQueue}
 use Rattle.node.specs.Node.{TheNode, log_at}
@@ -23,9 +23,9 @@ KeepsNoMore old new = entries_of new ≤ entries_of old
 -- a process keeps more messages only if its handler runs on one, also in a replay: then at most as many more as that sends. This includes
 -- all stages that the call goes through
 pub record EntriesAreGiven : Type 0 where
-  pub received : (x : Packet) (old new : TheProcess) → Calls (IsHanded x) old new → KeepsNoMore old new
+  pub received : (x : NodePacket) (old new : TheProcess) → Calls (IsHanded x) old new → KeepsNoMore old new
   pub ticked : (old new : TheProcess) → Calls Ticks old new → KeepsNoMore old new
-  pub taken : (o : Option Packet) (old new : TheProcess) → Stays (Takes o) old new → KeepsNoMore old new
+  pub taken : (o : Option NodePacket) (old new : TheProcess) → Stays (Takes o) old new → KeepsNoMore old new
   pub frozen : (old new : TheProcess) → Stays Freezes old new → KeepsNoMore old new
   pub saved : (old new : TheProcess) → Stays Thaws old new → KeepsNoMore old new
   pub worked : (state : List ℕ) (given : List Given) (old new : TheProcess) → TakesBack state given old new → entries_of new ≤ entries_of old + length given
@@ -36,7 +36,7 @@ sent_in q = q.dropped + length q.payloads
 
 -- a node that is up is told that the first messages to a receiver are covered for good: its log for that one keeps none of these
 pub record CoveredAreDropped : Type 0 where
-  pub dropped : (x : Packet) (k : ℕ) (n : TheNode) (old new : TheProcess) → old.course ≡ Up n → x.body ≡ Saved k → is_for n x ≡ true → Calls (IsHanded x) old new
+  pub dropped : (x : NodePacket) (k : ℕ) (n : TheNode) (old new : TheProcess) → old.course ≡ Up n → x.body ≡ Saved k → is_for n x ≡ true → Calls (IsHanded x) old new
       → (m : TheNode) × (new.course ≡ Up m) × (length (log_at m.logs x.from).payloads ≤ sent_in (log_at n.logs x.from) - k)
 
 -- the checkpoint for which a process waits is durable: it covers all that the process received, so it keeps no receipt, and no RSN waits

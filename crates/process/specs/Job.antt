@@ -15,7 +15,7 @@ use Rattle.handlers.specs.Answer.{MayRunAs, shown, answer_by}
 use Rattle.node.specs.declared.job.OpenJob.{OpenJob}
 use Rattle.node.specs.declared.job.Given.{Given}
 use Rattle.process.specs.declared.course.Course.{Course}
-use Rattle.process.specs.declared.call.Ticket.{Ticket}
+use Rattle.process.specs.declared.call.HandlerTicket.{HandlerTicket}
 use Rattle.process.specs.declared.fault.Undone.{Undone}
 use Rattle.process.specs.declared.fault.Undone.TheVariants as why
 use Rattle.process.specs.Process.{TheProcess, state_of}
@@ -25,7 +25,7 @@ use Rattle.process.specs.Work.{job_at, given_of, answer_to, TakesIn, Rests, Work
 
 -- which job it is; the image whose handler is called, the identity that it is called with, and the message and state
 pub record TheJob : Type 0 where
-  pub ticket : Ticket
+  pub ticket : HandlerTicket
   pub image : AnyImage
   pub who : Who
   pub payload : List ℕ
@@ -41,7 +41,7 @@ abbrev pub IsAnswerTo : TheJob → Handled → Type 0
 IsAnswerTo j h = answer_by j.image j.who j.state j.payload ≡ Some h
 
 -- the ticket of the next job
-abbrev pub ticket_at : Course → Ticket
+abbrev pub ticket_at : Course → HandlerTicket
 ticket_at c = record { incarnation = (standing_at c).incarnation; received = (standing_at c).length }
 
 -- the handler can be called with this identity on this state: the state has the image's length
@@ -55,7 +55,7 @@ pub record IsNext (p : TheProcess) (message : OpenJob) (who : Who) : Type 0 wher
   pub callable : IsCallable p.image who (state_of p.course)
 
 -- the job has this ticket, this identity, this message and this state
-pub record IsSame (j : TheJob) (ticket : Ticket) (who : Who) (payload state : List ℕ) : Type 0 where
+pub record IsSame (j : TheJob) (ticket : HandlerTicket) (who : Who) (payload state : List ℕ) : Type 0 where
   pub ticket_is : j.ticket ≡ ticket
   pub who_is : j.who ≡ who
   pub payload_is : j.payload ≡ payload
@@ -110,7 +110,7 @@ pub record TakesBack (state : List ℕ) (given : List Given) (old new : TheProce
   pub passes : Passes mid new.course
 
 -- they are taken as the answer to the next message, of this ticket, whatever the handler would have answered
-pub record IsAnswered (ticket : Ticket) (state : List ℕ) (e : Emitted) (old new : TheProcess) : Type 0 where
+pub record IsAnswered (ticket : HandlerTicket) (state : List ℕ) (e : Emitted) (old new : TheProcess) : Type 0 where
   pub message : OpenJob
   pub who : Who
   pub next : job_at old.course ≡ Some (message, who)
@@ -137,7 +137,7 @@ IsUndone p j why.Other = HasNext p × ¬ IsJobOf p j
 IsUndone p j why.State = ⊥
 
 -- the same of an answer of which only the ticket and the state are known
-abbrev pub IsUnanswered : TheProcess → Ticket → List ℕ → Undone → Type 0
+abbrev pub IsUnanswered : TheProcess → HandlerTicket → List ℕ → Undone → Type 0
 IsUnanswered p ticket state why.Memory = HasNext p × (ticket_at p.course ≡ ticket) × (length state ≡ image_state p.image)
 IsUnanswered p ticket state why.Absent = Rests p
 IsUnanswered p ticket state why.Other = HasNext p × (ticket_at p.course ≢ ticket)

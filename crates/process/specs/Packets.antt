@@ -4,7 +4,7 @@ use Rattle.limits.specs.declared.TheConstants.{PROCESSES}
 use Rattle.packets.specs.declared.packet.Body.{Body}
 use Rattle.packets.specs.declared.packet.Body.TheVariants.{Ask, Resume, Told}
 use Rattle.packets.specs.Packet.{in_range, is_number, is_positive}
-use Rattle.packets.specs.declared.packet.Packet.{Packet}
+use Rattle.packets.specs.declared.packet.NodePacket.{NodePacket}
 use Rattle.packets.specs.Format.{IsPacket}
 use Rattle.node.specs.declared.node.TheConstants.{MOST_RECEIVED}
 use Rattle.node.specs.Stands.{Each}
@@ -24,7 +24,7 @@ is_brief (Told i j k flags entries) = length entries == 0
 is_brief other = false
 
 -- such a packet that can be written
-abbrev pub is_written : Packet → Bool
+abbrev pub is_written : NodePacket → Bool
 is_written x =
     nat_le 1 x.count && nat_le x.count PROCESSES && nat_le x.from x.count && nat_le x.to x.count && not (x.from == x.to) && is_brief x.body && in_range x.body
 
@@ -47,8 +47,8 @@ Writes other = Unit {0}
 
 -- these are the bytes of the first packet that waits
 abbrev pub IsFront : TheProcess → List ℕ → Type 0
-IsFront p bytes = (x : Packet) × IsPacket x bytes × ((rest : List Packet) × (out_of p.course ≡ x ∷ rest))
+IsFront p bytes = (x : NodePacket) × IsPacket x bytes × ((rest : List NodePacket) × (out_of p.course ≡ x ∷ rest))
 
 -- so they are, and that packet is taken
 abbrev pub GivesBytes : List ℕ → TheProcess → TheProcess → Type 0
-GivesBytes bytes old new = (x : Packet) × IsPacket x bytes × Stays (Takes (Some x)) old new
+GivesBytes bytes old new = (x : NodePacket) × IsPacket x bytes × Stays (Takes (Some x)) old new

@@ -1,7 +1,7 @@
 -- A process as clauses see it
 use Rattle.std.specs.Prelude.{ℕ, List, [], Bool, true, false}
 use Rattle.images.specs.declared.any_image.AnyImage.{AnyImage}
-use Rattle.packets.specs.declared.packet.Packet.{Packet}
+use Rattle.packets.specs.declared.packet.NodePacket.{NodePacket}
 use Rattle.process.specs.declared.course.Course.{Course}
 use Rattle.process.specs.declared.course.Course.TheVariants.{Up, Collecting, Replaying, Replayed, Restoring, Passing}
 
@@ -25,7 +25,7 @@ state_of (Restoring n) = n.own.state
 state_of Passing = []
 
 -- the packets that wait
-abbrev pub out_of : Course → List Packet
+abbrev pub out_of : Course → List NodePacket
 out_of (Up n) = n.out
 out_of (Collecting n) = n.own.out
 out_of (Replaying n) = n.own.out

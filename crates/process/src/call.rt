@@ -13,7 +13,7 @@ use std::sync::Arc;
 
 /// Which job of a process it is.
 #[derive(Clone, Copy, PartialEq, Eq, Debug)]
-pub struct Ticket {
+pub struct HandlerTicket {
     /// The incarnation of the process.
     pub incarnation: u64,
     /// How many messages it received before this one.
@@ -22,15 +22,15 @@ pub struct Ticket {
 
 /// The arguments of a call.
 #[derive(Drop)]
-pub struct Call {
-    pub(crate) ticket: Ticket,
+pub struct HandlerCall {
+    pub(crate) ticket: HandlerTicket,
     pub(crate) image: Arc<Handler>,
     pub(crate) who: Who,
     pub(crate) payload: Payload,
     pub(crate) state: Vec<u8>,
 }
 
-impl Model for Call {
+impl Model for HandlerCall {
     ghost use Rattle.std.specs.Prelude.{◌≡◌, length};
     ghost use Rattle.std.specs.Arc.{arc_value};
     ghost use Rattle.handlers.specs.Handler.{image_of};
@@ -43,11 +43,11 @@ impl Model for Call {
     ghost invariant = { λ c. IsCallable (image_of (arc_value c.image)) c.who c.state.items };
 }
 
-impl Call {
+impl HandlerCall {
     ghost use Rattle.process.specs.Job.{IsSame};
 
     /// Whether it is this job, with this message and state, and a handler with the same code.
-    pub(crate) fn is(&self, ticket: Ticket, who: Who, payload: &Payload, state: &[u8]) -> bool
+    pub(crate) fn is(&self, ticket: HandlerTicket, who: Who, payload: &Payload, state: &[u8]) -> bool
         ensures { IsTrue result ↔ IsSame self.now ticket who payload.now state.now }
     {
         self.ticket == ticket

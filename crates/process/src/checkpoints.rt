@@ -7,12 +7,12 @@ ghost use Rattle.process.specs.Calls.{Stays, Freezes, FreezesAs, Thaws, may_free
 ghost use Rattle.process.specs.Checkpoints.{IsSavable, Keeps};
 
 use crate::course::Course;
-use crate::process::Process;
+use crate::process::Member;
 use limits::STATE_BYTES;
 use node::{MOST_KEPT, Node, Stage};
 use std::alloc::{AllocError, Global};
 
-impl Process {
+impl Member {
     /// The bytes that a checkpoint made now has to keep, if one can be made. If one can be, only
     /// memory can be refused.
     pub fn kept_bytes(&self, alloc: Global) -> Result<Option<Vec<u8>>, AllocError>
@@ -36,7 +36,7 @@ impl Process {
         }
     }
 
-    /// Makes a checkpoint; the process waits for it until [`Process::saved`]. Answers whether one
+    /// Makes a checkpoint; the process waits for it until [`Member::saved`]. Answers whether one
     /// was made: the process has to be up, with no job open and waiting for no checkpoint, and its
     /// logs must fit one.
     pub fn freeze(&mut self) -> bool

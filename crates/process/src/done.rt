@@ -3,21 +3,21 @@
 ghost use Rattle.std.specs.Prelude.{◌≡◌};
 ghost use Rattle.std.specs.Box.{box_value};
 
-use crate::call::{Call, Ticket};
+use crate::call::{HandlerCall, HandlerTicket};
 use helpers::Effects;
 use interp::CallEnd;
 use std::marker::Model;
 
 /// The answer of a handler call. Only `Job::run` makes one.
 #[derive(Drop)]
-pub struct Done {
-    pub(crate) call: Call,
+pub struct FinishedCall {
+    pub(crate) call: HandlerCall,
     pub(crate) next: Vec<u8>,
     pub(crate) effects: Box<Effects>,
     pub(crate) end: CallEnd,
 }
 
-impl Model for Done {
+impl Model for FinishedCall {
     ghost use Rattle.std.specs.Box.{box_value};
     ghost use Rattle.process.specs.Job.{TheDone, IsAnswerTo};
 
@@ -28,9 +28,9 @@ impl Model for Done {
     ghost invariant = { λ d. IsAnswerTo d.call (record { state = d.next.items; effects = box_value d.effects; r0 = d.end.r0; steps = d.end.steps }) };
 }
 
-impl Done {
+impl FinishedCall {
     /// Which job of its process it was.
-    pub fn ticket(&self) -> Ticket
+    pub fn ticket(&self) -> HandlerTicket
         ensures { result ≡ self.now.job.ticket }
     {
         self.call.ticket

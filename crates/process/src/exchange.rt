@@ -7,22 +7,22 @@ ghost use Rattle.process.specs.Holds.{entries_of};
 ghost use Rattle.process.specs.Work.{Rests, Works};
 ghost use Rattle.process.specs.Job.{HasNext, IsJobOf, IsCallOf, IsAnswered, WorksAs, IsUndone, IsUnanswered, ticket_at};
 
-use crate::call::{Call, Ticket};
-use crate::done::Done;
+use crate::call::{HandlerCall, HandlerTicket};
+use crate::done::FinishedCall;
 use crate::fault::Undone;
-use crate::job::Job;
-use crate::process::Process;
+use crate::job::HandlerJob;
+use crate::process::Member;
 use crate::work::given;
 use helpers::{Effects, Who};
 use node::OpenJob;
 use std::alloc::{AllocError, Global};
 use std::sync::Arc;
 
-impl Process {
+impl Member {
     /// The next call of the handler, to be made outside: on the message of the open job, or on the
-    /// next one of the replay. There is none if [`Process::work`] would run none. It stays the next
+    /// next one of the replay. There is none if [`Member::work`] would run none. It stays the next
     /// call until its answer is handed back.
-    pub fn job(&self, alloc: Global) -> Result<Option<Job>, AllocError>
+    pub fn job(&self, alloc: Global) -> Result<Option<HandlerJob>, AllocError>
         ensures some { IfOk result (λ o. IfSome o (IsJobOf self.now)) }
         ensures none { IfOk result (λ o. IfNone o (Rests self.now)) }
         ensures memory { OnErr result (HasNext self.now) }
@@ -33,23 +33,23 @@ impl Process {
         let state = Vec::from_slice(alloc, self.state())?;
         let next = Vec::from_slice(alloc, self.state())?;
         let effects = Box::new(alloc, Effects::new())?;
-        let call = Call {
+        let call = HandlerCall {
             ticket: self.ticket(),
             image: Arc::try_clone(&self.image)?,
             who,
             payload: message.payload,
             state,
         };
-        Ok(Some(Job {
+        Ok(Some(HandlerJob {
             call,
             next,
             effects,
         }))
     }
 
-    /// Takes the answer of a call that was made, as if [`Process::work`] had made it. A refusal
+    /// Takes the answer of a call that was made, as if [`Member::work`] had made it. A refusal
     /// changes nothing.
-    pub fn done(&mut self, alloc: Global, done: &Done) -> Result<(), Undone>
+    pub fn done(&mut self, alloc: Global, done: &FinishedCall) -> Result<(), Undone>
         ensures ok { OnOk result (Works self.old self.new) }
         ensures few { OnOk result (entries_of self.new ≤ entries_of self.old + MOST_GIVEN) }
         ensures refused { IfErr result (IsUndone self.old done.now.job) }
@@ -73,7 +73,7 @@ impl Process {
     pub fn done_unchecked(
         &mut self,
         alloc: Global,
-        ticket: Ticket,
+        ticket: HandlerTicket,
         state: &[u8],
         effects: &Effects,
     ) -> Result<(), Undone>
@@ -99,18 +99,18 @@ impl Process {
     }
 
     /// The ticket of the next job.
-    fn ticket(&self) -> Ticket
+    fn ticket(&self) -> HandlerTicket
         ensures { result ≡ ticket_at self.now.course }
     {
         let standing = self.standing();
-        Ticket {
+        HandlerTicket {
             incarnation: standing.incarnation,
             received: standing.length,
         }
     }
 
     /// Whether the next call is this one, on this message.
-    fn has(&self, call: &Call, message: &OpenJob, who: Who) -> bool
+    fn has(&self, call: &HandlerCall, message: &OpenJob, who: Who) -> bool
         ensures { IsTrue result ↔ IsCallOf self.now message.now who call.now }
     {
         call.is(self.ticket(), who, &message.payload, self.state())

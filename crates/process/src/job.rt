@@ -4,8 +4,8 @@ ghost use Rattle.std.specs.Prelude.{◌≡◌, length};
 ghost use Rattle.std.specs.Box.{box_value};
 ghost use Rattle.process.specs.Job.{array_size, shown_by, IsLaid};
 
-use crate::call::{Call, Ticket};
-use crate::done::Done;
+use crate::call::{HandlerCall, HandlerTicket};
+use crate::done::FinishedCall;
 use crate::layout::{lay_flat, lay_span, shown};
 use handlers::Handler;
 use helpers::{Effects, Who};
@@ -15,13 +15,13 @@ use std::marker::Model;
 
 /// A call of a process's handler that is to be made, with room for its answer.
 #[derive(Drop)]
-pub struct Job {
-    pub(crate) call: Call,
+pub struct HandlerJob {
+    pub(crate) call: HandlerCall,
     pub(crate) next: Vec<u8>,
     pub(crate) effects: Box<Effects>,
 }
 
-impl Model for Job {
+impl Model for HandlerJob {
     ghost use Rattle.std.specs.Prelude.{◌≡◌};
     ghost use Rattle.process.specs.Job.{TheJob};
 
@@ -32,9 +32,9 @@ impl Model for Job {
     ghost invariant = { λ j. j.next.items ≡ j.call.state };
 }
 
-impl Job {
+impl HandlerJob {
     /// Which job of its process it is.
-    pub fn ticket(&self) -> Ticket
+    pub fn ticket(&self) -> HandlerTicket
         ensures { result ≡ self.now.ticket }
     {
         self.call.ticket
@@ -80,10 +80,10 @@ impl Job {
     }
 
     /// Calls the handler. It takes no memory.
-    pub fn run(self) -> Done
+    pub fn run(self) -> FinishedCall
         ensures { result.job ≡ self }
     {
-        let Job {
+        let HandlerJob {
             call,
             mut next,
             mut effects,
@@ -93,7 +93,7 @@ impl Job {
         let end = call
             .image
             .call(state, &call.payload, call.who, &mut effects);
-        Done {
+        FinishedCall {
             call,
             next,
             effects,

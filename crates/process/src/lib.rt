@@ -1,19 +1,19 @@
 //! One process of a cluster, as one value through all its stages, from its opening through crashes
 //! and recoveries.
 //!
-//! A [`Process`] holds the image of its handler. It is a node that is up, or it is recovering: it
+//! A [`Member`] holds the image of its handler. It is a node that is up, or it is recovering: it
 //! collects what its peers' logs hold, replays that, and restores its RSNs. Its host makes the same
-//! calls in each stage: it hands it the packets that arrive ([`Process::receive_bytes`]), sends
-//! those that it gives ([`Process::take_bytes`]), has its handler run ([`Process::work`]), now and
-//! then has it send again what isn't answered ([`Process::tick`]), and keeps its checkpoints
-//! ([`Process::checkpoint`], [`Process::saved`]). It comes back from its kept state by
-//! [`Process::revive`]. In place of [`Process::work`] a host may call the handler itself:
-//! [`Process::job`] gives it the next call, and [`Process::done`] takes the answer.
+//! calls in each stage: it hands it the packets that arrive ([`Member::receive_bytes`]), sends
+//! those that it gives ([`Member::take_bytes`]), has its handler run ([`Member::work`]), now and
+//! then has it send again what isn't answered ([`Member::tick`]), and keeps its checkpoints
+//! ([`Member::checkpoint`], [`Member::saved`]). It comes back from its kept state by
+//! [`Member::revive`]. In place of [`Member::work`] a host may call the handler itself:
+//! [`Member::job`] gives it the next call, and [`Member::done`] takes the answer.
 //!
 //! Each call does exactly what the call of its stage does. Then the process goes on to the next
 //! stage if that one is over: when all peers have told all it recovers, when nothing is left to
 //! replay it restores its RSNs, when all have answered it is up. A refusal changes nothing. If
-//! memory is refused at the end of a stage, the process stays in it; each [`Process::tick`] tries
+//! memory is refused at the end of a stage, the process stays in it; each [`Member::tick`] tries
 //! again, and says why if it still can't go on.
 //!
 //! ```text
@@ -40,12 +40,12 @@ mod queries;
 mod checkpoints;
 mod work;
 
-pub use call::{Call, Ticket};
+pub use call::{HandlerCall, HandlerTicket};
 pub use course::Course;
-pub use done::Done;
+pub use done::FinishedCall;
 pub use fault::{Undone, Unrevived};
-pub use job::Job;
+pub use job::HandlerJob;
 pub use laws::{covered_are_dropped, entries_are_given, saved_drops};
-pub use process::Process;
+pub use process::Member;
 pub use queries::{MOST_ENTRIES, MOST_STORED};
 pub use recovery::Cause;

@@ -21,7 +21,7 @@ use std::sync::Arc;
 
 /// A process of a cluster, and its handler, which has an image of any form.
 #[derive(Drop)]
-pub struct Process {
+pub struct Member {
     pub(crate) image: Arc<Handler>,
     pub(crate) course: Course,
     /// Memory for what its handler sends, which is no part of its value.
@@ -30,7 +30,7 @@ pub struct Process {
     pub(crate) refused: Refused,
 }
 
-impl Model for Process {
+impl Model for Member {
     ghost use Rattle.std.specs.Arc.{arc_value};
     ghost use Rattle.handlers.specs.Handler.{image_of};
     ghost use Rattle.process.specs.Process.{TheProcess};
@@ -44,7 +44,7 @@ impl Model for Process {
     ghost invariant = { λ p. IsWithin p.course };
 }
 
-impl Process {
+impl Member {
     /// The process `me` of `count`, which received nothing. It keeps these limits for life.
     pub fn open(
         alloc: Global,
@@ -52,14 +52,14 @@ impl Process {
         limits: Limits,
         me: u8,
         count: u8,
-    ) -> Result<Process, AllocError>
+    ) -> Result<Member, AllocError>
         requires limits { AreAllowed limits }
         requires own { (1 ≤ me) × (me ≤ count) }
         requires few { count ≤ 15 }
         ensures { IfOk result (IsOpened (image_of (arc_value image)) limits me count) }
     {
         let node = Node::open(alloc, limits, me, count, image.state_len())?;
-        Ok(Process {
+        Ok(Member {
             image,
             course: Course::Up(node),
             effects: Effects::new(),
@@ -75,7 +75,7 @@ impl Process {
         limits: Limits,
         kept: &[u8],
         incarnation: u64,
-    ) -> Result<Process, Unrevived>
+    ) -> Result<Member, Unrevived>
         requires limits { AreAllowed limits }
         ensures revived { IfOk result (IsRevived (image_of (arc_value image)) limits kept.now incarnation) }
         ensures refused { IfErr result (IsUnrevived (image_of (arc_value image)) kept.now incarnation) }
@@ -88,7 +88,7 @@ impl Process {
             return Err(Unrevived::State);
         }
         match Collecting::revive(alloc, limits, &kept, incarnation) {
-            Ok(process) => Ok(Process {
+            Ok(process) => Ok(Member {
                 image,
                 course: Course::Collecting(process),
                 effects: Effects::new(),

@@ -1,7 +1,7 @@
 //! What a host reads of a process.
 
 ghost use Rattle.std.specs.Prelude.{◌≡◌, ◌≤◌, ◌∷◌, [], List, MatchOption};
-ghost use Rattle.packets.specs.declared.packet.Packet.{Packet};
+ghost use Rattle.packets.specs.declared.packet.NodePacket.{NodePacket};
 ghost use Rattle.handlers.specs.Handler.{image_of};
 ghost use Rattle.process.specs.Process.{out_of, state_of};
 ghost use Rattle.node.specs.declared.node.TheConstants.{WINDOW};
@@ -9,12 +9,12 @@ ghost use Rattle.process.specs.Calls.{standing_at};
 ghost use Rattle.process.specs.Bounds.{IsBounded, waiting_of};
 
 use crate::course::Course;
-use crate::process::Process;
+use crate::process::Member;
 use handlers::Handler;
 use helpers::Refused;
 use limits::PROCESSES;
 use node::{MOST_GIVEN, MOST_KEPT, Stage, Standing};
-use packets::Packet;
+use packets::NodePacket;
 use rsn::LIMIT;
 
 /// The stored state of a process has at most this many messages in its logs: fewer than
@@ -29,7 +29,7 @@ pub const MOST_ENTRIES: usize = 0xF_0010_0000;
 
 const _: () = prove!(MOST_ENTRIES == MOST_STORED + MOST_GIVEN * LIMIT);
 
-impl Process {
+impl Member {
     /// Its handler.
     pub fn handler(&self) -> &Handler
         ensures { image_of result.now ≡ self.now.image }
@@ -39,14 +39,14 @@ impl Process {
 
     /// How many sends and outputs helpers refused its handler since it was opened or revived, by
     /// cause. It is for people: no contract says anything of it, and it is only tested. It includes
-    /// the calls that a host handed back by [`Process::done`].
+    /// the calls that a host handed back by [`Member::done`].
     pub fn refused(&self) -> Refused {
         self.refused
     }
 
     /// The first packet that waits, if there is one.
-    pub fn front(&self) -> Option<&Packet>
-        ensures { MatchOption result (out_of self.now.course ≡ []) (λ x. (rest : List Packet) × (out_of self.now.course ≡ x.now ∷ rest)) }
+    pub fn front(&self) -> Option<&NodePacket>
+        ensures { MatchOption result (out_of self.now.course ≡ []) (λ x. (rest : List NodePacket) × (out_of self.now.course ≡ x.now ∷ rest)) }
     {
         match &self.course {
             Course::Up(process) => process.front(),

@@ -1,7 +1,7 @@
 //! Packets in and out, and what is sent again.
 
 ghost use Rattle.std.specs.Prelude.{◌≡◌, ◌∷◌, [], false, List, IfOk, IfErr, IfNone, IfSome, OnOk, OnErr, MatchOption};
-ghost use Rattle.packets.specs.declared.packet.Packet.{Packet};
+ghost use Rattle.packets.specs.declared.packet.NodePacket.{NodePacket};
 ghost use Rattle.packets.specs.Format.{Fits, IsPacket};
 ghost use Rattle.packets.specs.Faults.{IsReason};
 ghost use Rattle.node.specs.Bytes.{IsTaken};
@@ -11,21 +11,21 @@ ghost use Rattle.process.specs.Packets.{IsFront, GivesBytes};
 ghost use Rattle.process.specs.Transitions.{Passes, is_held, IsHeld};
 
 use crate::course::Course;
-use crate::process::Process;
-use packets::{Packet, PacketError, decode, encode, one_packet};
+use crate::process::Member;
+use packets::{NodePacket, PacketError, decode, encode, one_packet};
 use recovery::Cause;
 use std::alloc::{AllocError, Global};
 use std::mem::replace;
 
-impl Process {
-    /// Takes the bytes of a packet as [`Process::receive`] takes the packet. Any other bytes are
+impl Member {
+    /// Takes the bytes of a packet as [`Member::receive`] takes the packet. Any other bytes are
     /// refused by the first of their faults. A refusal changes nothing.
     pub fn receive_bytes(&mut self, alloc: Global, bytes: &[u8]) -> Result<(), PacketError>
         // Bytes that are taken are those of one packet.
-        ensures found { OnOk result ((p : Packet) × IsPacket p bytes.now) }
-        ensures calls { OnOk result ((p : Packet) → IsPacket p bytes.now → Calls (IsHanded p) self.old self.new) }
+        ensures found { OnOk result ((p : NodePacket) × IsPacket p bytes.now) }
+        ensures calls { OnOk result ((p : NodePacket) → IsPacket p bytes.now → Calls (IsHanded p) self.old self.new) }
         // The bytes of a packet are taken, unless memory runs out.
-        ensures only { (p : Packet) → IsPacket p bytes.now → IsTaken result }
+        ensures only { (p : NodePacket) → IsPacket p bytes.now → IsTaken result }
         ensures refused { IfErr result (λ e. IsReason e bytes.now) }
         ensures err { OnErr result (self.new ≡ self.old) }
     {
@@ -37,7 +37,7 @@ impl Process {
 
     /// Takes a packet. While messages are to be replayed it drops it, but in each stage it answers
     /// a peer that is recovering too. A refusal changes nothing.
-    pub fn receive(&mut self, alloc: Global, packet: &Packet) -> Result<(), AllocError>
+    pub fn receive(&mut self, alloc: Global, packet: &NodePacket) -> Result<(), AllocError>
         ensures calls { OnOk result (Calls (IsHanded packet.now) self.old self.new) }
         ensures err { OnErr result (self.new ≡ self.old) }
     {
@@ -58,7 +58,7 @@ impl Process {
     }
 
     /// Takes the first packet that waits to be sent, if there is one.
-    pub fn take(&mut self) -> Option<Packet>
+    pub fn take(&mut self) -> Option<NodePacket>
         ensures { Stays (Takes result) self.old self.new }
     {
         self.course.pop()
@@ -82,7 +82,7 @@ impl Process {
 
     /// Drops the first packet that waits.
     fn discard(&mut self)
-        ensures { (x : Packet) (rest : List Packet) → out_of self.old.course ≡ x ∷ rest → Stays (Takes (Some x)) self.old self.new }
+        ensures { (x : NodePacket) (rest : List NodePacket) → out_of self.old.course ≡ x ∷ rest → Stays (Takes (Some x)) self.old self.new }
     {
         let _packet = self.take();
     }
@@ -139,7 +139,7 @@ impl Process {
 
 impl Course {
     /// Takes a packet. A refusal changes nothing.
-    fn hand(&mut self, alloc: Global, packet: &Packet) -> Result<(), AllocError>
+    fn hand(&mut self, alloc: Global, packet: &NodePacket) -> Result<(), AllocError>
         ensures ok { OnOk result (IsHanded packet.now self.old self.new) }
         ensures err { OnErr result (self.new ≡ self.old) }
     {
@@ -177,7 +177,7 @@ impl Course {
     }
 
     /// Takes the first packet that waits, if there is one.
-    fn pop(&mut self) -> Option<Packet>
+    fn pop(&mut self) -> Option<NodePacket>
         ensures { Takes result self.old self.new }
     {
         match self {
@@ -192,7 +192,7 @@ impl Course {
 }
 
 /// The bytes of a packet.
-fn written(alloc: Global, packet: &Packet) -> Result<Option<Vec<u8>>, AllocError>
+fn written(alloc: Global, packet: &NodePacket) -> Result<Option<Vec<u8>>, AllocError>
     requires { Fits packet.now }
     ensures { IfOk result (λ o. MatchOption o ⊥ (λ v. IsPacket packet.now v.items)) }
 {

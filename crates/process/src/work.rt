@@ -8,12 +8,12 @@ ghost use Rattle.process.specs.Holds.{entries_of};
 ghost use Rattle.process.specs.Work.{job_at, is_other, given_of, sent_by, shown_of, TakesIn, MayTakeIn, Works, Rests};
 
 use crate::course::Course;
-use crate::process::Process;
+use crate::process::Member;
 use helpers::{Effects, Payload, Refused, Sent, Who};
 use node::{Given, OpenJob};
 use std::alloc::{AllocError, Global};
 
-impl Process {
+impl Member {
     /// The message that the handler is to run on, and the identity that it is called with: the
     /// message of the open job, or the next one of the replay, if there is one.
     fn next_job(&self) -> Option<(OpenJob, Who)>
@@ -55,7 +55,7 @@ impl Process {
         self.next_job().is_none()
     }
 
-    /// The same as [`Process::work`]. A host often asks when there is nothing to run on, so the
+    /// The same as [`Member::work`]. A host often asks when there is nothing to run on, so the
     /// part that needs stack space is kept apart here.
     #[inline(never)]
     fn run(&mut self, alloc: Global) -> Result<bool, AllocError>

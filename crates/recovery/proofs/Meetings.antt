@@ -7,7 +7,7 @@ use Rattle.cluster.specs.Cluster.{Cluster}
 use Rattle.packets.specs.Packet.{in_range}
 use Rattle.packets.specs.declared.packet.Body as bodies
 use Rattle.packets.specs.declared.packet.Body.TheVariants as packets
-use Rattle.packets.specs.declared.packet.Packet.{Packet}
+use Rattle.packets.specs.declared.packet.NodePacket.{NodePacket}
 use Rattle.node.specs.Stands.{Each}
 use Rattle.recovery.specs.Own.{TheOwn, is_for}
 use Rattle.recovery.specs.Overlap.{heard_of, tells_loss, meets, asked_by, heard, handed}
@@ -47,7 +47,7 @@ newer-doubts q i k o newer = let e : nat_lt i (heard_of q o) ≡ false = grind (
 
 -- where it stays exact, it has only more packets to be taken
 abbrev pub OnlyTells : Cluster → ℕ → TheOwn → TheOwn → Type 0
-OnlyTells c p o new = new.exact ≡ true → (rest : List Packet) × ((new ≡ record o { out = rest }) × Each (IsSent c.count c.parcels p) rest)
+OnlyTells c p o new = new.exact ≡ true → (rest : List NodePacket) × ((new ≡ record o { out = rest }) × Each (IsSent c.count c.parcels p) rest)
 
 module _ (o : TheOwn) (c : Cluster) (p : ℕ) (out : Each (IsSent c.count c.parcels p) o.out) where
   none-told : OnlyTells c p o o
@@ -70,17 +70,17 @@ module _ (o : TheOwn) (c : Cluster) (p : ℕ) (out : Each (IsSent c.count c.parc
   hears from (packets.Restored i j n s flags pairs) = none-told
   hears from (packets.Saved n) = none-told
 
-  pub only-tells : (x : Packet) → OnlyTells c p o (handed x o)
+  pub only-tells : (x : NodePacket) → OnlyTells c p o (handed x o)
   only-tells x = by-own (OnlyTells c p o) (is_for o x && in_range x.body) (heard x.from x.body o) o (λ e. hears x.from x.body) (λ e. none-told)
 
 -- so it stands where it stood
-pub replaying-stays : (n : TheReplaying) (x : Packet) → Stays n (record n { own = handed x n.own })
+pub replaying-stays : (n : TheReplaying) (x : NodePacket) → Stays n (record n { own = handed x n.own })
 replaying-stays n x exact c p s =
     let t = only-tells n.own c p s.own.out x exact in
     let P : TheOwn → Type 0 = λ o. StandsReplaying (record n { own = o }) c p in
     subst P (sym t.1.0) (replaying-out n c p t.0 t.1.1 s)
 
-pub replayed-stays : (n : TheReplayed) (x : Packet) → ReplayedStays n (record n { own = handed x n.own })
+pub replayed-stays : (n : TheReplayed) (x : NodePacket) → ReplayedStays n (record n { own = handed x n.own })
 replayed-stays n x exact c p s =
     let t = only-tells n.own c p s.own.out x exact in
     let P : TheOwn → Type 0 = λ o. StandsReplayed (record n { own = o }) c p in

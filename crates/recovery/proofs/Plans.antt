@@ -12,7 +12,7 @@ use Rattle.cluster.specs.Rules.{IsAll, entry_in, told_by, plan, kept_by}
 use Rattle.node.specs.declared.job.OpenJob.{OpenJob}
 use Rattle.node.specs.Stands.{job_of}
 use Rattle.node.proofs.Lists.{count-append}
-use Rattle.packets.specs.declared.page.Entry.{Entry}
+use Rattle.packets.specs.declared.page.LoggedMessage.{LoggedMessage}
 use Rattle.packets.specs.Says.{first_told}
 use Rattle.recovery.specs.Collected.{TheCollected}
 use Rattle.recovery.specs.Collection.{TheCollecting, told_of}
@@ -41,7 +41,7 @@ first-same : {X : Type 0} (f g : ℕ → Option X) (n : ℕ) → ((i : ℕ) → 
 first-same f g zero e = refl
 first-same f g (suc n) e = rw (first-same f g n (λ i l. e i (omega (arith, l))), e n (omega arith)) refl
 
-told-sender : (q : ℕ) (es : List Entry) (m : ℕ) (x : Message) → first_told q es m ≡ Some x → x.sender ≡ q
+told-sender : (q : ℕ) (es : List LoggedMessage) (m : ℕ) (x : Message) → first_told q es m ≡ Some x → x.sender ≡ q
 told-sender q [] m x e = absurd (cc)
 told-sender q (y ∷ es) m x e = split (y.number == m) refl (told-sender q es m x)
   where

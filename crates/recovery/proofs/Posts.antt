@@ -6,7 +6,7 @@ use Rattle.cluster.specs.Parcels.{Body, In, parcel}
 use Rattle.cluster.specs.Cluster.{Cluster}
 use Rattle.cluster.specs.Rules.{Puts, does}
 use Rattle.packets.specs.declared.packet.Body as bodies
-use Rattle.packets.specs.declared.packet.Packet.{Packet}
+use Rattle.packets.specs.declared.packet.NodePacket.{NodePacket}
 use Rattle.packets.specs.Says.{Says}
 use Rattle.packets.specs.Outbox.{pushed}
 use Rattle.node.specs.Stands.{Each}
@@ -21,11 +21,11 @@ use Rattle.recovery.specs.Stands.{HasOwn, IsSent, StandsCollecting}
 use Rattle.recovery.specs.StandsAtReplay.{StandsReplaying}
 
 -- a packet that was put out still is among more parcels
-pub sent-still : (c d : Cluster) (p : ℕ) (x : Packet) → c.count ≡ d.count → ((b : Body) → In (parcel p x.to b) c.parcels → In (parcel p x.to b) d.parcels) → IsSent c.count c.parcels p x → IsSent d.count d.parcels p x
+pub sent-still : (c d : Cluster) (p : ℕ) (x : NodePacket) → c.count ≡ d.count → ((b : Body) → In (parcel p x.to b) c.parcels → In (parcel p x.to b) d.parcels) → IsSent c.count c.parcels p x → IsSent d.count d.parcels p x
 sent-still c d p x same more s e = put-still c d p x same more (s e)
 
 -- with other packets that were put out
-pub own-out : (o : TheOwn) (c : Cluster) (p : ℕ) (h : List Message) (trims : ℕ → ℕ) (numbers : ℕ → ℕ → Option ℕ) (rest : List Packet)
+pub own-out : (o : TheOwn) (c : Cluster) (p : ℕ) (h : List Message) (trims : ℕ → ℕ) (numbers : ℕ → ℕ → Option ℕ) (rest : List NodePacket)
     → Each (IsSent c.count c.parcels p) rest → HasOwn o c p h trims numbers → HasOwn (record o { out = rest }) c p h trims numbers
 own-out o c p h trims numbers rest out s =
     record {
@@ -44,7 +44,7 @@ own-out o c p h trims numbers rest out s =
       out = out;
     }
 
-pub collecting-out : (n : TheCollecting) (c : Cluster) (p : ℕ) (rest : List Packet) → Each (IsSent c.count c.parcels p) rest → StandsCollecting n c p → StandsCollecting (record n { own = record n.own { out = rest } }) c p
+pub collecting-out : (n : TheCollecting) (c : Cluster) (p : ℕ) (rest : List NodePacket) → Each (IsSent c.count c.parcels p) rest → StandsCollecting n c p → StandsCollecting (record n { own = record n.own { out = rest } }) c p
 collecting-out n c p rest out s =
     record {
       stage = s.stage;
@@ -54,7 +54,7 @@ collecting-out n c p rest out s =
       alone = s.alone;
     }
 
-pub replaying-out : (n : TheReplaying) (c : Cluster) (p : ℕ) (rest : List Packet) → Each (IsSent c.count c.parcels p) rest → StandsReplaying n c p → StandsReplaying (record n { own = record n.own { out = rest } }) c p
+pub replaying-out : (n : TheReplaying) (c : Cluster) (p : ℕ) (rest : List NodePacket) → Each (IsSent c.count c.parcels p) rest → StandsReplaying n c p → StandsReplaying (record n { own = record n.own { out = rest } }) c p
 replaying-out n c p rest out s =
     record {
       stage = s.stage;
@@ -72,7 +72,7 @@ replaying-out n c p rest out s =
       released = s.released;
     }
 
-pub replayed-out : (n : TheReplayed) (c : Cluster) (p : ℕ) (rest : List Packet) → Each (IsSent c.count c.parcels p) rest → StandsReplayed n c p → StandsReplayed (record n { own = record n.own { out = rest } }) c p
+pub replayed-out : (n : TheReplayed) (c : Cluster) (p : ℕ) (rest : List NodePacket) → Each (IsSent c.count c.parcels p) rest → StandsReplayed n c p → StandsReplayed (record n { own = record n.own { out = rest } }) c p
 replayed-out n c p rest out s =
     record {
       stage = s.stage;

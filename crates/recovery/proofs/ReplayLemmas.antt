@@ -3,7 +3,7 @@ use Rattle.std.proofs.Common.{◌≡◌, ◌≢◌, ℕ, zero, suc, ◌+◌, ◌
 use Rattle.std.specs.Prelude.{Option, Some, None, slice_get, nat_le, nat_lt, if◌then◌else◌}
 use Rattle.std.proofs.lemmas.Bool.Decides.{nat_tests}
 use Rattle.std.proofs.lemmas.List.{length-take, length-drop, length-map, take_more, get_or-drop, take-append-le, take_all}
-use Rattle.packets.specs.declared.packet.Packet.{Packet}
+use Rattle.packets.specs.declared.packet.NodePacket.{NodePacket}
 use Rattle.world.specs.declared.message.Message.{Message}
 use Rattle.world.specs.History.{count_of}
 use Rattle.world.specs.Phases.{Phase, Replaying}
@@ -200,7 +200,7 @@ ends-so n over within c p s =
     }
 
 -- the first packet that waits leaves
-pub replaying-takes : (o : Option Packet) (n : TheReplaying) (rest : List Packet) → Pops o n.own.out rest → Takes o n (record n { own = record n.own { out = rest } })
+pub replaying-takes : (o : Option NodePacket) (n : TheReplaying) (rest : List NodePacket) → Pops o n.own.out rest → Takes o n (record n { own = record n.own { out = rest } })
 replaying-takes None n rest e =
     (e.0, ap (λ xs. record n { own = record n.own { out = xs } }) e.1 ∙ ap (λ xs. record n { own = record n.own { out = xs } }) (let back : [] ≡ n.own.out = (cc) in back))
 replaying-takes (Some x) n rest e = (
@@ -208,7 +208,7 @@ replaying-takes (Some x) n rest e = (
   λ c s. (let out : Each (IsSent c.count c.parcels n.own.me) (x ∷ rest) = subst (Each (IsSent c.count c.parcels n.own.me)) e s.own.out in (out.0, replaying-out n c n.own.me rest out.1 s)),
 )
 
-pub collecting-takes : (o : Option Packet) (n : TheCollecting) (rest : List Packet) → Pops o n.own.out rest → CollectingTakes o n (record n { own = record n.own { out = rest } })
+pub collecting-takes : (o : Option NodePacket) (n : TheCollecting) (rest : List NodePacket) → Pops o n.own.out rest → CollectingTakes o n (record n { own = record n.own { out = rest } })
 collecting-takes None n rest e =
     (e.0, ap (λ xs. record n { own = record n.own { out = xs } }) e.1 ∙ ap (λ xs. record n { own = record n.own { out = xs } }) (let back : [] ≡ n.own.out = (cc) in back))
 collecting-takes (Some x) n rest e = (

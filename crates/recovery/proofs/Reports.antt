@@ -9,11 +9,11 @@ use Rattle.cluster.specs.Parcels.{Body, Ask, Told, In, parcel, reaches}
 use Rattle.cluster.specs.Cluster.{Cluster, Collected}
 use Rattle.cluster.specs.Rules.{Act, Hears, Collects, Asks, May, does, with_page as with_told}
 use Rattle.packets.specs.Packet.{is_done, is_lost, is_exact, in_range}
-use Rattle.packets.specs.declared.page.Entry.{Entry}
+use Rattle.packets.specs.declared.page.LoggedMessage.{LoggedMessage}
 use Rattle.packets.specs.declared.page.Flags.{Flags}
 use Rattle.packets.specs.declared.packet.Body as bodies
 use Rattle.packets.specs.declared.packet.Body.TheVariants as packets
-use Rattle.packets.specs.declared.packet.Packet.{Packet}
+use Rattle.packets.specs.declared.packet.NodePacket.{NodePacket}
 use Rattle.recovery.specs.Own.{hears, learns, is_for}
 use Rattle.recovery.specs.Overlap.{heard_of, tells_loss}
 use Rattle.packets.specs.Says.{WasSaid, told_end, first_told}
@@ -53,7 +53,7 @@ is-answer n from i j k e =
       cursor = (let z : (k == x.cursor) ≡ true = b.1 in grind (arith, nat_tests));
     }
 
-module _ (n : TheCollecting) (c : Cluster) (from i j k : ℕ) (flags : Flags) (page : List Entry) (f : ℕ → Option Message) (s : StandsCollecting n c n.own.me) (low : from ≤ n.own.count) (other : from ≢ n.own.me)
+module _ (n : TheCollecting) (c : Cluster) (from i j k : ℕ) (flags : Flags) (page : List LoggedMessage) (f : ℕ → Option Message) (s : StandsCollecting n c n.own.me) (low : from ≤ n.own.count) (other : from ≢ n.own.me)
     (told_wide : length n.told ≡ suc n.own.count) (heard_wide : length n.own.heard ≡ suc n.own.count) (ok : IsAnswer n from i j k) (fits : IsPage k page) (given : In (parcel from n.own.me (Told i j k (told_end flags k page) f)) c.parcels)
     (says : (m : ℕ) → k < m → reaches (told_end flags k page) m ≡ true → f m ≡ first_told from page m) (exact : n.own.exact && (not (is_lost flags) && is_exact flags) ≡ true) (kept : is_lost flags ≡ false) where
   abbrev me : ℕ
@@ -208,10 +208,10 @@ module _ (n : TheCollecting) (c : Cluster) (from : ℕ) (s : StandsCollecting n 
       (λ newer z. tells-so (asks_anew from i n) n.own.me from i k c (goes-anew n c from i k s low other wide heard_wide newer given))
       (λ old z. tells-so n n.own.me from i k c (goes-self n.own.me (At n n.own.me) c s)))
 
-  exact-page : (j : ℕ) (flags : Flags) (page : List Entry) → (took_page from j flags page n).own.exact ≡ n.own.exact && (not (is_lost flags) && is_exact flags)
+  exact-page : (j : ℕ) (flags : Flags) (page : List LoggedMessage) → (took_page from j flags page n).own.exact ≡ n.own.exact && (not (is_lost flags) && is_exact flags)
   exact-page j flags page = ap (λ (z : TheCollecting). z.own.exact) (only-asks (record { own = learns from j flags n.own; told = slice_set n.told from (with_page (is_done flags) page (told_of n.told from)) }) from)
 
-  page-heard : (i j k : ℕ) (flags : Flags) (page : List Entry) → IsSaid c.parcels from n.own.me (packets.Told i j k flags page) → Onward n.own.me c (heard from (packets.Told i j k flags page) n)
+  page-heard : (i j k : ℕ) (flags : Flags) (page : List LoggedMessage) → IsSaid c.parcels from n.own.me (packets.Told i j k flags page) → Onward n.own.me c (heard from (packets.Told i j k flags page) n)
   page-heard i j k flags page said =
       by-branch (Onward n.own.me c) (in_range (packets.Told i j k flags page) && answers from i j k n) (took_page from j flags page n) n
       (λ e z. let two = both (in_range (packets.Told i j k flags page)) (answers from i j k n) e in
@@ -240,7 +240,7 @@ module _ (n : TheCollecting) (c : Cluster) (from : ℕ) (s : StandsCollecting n 
   hearing (packets.Saved k) said = none-heard
 
 -- a packet comes
-pub handing : (n : TheCollecting) (x : Packet) → length n.told ≡ suc n.own.count → length n.own.heard ≡ suc n.own.count → IsHanded x n (handed x n)
+pub handing : (n : TheCollecting) (x : NodePacket) → length n.told ≡ suc n.own.count → length n.own.heard ≡ suc n.own.count → IsHanded x n (handed x n)
 handing n x wide heard_wide exact c s said =
     let me = n.own.me in
     let o = n.own in

@@ -10,7 +10,7 @@ use Rattle.packets.specs.declared.packet.Body.TheVariants as packets
 use Rattle.node.proofs.Commits.{long}
 use Rattle.recovery.specs.Own.{posts}
 use Rattle.recovery.specs.Intake.{keeps}
-use Rattle.packets.specs.declared.packet.Packet.{Packet}
+use Rattle.packets.specs.declared.packet.NodePacket.{NodePacket}
 use Rattle.node.specs.Stands.{Each}
 use Rattle.recovery.specs.Stands.{IsSent, GoesTo}
 use Rattle.recovery.proofs.Acts.{goes-self, goes-one, goes-then}
@@ -40,7 +40,7 @@ not-well n c p (suc q) s low open_is =
     rw (s.stage, e) (both-off (c.greeted p))
 
 -- with other packets that were put out
-pub restoring-out : (n : TheRestoring) (c : Cluster) (p : ℕ) (rest : List Packet) → Each (IsSent c.count c.parcels p) rest → StandsRestoring n c p → StandsRestoring (record n { own = record n.own { out = rest } }) c p
+pub restoring-out : (n : TheRestoring) (c : Cluster) (p : ℕ) (rest : List NodePacket) → Each (IsSent c.count c.parcels p) rest → StandsRestoring n c p → StandsRestoring (record n { own = record n.own { out = rest } }) c p
 restoring-out n c p rest out s =
     record {
       stage = s.stage;

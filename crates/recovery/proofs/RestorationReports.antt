@@ -16,7 +16,7 @@ use Rattle.packets.specs.declared.page.Pair.{Pair}
 use Rattle.packets.specs.declared.page.Flags.{Flags}
 use Rattle.packets.specs.declared.packet.Body as bodies
 use Rattle.packets.specs.declared.packet.Body.TheVariants as packets
-use Rattle.packets.specs.declared.packet.Packet.{Packet}
+use Rattle.packets.specs.declared.packet.NodePacket.{NodePacket}
 use Rattle.node.specs.Queue.{TheQueue, dropped_to}
 use Rattle.node.specs.Node.{log_at}
 use Rattle.packets.specs.Says.{WasSaid, restored_end, first_number}
@@ -438,7 +438,7 @@ module _ (n : TheRestoring) (c : Cluster) (from : ℕ) (st : StandsRestoring n c
   hearing (packets.Saved k) said = none-heard
 
 -- a packet comes
-pub handing : (n : TheRestoring) (x : Packet) → IsRestoring n.own n.above n.answered → IsHanded x n (handed x n)
+pub handing : (n : TheRestoring) (x : NodePacket) → IsRestoring n.own n.above n.answered → IsHanded x n (handed x n)
 handing n x w exact c st said =
     let me = n.own.me in
     let o = n.own in

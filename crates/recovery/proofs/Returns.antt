@@ -11,7 +11,7 @@ use Rattle.world.specs.Logs.{run_to, sent_in_all}
 use Rattle.theorems.proofs.RunLemmas.{run_to-whole}
 use Rattle.theorems.proofs.Tests.{both}
 use Rattle.cluster.specs.Cluster.{Cluster, seen, waiting}
-use Rattle.packets.specs.declared.packet.Packet.{Packet}
+use Rattle.packets.specs.declared.packet.NodePacket.{NodePacket}
 use Rattle.node.specs.Queue.{TheQueue, released_all, released_again}
 use Rattle.node.specs.Node.{log_at}
 use Rattle.packets.specs.Outbox.{Pops}
@@ -118,7 +118,7 @@ pub is-up : (n : TheRestoring) → is_up n ≡ true → IsUp n (up n)
 is-up n all c s = stands-up n c s all
 
 -- the first packet that waits leaves
-pub takes-so : (o : Option Packet) (n : TheRestoring) (rest : List Packet) → Pops o n.own.out rest → Takes o n (record n { own = record n.own { out = rest } })
+pub takes-so : (o : Option NodePacket) (n : TheRestoring) (rest : List NodePacket) → Pops o n.own.out rest → Takes o n (record n { own = record n.own { out = rest } })
 takes-so None n rest e = (e.0, ap (λ xs. record n { own = record n.own { out = xs } }) e.1 ∙ ap (λ xs. record n { own = record n.own { out = xs } }) (let back : [] ≡ n.own.out = (cc) in back))
 takes-so (Some x) n rest e = (
   ap (λ xs. record n { own = record n.own { out = xs } }) e,

@@ -7,7 +7,7 @@ use Rattle.cluster.specs.Parcels.{reaches}
 use Rattle.cluster.specs.Cluster.{Collected}
 use Rattle.cluster.specs.Rules.{Asks, entry_in, with_page as with_told}
 use Rattle.packets.specs.Packet.{is_done}
-use Rattle.packets.specs.declared.page.Entry.{Entry}
+use Rattle.packets.specs.declared.page.LoggedMessage.{LoggedMessage}
 use Rattle.packets.specs.declared.page.Flags.{Flags}
 use Rattle.node.specs.Stands.{Each}
 use Rattle.packets.specs.Says.{told_end, first_told}
@@ -25,7 +25,7 @@ reached-cursor : (base k m : ℕ) (t : Option Collected) → Asks base t k → m
 reached-cursor base k m None a l = refl
 reached-cursor base k m (Some t) a l = rw a (let e : nat_le m k ≡ true = grind (arith, nat_tests) in e)
 
-module _ (q base k : ℕ) (x : TheCollected) (t : Option Collected) (flags : Flags) (page : List Entry) (f : ℕ → Option Message) (old : IsTold q base x t) (open_is : x.done ≡ false) (cursor : k ≡ x.cursor) (fits : IsPage k page)
+module _ (q base k : ℕ) (x : TheCollected) (t : Option Collected) (flags : Flags) (page : List LoggedMessage) (f : ℕ → Option Message) (old : IsTold q base x t) (open_is : x.done ≡ false) (cursor : k ≡ x.cursor) (fits : IsPage k page)
     (says : (m : ℕ) → k < m → reaches (told_end flags k page) m ≡ true → f m ≡ first_told q page m) where
   abbrev new : TheCollected
   new = with_page (is_done flags) page x
@@ -36,7 +36,7 @@ module _ (q base k : ℕ) (x : TheCollected) (t : Option Collected) (flags : Fla
   asked : Asks base t k
   asked = rw cursor (old.asks open_is)
 
-  low-at : Each (λ (e : Entry). e.number ≤ k) x.entries
+  low-at : Each (λ (e : LoggedMessage). e.number ≤ k) x.entries
   low-at = rw cursor (old.low open_is)
 
   asks-next : (b : Bool) → is_done flags ≡ b → b ≡ false → told_end flags k page ≡ Some new.cursor
@@ -46,12 +46,12 @@ module _ (q base k : ℕ) (x : TheCollected) (t : Option Collected) (flags : Fla
   all-told : is_done flags ≡ true → told_end flags k page ≡ None
   all-told e = rw e refl
 
-  low-next : (b : Bool) → is_done flags ≡ b → b ≡ false → Each (λ (e : Entry). e.number ≤ new.cursor) (x.entries ++ page)
+  low-next : (b : Bool) → is_done flags ≡ b → b ≡ false → Each (λ (e : LoggedMessage). e.number ≤ new.cursor) (x.entries ++ page)
   low-next true e g = absurd (cc)
   low-next false e g =
       let at : new.cursor ≡ last_number k page = rw (e, sym cursor) refl in
       let least : k ≤ last_number k page = last-least k page fits in
-      rw at (each-append (λ (e : Entry). e.number ≤ last_number k page) x.entries page (each-more (λ (e : Entry). e.number ≤ k) (λ (e : Entry). e.number ≤ last_number k page) x.entries (λ e l. omega (arith, l, least)) low-at) fits.last)
+      rw at (each-append (λ (e : LoggedMessage). e.number ≤ last_number k page) x.entries page (each-more (λ (e : LoggedMessage). e.number ≤ k) (λ (e : LoggedMessage). e.number ≤ last_number k page) x.entries (λ e l. omega (arith, l, least)) low-at) fits.last)
 
   entries-next : (m : ℕ) → base < m → reaches (told_end flags k page) m ≡ true → (b : Bool) → nat_le m k ≡ b → (if b then entry_in t m else f m) ≡ first_told q (x.entries ++ page) m
   entries-next m l r true e =
@@ -69,6 +69,6 @@ module _ (q base k : ℕ) (x : TheCollected) (t : Option Collected) (flags : Fla
     entries = λ m l r. entries-next m l r (nat_le m k) refl;
   }
 
-pub told-page : (q base k : ℕ) (x : TheCollected) (t : Option Collected) (flags : Flags) (page : List Entry) (f : ℕ → Option Message) → IsTold q base x t → x.done ≡ false → k ≡ x.cursor → IsPage k page
+pub told-page : (q base k : ℕ) (x : TheCollected) (t : Option Collected) (flags : Flags) (page : List LoggedMessage) (f : ℕ → Option Message) → IsTold q base x t → x.done ≡ false → k ≡ x.cursor → IsPage k page
     → ((m : ℕ) → k < m → reaches (told_end flags k page) m ≡ true → f m ≡ first_told q page m) → IsTold q base (with_page (is_done flags) page x) (Some (with_told t k (told_end flags k page) f))
 told-page q base k x t flags page f old open_is cursor fits says = told-more q base k x t flags page f old open_is cursor fits says

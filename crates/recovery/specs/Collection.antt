@@ -1,12 +1,12 @@
 -- A process that collects as clauses see it, and after each of its calls
 use Rattle.std.specs.Prelude.{◌≡◌, ℕ, zero, suc, ◌+◌, List, [], length, replicate, Bool, false, not, ◌&&◌, ◌==◌, nat_lt, nat_le, if◌then◌else◌, slice_index_or, slice_set}
 use Rattle.packets.specs.Packet.{is_done, in_range}
-use Rattle.packets.specs.declared.page.Entry.{Entry}
+use Rattle.packets.specs.declared.page.LoggedMessage.{LoggedMessage}
 use Rattle.packets.specs.declared.page.Flags.{Flags}
 use Rattle.packets.specs.declared.kept.Kept.{Kept}
 use Rattle.packets.specs.declared.packet.Body.{Body}
 use Rattle.packets.specs.declared.packet.Body.TheVariants.{Ask, Told}
-use Rattle.packets.specs.declared.packet.Packet.{Packet}
+use Rattle.packets.specs.declared.packet.NodePacket.{NodePacket}
 use Rattle.node.specs.declared.limit.Limits.{Limits}
 use Rattle.recovery.specs.Own.{TheOwn, IsShort, posts, is_for, hears, learns, own_of}
 use Rattle.recovery.specs.Overlap.{heard_of, tells_loss}
@@ -54,7 +54,7 @@ answers from i j k n =
     (i == n.own.life) && nat_le (heard_of from n.own) j && not (told_of n.told from).done && (k == (told_of n.told from).cursor)
 
 -- adds the page, and asks the peer for the next one
-abbrev pub took_page : ℕ → ℕ → Flags → List Entry → TheCollecting → TheCollecting
+abbrev pub took_page : ℕ → ℕ → Flags → List LoggedMessage → TheCollecting → TheCollecting
 took_page from j flags page n =
     asks from (record { own = learns from j flags n.own; told = slice_set n.told from (with_page (is_done flags) page (told_of n.told from)) })
 
@@ -76,5 +76,5 @@ heard from (Ask i k) n = if in_range (Ask i k) then asked_by from i k n else n
 heard from body n = n
 
 -- takes a packet
-abbrev pub handed : Packet → TheCollecting → TheCollecting
+abbrev pub handed : NodePacket → TheCollecting → TheCollecting
 handed x n = if is_for n.own x then heard x.from x.body n else n

@@ -3,7 +3,7 @@ use Rattle.std.specs.Prelude.{ℕ, [], Bool, true, false, ◌&&◌, nat_lt, if�
 use Rattle.packets.specs.Packet.{is_lost, flags_of, in_range}
 use Rattle.packets.specs.declared.packet.Body.{Body}
 use Rattle.packets.specs.declared.packet.Body.TheVariants.{Ask, Told}
-use Rattle.packets.specs.declared.packet.Packet.{Packet}
+use Rattle.packets.specs.declared.packet.NodePacket.{NodePacket}
 use Rattle.node.specs.Queue.{forgotten_above}
 use Rattle.node.specs.Node.{log_at}
 use Rattle.recovery.specs.Own.{TheOwn, posts, is_for, hears}
@@ -38,5 +38,5 @@ heard from (Ask i k) o = asked_by from i k o
 heard from body o = o
 
 -- takes a packet
-abbrev pub handed : Packet → TheOwn → TheOwn
+abbrev pub handed : NodePacket → TheOwn → TheOwn
 handed x o = if is_for o x && in_range x.body then heard x.from x.body o else o

@@ -1,7 +1,7 @@
 -- The part of a recovering process that all its stages share, as clauses see it
 use Rattle.std.specs.Prelude.{◌≡◌, ◌≢◌, ℕ, suc, ◌+◌, ◌*◌, ◌≤◌, List, [], length, map, replicate, slice_get, slice_index_or, slice_set, Some, Bool, true, false, not, ◌&&◌, ◌==◌, nat_le}
 use Rattle.packets.specs.declared.packet.Body.{Body}
-use Rattle.packets.specs.declared.packet.Packet.{Packet}
+use Rattle.packets.specs.declared.packet.NodePacket.{NodePacket}
 use Rattle.packets.specs.Packet.{is_lost, is_exact}
 use Rattle.packets.specs.declared.page.Flags.{Flags}
 use Rattle.packets.specs.declared.kept.Kept.{Kept}
@@ -29,7 +29,7 @@ pub record TheOwn : Type 0 where
   pub heard : List ℕ
   pub lost : List Bool
   pub exact : Bool
-  pub out : List Packet
+  pub out : List NodePacket
 
 -- what always holds of its numbers
 pub record IsOwn (limits : Limits) (me count life base : ℕ) (covered heard : List ℕ) (lost : List Bool) (logs : List TheQueue) : Type 0 where
@@ -52,7 +52,7 @@ abbrev pub IsShort : List TheQueue → ℕ → Type 0
 IsShort logs received = (d : ℕ) → (log_at logs d).dropped + length (log_at logs d).payloads ≤ MOST_GIVEN * received
 
 -- puts one more packet into the outbox, if there is room
-abbrev pub packet_of : TheOwn → ℕ → Body → Packet
+abbrev pub packet_of : TheOwn → ℕ → Body → NodePacket
 packet_of o to body = record { count = o.count; from = o.me; to = to; body = body }
 
 abbrev pub posts : ℕ → Body → TheOwn → TheOwn
@@ -67,7 +67,7 @@ abbrev pub learns : ℕ → ℕ → Flags → TheOwn → TheOwn
 learns q j flags o = record (hears q j o) { exact = o.exact && (not (is_lost flags) && is_exact flags); lost = slice_set o.lost q (is_lost flags) }
 
 -- a packet is from another node of this cluster to this one
-abbrev pub is_for : TheOwn → Packet → Bool
+abbrev pub is_for : TheOwn → NodePacket → Bool
 is_for o x = (x.count == o.count) && (x.to == o.me) && nat_le x.from o.count && not (x.from == o.me)
 
 -- a handler may send these: there aren't too many, and each is to a peer

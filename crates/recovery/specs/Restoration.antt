@@ -8,7 +8,7 @@ use Rattle.packets.specs.declared.page.Pair.{Pair}
 use Rattle.packets.specs.declared.page.Flags.{Flags}
 use Rattle.packets.specs.declared.packet.Body.{Body}
 use Rattle.packets.specs.declared.packet.Body.TheVariants.{Ask, Resume, Restored}
-use Rattle.packets.specs.declared.packet.Packet.{Packet}
+use Rattle.packets.specs.declared.packet.NodePacket.{NodePacket}
 use Rattle.node.specs.Node.{TheNode}
 use Rattle.packets.specs.Says.{last_behind}
 use Rattle.recovery.specs.Own.{TheOwn, posts, is_for, hears}
@@ -125,7 +125,7 @@ heard from (Ask i k) n = if in_range (Ask i k) then asked_by from i k n else n
 heard from body n = n
 
 -- takes a packet
-abbrev pub handed : Packet → TheRestoring → TheRestoring
+abbrev pub handed : NodePacket → TheRestoring → TheRestoring
 handed x n = if is_for n.own x then heard x.from x.body n else n
 
 -- all have answered, the gateway too

@@ -3,7 +3,7 @@ use Rattle.std.specs.Prelude.{◌≡◌, ℕ, ◌<◌, ◌≤◌, [], ◌∷◌,
 use Rattle.world.specs.Logs.{sent_in_all}
 use Rattle.world.specs.Calls.{phase_with}
 use Rattle.cluster.specs.Cluster.{Cluster, Live, seen}
-use Rattle.packets.specs.declared.packet.Packet.{Packet}
+use Rattle.packets.specs.declared.packet.NodePacket.{NodePacket}
 use Rattle.node.specs.Node.{TheNode}
 use Rattle.node.specs.Stands.{HasReceived, Stands}
 use Rattle.recovery.specs.Stands.{HasOwn, IsSaid, IsSent, GoesTo}
@@ -38,11 +38,11 @@ abbrev pub Acts : TheRestoring → TheRestoring → Type 0
 Acts old new = Owes (λ c. Unit {0}) old new
 
 -- what a call owes that is handed a packet, if that was sent; nothing if the process is no longer exact
-abbrev pub IsHanded : Packet → TheRestoring → TheRestoring → Type 0
+abbrev pub IsHanded : NodePacket → TheRestoring → TheRestoring → Type 0
 IsHanded x old new = new.own.exact ≡ true → Owes (λ c. IsSaid c.parcels x.from x.to x.body) old new
 
 -- what `take` owes: it gives the first packet that waited, which was sent, and the process no longer has it
-abbrev pub Takes : Option Packet → TheRestoring → TheRestoring → Type 0
+abbrev pub Takes : Option NodePacket → TheRestoring → TheRestoring → Type 0
 Takes None old new = (old.own.out ≡ []) × (new ≡ old)
 Takes (Some x) old new = (old ≡ record new { own = record new.own { out = x ∷ new.own.out } }) × ((c : Cluster) → StandsRestoring old c old.own.me → IsSent c.count c.parcels old.own.me x × StandsRestoring new c old.own.me)
 

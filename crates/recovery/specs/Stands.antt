@@ -7,8 +7,8 @@ use Rattle.cluster.specs.Parcels.{Parcel}
 use Rattle.cluster.specs.Cluster.{Cluster, Collected, Dead, Collecting}
 use Rattle.cluster.specs.Rules.{Opens, May, does, IsNode, Asks, IsAll, entry_in}
 use Rattle.packets.specs.declared.packet.Body.{Body}
-use Rattle.packets.specs.declared.packet.Packet.{Packet}
-use Rattle.packets.specs.declared.page.Entry.{Entry}
+use Rattle.packets.specs.declared.packet.NodePacket.{NodePacket}
+use Rattle.packets.specs.declared.page.LoggedMessage.{LoggedMessage}
 use Rattle.packets.specs.declared.kept.Kept.{Kept}
 use Rattle.node.specs.Queue.{TheQueue}
 use Rattle.node.specs.Node.{log_at}
@@ -26,7 +26,7 @@ abbrev pub IsSaid : List Parcel → ℕ → ℕ → Body → Type 0
 IsSaid parcels from to body = is_loss body ≡ false → WasSaid parcels from to body
 
 -- it was sent, as a packet of the process p, unless it says that
-abbrev pub IsSent : ℕ → List Parcel → ℕ → Packet → Type 0
+abbrev pub IsSent : ℕ → List Parcel → ℕ → NodePacket → Type 0
 IsSent count parcels p x = is_loss x.body ≡ false → PutOut count parcels p x
 
 -- as far as it knows failures came one at a time, so no peer said that it lost what it had
@@ -67,7 +67,7 @@ reached (Some t) m = reaches t.upto m
 pub record IsTold (q base : ℕ) (x : TheCollected) (t : Option Collected) : Type 0 where
   pub asks : x.done ≡ false → Asks base t x.cursor
   pub all : x.done ≡ true → IsAll t
-  pub low : x.done ≡ false → Each (λ (e : Entry). e.number ≤ x.cursor) x.entries
+  pub low : x.done ≡ false → Each (λ (e : LoggedMessage). e.number ≤ x.cursor) x.entries
   pub entries : (m : ℕ) → base < m → reached t m ≡ true → entry_in t m ≡ first_told q x.entries m
 
 -- a process that collects agrees with a cluster in which p collects
@@ -101,10 +101,10 @@ abbrev pub Acts : TheCollecting → TheCollecting → Type 0
 Acts old new = Owes (λ c. Unit {0}) old new
 
 -- what a call owes that is handed a packet, if that was sent; nothing if the process is no longer exact
-abbrev pub IsHanded : Packet → TheCollecting → TheCollecting → Type 0
+abbrev pub IsHanded : NodePacket → TheCollecting → TheCollecting → Type 0
 IsHanded x old new = new.own.exact ≡ true → Owes (λ c. IsSaid c.parcels x.from x.to x.body) old new
 
 -- what `take` owes: it gives the first packet that waited, which was sent, and the process no longer has it
-abbrev pub Takes : Option Packet → TheCollecting → TheCollecting → Type 0
+abbrev pub Takes : Option NodePacket → TheCollecting → TheCollecting → Type 0
 Takes None old new = (old.own.out ≡ []) × (new ≡ old)
 Takes (Some x) old new = (old ≡ record new { own = record new.own { out = x ∷ new.own.out } }) × ((c : Cluster) → StandsCollecting old c old.own.me → IsSent c.count c.parcels old.own.me x × StandsCollecting new c old.own.me)

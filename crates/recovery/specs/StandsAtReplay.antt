@@ -9,7 +9,7 @@ use Rattle.world.specs.Calls.{phase_with, peers}
 use Rattle.cluster.specs.Parcels.{Resume}
 use Rattle.cluster.specs.Cluster.{Cluster, Live, seen}
 use Rattle.cluster.specs.Rules.{Act, Replays, Puts, Dies, May}
-use Rattle.packets.specs.declared.packet.Packet.{Packet}
+use Rattle.packets.specs.declared.packet.NodePacket.{NodePacket}
 use Rattle.node.specs.declared.job.OpenJob.{OpenJob}
 use Rattle.node.specs.declared.job.Given.{Given}
 use Rattle.node.specs.Stands.{HasReceived, actor, job_of, payloads_to}
@@ -62,7 +62,7 @@ abbrev pub Handles : List ℕ → List Given → TheReplaying → Cluster → Ty
 Handles state given n c = (j : OpenJob) → next_job n ≡ Some j → AnswersAfter c.handlers n.own.me (take (n.own.base + n.done) (c.history n.own.me)) (job_of j) state given
 
 -- what `take` owes: it gives the first packet that waited, which was sent, and the process no longer has it
-abbrev pub Takes : Option Packet → TheReplaying → TheReplaying → Type 0
+abbrev pub Takes : Option NodePacket → TheReplaying → TheReplaying → Type 0
 Takes None old new = (old.own.out ≡ []) × (new ≡ old)
 Takes (Some x) old new = (old ≡ record new { own = record new.own { out = x ∷ new.own.out } }) × ((c : Cluster) → StandsReplaying old c old.own.me → IsSent c.count c.parcels old.own.me x × StandsReplaying new c old.own.me)
 

@@ -11,7 +11,7 @@ ghost use Rattle.recovery.specs.Stands.{Revives, Acts, IsHanded, Takes};
 use crate::collected::Collected;
 use crate::own::Own;
 use node::{Limits, MOST_GIVEN, MOST_RECEIVED};
-use packets::{Body, Entry, Flags, Kept, KeptLog, Packet};
+use packets::{Body, LoggedMessage, Flags, Kept, KeptLog, NodePacket};
 use std::alloc::{AllocError, Global};
 use std::marker::Model;
 
@@ -112,7 +112,7 @@ impl Collecting {
     }
 
     /// Takes the first packet that waits to be sent, if there is one.
-    pub fn take(&mut self) -> Option<Packet>
+    pub fn take(&mut self) -> Option<NodePacket>
         ensures { Takes result self.old self.new }
     {
         self.own.pop()
@@ -128,7 +128,7 @@ impl Collecting {
 
     /// Takes a packet: the answer of a peer to the last question, or the Ask of a peer that is
     /// recovering too, which it answers. It drops anything else. A refusal changes nothing.
-    pub fn receive(&mut self, alloc: Global, packet: &Packet) -> Result<(), AllocError>
+    pub fn receive(&mut self, alloc: Global, packet: &NodePacket) -> Result<(), AllocError>
         ensures value { OnOk result (self.new ≡ handed packet.now self.old) }
         ensures acts { OnOk result (IsHanded packet.now self.old self.new) }
         ensures err { OnErr result (self.new ≡ self.old) }
@@ -161,7 +161,7 @@ impl Collecting {
         }
     }
 
-    fn hand(&mut self, alloc: Global, packet: &Packet) -> Result<(), AllocError>
+    fn hand(&mut self, alloc: Global, packet: &NodePacket) -> Result<(), AllocError>
         ensures ok { OnOk result (self.new ≡ handed packet.now self.old) }
         ensures err { OnErr result (self.new ≡ self.old) }
     {
@@ -202,7 +202,7 @@ impl Collecting {
     }
 
     /// Adds a page, and asks the peer for the next one.
-    fn add(&mut self, from: u8, teller: u64, flags: Flags, page: &[Entry]) -> Result<(), AllocError>
+    fn add(&mut self, from: u8, teller: u64, flags: Flags, page: &[LoggedMessage]) -> Result<(), AllocError>
         requires { IsPeer self.old.own.me self.old.own.count from }
         ensures ok { OnOk result (self.new ≡ took_page from teller flags page.now self.old) }
         ensures err { OnErr result (self.new ≡ self.old) }

@@ -9,8 +9,8 @@ ghost use Rattle.std.specs.List.{AllByRecursion};
 
 use crate::own::Own;
 use crate::replayed::Replayed;
-use node::{Node, Queue, Returned};
-use packets::{Body, Flags, Packet, Pair};
+use node::{Node, KeptQueue, Returned};
+use packets::{Body, Flags, NodePacket, Pair};
 use std::alloc::Global;
 
 impl Replayed {
@@ -47,7 +47,7 @@ impl Replayed {
     }
 
     /// Whether a packet is from another node of this cluster to this one.
-    pub fn is_for(&self, packet: &Packet) -> bool
+    pub fn is_for(&self, packet: &NodePacket) -> bool
         ensures { result ≡ is_for self.now.own packet.now }
     {
         self.own.is_for(packet)
@@ -129,7 +129,7 @@ impl Replayed {
     }
 
     /// Takes the first packet that waits, if there is one.
-    pub fn pop(&mut self) -> Option<Packet>
+    pub fn pop(&mut self) -> Option<NodePacket>
         ensures packet { Pops result self.old.own.out self.new.own.out }
         ensures rest { self.new ≡ record self.old { own = record self.old.own { out = self.new.own.out } } }
     {
@@ -178,7 +178,7 @@ impl Replayed {
 }
 
 /// Enters the RSNs of a page, as far as the log has these messages.
-fn note(log: &mut Queue, pairs: &[Pair])
+fn note(log: &mut KeptQueue, pairs: &[Pair])
     requires page { AscendFrom 0 pairs.now }
     requires numbers { AllByRecursion IsSmallPair pairs.now }
     ensures { log.new ≡ noted pairs.now log.old }

@@ -5,12 +5,12 @@ ghost use Rattle.recovery.specs.Own.{posts, IsShort};
 ghost use Rattle.recovery.specs.Overlap.{loss_of, meets, asked_by, handed};
 
 use crate::own::Own;
-use packets::{Body, Flags, Packet, Page};
+use packets::{Body, Flags, NodePacket, Page};
 use std::alloc::Global;
 
 impl Own {
     /// A process that has recovered takes a packet: it answers an Ask, and drops anything else.
-    pub(crate) fn receive(&mut self, alloc: Global, packet: &Packet)
+    pub(crate) fn receive(&mut self, alloc: Global, packet: &NodePacket)
         ensures value { self.new ≡ handed packet.now self.old }
         ensures same { (self.new.me ≡ self.old.me) × ((self.new.count ≡ self.old.count) × (self.new.base ≡ self.old.base)) }
         ensures short { (k : ℕ) → IsShort self.old.logs k → IsShort self.new.logs k }

@@ -7,9 +7,9 @@ ghost use Rattle.node.specs.Queue.{no_queue};
 ghost use Rattle.node.specs.Node.{IsPositive};
 ghost use Rattle.recovery.specs.Own.{posts, with_own, queue_of, comes_back, own_of, is_for, hears, learns, IsShort, MayGive, ran};
 
-use node::{Given, Limits, MOST_RECEIVED, Queue, log};
-use packets::Outbox;
-use packets::{Body, Flags, Kept, KeptLog, Packet};
+use node::{Given, Limits, MOST_RECEIVED, KeptQueue, log};
+use packets::PacketQueue;
+use packets::{Body, Flags, Kept, KeptLog, NodePacket};
 use std::alloc::{AllocError, Global};
 use std::marker::Model;
 
@@ -26,14 +26,14 @@ pub(crate) struct Own {
     pub(crate) base: u64,
     pub(crate) covered: Vec<u64>,
     /// By destination: what it sent.
-    pub(crate) logs: Vec<Queue>,
+    pub(crate) logs: Vec<KeptQueue>,
     /// By peer: the greatest incarnation that it heard.
     pub(crate) heard: Vec<u64>,
     /// By peer: whether it said that it lost what it had.
     pub(crate) lost: Vec<bool>,
     /// Whether failures came one at a time, as far as it knows.
     pub(crate) exact: bool,
-    pub(crate) out: Outbox,
+    pub(crate) out: PacketQueue,
 }
 
 impl Model for Own {
@@ -69,7 +69,7 @@ impl Own {
         heard[0] = 1;
         let mut lost = Vec::new(alloc);
         lost.resize(kept.count as usize + 1, false)?;
-        let out = Outbox::new(alloc)?;
+        let out = PacketQueue::new(alloc)?;
         Ok(Own {
             limits,
             me,
@@ -121,7 +121,7 @@ impl Own {
     }
 
     /// Whether a packet is from another node of this cluster to this one.
-    pub(crate) fn is_for(&self, packet: &Packet) -> bool
+    pub(crate) fn is_for(&self, packet: &NodePacket) -> bool
         ensures { result ≡ is_for self.now packet.now }
     {
         packet.count == self.count
@@ -186,7 +186,7 @@ impl Own {
     }
 
     /// Takes the first packet that waits, if there is one.
-    pub(crate) fn pop(&mut self) -> Option<Packet>
+    pub(crate) fn pop(&mut self) -> Option<NodePacket>
         ensures packet { Pops result self.old.out self.new.out }
         ensures rest { self.new ≡ record self.old { out = self.new.out } }
     {
@@ -197,7 +197,7 @@ impl Own {
     pub(crate) fn put(&mut self, to: u8, body: Body)
         ensures { self.new ≡ posts to body self.old }
     {
-        let packet = Packet {
+        let packet = NodePacket {
             count: self.count,
             from: self.me,
             to,
@@ -220,7 +220,7 @@ fn counts(alloc: Global, counts: &[u64], me: usize) -> Result<Vec<u64>, AllocErr
 }
 
 /// The logs by peer, with an empty one for the process itself.
-fn queues(alloc: Global, logs: &[KeptLog], me: usize) -> Result<Vec<Queue>, AllocError>
+fn queues(alloc: Global, logs: &[KeptLog], me: usize) -> Result<Vec<KeptQueue>, AllocError>
     requires inside { me ≤ length logs.now }
     requires room { (i : ℕ) (l : KeptLog) → slice_get logs.now i ≡ Some l → (1 ≤ l.first) × (l.first + length l.payloads ≤ 2 ^ 63) }
     ensures { IfOk result (λ v. v.items ≡ with_own no_queue me (map queue_of logs.now)) }
@@ -228,18 +228,18 @@ fn queues(alloc: Global, logs: &[KeptLog], me: usize) -> Result<Vec<Queue>, Allo
     let (before, behind) = logs.split_at(me);
     let mut queues = Vec::new(alloc);
     add(alloc, &mut queues, before)?;
-    queues.push(Queue::new(alloc))?;
+    queues.push(KeptQueue::new(alloc))?;
     add(alloc, &mut queues, behind)?;
     Ok(queues)
 }
 
 /// Appends these logs.
-fn add(alloc: Global, queues: &mut Vec<Queue>, logs: &[KeptLog]) -> Result<(), AllocError>
+fn add(alloc: Global, queues: &mut Vec<KeptQueue>, logs: &[KeptLog]) -> Result<(), AllocError>
     requires { (i : ℕ) (l : KeptLog) → slice_get logs.now i ≡ Some l → (1 ≤ l.first) × (l.first + length l.payloads ≤ 2 ^ 63) }
     ensures { OnOk result (queues.new.items ≡ queues.old.items ++ map queue_of logs.now) }
 {
     for log in logs {
-        let queue = Queue::kept(alloc, log.first, log.payloads.as_slice())?;
+        let queue = KeptQueue::kept(alloc, log.first, log.payloads.as_slice())?;
         queues.push(queue)?;
     }
     Ok(())

@@ -1,7 +1,7 @@
 //! What a host reads of a recovering process.
 
 ghost use Rattle.std.specs.Prelude.{◌≡◌, ◌∷◌, [], List, ◌+◌, ◌≤◌, MatchOption};
-ghost use Rattle.packets.specs.declared.packet.Packet.{Packet};
+ghost use Rattle.packets.specs.declared.packet.NodePacket.{NodePacket};
 ghost use Rattle.rsn.specs.declared.receipts.TheConstants.{LIMIT};
 ghost use Rattle.recovery.specs.Queries.{bits_of, is_asked, standing_in, collecting_standing, replaying_standing, replayed_standing};
 
@@ -11,7 +11,7 @@ use crate::replayed::Replayed;
 use crate::replays::Replaying;
 use helpers::Who;
 use node::{Stage, Standing, entries};
-use packets::Packet;
+use packets::NodePacket;
 
 impl Own {
     /// The status in a stage, with this many messages since its checkpoint, and this many to
@@ -38,8 +38,8 @@ impl Own {
 
 impl Collecting {
     /// The first packet that waits, if there is one.
-    pub fn front(&self) -> Option<&Packet>
-        ensures { MatchOption result (self.now.own.out ≡ []) (λ x. (rest : List Packet) × (self.now.own.out ≡ x.now ∷ rest)) }
+    pub fn front(&self) -> Option<&NodePacket>
+        ensures { MatchOption result (self.now.own.out ≡ []) (λ x. (rest : List NodePacket) × (self.now.own.out ≡ x.now ∷ rest)) }
     {
         self.own.out.front()
     }
@@ -85,8 +85,8 @@ impl Collecting {
 
 impl Replaying {
     /// The first packet that waits, if there is one.
-    pub fn front(&self) -> Option<&Packet>
-        ensures { MatchOption result (self.now.own.out ≡ []) (λ x. (rest : List Packet) × (self.now.own.out ≡ x.now ∷ rest)) }
+    pub fn front(&self) -> Option<&NodePacket>
+        ensures { MatchOption result (self.now.own.out ≡ []) (λ x. (rest : List NodePacket) × (self.now.own.out ≡ x.now ∷ rest)) }
     {
         self.own.out.front()
     }
@@ -113,8 +113,8 @@ impl Replaying {
 
 impl Replayed {
     /// The first packet that waits, if there is one.
-    pub fn front(&self) -> Option<&Packet>
-        ensures { MatchOption result (self.now.own.out ≡ []) (λ x. (rest : List Packet) × (self.now.own.out ≡ x.now ∷ rest)) }
+    pub fn front(&self) -> Option<&NodePacket>
+        ensures { MatchOption result (self.now.own.out ≡ []) (λ x. (rest : List NodePacket) × (self.now.own.out ≡ x.now ∷ rest)) }
     {
         self.own.out.front()
     }

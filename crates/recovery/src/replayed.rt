@@ -5,7 +5,7 @@ ghost use Rattle.recovery.specs.Overlap.{handed};
 ghost use Rattle.recovery.specs.Replayed.{IsReplayed, Stays};
 
 use crate::own::Own;
-use packets::Packet;
+use packets::NodePacket;
 use rsn::Receipts;
 use std::alloc::Global;
 use std::marker::Model;
@@ -38,7 +38,7 @@ impl Replayed {
 
     /// Takes a packet: answers the Ask of a peer that is recovering too, that what the log held for
     /// it is lost, and drops anything else.
-    pub fn receive(&mut self, alloc: Global, packet: &Packet)
+    pub fn receive(&mut self, alloc: Global, packet: &NodePacket)
         ensures value { self.new ≡ record self.old { own = handed packet.now self.old.own } }
         ensures stands { Stays self.old self.new }
     {

@@ -9,7 +9,7 @@ ghost use Rattle.recovery.specs.StandsAtReplay.{Owes, Handles, Takes, Stays, End
 use crate::own::Own;
 use crate::replayed::Replayed;
 use node::{Given, OpenJob};
-use packets::Packet;
+use packets::NodePacket;
 use rsn::Receipts;
 use std::alloc::{AllocError, Global};
 use std::marker::Model;
@@ -80,7 +80,7 @@ impl Replaying {
     }
 
     /// Takes the first packet that waits to be sent, if there is one.
-    pub fn take(&mut self) -> Option<Packet>
+    pub fn take(&mut self) -> Option<NodePacket>
         ensures { Takes result self.old self.new }
     {
         self.own.pop()
@@ -88,7 +88,7 @@ impl Replaying {
 
     /// Takes a packet: answers the Ask of a peer that is recovering too, that what the log held for
     /// it is lost, and drops anything else.
-    pub fn receive(&mut self, alloc: Global, packet: &Packet)
+    pub fn receive(&mut self, alloc: Global, packet: &NodePacket)
         ensures value { self.new ≡ record self.old { own = handed packet.now self.old.own } }
         ensures stands { Stays self.old self.new }
     {

@@ -7,7 +7,7 @@ ghost use Rattle.recovery.specs.Restoration.{asks, asked, begins, begun, answers
 ghost use Rattle.recovery.specs.RestorationStands.{Begins, Acts, IsHanded, Takes, IsUp};
 
 use node::Node;
-use packets::{Body, Flags, Packet, Pair};
+use packets::{Body, Flags, NodePacket, Pair};
 use crate::replayed::Replayed;
 use std::alloc::{AllocError, Global};
 use std::marker::Model;
@@ -57,7 +57,7 @@ impl Restoring {
     }
 
     /// Takes the first packet that waits to be sent, if there is one.
-    pub fn take(&mut self) -> Option<Packet>
+    pub fn take(&mut self) -> Option<NodePacket>
         ensures { Takes result self.old self.new }
     {
         self.replayed.pop()
@@ -75,7 +75,7 @@ impl Restoring {
 
     /// Takes a packet: the answer of a peer to the last question, or the Ask of a peer that is
     /// recovering too, which it answers. It drops anything else.
-    pub fn receive(&mut self, alloc: Global, packet: &Packet)
+    pub fn receive(&mut self, alloc: Global, packet: &NodePacket)
         ensures value { self.new ≡ handed packet.now self.old }
         ensures acts { IsHanded packet.now self.old self.new }
     {
@@ -128,7 +128,7 @@ impl Restoring {
         }
     }
 
-    fn hand(&mut self, alloc: Global, packet: &Packet)
+    fn hand(&mut self, alloc: Global, packet: &NodePacket)
         ensures { self.new ≡ handed packet.now self.old }
     {
         if !self.replayed.is_for(packet) || !packet.body.is_in_range() {

@@ -1,18 +1,18 @@
 //! What a host reads of a process that restores its RSNs.
 
 ghost use Rattle.std.specs.Prelude.{◌≡◌, ◌∷◌, [], List, ◌+◌, ◌≤◌, MatchOption};
-ghost use Rattle.packets.specs.declared.packet.Packet.{Packet};
+ghost use Rattle.packets.specs.declared.packet.NodePacket.{NodePacket};
 ghost use Rattle.recovery.specs.Queries.{bits_of};
 ghost use Rattle.recovery.specs.RestorationQueries.{is_asked, restoring_standing};
 
 use crate::restoration::Restoring;
 use node::{Stage, Standing};
-use packets::Packet;
+use packets::NodePacket;
 
 impl Restoring {
     /// The first packet that waits, if there is one.
-    pub fn front(&self) -> Option<&Packet>
-        ensures { MatchOption result (self.now.own.out ≡ []) (λ x. (rest : List Packet) × (self.now.own.out ≡ x.now ∷ rest)) }
+    pub fn front(&self) -> Option<&NodePacket>
+        ensures { MatchOption result (self.now.own.out ≡ []) (λ x. (rest : List NodePacket) × (self.now.own.out ≡ x.now ∷ rest)) }
     {
         self.replayed.front()
     }

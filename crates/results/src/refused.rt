@@ -2,7 +2,7 @@
 
 use helpers::Refused;
 use indexmap::IndexMap;
-use scenario::Process;
+use scenario::NamedProcess;
 use sessions::Service;
 use std::alloc::{AllocError, Global};
 use scenario::name_at;
@@ -40,7 +40,7 @@ fn push_causes(
 /// The lines of all processes, in the order of their numbers.
 fn refused_lines(
     alloc: Global,
-    processes: &IndexMap<String, Process>,
+    processes: &IndexMap<String, NamedProcess>,
     session: &Service,
 ) -> Result<String, AllocError> {
     let mut lines = String::new(alloc);
@@ -60,7 +60,7 @@ fn refused_lines(
 pub fn note_refused(
     alloc: Global,
     note: &mut String,
-    processes: &IndexMap<String, Process>,
+    processes: &IndexMap<String, NamedProcess>,
     session: &Service,
 ) {
     if let Ok(lines) = refused_lines(alloc, processes, session) {

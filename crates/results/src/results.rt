@@ -6,7 +6,7 @@ ghost use Rattle.sessions.specs.Journal.{world_at};
 ghost use Rattle.results.specs.Results.{outputs_text, process_text_of, processes_text, results_text};
 
 use indexmap::IndexMap;
-use scenario::Process;
+use scenario::NamedProcess;
 use sessions::{Service, copied};
 use std::alloc::{AllocError, Global};
 use scenario::{name_at, push_exact, push_output, push_process, trace_text};
@@ -29,7 +29,7 @@ fn push_state(out: &mut String, name: &str, session: &Service, p: u8) -> Result<
 /// Writes a line for each process, in the order of their numbers.
 fn push_processes(
     out: &mut String,
-    processes: &IndexMap<String, Process>,
+    processes: &IndexMap<String, NamedProcess>,
     session: &Service,
 ) -> Result<(), AllocError>
     requires { length processes.now.entries ≡ length session.now.images }
@@ -45,7 +45,7 @@ fn push_processes(
 /// Writes a line for each output, in the order in which they were shown.
 fn push_outputs(
     out: &mut String,
-    processes: &IndexMap<String, Process>,
+    processes: &IndexMap<String, NamedProcess>,
     shown: &[Message],
 ) -> Result<(), AllocError>
     ensures { OnOk result (string_bytes out.new ≡ string_bytes out.old ++ outputs_text (names_of processes.now) shown.now) }
@@ -60,7 +60,7 @@ fn push_outputs(
 /// The trace of a session's journal, a line for each process, one for each output, and whether failures came one at a time.
 fn results(
     alloc: Global,
-    processes: &IndexMap<String, Process>,
+    processes: &IndexMap<String, NamedProcess>,
     session: &Service,
 ) -> Result<String, AllocError>
     requires { length processes.now.entries ≡ length session.now.images }
@@ -79,7 +79,7 @@ fn results(
 pub fn push_results(
     alloc: Global,
     out: &mut String,
-    processes: &IndexMap<String, Process>,
+    processes: &IndexMap<String, NamedProcess>,
     session: &Service,
 ) -> Result<(), AllocError>
     requires { length processes.now.entries ≡ length session.now.images }

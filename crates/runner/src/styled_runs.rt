@@ -13,7 +13,7 @@ use crate::chronicle::{Moment, Notes};
 use crate::player::Player;
 use handlers::Handler;
 use indexmap::IndexMap;
-use scenario::{Process, Scenario};
+use scenario::{NamedProcess, Scenario};
 use sessions::{Service, copied};
 use std::alloc::{AllocError, Global};
 use std::sync::Arc;
@@ -55,7 +55,7 @@ fn push_state(
 fn push_states(
     out: &mut String,
     style: Style<'_>,
-    processes: &IndexMap<String, Process>,
+    processes: &IndexMap<String, NamedProcess>,
     session: &Service,
 ) -> Result<(), AllocError>
     requires { length processes.now.entries ≡ length session.now.images }
@@ -72,7 +72,7 @@ fn push_states(
 fn push_shown(
     out: &mut String,
     style: Style<'_>,
-    processes: &IndexMap<String, Process>,
+    processes: &IndexMap<String, NamedProcess>,
     shown: &[Message],
 ) -> Result<(), AllocError>
     ensures { OnOk result (string_bytes out.new ≡ string_bytes out.old ++ outputs_told (style_of style.entry) (names_of processes.now) shown.now) }
@@ -88,7 +88,7 @@ fn push_shown(
 fn told(
     alloc: Global,
     style: Style<'_>,
-    processes: &IndexMap<String, Process>,
+    processes: &IndexMap<String, NamedProcess>,
     moments: &[Moment],
     session: &Service,
 ) -> Result<String, AllocError>
@@ -108,8 +108,8 @@ fn told(
 /// The processes, if they are told by their names.
 fn names_if(
     named: bool,
-    processes: &IndexMap<String, Process>,
-) -> Option<&IndexMap<String, Process>>
+    processes: &IndexMap<String, NamedProcess>,
+) -> Option<&IndexMap<String, NamedProcess>>
     ensures { option_map (λ m. names_of m.now) result ≡ cond named (Some (names_of processes.now)) None }
 {
     if named { Some(processes) } else { None }

@@ -11,7 +11,7 @@ use Rattle.indexmap.specs.IndexMap.{insert_entry}
 use Rattle.scenario.specs.declared.order.Order.{Order}
 use Rattle.scenario.specs.declared.order.Allowed.{Allowed}
 use Rattle.scenario.specs.declared.order.Allowed.TheVariants.{All, Inputs}
-use Rattle.scenario.specs.declared.process.Process.{Process}
+use Rattle.scenario.specs.declared.process.NamedProcess.{NamedProcess}
 use Rattle.scenario.specs.declared.scenario.Step.{Step}
 use Rattle.scenario.specs.Inside.Reads.{Lacks}
 use Rattle.scenario.specs.Inside.Loop.{lines_left, Declares, HaveRead, ReadsDeclaration}
@@ -115,7 +115,7 @@ different_push [] name h fresh = (tt, tt)
 different_push (x ∷ xs) name h fresh = (all_push (λ y. y ≢ x) xs name h.0 (λ e. fresh.0 (sym e)), different_push xs name h.1 fresh.1)
 
 -- the names of declared processes are names
-pub named_of : (es : List (String Global × Process)) → AllByRecursion IsDeclared es → AllByRecursion IsName (names_in es)
+pub named_of : (es : List (String Global × NamedProcess)) → AllByRecursion IsDeclared es → AllByRecursion IsName (names_in es)
 named_of [] h = tt
 named_of (e ∷ es) h = (h.0.0, named_of es h.1)
 
@@ -125,7 +125,7 @@ skip false x y h = refl
 
 -- a fresh key goes last
 pub insert_new : (eq : String Global → String Global → Bool) → ((a b : String Global) → eq a b ≡ true → string_bytes a ≡ string_bytes b)
-    → (es : List (String Global × Process)) (k : String Global) (v : Process) → IsFresh (string_bytes k) (names_in es) → insert_entry eq es k v ≡ es ++ (k, v) ∷ []
+    → (es : List (String Global × NamedProcess)) (k : String Global) (v : NamedProcess) → IsFresh (string_bytes k) (names_in es) → insert_entry eq es k v ≡ es ++ (k, v) ∷ []
 insert_new eq same [] k v h = refl
 insert_new eq same (e ∷ es) k v h = skip (eq k e.0) ((e.0, v) ∷ es) (e ∷ insert_entry eq es k v) (λ t. h.0 (sym (same k e.0 t))) ∙ ap (λ l. e ∷ l) (insert_new eq same es k v h.1)
 
@@ -159,7 +159,7 @@ module _ (allowed : Allowed) (before : List (List ℕ)) (line : List ℕ) where
   rows_spoken : is_silent line ≡ false → rows 1 (before ++ line ∷ []) ≡ rows 1 before ++ (1 + length before, line) ∷ []
   rows_spoken e = rows_append 1 before (line ∷ []) ∙ ap (λ x. rows 1 before ++ x) (spoken_row (is_silent line) (1 + length before, line) e)
 
-  module _ (es : List (String Global × Process)) where
+  module _ (es : List (String Global × NamedProcess)) where
     silent_more : (ss : List Step) → AreLines allowed before es ss → is_silent line ≡ true → AreLines allowed (before ++ line ∷ []) es ss
     silent_more ss h e = record {
       few = h.few;
@@ -187,15 +187,15 @@ module _ (allowed : Allowed) (before : List (List ℕ)) (line : List ℕ) where
               ∙ ap (λ t. map process_row es ++ t) (sym (map_push (step_row names) ss x));
         }
 
-    process_more : (ss : List Step) (e : String Global × Process) → AreLines allowed before es ss → is_silent line ≡ false → e.1.line ≡ length before + 1
+    process_more : (ss : List Step) (e : String Global × NamedProcess) → AreLines allowed before es ss → is_silent line ≡ false → e.1.line ≡ length before + 1
         → line ≡ declaration_text (string_bytes e.0) (string_bytes e.1.path) → MayDeclare (names_in es) (has_begun ss) (string_bytes e.0) (string_bytes e.1.path)
         → AreLines allowed (before ++ line ∷ []) (es ++ e ∷ []) ss
     process_more (x ∷ xs) e h speaks number is may = absurd (let wrong : has_begun (x ∷ xs) ≡ true = search (rules, nat_tests) in let no_more = may.first in cc)
     process_more [] e h speaks number is may =
         let at : 1 + length before ≡ e.1.line = omega (arith, number) in
-        let names = map_push (λ (y : String Global × Process). string_bytes y.0) es e in
+        let names = map_push (λ (y : String Global × NamedProcess). string_bytes y.0) es e in
         record {
-          few = omega (arith, length-append es (e ∷ []), length-map es (λ (y : String Global × Process). string_bytes y.0), may.room);
+          few = omega (arith, length-append es (e ∷ []), length-map es (λ (y : String Global × NamedProcess). string_bytes y.0), may.room);
           declared = all_push IsDeclared es e h.declared (may.named, may.pathed);
           different = subst (λ (t : List (List ℕ)). AreDifferent t) (sym names) (different_push (names_in es) (string_bytes e.0) h.different may.fresh);
           ranged = tt;
@@ -207,7 +207,7 @@ module _ (allowed : Allowed) (before : List (List ℕ)) (line : List ℕ) where
 
 -- ---- reading on
 
-module _ (allowed : Allowed) (text : List ℕ) (here : Bor (List ℕ)) (line : List ℕ) (rest : Option (Bor (List ℕ))) (n : ℕ) (es : List (String Global × Process)) (ss : List Step)
+module _ (allowed : Allowed) (text : List ℕ) (here : Bor (List ℕ)) (line : List ℕ) (rest : Option (Bor (List ℕ))) (n : ℕ) (es : List (String Global × NamedProcess)) (ss : List Step)
     (h : HaveRead allowed text (Some here) n es ss) (cut : lines_of here.now ≡ line ∷ lines_left rest) where
   whole_now : lines_of text ≡ h.before ++ line ∷ lines_left rest
   whole_now = h.whole ∙ ap (λ (x : List (List ℕ)). h.before ++ x) cut
@@ -232,7 +232,7 @@ module _ (allowed : Allowed) (text : List ℕ) (here : Bor (List ℕ)) (line : L
   }
 
   -- a line of a process is read, and it is the last
-  pub read_process : (name path : List ℕ) (new : List (String Global × Process)) → is_silent line ≡ false → line ≡ declaration_text name path → MayDeclare (names_in es) (has_begun ss) name path
+  pub read_process : (name path : List ℕ) (new : List (String Global × NamedProcess)) → is_silent line ≡ false → line ≡ declaration_text name path → MayDeclare (names_in es) (has_begun ss) name path
       → Declares (n + 1) name path es new → HaveRead allowed text rest (n + 1) new ss
   read_process name path new speaks is may d =
       let may_bytes = subst (λ (t : List ℕ). MayDeclare (names_in es) (has_begun ss) t (string_bytes d.entry.1.path)) (sym d.name_is)
@@ -242,7 +242,7 @@ module _ (allowed : Allowed) (text : List ℕ) (here : Bor (List ℕ)) (line : L
         before = h.before ++ line ∷ [];
         whole = whole_then;
         number_is = counted;
-        fine = subst (λ (t : List (String Global × Process)). AreLines allowed (h.before ++ line ∷ []) t ss) (sym d.last)
+        fine = subst (λ (t : List (String Global × NamedProcess)). AreLines allowed (h.before ++ line ∷ []) t ss) (sym d.last)
             (process_more allowed h.before line es ss d.entry h.fine speaks (omega (arith, d.line_is, h.number_is)) is_bytes may_bytes);
       }
 

@@ -8,7 +8,7 @@ use Rattle.std.specs.Cmp.Lexicographic.{bytes_decides}
 use Rattle.std.specs.Map.{keys_of}
 use Rattle.std.proofs.lemmas.List.Quantifiers.{position-Some}
 use Rattle.std.proofs.lemmas.List.Sums.{prefix_len_passes}
-use Rattle.scenario.specs.declared.process.Process.{Process}
+use Rattle.scenario.specs.declared.process.NamedProcess.{NamedProcess}
 use Rattle.std.specs.List.{list_all, AllByRecursion, position, position_or_len}
 use Rattle.std.proofs.lemmas.Bool.Decides.{nat_tests}
 use Rattle.scenario.specs.Order.{IsName, IsProcess, is_name_byte, process_text, party_text}
@@ -62,16 +62,16 @@ party_reads names text None other none = by
 
 -- ---- the place of a name
 
-same_place : (t : List ℕ) (es : List (String Global × Process)) → position_or_len (λ k. bytes_eq t (string_bytes k)) (keys_of es) ≡ position_or_len (bytes_eq t) (map (λ e. string_bytes e.0) es)
+same_place : (t : List ℕ) (es : List (String Global × NamedProcess)) → position_or_len (λ k. bytes_eq t (string_bytes k)) (keys_of es) ≡ position_or_len (bytes_eq t) (map (λ e. string_bytes e.0) es)
 same_place t [] = refl
 same_place t (e ∷ es) = ap (λ n. cond (not (bytes_eq t (string_bytes e.0))) (1 + n) 0) (same_place t es)
 
-pub same_length : (es : List (String Global × Process)) → length (keys_of es) ≡ length (map (λ e. string_bytes e.0) es)
+pub same_length : (es : List (String Global × NamedProcess)) → length (keys_of es) ≡ length (map (λ e. string_bytes e.0) es)
 same_length [] = refl
 same_length (e ∷ es) = omega (arith, same_length es)
 
 -- a name has the same place among the keys as among the names
-pub names_place : (t : List ℕ) (es : List (String Global × Process)) → position (λ k. bytes_eq t (string_bytes k)) (keys_of es) ≡ position (bytes_eq t) (map (λ e. string_bytes e.0) es)
+pub names_place : (t : List ℕ) (es : List (String Global × NamedProcess)) → position (λ k. bytes_eq t (string_bytes k)) (keys_of es) ≡ position (bytes_eq t) (map (λ e. string_bytes e.0) es)
 names_place t es =
     let place = same_place t es in
     let len = same_length es in

@@ -7,7 +7,7 @@ use Rattle.std.specs.List.{AllByRecursion}
 use Rattle.std.proofs.lemmas.Bool.{cases_order}
 use Rattle.std.proofs.lemmas.List.{length-map}
 use Rattle.scenario.specs.declared.order.Allowed.{Allowed}
-use Rattle.scenario.specs.declared.process.Process.{Process}
+use Rattle.scenario.specs.declared.process.NamedProcess.{NamedProcess}
 use Rattle.scenario.specs.declared.scenario.Step.{Step}
 use Rattle.scenario.specs.Order.{IsInRange, order_text, takes}
 use Rattle.scenario.specs.Process.{AreDifferent, IsDeclared, IsFresh, names_in}
@@ -17,8 +17,8 @@ use Rattle.scenario.proofs.Lines.{rows_append}
 use Rattle.scenario.proofs.OneScenario.{AreOrders, are_orders, head_is, lines_one, no_declaration, same_declaration, tail_is}
 
 -- the row is that of a process that may come after these processes
-record IsProcessRow (es fs : List (String Global × Process)) (xs : List Step) (r : ℕ × List ℕ) : Type 0 where
-  pub entry : String Global × Process
+record IsProcessRow (es fs : List (String Global × NamedProcess)) (xs : List Step) (r : ℕ × List ℕ) : Type 0 where
+  pub entry : String Global × NamedProcess
   pub none : xs ≡ []
   pub is : r ≡ process_row entry
   pub declared : IsDeclared entry
@@ -27,7 +27,7 @@ record IsProcessRow (es fs : List (String Global × Process)) (xs : List Step) (
   pub among : (t : List ℕ) → AllByRecursion (λ x. x ≢ t) (names_in fs) → string_bytes entry.0 ≢ t
 
 -- the row is that of an order that may come after these processes
-record IsStepRow (allowed : Allowed) (names : List (List ℕ)) (n : ℕ) (es fs : List (String Global × Process)) (r : ℕ × List ℕ) : Type 0 where
+record IsStepRow (allowed : Allowed) (names : List (List ℕ)) (n : ℕ) (es fs : List (String Global × NamedProcess)) (r : ℕ × List ℕ) : Type 0 where
   pub step : Step
   pub is : r ≡ step_row names step
   pub ranged : IsInRange n step.order
@@ -51,7 +51,7 @@ module _ (allowed : Allowed) (names : List (List ℕ)) (n : ℕ) where
   step_behind (y ∷ ys) (q ∷ front) rest r ranged taken e = step_behind ys front rest r ranged.1 taken.1 (tail_is _ _ _ _ e)
 
   -- what comes after rows of processes and steps, among valid rows
-  row_behind : (es fs : List (String Global × Process)) (own : List (List ℕ)) (xs ys : List Step) (rest : List (ℕ × List ℕ)) (r : ℕ × List ℕ) → AllByRecursion IsDeclared es
+  row_behind : (es fs : List (String Global × NamedProcess)) (own : List (List ℕ)) (xs ys : List Step) (rest : List (ℕ × List ℕ)) (r : ℕ × List ℕ) → AllByRecursion IsDeclared es
       → AllByRecursion IsDeclared fs → AreDifferent (names_in fs) → AreRanged ys → AreTaken ys
       → map process_row fs ++ map (step_row names) ys ≡ map process_row es ++ (map (step_row own) xs ++ r ∷ rest)
       → IsProcessRow es fs xs r ⊎ IsStepRow allowed names n es fs r
@@ -95,7 +95,7 @@ has_first : (xs : List Step) → xs ≡ [] → has_begun xs ≡ false
 has_first xs is = ap has_begun is
 
 -- lines that are fine have no faulty one among them
-pub fault_free : (allowed : Allowed) (lines before after : List (List ℕ)) (line : List ℕ) (es fs : List (String Global × Process)) (xs ys : List Step) → AreLines allowed lines fs ys
+pub fault_free : (allowed : Allowed) (lines before after : List (List ℕ)) (line : List ℕ) (es fs : List (String Global × NamedProcess)) (xs ys : List Step) → AreLines allowed lines fs ys
     → lines ≡ before ++ line ∷ after → AreLines allowed before es xs → IsFaulty allowed es xs line → ⊥
 unfolding AreRanged AreTaken
 fault_free allowed lines before after line es fs xs ys fine whole begin faulty =
@@ -108,7 +108,7 @@ fault_free allowed lines before after line es fs xs ys fine whole begin faulty =
     elim (row_behind allowed (names_in fs) (length (names_in fs)) es fs (names_in es) xs ys rest (1 + length before, line) begin.declared fine.declared fine.different fine.ranged fine.taken parts) [
       | inl p ↦ faulty.no_process (string_bytes p.entry.0) (string_bytes p.entry.1.path) (record {
         first = has_first xs p.none;
-        room = omega (arith, length-map es (λ (e : String Global × Process). string_bytes e.0), p.room, fine.few);
+        room = omega (arith, length-map es (λ (e : String Global × NamedProcess). string_bytes e.0), p.room, fine.few);
         named = p.declared.0;
         pathed = p.declared.1;
         fresh = p.fresh;
@@ -132,7 +132,7 @@ later_fault allowed text m n f g lt =
     let more = longer f.before g.before f.line g.line f.after g.after (sym f.whole ∙ g.whole) (omega (arith, f.number_is, g.number_is, lt)) in
     fault_free allowed g.before f.before more.0 f.line f.entries g.entries f.steps g.steps g.fine more.1 f.fine f.faulty
 
-fault_in : (allowed : Allowed) (text : List ℕ) (n : ℕ) (es : List (String Global × Process)) (xs : List Step) → AreLines allowed (lines_of text) es xs → IsFault allowed text n → ⊥
+fault_in : (allowed : Allowed) (text : List ℕ) (n : ℕ) (es : List (String Global × NamedProcess)) (xs : List Step) → AreLines allowed (lines_of text) es xs → IsFault allowed text n → ⊥
 fault_in allowed text n es xs fine f = fault_free allowed (lines_of text) f.before f.after f.line f.entries es f.steps xs fine f.whole f.fine f.faulty
 
 pub one_fault : OneFault
@@ -148,7 +148,7 @@ one_fault allowed text (suc m) (suc n) f g =
       ]
     ]
 
-none_shown : (es : List (String Global × Process)) → map shown_process es ≡ [] → es ≡ []
+none_shown : (es : List (String Global × NamedProcess)) → map shown_process es ≡ [] → es ≡ []
 none_shown [] e = refl
 none_shown (x ∷ es) e = absurd cc
 

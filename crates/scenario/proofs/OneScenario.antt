@@ -6,7 +6,7 @@ use Rattle.std.specs.String.{string_bytes}
 use Rattle.std.specs.List.{AllByRecursion}
 use Rattle.scenario.specs.declared.order.Allowed.{Allowed}
 use Rattle.scenario.specs.declared.order.Order.{Order}
-use Rattle.scenario.specs.declared.process.Process.{Process}
+use Rattle.scenario.specs.declared.process.NamedProcess.{NamedProcess}
 use Rattle.scenario.specs.declared.scenario.Step.{Step}
 use Rattle.scenario.specs.Order.{IsInRange, IsName, order_text, verb_of}
 use Rattle.scenario.specs.Process.{AreDifferent, IsDeclared, declaration_text, names_in}
@@ -45,7 +45,7 @@ pub tail_is : {X : Type 0} (x y : X) (xs ys : List X) → x ∷ xs ≡ y ∷ ys 
 tail_is x y xs ys e = cc
 
 -- the rows of processes come first, so two lists of rows part in one place
-rows_part : (es fs : List (String Global × Process)) (xs ys : List (ℕ × List ℕ)) → AllByRecursion IsDeclared es → AllByRecursion IsDeclared fs → AreOrders xs → AreOrders ys
+rows_part : (es fs : List (String Global × NamedProcess)) (xs ys : List (ℕ × List ℕ)) → AllByRecursion IsDeclared es → AllByRecursion IsDeclared fs → AreOrders xs → AreOrders ys
     → map process_row es ++ xs ≡ map process_row fs ++ ys → (map shown_process es ≡ map shown_process fs) × (xs ≡ ys)
 rows_part [] [] xs ys de df ox oy e = (refl, e)
 rows_part [] (f ∷ fs) xs ys de df ox oy e =
@@ -62,12 +62,12 @@ rows_part (x ∷ es) (f ∷ fs) xs ys de df ox oy e =
     ((λ i. (text.0 i, line i, text.1 i) ∷ rest.0 i), rest.1)
 
 -- the names are those that are shown
-names_shown : (es : List (String Global × Process)) → names_in es ≡ map (λ (s : List ℕ × ℕ × List ℕ). s.0) (map shown_process es)
+names_shown : (es : List (String Global × NamedProcess)) → names_in es ≡ map (λ (s : List ℕ × ℕ × List ℕ). s.0) (map shown_process es)
 names_shown [] = refl
 names_shown (e ∷ es) = ap (λ l. string_bytes e.0 ∷ l) (names_shown es)
 
 -- processes that are shown the same have the same names
-pub same_names : (es fs : List (String Global × Process)) → map shown_process es ≡ map shown_process fs → names_in es ≡ names_in fs
+pub same_names : (es fs : List (String Global × NamedProcess)) → map shown_process es ≡ map shown_process fs → names_in es ≡ names_in fs
 same_names es fs same = names_shown es ∙ ap (λ l. map (λ (s : List ℕ × ℕ × List ℕ). s.0) l) same ∙ sym (names_shown fs)
 
 -- steps with the same rows are the same
@@ -84,7 +84,7 @@ steps_one names named different (x ∷ xs) (y ∷ ys) rx ry e =
     ap₂ (λ (a : Step) (l : List Step). a ∷ l) step (steps_one names named different xs ys rx.1 ry.1 (tail_is _ _ _ _ e))
 
 -- lines are of the same processes and steps
-pub lines_one : (allowed : Allowed) (lines : List (List ℕ)) (es fs : List (String Global × Process)) (xs ys : List Step) → AreLines allowed lines es xs → AreLines allowed lines fs ys
+pub lines_one : (allowed : Allowed) (lines : List (List ℕ)) (es fs : List (String Global × NamedProcess)) (xs ys : List Step) → AreLines allowed lines es xs → AreLines allowed lines fs ys
     → (map shown_process es ≡ map shown_process fs) × (xs ≡ ys)
 lines_one allowed lines es fs xs ys h k =
     let parts = rows_part es fs _ _ h.declared k.declared (are_orders (names_in es) xs) (are_orders (names_in fs) ys) (sym h.written ∙ k.written) in

@@ -3,13 +3,13 @@ use Rattle.std.specs.Prelude.{◌≡◌, ℕ, List, map, String}
 use Rattle.std.specs.declared.alloc.Global.{Global}
 use Rattle.std.specs.String.{string_bytes}
 use Rattle.scenario.specs.declared.order.Allowed.{Allowed}
-use Rattle.scenario.specs.declared.process.Process.{Process}
+use Rattle.scenario.specs.declared.process.NamedProcess.{NamedProcess}
 use Rattle.scenario.specs.declared.scenario.Scenario.{Scenario}
 use Rattle.scenario.specs.declared.scenario.ScenarioError.TheVariants.{Line}
 use Rattle.scenario.specs.Scenario.{IsRefusal, IsScenario}
 
 -- what a scenario says of a process: its name, the number of its line, and its path
-abbrev pub shown_process : String Global × Process → List ℕ × ℕ × List ℕ
+abbrev pub shown_process : String Global × NamedProcess → List ℕ × ℕ × List ℕ
 shown_process e = (string_bytes e.0, e.1.line, string_bytes e.1.path)
 
 -- two scenarios that a text is have the same processes and the same steps

@@ -5,15 +5,15 @@ use Rattle.std.specs.Global.{Global}
 use Rattle.std.specs.String.{string_bytes}
 use Rattle.limits.specs.declared.TheConstants.{PROCESSES}
 use Rattle.indexmap.specs.IndexMap.{IndexMap}
-use Rattle.scenario.specs.declared.process.Process.{Process}
+use Rattle.scenario.specs.declared.process.NamedProcess.{NamedProcess}
 use Rattle.scenario.specs.Order.{IsName}
 
 -- the names of processes, in the order of their numbers
-abbrev pub names_in : List (String Global × Process) → List (List ℕ)
+abbrev pub names_in : List (String Global × NamedProcess) → List (List ℕ)
 names_in entries = map (λ e. string_bytes e.0) entries
 
 -- the names in the map of a scenario, whose first entry is process 1
-abbrev pub names_of : {S : Type 0} → IndexMap (String Global) Process S → List (List ℕ)
+abbrev pub names_of : {S : Type 0} → IndexMap (String Global) NamedProcess S → List (List ℕ)
 names_of processes = names_in processes.entries
 
 -- a space, a tab or a carriage return
@@ -30,7 +30,7 @@ abbrev pub declaration_text : List ℕ → List ℕ → List ℕ
 declaration_text name path = codes "process" ++ 32 ∷ (name ++ 32 ∷ path)
 
 -- a name and a path
-abbrev pub IsDeclared : String Global × Process → Type 0
+abbrev pub IsDeclared : String Global × NamedProcess → Type 0
 IsDeclared e = IsName (string_bytes e.0) × IsPath (string_bytes e.1.path)
 
 -- no process has this name
@@ -51,6 +51,6 @@ pub record MayDeclare (names : List (List ℕ)) (begun : Bool) (name path : List
   pub fresh : IsFresh name names
 
 -- at most 15 processes, with names
-pub record AreNamed {S : Type 0} (processes : IndexMap (String Global) Process S) : Type 0 where
+pub record AreNamed {S : Type 0} (processes : IndexMap (String Global) NamedProcess S) : Type 0 where
   pub few : length processes.entries ≤ PROCESSES
   pub named : AllByRecursion IsName (names_of processes)

@@ -6,7 +6,7 @@ use Rattle.std.specs.String.{string_bytes}
 use Rattle.limits.specs.declared.TheConstants.{PROCESSES}
 use Rattle.scenario.specs.declared.order.Order.{Order}
 use Rattle.scenario.specs.declared.order.Allowed.{Allowed}
-use Rattle.scenario.specs.declared.process.Process.{Process}
+use Rattle.scenario.specs.declared.process.NamedProcess.{NamedProcess}
 use Rattle.scenario.specs.declared.scenario.Scenario.{Scenario}
 use Rattle.scenario.specs.declared.scenario.Step.{Step}
 use Rattle.scenario.specs.declared.scenario.ScenarioError.{ScenarioError}
@@ -29,7 +29,7 @@ rows n [] = []
 rows n (line ∷ rest) = if is_silent line then rows (n + 1) rest else (n, line) ∷ rows (n + 1) rest
 
 -- the number that the line of a process has in the text, from 1, and the line
-abbrev pub process_row : String Global × Process → ℕ × List ℕ
+abbrev pub process_row : String Global × NamedProcess → ℕ × List ℕ
 process_row e = (e.1.line, declaration_text (string_bytes e.0) (string_bytes e.1.path))
 
 -- the number that the line of a step has in the text, from 1, and the line. names are those of the processes 1, 2, ..
@@ -38,7 +38,7 @@ step_row names x = (x.line, order_text names x.order)
 
 -- the lines declare at most 15 processes with different names. Then come orders that may be there, and that name only these
 -- processes
-pub record AreLines (allowed : Allowed) (lines : List (List ℕ)) (entries : List (String Global × Process)) (steps : List Step) : Type 0 where
+pub record AreLines (allowed : Allowed) (lines : List (List ℕ)) (entries : List (String Global × NamedProcess)) (steps : List Step) : Type 0 where
   pub few : length entries ≤ PROCESSES
   pub declared : AllByRecursion IsDeclared entries
   pub different : AreDifferent (names_in entries)
@@ -56,7 +56,7 @@ abbrev pub has_begun : List Step → Bool
 has_begun steps = nat_lt 0 (length steps)
 
 -- after these processes and steps, the line is neither a process that may be declared there nor an order that may be there
-pub record IsFaulty (allowed : Allowed) (entries : List (String Global × Process)) (steps : List Step) (line : List ℕ) : Type 0 where
+pub record IsFaulty (allowed : Allowed) (entries : List (String Global × NamedProcess)) (steps : List Step) (line : List ℕ) : Type 0 where
   pub speaks : is_silent line ≡ false
   pub no_process : (name path : List ℕ) → MayDeclare (names_in entries) (has_begun steps) name path → line ≢ declaration_text name path
   pub no_order : (o : Order) → IsInRange (length (names_in entries)) o → takes allowed o ≡ true → line ≢ order_text (names_in entries) o
@@ -68,7 +68,7 @@ pub record IsFault (allowed : Allowed) (text : List ℕ) (number : ℕ) : Type 0
   pub after : List (List ℕ)
   pub whole : lines_of text ≡ before ++ line ∷ after
   pub number_is : number ≡ length before + 1
-  pub entries : List (String Global × Process)
+  pub entries : List (String Global × NamedProcess)
   pub steps : List Step
   pub fine : AreLines allowed before entries steps
   pub faulty : IsFaulty allowed entries steps line

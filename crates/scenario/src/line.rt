@@ -7,7 +7,7 @@ ghost use Rattle.scenario.specs.Process.{AreNamed, IsPath, is_blank, names_of};
 ghost use Rattle.scenario.specs.Scenario.{is_silent};
 
 use crate::order::{Order, order_of};
-use crate::process::{Process, is_name};
+use crate::process::{NamedProcess, is_name};
 use crate::split::split_at_space;
 use indexmap::IndexMap;
 use limits::PROCESSES;
@@ -23,7 +23,7 @@ pub enum Line<'a> {
 
 /// What a line says after these processes; `begun` tells whether an order came before it.
 pub fn line_of<'a>(
-    processes: &IndexMap<String, Process>,
+    processes: &IndexMap<String, NamedProcess>,
     begun: bool,
     text: &'a str,
 ) -> Option<Line<'a>>
@@ -66,7 +66,7 @@ fn has_no_blank(text: &[u8]) -> bool
 }
 
 /// Whether the next process may have this name.
-fn is_free(processes: &IndexMap<String, Process>, name: &str) -> bool
+fn is_free(processes: &IndexMap<String, NamedProcess>, name: &str) -> bool
     ensures { TellsFree name.now (names_of processes.now) result }
 {
     match processes.get_index_of(name) {
@@ -77,7 +77,7 @@ fn is_free(processes: &IndexMap<String, Process>, name: &str) -> bool
 
 /// The name and the path of the next process, if this is its line.
 fn declaration_of<'a>(
-    processes: &IndexMap<String, Process>,
+    processes: &IndexMap<String, NamedProcess>,
     begun: bool,
     text: &'a str,
 ) -> Option<(&'a str, &'a str)>

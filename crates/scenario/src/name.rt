@@ -5,10 +5,10 @@ ghost use Rattle.scenario.specs.Order.{process_text};
 ghost use Rattle.scenario.specs.Process.{names_of};
 
 use indexmap::IndexMap;
-use crate::process::Process;
+use crate::process::NamedProcess;
 
 /// The name of the process with this number, from 1. It is empty if there is no such process.
-pub fn name_at(processes: &IndexMap<String, Process>, number: u8) -> &str
+pub fn name_at(processes: &IndexMap<String, NamedProcess>, number: u8) -> &str
     ensures { result.now ≡ process_text (names_of processes.now) number }
 {
     let place = usize::from(number).saturating_sub(1);

@@ -7,7 +7,7 @@ ghost use Rattle.scenario.specs.Process.{AreNamed, names_of};
 
 use crate::number::number_of;
 use crate::pair::{party_and_message, receiver_and_payload, receiver_and_word, two_processes};
-use crate::process::{Process, named_process, party_of};
+use crate::process::{NamedProcess, named_process, party_of};
 use crate::split::split_at_space;
 use crate::verb::{Verb, verb_named};
 use helpers::Payload;
@@ -59,7 +59,7 @@ impl Allowed {
 }
 
 /// The order of a line.
-pub fn order_of(processes: &IndexMap<String, Process>, line: &str) -> Option<Order>
+pub fn order_of(processes: &IndexMap<String, NamedProcess>, line: &str) -> Option<Order>
     requires { AreNamed processes.now }
     ensures { ReadsOrder (names_of processes.now) line.now result }
 {
@@ -69,7 +69,7 @@ pub fn order_of(processes: &IndexMap<String, Process>, line: &str) -> Option<Ord
 }
 
 /// The order of a kind with these operands.
-fn with_operands(processes: &IndexMap<String, Process>, verb: Verb, text: &str) -> Option<Order>
+fn with_operands(processes: &IndexMap<String, NamedProcess>, verb: Verb, text: &str) -> Option<Order>
     requires { AreNamed processes.now }
     ensures { ReadsOperands (names_of processes.now) verb text.now result }
 {
@@ -115,7 +115,7 @@ fn with_operands(processes: &IndexMap<String, Process>, verb: Verb, text: &str) 
 }
 
 /// The order that hands in a word.
-fn input_of(processes: &IndexMap<String, Process>, text: &str) -> Option<Order>
+fn input_of(processes: &IndexMap<String, NamedProcess>, text: &str) -> Option<Order>
     requires { AreNamed processes.now }
     ensures { ReadsOperands (names_of processes.now) Verb.Input text.now result }
 {
@@ -124,7 +124,7 @@ fn input_of(processes: &IndexMap<String, Process>, text: &str) -> Option<Order>
 }
 
 /// The order that hands in bytes.
-fn bytes_of(processes: &IndexMap<String, Process>, text: &str) -> Option<Order>
+fn bytes_of(processes: &IndexMap<String, NamedProcess>, text: &str) -> Option<Order>
     requires { AreNamed processes.now }
     ensures { ReadsOperands (names_of processes.now) Verb.Bytes text.now result }
 {
@@ -133,7 +133,7 @@ fn bytes_of(processes: &IndexMap<String, Process>, text: &str) -> Option<Order>
 }
 
 /// The order that transmits a message.
-fn transmit_of(processes: &IndexMap<String, Process>, text: &str) -> Option<Order>
+fn transmit_of(processes: &IndexMap<String, NamedProcess>, text: &str) -> Option<Order>
     requires { AreNamed processes.now }
     ensures { ReadsOperands (names_of processes.now) Verb.Transmit text.now result }
 {
@@ -142,7 +142,7 @@ fn transmit_of(processes: &IndexMap<String, Process>, text: &str) -> Option<Orde
 }
 
 /// The order that gives messages to a peer their RSNs back.
-fn resync_of(processes: &IndexMap<String, Process>, text: &str) -> Option<Order>
+fn resync_of(processes: &IndexMap<String, NamedProcess>, text: &str) -> Option<Order>
     requires { AreNamed processes.now }
     ensures { ReadsOperands (names_of processes.now) Verb.Resync text.now result }
 {

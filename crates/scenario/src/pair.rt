@@ -5,13 +5,13 @@ ghost use Rattle.scenario.specs.Process.{AreNamed, names_of};
 
 use crate::hex::payload_of;
 use crate::number::{number_of, word_of};
-use crate::process::{Process, named_process, party_of};
+use crate::process::{NamedProcess, named_process, party_of};
 use crate::split::split_at_space;
 use helpers::Payload;
 use indexmap::IndexMap;
 
 /// A process and a word.
-pub fn receiver_and_word(processes: &IndexMap<String, Process>, text: &str) -> Option<(u8, u64)>
+pub fn receiver_and_word(processes: &IndexMap<String, NamedProcess>, text: &str) -> Option<(u8, u64)>
     requires { AreNamed processes.now }
     ensures { ReadsWord (names_of processes.now) text.now result }
 {
@@ -23,7 +23,7 @@ pub fn receiver_and_word(processes: &IndexMap<String, Process>, text: &str) -> O
 
 /// A process and bytes.
 pub fn receiver_and_payload(
-    processes: &IndexMap<String, Process>,
+    processes: &IndexMap<String, NamedProcess>,
     text: &str,
 ) -> Option<(u8, Payload)>
     requires { AreNamed processes.now }
@@ -36,7 +36,7 @@ pub fn receiver_and_payload(
 }
 
 /// Two processes.
-pub fn two_processes(processes: &IndexMap<String, Process>, text: &str) -> Option<(u8, u8)>
+pub fn two_processes(processes: &IndexMap<String, NamedProcess>, text: &str) -> Option<(u8, u8)>
     requires { AreNamed processes.now }
     ensures { ReadsPeers (names_of processes.now) text.now result }
 {
@@ -47,7 +47,7 @@ pub fn two_processes(processes: &IndexMap<String, Process>, text: &str) -> Optio
 }
 
 /// A receiver and an SSN.
-fn party_and_number(processes: &IndexMap<String, Process>, text: &str) -> Option<(u8, u32)>
+fn party_and_number(processes: &IndexMap<String, NamedProcess>, text: &str) -> Option<(u8, u32)>
     requires { AreNamed processes.now }
     ensures { ReadsReceiver (names_of processes.now) text.now result }
 {
@@ -59,7 +59,7 @@ fn party_and_number(processes: &IndexMap<String, Process>, text: &str) -> Option
 
 /// A sender, a receiver and an SSN.
 pub fn party_and_message(
-    processes: &IndexMap<String, Process>,
+    processes: &IndexMap<String, NamedProcess>,
     text: &str,
 ) -> Option<(u8, (u8, u32))>
     requires { AreNamed processes.now }

@@ -13,7 +13,7 @@ pub(crate) const NAME_LIMIT: usize = 16;
 
 /// What a scenario says of a process, without its name.
 #[derive(Drop)]
-pub struct Process {
+pub struct NamedProcess {
     /// The number of its line, from 1.
     pub line: usize,
     /// The path of its image.
@@ -47,7 +47,7 @@ pub fn is_name(text: &str) -> bool
 }
 
 /// The number of the process with this name.
-pub fn named_process(processes: &IndexMap<String, Process>, text: &str) -> Option<u8>
+pub fn named_process(processes: &IndexMap<String, NamedProcess>, text: &str) -> Option<u8>
     requires { AreNamed processes.now }
     ensures { Reads (process_text (names_of processes.now)) (IsProcess (length (names_of processes.now))) text.now result }
 {
@@ -56,7 +56,7 @@ pub fn named_process(processes: &IndexMap<String, Process>, text: &str) -> Optio
 }
 
 /// The number of the process with this name, or 0 for the outside.
-pub fn party_of(processes: &IndexMap<String, Process>, text: &str) -> Option<u8>
+pub fn party_of(processes: &IndexMap<String, NamedProcess>, text: &str) -> Option<u8>
     requires { AreNamed processes.now }
     ensures { Reads (party_text (names_of processes.now)) (IsParty (length (names_of processes.now))) text.now result }
 {

@@ -8,7 +8,7 @@ ghost use Rattle.scenario.specs.declared.scenario.ScenarioError.TheVariants.{Mem
 
 use crate::line::{Line, line_of};
 use crate::order::{Allowed, Order};
-use crate::process::Process;
+use crate::process::NamedProcess;
 use crate::split::split_at_line_feed;
 use indexmap::IndexMap;
 use std::alloc::{AllocError, AllocFailed, Global};
@@ -25,7 +25,7 @@ pub struct Step {
 /// what to do with them.
 #[derive(Drop)]
 pub struct Scenario {
-    pub processes: IndexMap<String, Process>,
+    pub processes: IndexMap<String, NamedProcess>,
     pub steps: Vec<Step>,
 }
 
@@ -105,7 +105,7 @@ fn read_lines(alloc: Global, text: &str, allowed: Allowed) -> Result<Scenario, S
 /// Adds a process after those that are there.
 fn declare(
     alloc: Global,
-    processes: &mut IndexMap<String, Process>,
+    processes: &mut IndexMap<String, NamedProcess>,
     line: usize,
     name: &str,
     path: &str,
@@ -116,7 +116,7 @@ fn declare(
 {
     let path = String::from_str(alloc, path)?;
     let key = String::from_str(alloc, name)?;
-    processes.insert(key, Process { line, path })?;
+    processes.insert(key, NamedProcess { line, path })?;
     Ok(())
 }
 

@@ -22,13 +22,13 @@ use Rattle.regtypes.specs.Rules.{first_broken, is_frame_pointer}
 use Rattle.regtypes.specs.Typing.{flow_tests, is_target}
 use Rattle.regtypes.proofs.Monotone.{none_holds}
 use Rattle.verifier.proofs.LeastTypings.{within_some}
-use Rattle.spans.specs.declared.kind.Kind.{Kind}
-use Rattle.spans.specs.declared.kind.Kind.TheVariants.{Unset, Num, Place}
+use Rattle.spans.specs.declared.kind.SpanKind.{SpanKind}
+use Rattle.spans.specs.declared.kind.SpanKind.TheVariants.{Unset, Num, Place}
 use Rattle.spans.specs.declared.span.Span.{Span}
 use Rattle.spans.specs.Frame.{Frame, is_num}
 use Rattle.spans.specs.Ways.{Leaves, Ways, from_span}
 use Rattle.span_verifier.specs.Rules.{frame_pointer_rule}
-use Rattle.native.specs.declared.task.Task.TheVariants as task
+use Rattle.native.specs.declared.task.SlotTask.TheVariants as task
 use Rattle.native.specs.Tasks.{holds_word, is_word, is_read, is_apt}
 use Rattle.span_native.specs.SpanTasks.{operand_in, stack_at, store_imm_task, store_task, task_in}
 use Rattle.span_native.proofs.Acts.{Lands, not_ten}
@@ -67,7 +67,7 @@ operand_read len alu.Mov o = refl
 operand_read len a o = operand_word len o
 
 -- what makes a number of a kind asks a number
-from_span-num : (make : Span → Span) (k h : Kind) → from_span make k ≡ Some h → is_num k ≡ true
+from_span-num : (make : Span → Span) (k h : SpanKind) → from_span make k ≡ Some h → is_num k ≡ true
 from_span-num make Unset h e = cc
 from_span-num make (Num s) h e = refl
 from_span-num make (Place r s) h e = cc

@@ -14,8 +14,8 @@ use Rattle.regtypes.specs.declared.frame.Region.{Region}
 use Rattle.regtypes.specs.declared.frame.Region.TheVariants.{Message, State, Stack}
 use Rattle.regtypes.specs.Form.{form_of}
 use Rattle.regtypes.specs.Rules.{is_frame_pointer}
-use Rattle.spans.specs.declared.kind.Kind.{Kind}
-use Rattle.spans.specs.declared.kind.Kind.TheVariants.{Unset, Num, Place}
+use Rattle.spans.specs.declared.kind.SpanKind.{SpanKind}
+use Rattle.spans.specs.declared.kind.SpanKind.TheVariants.{Unset, Num, Place}
 use Rattle.spans.specs.Frame.{Frame, Leq, LeqKind, at_place, is_num}
 use Rattle.spans.specs.Configuration.{Value, Number, At, Configuration, IsConfiguration, put, own_frame, own_kind}
 use Rattle.spans.specs.Memory.{are_numbers, index_in, is_word, load, patched_cells, store, write_at}
@@ -141,7 +141,7 @@ module _ {len : ℕ} {table : Table} {ws mem : List ℕ} {s : ℕ} (k : Locked l
   pub no_number : is_num (k.f 10) ≡ false
   no_number = of_kind (k.f 10) (subst (λ v. LeqKind (own_kind v) (k.f 10)) k.ten (k.leq 10))
     where
-      of_kind : (q : Kind) → LeqKind (Place Stack (at_place (pos 512))) q → is_num q ≡ false
+      of_kind : (q : SpanKind) → LeqKind (Place Stack (at_place (pos 512))) q → is_num q ≡ false
       of_kind Unset h = refl
       of_kind (Num t) h = absurd h
       of_kind (Place r t) h = refl

@@ -12,15 +12,15 @@ use Rattle.helpers.specs.declared.effects.Who.{Who}
 use Rattle.helpers.specs.Effects.{Emitted}
 use Rattle.spans.specs.Concrete.{array_size, address}
 use Rattle.span_steps.specs.Acts.{IsReached}
-use Rattle.native.specs.declared.task.Task.{Task}
-use Rattle.native.specs.declared.task.Task.TheVariants as task
+use Rattle.native.specs.declared.task.SlotTask.{SlotTask}
+use Rattle.native.specs.declared.task.SlotTask.TheVariants as task
 use Rattle.native.specs.Tasks.{position_by, task_act, holds_word, is_read, is_apt, TaskFits, TaskReaches}
 use Rattle.span_native.specs.SpanTasks.{stack_at, store_imm_task, store_task, helper_task, task_in}
 use Rattle.span_native.proofs.Blind.{blind, blind_is, SparesTen}
 use Rattle.span_native.proofs.Acts.{below_ten, is_ten, not_ten}
 
 -- a task for which there is code leaves r10
-pub task_spares : (who : Who) (slot : ℕ) (ws mem : List ℕ) (e : Emitted) (t : Task) → is_apt slot t ≡ true → SparesTen (task_act who slot ws mem e t)
+pub task_spares : (who : Who) (slot : ℕ) (ws mem : List ℕ) (e : Emitted) (t : SlotTask) → is_apt slot t ≡ true → SparesTen (task_act who slot ws mem e t)
 task_spares who slot ws mem e (task.Compute o w dst b) h = below_ten dst.number (and_parts (holds_word dst.number) (is_read o b) h).0
 task_spares who slot ws mem e (task.Extend x dst src) h = below_ten dst.number (and_parts (holds_word dst.number) (holds_word src.number) h).0
 task_spares who slot ws mem e (task.Negate w dst) h = below_ten dst.number h
@@ -65,7 +65,7 @@ module _ (slot len : ℕ) (ws : List ℕ) (ten : slice_index ws 10 ≡ array_siz
   by_within : (r : Reg) (d : ℤ) (n : ℕ) → r.number < 10 → at r d + n ≤ 2048 → position_by (slice_index bs r.number) d + n ≤ 2048
   by_within r d n h l = subst (λ w. position_by w d + n ≤ 2048) (sym (blind_is ws r.number h)) l
 
-  abbrev Reaches : Task → Type 0
+  abbrev Reaches : SlotTask → Type 0
   Reaches t = TaskReaches 2048 bs t
 
   store_imm_within : (z : Size) (base : Reg) (d imm : ℤ) → at base d + bytes_in z ≤ 2048 → Reaches (store_imm_task len z base d imm)

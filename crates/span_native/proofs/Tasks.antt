@@ -4,19 +4,19 @@ use Rattle.std.specs.Prelude.{slice_get}
 use Rattle.std.proofs.lemmas.Bool.{cases_lt}
 use Rattle.decode.specs.declared.insn.Insn.{Insn}
 use Rattle.decode.specs.Slots.{insn_at}
-use Rattle.native.specs.declared.task.Task.{Task}
+use Rattle.native.specs.declared.task.SlotTask.{SlotTask}
 use Rattle.span_native.specs.SpanTasks.{task_in, task_there, tasks_in}
 
 pub tasks_long : (slots : List (Option Insn)) (len n : ℕ) → length (tasks_in slots len n) ≡ n
 tasks_long slots len zero = refl
 tasks_long slots len (suc n) = let a = length-append (tasks_in slots len n) (task_there len n (insn_at slots n) ∷ []) in omega (arith, a, tasks_long slots len n)
 
-get_front : (xs : List Task) (x : Task) (k : ℕ) (t : Task) → slice_get xs k ≡ Some t → slice_get (xs ++ x ∷ []) k ≡ Some t
+get_front : (xs : List SlotTask) (x : SlotTask) (k : ℕ) (t : SlotTask) → slice_get xs k ≡ Some t → slice_get (xs ++ x ∷ []) k ≡ Some t
 get_front [] x k t h = cc
 get_front (y ∷ xs) x zero t h = h
 get_front (y ∷ xs) x (suc k) t h = get_front xs x k t h
 
-get_last : (xs : List Task) (x : Task) (k : ℕ) → k ≡ length xs → slice_get (xs ++ x ∷ []) k ≡ Some x
+get_last : (xs : List SlotTask) (x : SlotTask) (k : ℕ) → k ≡ length xs → slice_get (xs ++ x ∷ []) k ≡ Some x
 get_last [] x zero h = refl
 get_last [] x (suc k) h = absurd (omega (arith, h))
 get_last (y ∷ xs) x zero h = absurd (omega (arith, h))
@@ -35,7 +35,7 @@ task_found slots len (suc n) s i l h =
     ∙ ap Some (ap (λ m. task_there len m (insn_at slots m)) e ∙ ap (task_there len s) h))
     (cases_lt s n)
 
-pub tasks_more : (slots : List (Option Insn)) (len n : ℕ) (tasks more : List Task) → tasks ≡ tasks_in slots len n → more ≡ tasks ++ task_there len n (insn_at slots n) ∷ [] → more ≡ tasks_in slots len (n + 1)
+pub tasks_more : (slots : List (Option Insn)) (len n : ℕ) (tasks more : List SlotTask) → tasks ≡ tasks_in slots len n → more ≡ tasks ++ task_there len n (insn_at slots n) ∷ [] → more ≡ tasks_in slots len (n + 1)
 tasks_more slots len n tasks more h e =
     let k : suc n ≡ n + 1 = omega arith in
     e ∙ ap (λ xs. xs ++ task_there len n (insn_at slots n) ∷ []) h ∙ ap (tasks_in slots len) k

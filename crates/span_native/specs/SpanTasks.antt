@@ -10,8 +10,8 @@ use Rattle.decode.specs.declared.insn.SignedSize.{SignedSize}
 use Rattle.decode.specs.Slots.{insn_at}
 use Rattle.spans.specs.Concrete.{array_size}
 use Rattle.spans.specs.Typing.{target}
-use Rattle.native.specs.declared.task.Task.{Task}
-use Rattle.native.specs.declared.task.Task.TheVariants as task
+use Rattle.native.specs.declared.task.SlotTask.{SlotTask}
+use Rattle.native.specs.declared.task.SlotTask.TheVariants as task
 use Rattle.native.specs.Tasks.{position_by}
 
 -- r10 is the end of the array
@@ -27,24 +27,24 @@ stack_at len d = position_by (array_size len) d % 2 ^ 16
 abbrev pub slot_of : ℕ → Insn → ℕ
 slot_of slot i = target slot i % 2 ^ 16
 
-abbrev pub load_task : ℕ → Size → Reg → Reg → ℤ → Task
+abbrev pub load_task : ℕ → Size → Reg → Reg → ℤ → SlotTask
 load_task len size dst src d = if src.number == 10 then task.Load size dst (stack_at len d) else task.LoadBy size dst src d
 
-abbrev pub load_sx_task : ℕ → SignedSize → Reg → Reg → ℤ → Task
+abbrev pub load_sx_task : ℕ → SignedSize → Reg → Reg → ℤ → SlotTask
 load_sx_task len size dst src d = if src.number == 10 then task.LoadSx size dst (stack_at len d) else task.LoadSxBy size dst src d
 
-abbrev pub store_imm_task : ℕ → Size → Reg → ℤ → ℤ → Task
+abbrev pub store_imm_task : ℕ → Size → Reg → ℤ → ℤ → SlotTask
 store_imm_task len size base d imm = if base.number == 10 then task.StoreImm size (stack_at len d) imm else task.StoreImmBy size base d imm
 
-abbrev pub store_task : ℕ → Size → Reg → Reg → ℤ → Task
+abbrev pub store_task : ℕ → Size → Reg → Reg → ℤ → SlotTask
 store_task len size base src d = if base.number == 10 then task.Store size src (stack_at len d) else task.StoreBy size src base d
 
-abbrev pub store_reg_task : ℕ → Size → Reg → Reg → ℤ → Task
+abbrev pub store_reg_task : ℕ → Size → Reg → Reg → ℤ → SlotTask
 store_reg_task len size base src d =
     if src.number == 10 then store_imm_task len size base d (pos (array_size len)) else store_task len size base src d
 
 -- the task of a helper
-abbrev pub helper_task : ℤ → Task
+abbrev pub helper_task : ℤ → SlotTask
 helper_task (pos (suc zero)) = task.SendBy
 helper_task (pos (suc (suc zero))) = task.OutputBy
 helper_task (pos (suc (suc (suc zero)))) = task.Me
@@ -54,7 +54,7 @@ helper_task (pos (suc (suc (suc (suc (suc (suc zero))))))) = task.OutputSizedBy
 helper_task z = task.Dead
 
 -- the task of an instruction at a slot, with a state of `len` bytes
-abbrev pub task_in : ℕ → ℕ → Insn → Task
+abbrev pub task_in : ℕ → ℕ → Insn → SlotTask
 task_in len slot (Alu a w dst o) = task.Compute a w dst (operand_in len o)
 task_in len slot (MovSx x dst src) = task.Extend x dst src
 task_in len slot (Neg w dst) = task.Negate w dst
@@ -71,11 +71,11 @@ task_in len slot (StoreImm size dst d imm) = store_imm_task len size dst d imm
 task_in len slot (Wide dst value) = task.Wide dst value
 
 -- the task of a slot; `Dead` if no instruction begins there
-abbrev pub task_there : ℕ → ℕ → Option Insn → Task
+abbrev pub task_there : ℕ → ℕ → Option Insn → SlotTask
 task_there len slot None = task.Dead
 task_there len slot (Some i) = task_in len slot i
 
 -- the tasks of the first n slots
-abbrev pub tasks_in : List (Option Insn) → ℕ → ℕ → List Task
+abbrev pub tasks_in : List (Option Insn) → ℕ → ℕ → List SlotTask
 tasks_in slots len zero = []
 tasks_in slots len (suc n) = tasks_in slots len n ++ task_there len n (insn_at slots n) ∷ []

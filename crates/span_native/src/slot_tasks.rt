@@ -8,7 +8,7 @@ ghost use Rattle.span_native.specs.SpanTasks as specs;
 
 use decode::{Insn, Operand, Reg, SignedSize, Size};
 use limits::{SLOTS, STACK_BYTES, STATE_BYTES};
-use native::Task;
+use native::SlotTask;
 use operations::word_of_imm;
 use std::alloc::{AllocError, Global};
 
@@ -66,15 +66,15 @@ fn slot_of(slot: usize, distance: i32) -> u16
     (to % 0x1_0000) as u16
 }
 
-fn load_task(state_len: u16, size: Size, dst: Reg, src: Reg, offset: i16) -> Task
+fn load_task(state_len: u16, size: Size, dst: Reg, src: Reg, offset: i16) -> SlotTask
     requires { state_len ≤ STATE_BYTES }
     ensures { result ≡ specs.load_task state_len size dst src offset }
 {
     if is_end(src) {
         let at = stack_at(state_len, offset);
-        Task::Load { size, dst, at }
+        SlotTask::Load { size, dst, at }
     } else {
-        Task::LoadBy {
+        SlotTask::LoadBy {
             size,
             dst,
             base: src,
@@ -83,15 +83,15 @@ fn load_task(state_len: u16, size: Size, dst: Reg, src: Reg, offset: i16) -> Tas
     }
 }
 
-fn load_sx_task(state_len: u16, size: SignedSize, dst: Reg, src: Reg, offset: i16) -> Task
+fn load_sx_task(state_len: u16, size: SignedSize, dst: Reg, src: Reg, offset: i16) -> SlotTask
     requires { state_len ≤ STATE_BYTES }
     ensures { result ≡ specs.load_sx_task state_len size dst src offset }
 {
     if is_end(src) {
         let at = stack_at(state_len, offset);
-        Task::LoadSx { size, dst, at }
+        SlotTask::LoadSx { size, dst, at }
     } else {
-        Task::LoadSxBy {
+        SlotTask::LoadSxBy {
             size,
             dst,
             base: src,
@@ -100,15 +100,15 @@ fn load_sx_task(state_len: u16, size: SignedSize, dst: Reg, src: Reg, offset: i1
     }
 }
 
-fn store_imm_task(state_len: u16, size: Size, base: Reg, offset: i16, imm: i32) -> Task
+fn store_imm_task(state_len: u16, size: Size, base: Reg, offset: i16, imm: i32) -> SlotTask
     requires { state_len ≤ STATE_BYTES }
     ensures { result ≡ specs.store_imm_task state_len size base offset imm }
 {
     if is_end(base) {
         let at = stack_at(state_len, offset);
-        Task::StoreImm { size, at, imm }
+        SlotTask::StoreImm { size, at, imm }
     } else {
-        Task::StoreImmBy {
+        SlotTask::StoreImmBy {
             size,
             base,
             offset,
@@ -117,15 +117,15 @@ fn store_imm_task(state_len: u16, size: Size, base: Reg, offset: i16, imm: i32) 
     }
 }
 
-fn store_task(state_len: u16, size: Size, base: Reg, src: Reg, offset: i16) -> Task
+fn store_task(state_len: u16, size: Size, base: Reg, src: Reg, offset: i16) -> SlotTask
     requires { state_len ≤ STATE_BYTES }
     ensures { result ≡ specs.store_task state_len size base src offset }
 {
     if is_end(base) {
         let at = stack_at(state_len, offset);
-        Task::Store { size, src, at }
+        SlotTask::Store { size, src, at }
     } else {
-        Task::StoreBy {
+        SlotTask::StoreBy {
             size,
             src,
             base,
@@ -134,7 +134,7 @@ fn store_task(state_len: u16, size: Size, base: Reg, src: Reg, offset: i16) -> T
     }
 }
 
-fn store_reg_task(state_len: u16, size: Size, base: Reg, src: Reg, offset: i16) -> Task
+fn store_reg_task(state_len: u16, size: Size, base: Reg, src: Reg, offset: i16) -> SlotTask
     requires { state_len ≤ STATE_BYTES }
     ensures { result ≡ specs.store_reg_task state_len size base src offset }
 {
@@ -146,22 +146,22 @@ fn store_reg_task(state_len: u16, size: Size, base: Reg, src: Reg, offset: i16) 
     }
 }
 
-fn helper_task(helper: i32) -> Task
+fn helper_task(helper: i32) -> SlotTask
     ensures { result ≡ specs.helper_task helper }
 {
     match helper {
-        1 => Task::SendBy,
-        2 => Task::OutputBy,
-        3 => Task::Me,
-        4 => Task::From,
-        5 => Task::SendSizedBy,
-        6 => Task::OutputSizedBy,
-        _ => Task::Dead,
+        1 => SlotTask::SendBy,
+        2 => SlotTask::OutputBy,
+        3 => SlotTask::Me,
+        4 => SlotTask::From,
+        5 => SlotTask::SendSizedBy,
+        6 => SlotTask::OutputSizedBy,
+        _ => SlotTask::Dead,
     }
 }
 
 // The task of an instruction at a slot.
-fn task_of(state_len: u16, slot: usize, insn: &Insn) -> Task
+fn task_of(state_len: u16, slot: usize, insn: &Insn) -> SlotTask
     requires state { state_len ≤ STATE_BYTES }
     requires slot { slot < SLOTS }
     ensures { result ≡ specs.task_in state_len slot insn.now }
@@ -172,7 +172,7 @@ fn task_of(state_len: u16, slot: usize, insn: &Insn) -> Task
             width,
             dst,
             operand,
-        } => Task::Compute {
+        } => SlotTask::Compute {
             op,
             width,
             dst,
@@ -182,17 +182,17 @@ fn task_of(state_len: u16, slot: usize, insn: &Insn) -> Task
             extension,
             dst,
             src,
-        } => Task::Extend {
+        } => SlotTask::Extend {
             extension,
             dst,
             src,
         },
-        Insn::Neg { width, dst } => Task::Negate { width, dst },
-        Insn::End { order, bits, dst } => Task::Reorder { order, bits, dst },
-        Insn::Jump { offset } => Task::Leap {
+        Insn::Neg { width, dst } => SlotTask::Negate { width, dst },
+        Insn::End { order, bits, dst } => SlotTask::Reorder { order, bits, dst },
+        Insn::Jump { offset } => SlotTask::Leap {
             to: slot_of(slot, i32::from(offset)),
         },
-        Insn::JumpLong { distance } => Task::Leap {
+        Insn::JumpLong { distance } => SlotTask::Leap {
             to: slot_of(slot, distance),
         },
         Insn::JumpIf {
@@ -201,7 +201,7 @@ fn task_of(state_len: u16, slot: usize, insn: &Insn) -> Task
             dst,
             operand,
             offset,
-        } => Task::Branch {
+        } => SlotTask::Branch {
             condition,
             width,
             dst,
@@ -209,7 +209,7 @@ fn task_of(state_len: u16, slot: usize, insn: &Insn) -> Task
             to: slot_of(slot, i32::from(offset)),
         },
         Insn::Call { helper } => helper_task(helper),
-        Insn::Exit => Task::Exit,
+        Insn::Exit => SlotTask::Exit,
         Insn::Load {
             size,
             dst,
@@ -234,19 +234,19 @@ fn task_of(state_len: u16, slot: usize, insn: &Insn) -> Task
             offset,
             imm,
         } => store_imm_task(state_len, size, dst, offset, imm),
-        Insn::Wide { dst, value } => Task::Wide { dst, value },
+        Insn::Wide { dst, value } => SlotTask::Wide { dst, value },
     }
 }
 
 // The task of a slot.
-fn task_there(state_len: u16, slot: usize, insn: &Option<Insn>) -> Task
+fn task_there(state_len: u16, slot: usize, insn: &Option<Insn>) -> SlotTask
     requires state { state_len ≤ STATE_BYTES }
     requires slot { slot < SLOTS }
     ensures { result ≡ specs.task_there state_len slot insn.now }
 {
     match insn {
         Some(insn) => task_of(state_len, slot, insn),
-        None => Task::Dead,
+        None => SlotTask::Dead,
     }
 }
 
@@ -255,7 +255,7 @@ pub(crate) fn tasks_of(
     alloc: Global,
     slots: &[Option<Insn>],
     state_len: u16,
-) -> Result<Vec<Task>, AllocError>
+) -> Result<Vec<SlotTask>, AllocError>
     requires state { state_len ≤ STATE_BYTES }
     requires few { length slots.now ≤ SLOTS }
     ensures { IfOk result (λ tasks. tasks.items ≡ specs.tasks_in slots.now state_len (length slots.now)) }

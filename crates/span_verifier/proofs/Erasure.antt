@@ -6,8 +6,8 @@ use Rattle.std.proofs.lemmas.Bool.{cases_eq, cases_lt, cases_Bool}
 use Rattle.std.proofs.lemmas.List.{get_or-set_same, get_or-set_other}
 use Rattle.regtypes.specs.declared.rule.Rule.{Rule}
 use Rattle.spans.specs.declared.kind.Reach.{Reach}
-use Rattle.spans.specs.declared.kind.Kind.{Kind}
-use Rattle.spans.specs.declared.kind.Kind.TheVariants.{Unset, Num}
+use Rattle.spans.specs.declared.kind.SpanKind.{SpanKind}
+use Rattle.spans.specs.declared.kind.SpanKind.TheVariants.{Unset, Num}
 use Rattle.spans.specs.Span.{whole}
 use Rattle.spans.specs.Frame.{Frame, kind_at}
 use Rattle.spans.specs.Access.{is_inside, is_reached, wiped}
@@ -15,16 +15,16 @@ use Rattle.span_verifier.specs.Rules.{lesser, number_rule, words_rule}
 use Rattle.span_verifier.proofs.Exact.{reached-within}
 
 -- the cells below this one are done, and the others as they were
-pub record Wiped (f : Frame) (s : Reach) (o : ℤ) (n : ℕ) (k : List Kind) (i : ℕ) : Type 0 where
+pub record Wiped (f : Frame) (s : Reach) (o : ℤ) (n : ℕ) (k : List SpanKind) (i : ℕ) : Type 0 where
   pub done : (c : ℕ) → c < i → kind_at k c ≡ wiped f s o n c
   pub rest : (c : ℕ) → i ≤ c → kind_at k c ≡ f c
 
 -- at first none is done
-pub wiped_none : (s : Reach) (o : ℤ) (n : ℕ) (k : List Kind) → Wiped (kind_at k) s o n k 0
+pub wiped_none : (s : Reach) (o : ℤ) (n : ℕ) (k : List SpanKind) → Wiped (kind_at k) s o n k 0
 wiped_none s o n k = record { done = λ c l. absurd (omega (arith, l)); rest = λ c l. refl }
 
 -- one cell more, which is reached
-pub wiped_one : (f : Frame) (s : Reach) (o : ℤ) (n : ℕ) (k : List Kind) (i : ℕ) (x : Kind) → i < length k → is_reached s o n i ≡ true → x ≡ Num (whole 64) → Wiped f s o n k i → Wiped f s o n (slice_set k i x) (i + 1)
+pub wiped_one : (f : Frame) (s : Reach) (o : ℤ) (n : ℕ) (k : List SpanKind) (i : ℕ) (x : SpanKind) → i < length k → is_reached s o n i ≡ true → x ≡ Num (whole 64) → Wiped f s o n k i → Wiped f s o n (slice_set k i x) (i + 1)
 wiped_one f s o n k i x lt r e h = record { done = λ c l. ⊎_elim (here c) (apart c l) (cases_eq c i); rest = λ c l. let q : c ≢ i = omega (arith, l) in get_or-set_other k i c x Unset q ∙ h.rest c (omega (arith, l)) }
   where
     here : (c : ℕ) → c ≡ i → kind_at (slice_set k i x) c ≡ wiped f s o n c
@@ -36,7 +36,7 @@ wiped_one f s o n k i x lt r e h = record { done = λ c l. ⊎_elim (here c) (ap
     apart c l q = get_or-set_other k i c x Unset q ∙ h.done c (omega (arith, l, q))
 
 -- one cell more, which is not
-pub wiped_skip : (f : Frame) (s : Reach) (o : ℤ) (n : ℕ) (k : List Kind) (i : ℕ) → is_reached s o n i ≡ false → Wiped f s o n k i → Wiped f s o n k (i + 1)
+pub wiped_skip : (f : Frame) (s : Reach) (o : ℤ) (n : ℕ) (k : List SpanKind) (i : ℕ) → is_reached s o n i ≡ false → Wiped f s o n k i → Wiped f s o n k (i + 1)
 wiped_skip f s o n k i r h = record { done = λ c l. ⊎_elim (here c) (λ q. h.done c (omega (arith, l, q))) (cases_eq c i); rest = λ c l. h.rest c (omega (arith, l)) }
   where
     here : (c : ℕ) → c ≡ i → kind_at k c ≡ wiped f s o n c
@@ -45,7 +45,7 @@ wiped_skip f s o n k i r h = record { done = λ c l. ⊎_elim (here c) (λ q. h.
         subst (λ d. kind_at k d ≡ wiped f s o n d) (sym q) (h.rest i (omega arith) ∙ sym a)
 
 -- all cells are done
-pub wiped_all : (f : Frame) (s : Reach) (o : ℤ) (n : ℕ) (k : List Kind) → is_inside 512 s o n ≡ true → Wiped f s o n k 75 → kind_at k ≡ wiped f s o n
+pub wiped_all : (f : Frame) (s : Reach) (o : ℤ) (n : ℕ) (k : List SpanKind) → is_inside 512 s o n ≡ true → Wiped f s o n k 75 → kind_at k ≡ wiped f s o n
 wiped_all f s o n k i h = fun_ext (λ c. ⊎_elim (h.done c) (past c) (cases_lt c 75))
   where
     past : (c : ℕ) → 75 ≤ c → kind_at k c ≡ wiped f s o n c

@@ -17,8 +17,8 @@ use Rattle.regtypes.specs.declared.frame.Region.TheVariants.{Message, State, Sta
 use Rattle.regtypes.specs.declared.rule.Rule.{Rule}
 use Rattle.regtypes.specs.declared.rule.Rule.TheVariants.{V5, V6, V7, V9}
 use Rattle.spans.specs.declared.kind.Reach.{Reach}
-use Rattle.spans.specs.declared.kind.Kind.{Kind}
-use Rattle.spans.specs.declared.kind.Kind.TheVariants.{Unset, Num, Place}
+use Rattle.spans.specs.declared.kind.SpanKind.{SpanKind}
+use Rattle.spans.specs.declared.kind.SpanKind.TheVariants.{Unset, Num, Place}
 use Rattle.spans.specs.declared.span.Span.{Span}
 use Rattle.spans.specs.Span.{whole}
 use Rattle.spans.specs.Narrowing.{opposite}
@@ -58,38 +58,38 @@ unbroken false r e = absurd (false≢true e)
 
 -- ---- kinds
 
-is_number : (k : Kind) → number_rule k ≡ None → (s : Span) × (k ≡ Num s)
+is_number : (k : SpanKind) → number_rule k ≡ None → (s : Span) × (k ≡ Num s)
 is_number Unset e = absurd (broken e)
 is_number (Num s) e = (s, refl)
 is_number (Place r s) e = absurd (broken e)
 
-number-none : (k : Kind) (s : Span) → k ≡ Num s → number_rule k ≡ None
+number-none : (k : SpanKind) (s : Span) → k ≡ Num s → number_rule k ≡ None
 number-none k s e = ap number_rule e
 
-num-is : (k : Kind) → number_rule k ≡ None → is_num k ≡ true
+num-is : (k : SpanKind) → number_rule k ≡ None → is_num k ≡ true
 num-is Unset e = absurd (broken e)
 num-is (Num s) e = refl
 num-is (Place r s) e = absurd (broken e)
 
-is-num : (k : Kind) → is_num k ≡ true → number_rule k ≡ None
+is-num : (k : SpanKind) → is_num k ≡ true → number_rule k ≡ None
 is-num Unset e = absurd (false≢true e)
 is-num (Num s) e = refl
 is-num (Place r s) e = absurd (false≢true e)
 
-set-is : (k : Kind) → value_rule k ≡ None → is_set k ≡ true
+set-is : (k : SpanKind) → value_rule k ≡ None → is_set k ≡ true
 set-is Unset e = absurd (broken e)
 set-is (Num s) e = refl
 set-is (Place r s) e = refl
 
-is-set : (k : Kind) → is_set k ≡ true → value_rule k ≡ None
+is-set : (k : SpanKind) → is_set k ≡ true → value_rule k ≡ None
 is-set Unset e = absurd (false≢true e)
 is-set (Num s) e = refl
 is-set (Place r s) e = refl
 
 -- ---- arithmetic
 
-abbrev Known : Option Kind → Type 0
-Known k = (h : Kind) × (k ≡ Some h)
+abbrev Known : Option SpanKind → Type 0
+Known k = (h : SpanKind) × (k ≡ Some h)
 
 near-known : (t : Bool) (r : Region) (s : Reach) → unless t V6 ≡ None → Known (if t then Some (Place r s) else None)
 near-known true r s e = (Place r s, refl)
@@ -102,7 +102,7 @@ known-near false r s k = absurd (missing k.1)
 abbrev near : Reach → Bool
 near s = int_le (negsuc 32767) s.lo && int_le s.hi (pos 32767)
 
-alu-known : (form : AluForm) (a b : Kind) → alu_rule form a b ≡ None → Known (result_kind form a b)
+alu-known : (form : AluForm) (a b : SpanKind) → alu_rule form a b ≡ None → Known (result_kind form a b)
 alu-known Copies a Unset e = absurd (broken e)
 alu-known Copies a (Num s) e = (Num s, refl)
 alu-known Copies a (Place r s) e = (Place r s, refl)
@@ -122,14 +122,14 @@ alu-known (Sets width) a (Num s) e = (_, refl)
 alu-known (Sets width) a (Place r s) e = absurd (broken e)
 alu-known (Computes op width) a b e = numbers a b (neither (number_rule a) (number_rule b) e)
   where
-    numbers : (a b : Kind) → (number_rule a ≡ None) × (number_rule b ≡ None) → Known (result_kind (Computes op width) a b)
+    numbers : (a b : SpanKind) → (number_rule a ≡ None) × (number_rule b ≡ None) → Known (result_kind (Computes op width) a b)
     numbers Unset b h = absurd (broken h.0)
     numbers (Place r s) b h = absurd (broken h.0)
     numbers (Num s) Unset h = absurd (broken h.1)
     numbers (Num s) (Num t) h = (_, refl)
     numbers (Num s) (Place q t) h = absurd (broken h.1)
 
-known-alu : (form : AluForm) (a b : Kind) → Known (result_kind form a b) → alu_rule form a b ≡ None
+known-alu : (form : AluForm) (a b : SpanKind) → Known (result_kind form a b) → alu_rule form a b ≡ None
 known-alu Copies a Unset k = absurd (missing k.1)
 known-alu Copies a (Num s) k = refl
 known-alu Copies a (Place r s) k = refl
@@ -154,12 +154,12 @@ known-alu (Computes op width) (Num s) Unset k = absurd (missing k.1)
 known-alu (Computes op width) (Num s) (Num t) k = refl
 known-alu (Computes op width) (Num s) (Place q t) k = absurd (missing k.1)
 
-span-known : (make : Span → Span) (k : Kind) → number_rule k ≡ None → Known (from_span make k)
+span-known : (make : Span → Span) (k : SpanKind) → number_rule k ≡ None → Known (from_span make k)
 span-known make Unset e = absurd (broken e)
 span-known make (Num s) e = (_, refl)
 span-known make (Place r s) e = absurd (broken e)
 
-known-span : (make : Span → Span) (k : Kind) → Known (from_span make k) → number_rule k ≡ None
+known-span : (make : Span → Span) (k : SpanKind) → Known (from_span make k) → number_rule k ≡ None
 known-span make Unset k = absurd (missing k.1)
 known-span make (Num s) k = refl
 known-span make (Place r s) k = absurd (missing k.1)
@@ -170,11 +170,11 @@ known-span make (Place r s) k = absurd (missing k.1)
 abbrev Numbers : ℕ → Frame → Reach → ℤ → ℕ → Type 0
 Numbers w f s o n = (v : ℕ) → v < w → is_reached s o n (11 + v) ≡ true → is_num (f (11 + v)) ≡ true
 
-one-word : (t : Bool) (k : Kind) → (if t then number_rule k else None) ≡ None → t ≡ true → is_num k ≡ true
+one-word : (t : Bool) (k : SpanKind) → (if t then number_rule k else None) ≡ None → t ≡ true → is_num k ≡ true
 one-word true k e h = num-is k e
 one-word false k e h = cc
 
-word-one : (t : Bool) (k : Kind) → (t ≡ true → is_num k ≡ true) → (if t then number_rule k else None) ≡ None
+word-one : (t : Bool) (k : SpanKind) → (t ≡ true → is_num k ≡ true) → (if t then number_rule k else None) ≡ None
 word-one true k h = is-num k (h refl)
 word-one false k h = refl
 
@@ -235,7 +235,7 @@ read-none : (word : Option ℕ) (f : Frame) (s : Reach) (o : ℤ) (n : ℕ) → 
 read-none (Some c) f s o n h = is-set (f c) h
 read-none None f s o n h = all-numbers f s o n h
 
-pub may-load : (state : ℕ) (f : Frame) (k : Kind) (o : ℤ) (n : ℕ) → load_rule state f k o n ≡ None → MayLoad state f k o n
+pub may-load : (state : ℕ) (f : Frame) (k : SpanKind) (o : ℤ) (n : ℕ) → load_rule state f k o n ≡ None → MayLoad state f k o n
 may-load state f Unset o n e = absurd (broken e)
 may-load state f (Num s) o n e = absurd (broken e)
 may-load state f (Place Message s) o n e = holds (is_inside 512 s o n) V6 e
@@ -244,7 +244,7 @@ may-load state f (Place Stack s) o n e =
     let h = inner-of (is_inside 512 s o n) (read_rule (whole_word s o n) f s o n) V6 e in
     (h.0, readable (whole_word s o n) f s o n h.0 h.1)
 
-load-none : (state : ℕ) (f : Frame) (k : Kind) (o : ℤ) (n : ℕ) → MayLoad state f k o n → load_rule state f k o n ≡ None
+load-none : (state : ℕ) (f : Frame) (k : SpanKind) (o : ℤ) (n : ℕ) → MayLoad state f k o n → load_rule state f k o n ≡ None
 load-none state f Unset o n h = absurd h
 load-none state f (Num s) o n h = absurd h
 load-none state f (Place Message s) o n h = unbroken (is_inside 512 s o n) V6 h
@@ -252,17 +252,17 @@ load-none state f (Place State s) o n h = unbroken (is_inside state s o n) V6 h
 load-none state f (Place Stack s) o n h =
     of-inner (is_inside 512 s o n) (read_rule (whole_word s o n) f s o n) V6 h.0 (read-none (whole_word s o n) f s o n h.1)
 
-writable : (word : Option ℕ) (f : Frame) (k : Kind) (s : Reach) (o : ℤ) (n : ℕ) → is_inside 512 s o n ≡ true → write_rule word f k s o n ≡ None → IsWritable word f k s o n
+writable : (word : Option ℕ) (f : Frame) (k : SpanKind) (s : Reach) (o : ℤ) (n : ℕ) → is_inside 512 s o n ≡ true → write_rule word f k s o n ≡ None → IsWritable word f k s o n
 writable (Some c) f k s o n i e = set-is k e
 writable None f k s o n i e =
     let h = neither (number_rule k) (words_rule 64 f s o n) e in
     (num-is k h.0, numbers-all f s o n i h.1)
 
-write-none : (word : Option ℕ) (f : Frame) (k : Kind) (s : Reach) (o : ℤ) (n : ℕ) → IsWritable word f k s o n → write_rule word f k s o n ≡ None
+write-none : (word : Option ℕ) (f : Frame) (k : SpanKind) (s : Reach) (o : ℤ) (n : ℕ) → IsWritable word f k s o n → write_rule word f k s o n ≡ None
 write-none (Some c) f k s o n h = is-set k h
 write-none None f k s o n h = both (number_rule k) (words_rule 64 f s o n) (is-num k h.0) (all-numbers f s o n h.1)
 
-pub may-store : (state : ℕ) (f : Frame) (k a : Kind) (o : ℤ) (n : ℕ) → store_rule state f k a o n ≡ None → MayStore state f k a o n
+pub may-store : (state : ℕ) (f : Frame) (k a : SpanKind) (o : ℤ) (n : ℕ) → store_rule state f k a o n ≡ None → MayStore state f k a o n
 may-store state f k Unset o n e = absurd (broken e)
 may-store state f k (Num s) o n e = let h = (neither (value_rule k) (Some V5) e).1 in cc
 may-store state f k (Place Message s) o n e = let h = (neither (number_rule k) (Some (if is_inside 512 s o n then V7 else V6)) e).1 in cc
@@ -275,7 +275,7 @@ may-store state f k (Place Stack s) o n e = inside (is_inside 512 s o n) refl e
     inside true q h = (q, writable (whole_word s o n) f k s o n q h)
     inside false q h = let x = (neither (number_rule k) (Some V6) h).1 in cc
 
-store-none : (state : ℕ) (f : Frame) (k a : Kind) (o : ℤ) (n : ℕ) → MayStore state f k a o n → store_rule state f k a o n ≡ None
+store-none : (state : ℕ) (f : Frame) (k a : SpanKind) (o : ℤ) (n : ℕ) → MayStore state f k a o n → store_rule state f k a o n ≡ None
 store-none state f k Unset o n h = absurd h
 store-none state f k (Num s) o n h = absurd h
 store-none state f k (Place Message s) o n h = absurd h
@@ -290,7 +290,7 @@ wanted : (r : Option Rule) → argument_rule r ≡ None → r ≡ None
 wanted None e = refl
 wanted (Some r) e = absurd (broken e)
 
-has-payload : (state : ℕ) (f : Frame) (k : Kind) (n : ℕ) → payload_rule state f k n ≡ None → HasPayload state f k n
+has-payload : (state : ℕ) (f : Frame) (k : SpanKind) (n : ℕ) → payload_rule state f k n ≡ None → HasPayload state f k n
 has-payload state f Unset n e = absurd (broken e)
 has-payload state f (Num s) n e = absurd (broken e)
 has-payload state f (Place Message s) n e = (holds (is_inside 512 s (pos 0) n) V9 e, λ q. cc)
@@ -299,7 +299,7 @@ has-payload state f (Place Stack s) n e =
     let h = inner-of (is_inside 512 s (pos 0) n) (argument_rule (words_rule 64 f s (pos 0) n)) V9 e in
     (h.0, λ q. numbers-all f s (pos 0) n h.0 (wanted (words_rule 64 f s (pos 0) n) h.1))
 
-payload-none : (state : ℕ) (f : Frame) (k : Kind) (n : ℕ) → HasPayload state f k n → payload_rule state f k n ≡ None
+payload-none : (state : ℕ) (f : Frame) (k : SpanKind) (n : ℕ) → HasPayload state f k n → payload_rule state f k n ≡ None
 payload-none state f Unset n h = absurd h
 payload-none state f (Num s) n h = absurd h
 payload-none state f (Place Message s) n h = unbroken (is_inside 512 s (pos 0) n) V9 h.0
@@ -307,12 +307,12 @@ payload-none state f (Place State s) n h = unbroken (is_inside state s (pos 0) n
 payload-none state f (Place Stack s) n h =
     of-inner (is_inside 512 s (pos 0) n) (argument_rule (words_rule 64 f s (pos 0) n)) V9 h.0 (ap argument_rule (all-numbers f s (pos 0) n (h.1 refl)))
 
-has-sized : (state : ℕ) (f : Frame) (p k : Kind) → sized_rule state f p k ≡ None → HasSized state f p k
+has-sized : (state : ℕ) (f : Frame) (p k : SpanKind) → sized_rule state f p k ≡ None → HasSized state f p k
 has-sized state f p Unset e = absurd (broken e)
 has-sized state f p (Place r s) e = absurd (broken e)
 has-sized state f p (Num s) e = has-payload state f p (min s.hi 256) e
 
-sized-none : (state : ℕ) (f : Frame) (p k : Kind) → HasSized state f p k → sized_rule state f p k ≡ None
+sized-none : (state : ℕ) (f : Frame) (p k : SpanKind) → HasSized state f p k → sized_rule state f p k ≡ None
 sized-none state f p Unset h = absurd h
 sized-none state f p (Place r s) h = absurd h
 sized-none state f p (Num s) h = payload-none state f p (min s.hi 256) h
@@ -341,25 +341,25 @@ call-none state f (pos (suc (suc (suc (suc (suc zero)))))) h =
 call-none state f (pos (suc (suc (suc (suc (suc (suc zero))))))) h = sized-none state f (f 1) (f 2) h
 call-none state f z h = absurd h
 
-at-exit : (k : Kind) → exit_rule k ≡ None → is_num k ≡ true
+at-exit : (k : SpanKind) → exit_rule k ≡ None → is_num k ≡ true
 at-exit Unset e = absurd (broken e)
 at-exit (Num s) e = refl
 at-exit (Place r s) e = absurd (broken e)
 
-exit-none : (k : Kind) → is_num k ≡ true → exit_rule k ≡ None
+exit-none : (k : SpanKind) → is_num k ≡ true → exit_rule k ≡ None
 exit-none Unset e = absurd (false≢true e)
 exit-none (Num s) e = refl
 exit-none (Place r s) e = absurd (false≢true e)
 
 -- ---- instructions
 
-gives-known : (k : Option Kind) (f : Frame) (dst : Reg) → Known k → Gives k f dst (Some (gives k f dst), None)
+gives-known : (k : Option SpanKind) (f : Frame) (dst : Reg) → Known k → Gives k f dst (Some (gives k f dst), None)
 gives-known k f dst h = (h.0, h.1, ap (λ x. (Some (with_kind f dst.number (unwrap_or x Unset)), None)) h.1)
 
-known-gives : (k : Option Kind) (f : Frame) (dst : Reg) (w : Ways) → Gives k f dst w → Known k × (w ≡ (Some (gives k f dst), None))
+known-gives : (k : Option SpanKind) (f : Frame) (dst : Reg) (w : Ways) → Gives k f dst w → Known k × (w ≡ (Some (gives k f dst), None))
 known-gives k f dst w g = ((g.0, g.1), g.2 ∙ sym (ap (λ x. (Some (with_kind f dst.number (unwrap_or x Unset)), None)) g.1))
 
-spans : (state : ℕ) (f : Frame) (dst : Reg) (make : Span → Span) (k : Kind) → (number_rule k ≡ None → Gives (from_span make k) f dst (Some (gives (from_span make k) f dst), None)) × ((w : Ways) → Gives (from_span make k) f dst w → (number_rule k ≡ None) × (w ≡ (Some (gives (from_span make k) f dst), None)))
+spans : (state : ℕ) (f : Frame) (dst : Reg) (make : Span → Span) (k : SpanKind) → (number_rule k ≡ None → Gives (from_span make k) f dst (Some (gives (from_span make k) f dst), None)) × ((w : Ways) → Gives (from_span make k) f dst w → (number_rule k ≡ None) × (w ≡ (Some (gives (from_span make k) f dst), None)))
 spans state f dst make k =
     ((λ e. gives-known (from_span make k) f dst (span-known make k e)), (λ w g. let h = known-gives (from_span make k) f dst w g in (known-span make k h.0, h.1)))
 
@@ -368,7 +368,7 @@ same : (condition : Condition) (width : Width) (dst : Reg) (o : Operand) (f : Fr
 same condition width dst o f a b p q =
     ap (λ x. compares x (operand_kind width o f) condition width dst o f) p ∙ ap (λ y. compares (Num a) y condition width dst o f) q
 
-compared : (condition : Condition) (width : Width) (dst : Reg) (o : Operand) (f : Frame) (x y : Kind) → f dst.number ≡ x → operand_kind width o f ≡ y → (number_rule x ≡ None) × (number_rule y ≡ None) → (a b : Span) × (f dst.number ≡ Num a) × (operand_kind width o f ≡ Num b) × (compares (f dst.number) (operand_kind width o f) condition width dst o f ≡ (way (opposite condition) width dst o f a b, way (Some condition) width dst o f a b))
+compared : (condition : Condition) (width : Width) (dst : Reg) (o : Operand) (f : Frame) (x y : SpanKind) → f dst.number ≡ x → operand_kind width o f ≡ y → (number_rule x ≡ None) × (number_rule y ≡ None) → (a b : Span) × (f dst.number ≡ Num a) × (operand_kind width o f ≡ Num b) × (compares (f dst.number) (operand_kind width o f) condition width dst o f ≡ (way (opposite condition) width dst o f a b, way (Some condition) width dst o f a b))
 compared condition width dst o f Unset y p q h = absurd (broken h.0)
 compared condition width dst o f (Place r s) y p q h = absurd (broken h.0)
 compared condition width dst o f (Num a) Unset p q h = absurd (broken h.1)

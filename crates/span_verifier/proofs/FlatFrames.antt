@@ -13,8 +13,8 @@ use Rattle.regtypes.specs.declared.image_form.ImageForm.TheVariants.{Sbi1, Sbi2}
 use Rattle.regtypes.specs.Frame.{kind_at, LeqKind as FlatLeqKind, entry_frame as flat_entry, entry_kinds}
 use Rattle.regtypes.proofs.Parts.{after_helper}
 use Rattle.spans.specs.Span.{span, whole}
-use Rattle.spans.specs.declared.kind.Kind.{Kind}
-use Rattle.spans.specs.declared.kind.Kind.TheVariants.{Unset, Num, Place}
+use Rattle.spans.specs.declared.kind.SpanKind.{SpanKind}
+use Rattle.spans.specs.declared.kind.SpanKind.TheVariants.{Unset, Num, Place}
 use Rattle.spans.specs.Frame.{Frame, IsFrame, IsKind, Leq, LeqKind, at_place, entry_frame, with_kind}
 use Rattle.spans.specs.Frame as spans
 use Rattle.spans.specs.Ways.{behind_helper}
@@ -51,7 +51,7 @@ read_kind-kept a flat.Len l = subst (λ k. LeqKind (read_kind k) (read_kind flat
 read_kind-kept a (flat.Place r k) l = subst (λ x. LeqKind (read_kind x) (read_kind (flat.Place r k))) (sym l) (LeqKind-refl (read_kind (flat.Place r k)))
 
 -- a number that is a word is any word
-pub any_word : (k : Kind) → spans.is_num k ≡ true → IsKind k → LeqKind k (Num (whole 64))
+pub any_word : (k : SpanKind) → spans.is_num k ≡ true → IsKind k → LeqKind k (Num (whole 64))
 any_word Unset h i = cc
 any_word (Num s) h i = (omega arith, omega (arith, i.words))
 any_word (Place r s) h i = cc
@@ -69,7 +69,7 @@ read_frame-is kinds c = by_tests (nat_lt c 11) (nat_lt c 75)
 pub order_kept : IsOrderKept
 order_kept f g l c = by_test (nat_lt c 11) (if nat_lt c 75 then Num (whole 64) else Unset)
   where
-    by_test : (t : Bool) (k : Kind) → LeqKind (if t then read_kind (kind_at f.kinds c) else k) (if t then read_kind (kind_at g.kinds c) else k)
+    by_test : (t : Bool) (k : SpanKind) → LeqKind (if t then read_kind (kind_at f.kinds c) else k) (if t then read_kind (kind_at g.kinds c) else k)
     by_test true k = read_kind-kept (kind_at f.kinds c) (kind_at g.kinds c) (l.kinds c)
     by_test false k = LeqKind-refl k
 
@@ -94,7 +94,7 @@ any_stack kinds c l h =
 -- ---- what is written
 
 -- a kind that says no less than what a cell has
-pub below : (f : Frame) (c : ℕ) (k : Kind) → LeqKind k (f c) → Leq (with_kind f c k) f
+pub below : (f : Frame) (c : ℕ) (k : SpanKind) → LeqKind k (f c) → Leq (with_kind f c k) f
 below f c k l d = by_test (d == c) (λ q. equal d c q)
   where
     equal : (d c : ℕ) → (d == c) ≡ true → d ≡ c
@@ -105,7 +105,7 @@ below f c k l d = by_test (d == c) (λ q. equal d c q)
     by_test false q = LeqKind-refl (f d)
 
 -- a register gets what is read as no less
-pub written : (kinds : List FlatKind) (r : Reg) (k : Kind) (x : FlatKind) → length kinds ≡ 11 → LeqKind k (read_kind x) → Leq (with_kind (read_kinds kinds) r.number k) (read_kinds (slice_set kinds r.number x))
+pub written : (kinds : List FlatKind) (r : Reg) (k : SpanKind) (x : FlatKind) → length kinds ≡ 11 → LeqKind k (read_kind x) → Leq (with_kind (read_kinds kinds) r.number k) (read_kinds (slice_set kinds r.number x))
 written kinds r k x n l c = by_test (c == r.number) here there
   where
     is : (c == r.number) ≡ true → c ≡ r.number

@@ -11,8 +11,8 @@ use Rattle.regtypes.specs.declared.frame.Kind.TheVariants as flat
 use Rattle.regtypes.specs.Frame.{is_num as is_flat_num}
 use Rattle.regtypes.specs.Rules.{has_bytes, is_in_message, is_message, is_sized, is_unset, lie_inside, moved, region_len}
 use Rattle.regtypes.proofs.Monotone.{both_parts, not_false}
-use Rattle.spans.specs.declared.kind.Kind.{Kind}
-use Rattle.spans.specs.declared.kind.Kind.TheVariants.{Unset, Num, Place}
+use Rattle.spans.specs.declared.kind.SpanKind.{SpanKind}
+use Rattle.spans.specs.declared.kind.SpanKind.TheVariants.{Unset, Num, Place}
 use Rattle.spans.specs.declared.kind.Reach.{Reach}
 use Rattle.spans.specs.Span.{whole}
 use Rattle.spans.specs.Frame.{Frame, IsKind, Leq, LeqKind, at_place, is_num, is_set}
@@ -90,16 +90,16 @@ over_all f any s o n i d = by_test (is_reached s o n d) (word f any s o n i d)
     by_test true q = subst (LeqKind (Num (whole 64))) (sym (q refl)) (LeqKind-refl (Num (whole 64)))
     by_test false q = LeqKind-refl (f d)
 
-num_is_set : (k : Kind) → is_num k ≡ true → is_set k ≡ true
+num_is_set : (k : SpanKind) → is_num k ≡ true → is_set k ≡ true
 num_is_set Unset h = cc
 num_is_set (Num s) h = refl
 num_is_set (Place r s) h = cc
 
-write_in_stack : (f : Frame) → IsAnyStack f → (x : Kind) → is_num x ≡ true → IsKind x → (s : Reach) (o : ℤ) (n : ℕ) → s.lo ≤ℤ s.hi → is_inside 512 s o n ≡ true → (w : Option ℕ) → whole_word s o n ≡ w → IsWritable w f x s o n × Leq (written_frame w f x s o n) f
+write_in_stack : (f : Frame) → IsAnyStack f → (x : SpanKind) → is_num x ≡ true → IsKind x → (s : Reach) (o : ℤ) (n : ℕ) → s.lo ≤ℤ s.hi → is_inside 512 s o n ≡ true → (w : Option ℕ) → whole_word s o n ≡ w → IsWritable w f x s o n × Leq (written_frame w f x s o n) f
 write_in_stack f any x h ix s o n l i None e = ((h, are_numbers f any s o n i), over_all f any s o n i)
 write_in_stack f any x h ix s o n l i (Some c) e = (num_is_set x h, below f c x (subst (LeqKind x) (sym (whole_is f any s o n c l i e)) (any_word x h ix)))
 
-place_stores : (low state : ℕ) (f : Frame) → IsAnyStack f → low ≤ 256 → (x : Kind) → is_num x ≡ true → IsKind x → (r : Region) (k o : ℤ) (n : ℕ) → is_in_message (flat.Place r k) ≡ false → lie_inside (region_len low state r) n (k +ℤ o) ≡ true → MayStore state f x (Place r (at_place k)) o n × Leq (stored_frame f x (Place r (at_place k)) o n) f
+place_stores : (low state : ℕ) (f : Frame) → IsAnyStack f → low ≤ 256 → (x : SpanKind) → is_num x ≡ true → IsKind x → (r : Region) (k o : ℤ) (n : ℕ) → is_in_message (flat.Place r k) ≡ false → lie_inside (region_len low state r) n (k +ℤ o) ≡ true → MayStore state f x (Place r (at_place k)) o n × Leq (stored_frame f x (Place r (at_place k)) o n) f
 place_stores low state f any h x num ix Message k o n m e = cc
 place_stores low state f any h x num ix State k o n m e = ((inside low state State k o n n h (omega arith) e, num), Leq-refl f)
 place_stores low state f any h x num ix Stack k o n m e =
@@ -108,7 +108,7 @@ place_stores low state f any h x num ix Stack k o n m e =
     ((i, r.0), r.1)
 
 -- a store of a number through what is read as a place may be made, and nothing that is known is lost
-pub may_store : (low state : ℕ) (f : Frame) → IsAnyStack f → low ≤ 256 → (x : Kind) → is_num x ≡ true → IsKind x → (k : FlatKind) (o : ℤ) (n : ℕ) → is_in_message k ≡ false → IsBase low state k o n → MayStore state f x (read_kind k) o n × Leq (stored_frame f x (read_kind k) o n) f
+pub may_store : (low state : ℕ) (f : Frame) → IsAnyStack f → low ≤ 256 → (x : SpanKind) → is_num x ≡ true → IsKind x → (k : FlatKind) (o : ℤ) (n : ℕ) → is_in_message k ≡ false → IsBase low state k o n → MayStore state f x (read_kind k) o n × Leq (stored_frame f x (read_kind k) o n) f
 may_store low state f any h x num ix flat.Unset o n m b = absurd (false≢true (sym b.set))
 may_store low state f any h x num ix flat.Num o n m b = absurd (false≢true (sym b.place))
 may_store low state f any h x num ix flat.Len o n m b = absurd (false≢true (sym b.place))

@@ -33,8 +33,8 @@ use Rattle.regtypes.specs.declared.rule.Rule.TheVariants.{V4}
 use Rattle.regtypes.proofs.Monotone.{not_false}
 use Rattle.regtypes.proofs.RuleLemmas.{rules_of}
 use Rattle.regtypes.proofs.RuleLemmas.{send_given, output_given, send_sized_given, output_sized_given}
-use Rattle.spans.specs.declared.kind.Kind.{Kind}
-use Rattle.spans.specs.declared.kind.Kind.TheVariants.{Num, Place}
+use Rattle.spans.specs.declared.kind.SpanKind.{SpanKind}
+use Rattle.spans.specs.declared.kind.SpanKind.TheVariants.{Num, Place}
 use Rattle.spans.specs.declared.span.Span.{Span}
 use Rattle.spans.specs.Span.{Within, one, span, whole}
 use Rattle.spans.specs.Narrowing.{SpanPair, opposite, shown, where_met}
@@ -91,11 +91,11 @@ equal : (c : ℕ) → (c == c) ≡ true
 equal c = grind (arith, nat_tests)
 
 -- the register's kind is one
-given-is : (f : Frame) (c : ℕ) (k : Kind) → IsFrame (with_kind f c k) → IsKind k
+given-is : (f : Frame) (c : ℕ) (k : SpanKind) → IsFrame (with_kind f c k) → IsKind k
 given-is f c k i = subst (λ (t : Bool). IsKind (if t then k else f c)) (equal c) (i c)
 
 module _ (state : ℕ) (i : Insn) (kinds : List FlatKind) (fits : Fits i) (eleven : length kinds ≡ 11) where
-  gives : (dst : Reg) (k : Kind) (x : FlatKind) (other : Frame) → Leaves state i (read_kinds kinds) (Some (with_kind (read_kinds kinds) dst.number k), None) → (IsKind k → LeqKind k (read_kind x)) → IsSubsumed state i kinds (read_kinds (slice_set kinds dst.number x)) other
+  gives : (dst : Reg) (k : SpanKind) (x : FlatKind) (other : Frame) → Leaves state i (read_kinds kinds) (Some (with_kind (read_kinds kinds) dst.number k), None) → (IsKind k → LeqKind k (read_kind x)) → IsSubsumed state i kinds (read_kinds (slice_set kinds dst.number x)) other
   gives dst k x other l h =
       let c = closed state i (read_kinds kinds) (Some (with_kind (read_kinds kinds) dst.number k), None) fits (read_frame-is kinds) l in
       record {
@@ -122,7 +122,7 @@ near-is : (r : Region) (z : ℤ) → is_near (flat.Place r z) ≡ true → (int_
 near-is r (pos n) e = let k : n < 32768 = grind (arith, nat_tests) in both (int_le (negsuc 32767) (pos n)) (int_le (pos n) (pos 32767)) (grind (arith, ints)) (grind (arith, ints))
 near-is r (negsuc n) e = let k : n < 32768 = grind (arith, nat_tests) in both (int_le (negsuc 32767) (negsuc n)) (int_le (negsuc n) (pos 32767)) (grind (arith, ints)) (grind (arith, ints))
 
-moved_given : (z : ℤ) (k : FlatKind) → is_unset k ≡ false → is_near (moved z k) ≡ true → (h : Kind) × (moved_kind W64 z (read_kind k) ≡ Some h) × (IsKind h → LeqKind h (read_kind (moved z k)))
+moved_given : (z : ℤ) (k : FlatKind) → is_unset k ≡ false → is_near (moved z k) ≡ true → (h : SpanKind) × (moved_kind W64 z (read_kind k) ≡ Some h) × (IsKind h → LeqKind h (read_kind (moved z k)))
 moved_given z flat.Unset u n = cc
 moved_given z flat.Num u n = let k = Num (moved_span 64 z (whole 64)) in (k, refl, any_word k refl)
 moved_given z flat.Len u n = let k = Num (moved_span 64 z (span 0 256)) in (k, refl, any_word k refl)
@@ -248,11 +248,11 @@ module _ (form : ImageForm) (state : ℕ) (f : FlatFrame) (eleven : length f.kin
       let m = loaded_by src offset (bytes_in (loaded size)) (record { set = r.set.base; place = r.base; inside = r.inside }) in
       gives_number state i f.kinds fits eleven dst (whole 64) _ (m.0, refl)
 
-  abbrev Stored : Kind → Reg → ℤ → ℕ → Type 0
+  abbrev Stored : SpanKind → Reg → ℤ → ℕ → Type 0
   Stored k dst offset n =
       MayStore state (read_kinds f.kinds) k (read_kinds f.kinds dst.number) offset n × Leq (stored_frame (read_kinds f.kinds) k (read_kinds f.kinds dst.number) offset n) (read_kinds f.kinds)
 
-  stored : (k : Kind) (dst : Reg) (offset : ℤ) (n : ℕ) → is_num k ≡ true → IsKind k → is_in_message (kind_at f.kinds dst.number) ≡ false → IsBase f.low state (kind_at f.kinds dst.number) offset n → Stored k dst offset n
+  stored : (k : SpanKind) (dst : Reg) (offset : ℤ) (n : ℕ) → is_num k ≡ true → IsKind k → is_in_message (kind_at f.kinds dst.number) ≡ false → IsBase f.low state (kind_at f.kinds dst.number) offset n → Stored k dst offset n
   stored k dst offset n num ik m b =
       let g = read_kinds f.kinds in
       subst (λ x. MayStore state g k x offset n × Leq (stored_frame g k x offset n) g) (sym (register f.kinds dst)) (may_store f.low state g (any_stack f.kinds) short k num ik (kind_at f.kinds dst.number) offset n m b)

@@ -11,8 +11,8 @@ use Rattle.regtypes.specs.Typing.{flow_tests}
 use Rattle.regtypes.proofs.Typings.{within}
 use Rattle.spans.specs.declared.span.Span.{Span}
 use Rattle.spans.specs.declared.kind.Reach.{Reach}
-use Rattle.spans.specs.declared.kind.Kind.{Kind}
-use Rattle.spans.specs.declared.kind.Kind.TheVariants.{Unset, Num, Place}
+use Rattle.spans.specs.declared.kind.SpanKind.{SpanKind}
+use Rattle.spans.specs.declared.kind.SpanKind.TheVariants.{Unset, Num, Place}
 use Rattle.spans.specs.Frame.{Frame, IsFrame, Leq, LeqKind}
 use Rattle.spans.specs.Ways.{LeqWay}
 use Rattle.spans.proofs.Order.{Leq-refl, Leq-trans}
@@ -45,7 +45,7 @@ same_span s t a b c d =
     λ i. record { lo = low i; hi = high i }
 
 -- kinds of which each says what the other says are one
-same_kind : (a b : Kind) → LeqKind a b → LeqKind b a → a ≡ b
+same_kind : (a b : SpanKind) → LeqKind a b → LeqKind b a → a ≡ b
 same_kind Unset Unset l m = refl
 same_kind Unset (Num t) l m = absurd l
 same_kind Unset (Place q t) l m = absurd l

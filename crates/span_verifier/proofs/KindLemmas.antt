@@ -9,8 +9,8 @@ use Rattle.regtypes.specs.declared.frame.Region.{Region}
 use Rattle.regtypes.specs.declared.frame.Region.TheVariants.{Message, State, Stack}
 use Rattle.spans.specs.declared.span.Span.{Span}
 use Rattle.spans.specs.declared.kind.Reach.{Reach}
-use Rattle.spans.specs.declared.kind.Kind.{Kind}
-use Rattle.spans.specs.declared.kind.Kind.TheVariants.{Unset, Num, Place}
+use Rattle.spans.specs.declared.kind.SpanKind.{SpanKind}
+use Rattle.spans.specs.declared.kind.SpanKind.TheVariants.{Unset, Num, Place}
 use Rattle.spans.specs.Frame.{joined_reach, joined_kind, kind_at, Frame, joined, entry_frame}
 
 -- places of one region
@@ -50,11 +50,11 @@ joined_num Stack s t = refl
 -- ---- frames
 
 -- the first i cells have the kinds of a frame
-abbrev pub Filled : List Kind → Frame → ℕ → Type 0
+abbrev pub Filled : List SpanKind → Frame → ℕ → Type 0
 Filled k f i = (c : ℕ) → c < i → kind_at k c ≡ f c
 
 -- one cell more has its kind
-pub filled_more : (f : Frame) (k : List Kind) (i : ℕ) (x : Kind) → i < length k → x ≡ f i → Filled k f i → Filled (slice_set k i x) f (i + 1)
+pub filled_more : (f : Frame) (k : List SpanKind) (i : ℕ) (x : SpanKind) → i < length k → x ≡ f i → Filled k f i → Filled (slice_set k i x) f (i + 1)
 filled_more f k i x lt e h c l = ⊎_elim here apart (cases_eq c i)
   where
     here : c ≡ i → kind_at (slice_set k i x) c ≡ f c
@@ -64,7 +64,7 @@ filled_more f k i x lt e h c l = ⊎_elim here apart (cases_eq c i)
     apart q = get_or-set_other k i c x Unset q ∙ h c (omega arith)
 
 -- when all 75 cells have their kinds, the array is the frame, which says nothing of the cells past the last one
-pub filled_all : (f : Frame) (k : List Kind) → length k ≡ 75 → ((c : ℕ) → 75 ≤ c → f c ≡ Unset) → Filled k f 75 → kind_at k ≡ f
+pub filled_all : (f : Frame) (k : List SpanKind) → length k ≡ 75 → ((c : ℕ) → 75 ≤ c → f c ≡ Unset) → Filled k f 75 → kind_at k ≡ f
 filled_all f k n past h = fun_ext (λ c. ⊎_elim (h c) (λ l. get_or_past k c Unset (omega (arith, n, l)) ∙ sym (past c l)) (cases_lt c 75))
 
 -- as a call begins nothing is known past the last cell
@@ -74,11 +74,11 @@ entry_past c l = by_tests (grind (arith, nat_tests)) (grind (arith, nat_tests)) 
     by_tests : (c == 1) ≡ false → (c == 2) ≡ false → (c == 3) ≡ false → (c == 10) ≡ false → nat_lt c 75 ≡ false → entry_frame c ≡ Unset
     by_tests p q r s t = grind (arith, p, q, r, s, t)
 
-pub entry_all : (k : List Kind) → length k ≡ 75 → Filled k entry_frame 75 → kind_at k ≡ entry_frame
+pub entry_all : (k : List SpanKind) → length k ≡ 75 → Filled k entry_frame 75 → kind_at k ≡ entry_frame
 entry_all k n h = filled_all entry_frame k n entry_past h
 
 -- what both frames say of the cells past the last one is nothing
-pub joined_all : (a b k : List Kind) → length a ≡ 75 → length k ≡ 75 → Filled k (joined (kind_at a) (kind_at b)) 75 → (c : ℕ) → kind_at k c ≡ joined (kind_at a) (kind_at b) c
+pub joined_all : (a b k : List SpanKind) → length a ≡ 75 → length k ≡ 75 → Filled k (joined (kind_at a) (kind_at b)) 75 → (c : ℕ) → kind_at k c ≡ joined (kind_at a) (kind_at b) c
 joined_all a b k m n h c = ap (λ f. f c) (filled_all (joined (kind_at a) (kind_at b)) k n past h)
   where
     past : (c : ℕ) → 75 ≤ c → joined (kind_at a) (kind_at b) c ≡ Unset

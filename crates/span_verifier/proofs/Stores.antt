@@ -1,15 +1,15 @@
 -- Where a store that breaks no rule lies.
 use Rattle.std.proofs.Common.{◌≡◌, ℕ, ℤ, None}
 use Rattle.regtypes.specs.declared.frame.Region.TheVariants.{Message, State, Stack}
-use Rattle.spans.specs.declared.kind.Kind.{Kind}
-use Rattle.spans.specs.declared.kind.Kind.TheVariants.{Unset, Num, Place}
+use Rattle.spans.specs.declared.kind.SpanKind.{SpanKind}
+use Rattle.spans.specs.declared.kind.SpanKind.TheVariants.{Unset, Num, Place}
 use Rattle.spans.specs.Frame.{Frame, IsKind}
 use Rattle.span_verifier.specs.Rules.{store_rule}
 use Rattle.span_verifier.specs.Ways.{StaysInside}
 use Rattle.span_verifier.proofs.Exact.{may-store}
 
 -- a store in the stack that breaks no rule lies inside
-pub stays_inside : (state : ℕ) (f : Frame) (k a : Kind) (o : ℤ) (n : ℕ) → IsKind a → store_rule state f k a o n ≡ None → StaysInside a o n
+pub stays_inside : (state : ℕ) (f : Frame) (k a : SpanKind) (o : ℤ) (n : ℕ) → IsKind a → store_rule state f k a o n ≡ None → StaysInside a o n
 stays_inside state f k Unset o n i e = tt
 stays_inside state f k (Num s) o n i e = tt
 stays_inside state f k (Place Message s) o n i e = tt

@@ -5,8 +5,8 @@ use Rattle.std.proofs.lemmas.Bool.Decides.{nat_tests}
 use Rattle.std.proofs.lemmas.Int.{ints}
 use Rattle.std.proofs.lemmas.List.{get_or_past}
 use Rattle.spans.specs.declared.kind.Reach.{Reach}
-use Rattle.spans.specs.declared.kind.Kind.{Kind}
-use Rattle.spans.specs.declared.kind.Kind.TheVariants.{Unset, Num}
+use Rattle.spans.specs.declared.kind.SpanKind.{SpanKind}
+use Rattle.spans.specs.declared.kind.SpanKind.TheVariants.{Unset, Num}
 use Rattle.spans.specs.Span.{span}
 use Rattle.spans.specs.Frame.{WithinReach, kind_at}
 use Rattle.spans.specs.Access.{is_inside, whole_word}
@@ -22,7 +22,7 @@ word_within s o n c l i e =
     (reached-within s o n c i (whole_word-is_reached s s o n c l same e).1).1
 
 -- behind a helper nothing is known past the last cell
-pub answered_all : (k f : List Kind) → length k ≡ 75 → length f ≡ 75 → Filled k (behind_helper (kind_at f)) 75 → kind_at k ≡ behind_helper (kind_at f)
+pub answered_all : (k f : List SpanKind) → length k ≡ 75 → length f ≡ 75 → Filled k (behind_helper (kind_at f)) 75 → kind_at k ≡ behind_helper (kind_at f)
 answered_all k f n m h = filled_all (behind_helper (kind_at f)) k n past h
   where
     past : (c : ℕ) → 75 ≤ c → behind_helper (kind_at f) c ≡ Unset

@@ -14,8 +14,8 @@ use Rattle.regtypes.specs.declared.rule.Rule.TheVariants.{V3, V4, V5, V6, V7, V8
 use Rattle.regtypes.specs.Attributes.{attributes_of}
 use Rattle.regtypes.specs.Rules.{rule_number, is_frame_pointer}
 use Rattle.spans.specs.declared.kind.Reach.{Reach}
-use Rattle.spans.specs.declared.kind.Kind.{Kind}
-use Rattle.spans.specs.declared.kind.Kind.TheVariants.{Unset, Num, Place}
+use Rattle.spans.specs.declared.kind.SpanKind.{SpanKind}
+use Rattle.spans.specs.declared.kind.SpanKind.TheVariants.{Unset, Num, Place}
 use Rattle.spans.specs.Frame.{Frame}
 use Rattle.spans.specs.Access.{is_inside, whole_word, is_reached}
 use Rattle.spans.specs.Ways.{AluForm, Copies, Sums, Moves, Sets, Computes, alu_form, operand_kind, moved_reach}
@@ -33,13 +33,13 @@ unless holds rule = if holds then None else Some rule
 -- ---- kinds
 
 -- the rule for what is read as a number: broken if nothing is known of it, or if it is a place
-abbrev pub number_rule : Kind → Option Rule
+abbrev pub number_rule : SpanKind → Option Rule
 number_rule Unset = Some V3
 number_rule (Num s) = None
 number_rule (Place r s) = Some V5
 
 -- the rule for what is copied, also a place: broken if nothing is known of it
-abbrev pub value_rule : Kind → Option Rule
+abbrev pub value_rule : SpanKind → Option Rule
 value_rule Unset = Some V3
 value_rule (Num s) = None
 value_rule (Place r s) = None
@@ -51,7 +51,7 @@ abbrev pub near_rule : Reach → Option Rule
 near_rule s = unless (int_le (negsuc 32767) s.lo && int_le s.hi (pos 32767)) V6
 
 -- a sum of two registers
-abbrev pub sum_rule : Kind → Kind → Option Rule
+abbrev pub sum_rule : SpanKind → SpanKind → Option Rule
 sum_rule (Num s) (Num t) = None
 sum_rule (Place r s) (Num t) = near_rule (moved_reach s (pos t.lo) (pos t.hi))
 sum_rule (Num s) (Place r t) = near_rule (moved_reach t (pos s.lo) (pos s.hi))
@@ -61,14 +61,14 @@ sum_rule (Num s) Unset = Some V3
 sum_rule (Place r s) Unset = Some V3
 
 -- a sum with a whole number; of a place only by 64 bits
-abbrev pub move_rule : Width → ℤ → Kind → Option Rule
+abbrev pub move_rule : Width → ℤ → SpanKind → Option Rule
 move_rule width z (Num s) = None
 move_rule W64 z (Place r s) = near_rule (moved_reach s z z)
 move_rule W32 z (Place r s) = Some V5
 move_rule width z Unset = Some V3
 
 -- arithmetic with dst and an operand
-abbrev pub alu_rule : AluForm → Kind → Kind → Option Rule
+abbrev pub alu_rule : AluForm → SpanKind → SpanKind → Option Rule
 alu_rule Copies a b = value_rule b
 alu_rule Sums a b = sum_rule a b
 alu_rule (Moves width z) a b = move_rule width z a
@@ -89,7 +89,7 @@ read_rule (Some c) f s o n = value_rule (f c)
 read_rule None f s o n = words_rule 64 f s o n
 
 -- a load of n bytes, o bytes from a base of this kind; the stack's words are judged only if it is inside
-abbrev pub load_rule : ℕ → Frame → Kind → ℤ → ℕ → Option Rule
+abbrev pub load_rule : ℕ → Frame → SpanKind → ℤ → ℕ → Option Rule
 load_rule state f Unset o n = Some V3
 load_rule state f (Num s) o n = Some V5
 load_rule state f (Place Message s) o n = unless (is_inside 512 s o n) V6
@@ -97,13 +97,13 @@ load_rule state f (Place State s) o n = unless (is_inside state s o n) V6
 load_rule state f (Place Stack s) o n = if is_inside 512 s o n then read_rule (whole_word s o n) f s o n else Some V6
 
 -- a store of a kind inside the stack: into a whole word, also a place; else a number, over numbers
-abbrev pub write_rule : Option ℕ → Frame → Kind → Reach → ℤ → ℕ → Option Rule
+abbrev pub write_rule : Option ℕ → Frame → SpanKind → Reach → ℤ → ℕ → Option Rule
 write_rule (Some c) f k s o n = value_rule k
 write_rule None f k s o n = lesser (number_rule k) (words_rule 64 f s o n)
 
 -- a store of a kind through a base of another; a place that isn't stored into a whole word breaks V5, wherever it is
 -- stored
-abbrev pub store_rule : ℕ → Frame → Kind → Kind → ℤ → ℕ → Option Rule
+abbrev pub store_rule : ℕ → Frame → SpanKind → SpanKind → ℤ → ℕ → Option Rule
 store_rule state f k Unset o n = Some V3
 store_rule state f k (Num s) o n = lesser (value_rule k) (Some V5)
 store_rule state f k (Place Message s) o n = lesser (number_rule k) (Some (if is_inside 512 s o n then V7 else V6))
@@ -119,7 +119,7 @@ argument_rule None = None
 argument_rule (Some r) = Some V9
 
 -- a place whose n bytes are in its region for each of its distances, and in the stack are numbers
-abbrev pub payload_rule : ℕ → Frame → Kind → ℕ → Option Rule
+abbrev pub payload_rule : ℕ → Frame → SpanKind → ℕ → Option Rule
 payload_rule state f Unset n = Some V9
 payload_rule state f (Num s) n = Some V9
 payload_rule state f (Place Message s) n = unless (is_inside 512 s (pos 0) n) V9
@@ -128,7 +128,7 @@ payload_rule state f (Place Stack s) n =
     if is_inside 512 s (pos 0) n then argument_rule (words_rule 64 f s (pos 0) n) else Some V9
 
 -- the same for as many bytes as a number says, and for 256 if it may be greater
-abbrev pub sized_rule : ℕ → Frame → Kind → Kind → Option Rule
+abbrev pub sized_rule : ℕ → Frame → SpanKind → SpanKind → Option Rule
 sized_rule state f p Unset = Some V9
 sized_rule state f p (Place r s) = Some V9
 sized_rule state f p (Num s) = payload_rule state f p (min s.hi 256)
@@ -144,7 +144,7 @@ call_rule state f (pos (suc (suc (suc (suc (suc (suc zero))))))) = sized_rule st
 call_rule state f z = Some V8
 
 -- r0 at EXIT
-abbrev pub exit_rule : Kind → Option Rule
+abbrev pub exit_rule : SpanKind → Option Rule
 exit_rule Unset = Some V10
 exit_rule (Num s) = None
 exit_rule (Place r s) = Some V10

@@ -6,7 +6,7 @@ use Rattle.regtypes.specs.declared.rule.Rule.{Rule}
 use Rattle.spans.specs.declared.cells.Cells.{Cells}
 use Rattle.spans.specs.Frame.{Frame, kind_at}
 use Rattle.spans.specs.Ways.{Ways}
-use Rattle.span_verifier.specs.declared.ways.Leaving.{Leaving}
+use Rattle.span_verifier.specs.declared.ways.SpanLeaving.{SpanLeaving}
 use Rattle.span_verifier.specs.Rules.{broken_rule}
 use Rattle.span_verifier.specs.Ways.{ways}
 
@@ -15,10 +15,10 @@ abbrev pub frame_of : Cells → Frame
 frame_of c = kind_at c.kinds
 
 -- the ways of an instruction, with arrays as frames
-abbrev pub frames_of : Leaving → Ways
+abbrev pub frames_of : SpanLeaving → Ways
 frames_of l = (option_map frame_of l.next, option_map frame_of l.taken)
 
 -- the frames that leave on both ways if no rule is broken, else the least broken rule
-abbrev pub IsLeaving : ℕ → Insn → Frame → Result Leaving Rule → Type 0
+abbrev pub IsLeaving : ℕ → Insn → Frame → Result SpanLeaving Rule → Type 0
 IsLeaving state i f (Ok l) = (broken_rule state i f ≡ None) × (frames_of l ≡ ways i f)
 IsLeaving state i f (Err r) = broken_rule state i f ≡ Some r

@@ -6,9 +6,9 @@ use Rattle.regtypes.specs.declared.rule.Rule.{Rule}
 use Rattle.regtypes.specs.declared.rule.Rule.TheVariants.{V2}
 use Rattle.spans.specs.Typing.{Table}
 use Rattle.span_verifier.specs.Least.{IsLeast, StopsAt}
-use Rattle.span_verifier.specs.declared.fault.VerifyError.{VerifyError}
-use Rattle.span_verifier.specs.declared.fault.VerifyError.TheVariants.{Memory, Fault}
-use Rattle.span_verifier.specs.declared.pass.Frames.{Frames}
+use Rattle.span_verifier.specs.declared.fault.SpanVerifyError.{SpanVerifyError}
+use Rattle.span_verifier.specs.declared.fault.SpanVerifyError.TheVariants.{Memory, Fault}
+use Rattle.span_verifier.specs.declared.pass.SpanFrames.{SpanFrames}
 use Rattle.span_verifier.specs.Typing.{span_form, IsTyped, table_of}
 
 -- the least typing
@@ -30,12 +30,12 @@ IsJudged code state table None = IsLeastTyping state (slots_of code) table
 IsJudged code state table (Some (rule, slot)) = IsLeast (span_form state (slots_of code)) slot table × IsFault code state rule slot
 
 -- the code slot by slot, and its least typing
-pub record IsFramesOf (code : List Insn) (state : ℕ) (frames : Frames) : Type 0 where
+pub record IsFramesOf (code : List Insn) (state : ℕ) (frames : SpanFrames) : Type 0 where
   pub slots_are : frames.slots.items ≡ slots_of code
   pub typing : IsLeastTyping state (slots_of code) (table_of frames.table.items)
   pub unrefused : frames.refusal ≡ None
 
 -- why code gave no frames; that memory ran out says nothing of the code
-abbrev pub IsWhy : List Insn → ℕ → VerifyError → Type 0
+abbrev pub IsWhy : List Insn → ℕ → SpanVerifyError → Type 0
 IsWhy code state Memory = Unit {0}
 IsWhy code state (Fault rule slot) = IsFault code state rule slot

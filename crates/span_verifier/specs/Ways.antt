@@ -11,8 +11,8 @@ use Rattle.decode.specs.declared.insn.Insn.TheVariants.{Alu, MovSx, Neg, End, Ju
 use Rattle.decode.specs.Encoding.{bytes_in, extension_offset, extension_width}
 use Rattle.operations.specs.Words.{bits_of}
 use Rattle.regtypes.specs.declared.frame.Region.TheVariants.{Stack}
-use Rattle.spans.specs.declared.kind.Kind.{Kind}
-use Rattle.spans.specs.declared.kind.Kind.TheVariants.{Unset, Num, Place}
+use Rattle.spans.specs.declared.kind.SpanKind.{SpanKind}
+use Rattle.spans.specs.declared.kind.SpanKind.TheVariants.{Unset, Num, Place}
 use Rattle.spans.specs.Span.{whole, one}
 use Rattle.spans.specs.Narrowing.{opposite}
 use Rattle.spans.specs.Frame.{Frame, with_kind}
@@ -20,11 +20,11 @@ use Rattle.spans.specs.Access.{is_inside, loaded_kind, stored_frame}
 use Rattle.spans.specs.Ways.{Ways, alu_form, operand_kind, result_kind, from_span, extended_span, way, behind_helper}
 
 -- dst gets this kind; if there is none, a rule is broken
-abbrev pub gives : Option Kind → Frame → Reg → Frame
+abbrev pub gives : Option SpanKind → Frame → Reg → Frame
 gives k f dst = with_kind f dst.number (unwrap_or k Unset)
 
 -- a jump compares two numbers
-abbrev pub compares : Kind → Kind → Condition → Width → Reg → Operand → Frame → Ways
+abbrev pub compares : SpanKind → SpanKind → Condition → Width → Reg → Operand → Frame → Ways
 compares (Num a) (Num b) condition width dst o f = (way (opposite condition) width dst o f a b, way (Some condition) width dst o f a b)
 compares a b condition width dst o f = (None, None)
 
@@ -48,6 +48,6 @@ ways (StoreImm size dst offset imm) f =
     (Some (stored_frame f (operand_kind W64 (operand.Imm imm) f) (f dst.number) offset (bytes_in size)), None)
 
 -- if the base is a place in the stack, an access through it is inside the stack
-abbrev pub StaysInside : Kind → ℤ → ℕ → Type 0
+abbrev pub StaysInside : SpanKind → ℤ → ℕ → Type 0
 StaysInside (Place Stack s) o n = (s.lo ≤ℤ s.hi) × (is_inside 512 s o n ≡ true)
 StaysInside k o n = Unit {0}

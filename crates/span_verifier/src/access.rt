@@ -10,7 +10,7 @@ use crate::results::whole;
 use crate::rules::{lesser, number_rule};
 use decode::Width;
 use regtypes::Rule;
-use spans::{Cells, Kind, Reach};
+use spans::{Cells, SpanKind, Reach};
 
 /// Whether the bytes of an access are in a region of this size, from each of its places.
 pub fn is_inside(size: u16, reach: Reach, offset: i16, bytes: u16) -> bool
@@ -80,7 +80,7 @@ pub fn wiped(frame: &Cells, reach: Reach, offset: i16, bytes: u16) -> Cells
     let mut kinds = frame.kinds;
     for cell in 0..75 {
         if is_reached(reach, offset, bytes, cell as u16) {
-            kinds[cell] = Kind::Num(whole(Width::W64));
+            kinds[cell] = SpanKind::Num(whole(Width::W64));
         }
     }
     Cells { kinds }

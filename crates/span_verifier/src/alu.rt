@@ -14,10 +14,10 @@ use crate::sums::{low_span, move_rule, moved, sum_rule, summed};
 use decode::{AluOp, Extension, Operand, Width};
 use operations::word_of_imm;
 use regtypes::Rule;
-use spans::{Cells, Kind, Span};
+use spans::{Cells, SpanKind, Span};
 
 /// The kind of an operand; of an immediate it is the one word.
-pub fn operand_kind(width: Width, operand: Operand, frame: &Cells) -> Kind
+pub fn operand_kind(width: Width, operand: Operand, frame: &Cells) -> SpanKind
     ensures { result ≡ operand_kind width operand (kind_at frame.now.kinds) }
 {
     match operand {
@@ -26,7 +26,7 @@ pub fn operand_kind(width: Width, operand: Operand, frame: &Cells) -> Kind
                 Width::W32 => word_of_imm(imm) % 0x1_0000_0000,
                 Width::W64 => word_of_imm(imm),
             };
-            Kind::Num(Span { lo: word, hi: word })
+            SpanKind::Num(Span { lo: word, hi: word })
         }
         Operand::Reg(reg) => frame.kind(reg),
     }
@@ -39,7 +39,7 @@ fn negated(imm: i32) -> i64
 }
 
 /// The rule that arithmetic with dst and an operand breaks.
-pub fn alu_rule(op: AluOp, width: Width, operand: Operand, a: Kind, b: Kind) -> Option<Rule>
+pub fn alu_rule(op: AluOp, width: Width, operand: Operand, a: SpanKind, b: SpanKind) -> Option<Rule>
     ensures { result ≡ alu_rule (alu_form op width operand) a b }
 {
     match operand {
@@ -58,34 +58,34 @@ pub fn alu_rule(op: AluOp, width: Width, operand: Operand, a: Kind, b: Kind) -> 
     }
 }
 
-fn set(width: Width, kind: Kind) -> Kind
-    ensures { result ≡ unwrap_or (from_span (low_span width) kind) Kind.Unset }
+fn set(width: Width, kind: SpanKind) -> SpanKind
+    ensures { result ≡ unwrap_or (from_span (low_span width) kind) SpanKind.Unset }
 {
     match kind {
-        Kind::Num(s) => Kind::Num(low_span(width, s)),
-        Kind::Unset | Kind::Place(_, _) => Kind::Unset,
+        SpanKind::Num(s) => SpanKind::Num(low_span(width, s)),
+        SpanKind::Unset | SpanKind::Place(_, _) => SpanKind::Unset,
     }
 }
 
-fn computed(op: AluOp, width: Width, a: Kind, b: Kind) -> Kind
+fn computed(op: AluOp, width: Width, a: SpanKind, b: SpanKind) -> SpanKind
     requires a { IsKind a }
     requires b { IsKind b }
-    ensures { result ≡ unwrap_or (from_spans (λ s t. result_span op (bits_of width) (low_span width s) (low_span width t)) a b) Kind.Unset }
+    ensures { result ≡ unwrap_or (from_spans (λ s t. result_span op (bits_of width) (low_span width s) (low_span width t)) a b) SpanKind.Unset }
 {
     match a {
-        Kind::Num(s) => match b {
-            Kind::Num(t) => Kind::Num(result(op, width, low_span(width, s), low_span(width, t))),
-            Kind::Unset | Kind::Place(_, _) => Kind::Unset,
+        SpanKind::Num(s) => match b {
+            SpanKind::Num(t) => SpanKind::Num(result(op, width, low_span(width, s), low_span(width, t))),
+            SpanKind::Unset | SpanKind::Place(_, _) => SpanKind::Unset,
         },
-        Kind::Unset | Kind::Place(_, _) => Kind::Unset,
+        SpanKind::Unset | SpanKind::Place(_, _) => SpanKind::Unset,
     }
 }
 
 /// The kind that arithmetic leaves in dst, whose kind is `a`, with an operand of kind `b`.
-pub fn alu_kind(op: AluOp, width: Width, operand: Operand, a: Kind, b: Kind) -> Kind
+pub fn alu_kind(op: AluOp, width: Width, operand: Operand, a: SpanKind, b: SpanKind) -> SpanKind
     requires a { IsKind a }
     requires b { IsKind b }
-    ensures { result ≡ unwrap_or (result_kind (alu_form op width operand) a b) Kind.Unset }
+    ensures { result ≡ unwrap_or (result_kind (alu_form op width operand) a b) SpanKind.Unset }
 {
     match operand {
         Operand::Imm(n) => match op {
@@ -104,11 +104,11 @@ pub fn alu_kind(op: AluOp, width: Width, operand: Operand, a: Kind, b: Kind) -> 
 }
 
 /// The kind that a sign extension leaves: the same number if none of the numbers is negative.
-pub fn extended(extension: Extension, kind: Kind) -> Kind
-    ensures { result ≡ unwrap_or (from_span (extended_span (extension_offset extension) (bits_of (extension_width extension))) kind) Kind.Unset }
+pub fn extended(extension: Extension, kind: SpanKind) -> SpanKind
+    ensures { result ≡ unwrap_or (from_span (extended_span (extension_offset extension) (bits_of (extension_width extension))) kind) SpanKind.Unset }
 {
-    let Kind::Num(span) = kind else {
-        return Kind::Unset;
+    let SpanKind::Num(span) = kind else {
+        return SpanKind::Unset;
     };
     let (negative, width) = match extension {
         Extension::W32From8 => (0x80, Width::W32),
@@ -117,7 +117,7 @@ pub fn extended(extension: Extension, kind: Kind) -> Kind
         Extension::W64From16 => (0x8000, Width::W64),
         Extension::W64From32 => (0x8000_0000, Width::W64),
     };
-    Kind::Num(if span.hi < negative {
+    SpanKind::Num(if span.hi < negative {
         span
     } else {
         whole(width)
@@ -125,11 +125,11 @@ pub fn extended(extension: Extension, kind: Kind) -> Kind
 }
 
 /// Any number, for a register that holds a number.
-pub fn any_number(kind: Kind) -> Kind
-    ensures { result ≡ unwrap_or (from_span (λ s. whole_span 64) kind) Kind.Unset }
+pub fn any_number(kind: SpanKind) -> SpanKind
+    ensures { result ≡ unwrap_or (from_span (λ s. whole_span 64) kind) SpanKind.Unset }
 {
     match kind {
-        Kind::Num(_) => Kind::Num(whole(Width::W64)),
-        Kind::Unset | Kind::Place(_, _) => Kind::Unset,
+        SpanKind::Num(_) => SpanKind::Num(whole(Width::W64)),
+        SpanKind::Unset | SpanKind::Place(_, _) => SpanKind::Unset,
     }
 }

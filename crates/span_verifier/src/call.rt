@@ -9,15 +9,15 @@ ghost use Rattle.spans.specs.Span.{span};
 use crate::access::{is_inside, words_rule};
 use crate::rules::{argument_rule, lesser, number_rule, unless};
 use regtypes::{Region, Rule};
-use spans::{Cells, Kind, Span};
+use spans::{Cells, SpanKind, Span};
 
 /// The rule that a helper's argument of this many bytes at a place breaks.
-fn payload_rule(state_len: u16, frame: &Cells, place: Kind, bytes: u16) -> Option<Rule>
+fn payload_rule(state_len: u16, frame: &Cells, place: SpanKind, bytes: u16) -> Option<Rule>
     ensures { result ≡ payload_rule state_len (kind_at frame.now.kinds) place bytes }
 {
     match place {
-        Kind::Unset | Kind::Num(_) => Some(Rule::V9),
-        Kind::Place(region, reach) => match region {
+        SpanKind::Unset | SpanKind::Num(_) => Some(Rule::V9),
+        SpanKind::Place(region, reach) => match region {
             Region::Message => unless(is_inside(512, reach, 0, bytes), Rule::V9),
             Region::State => unless(is_inside(state_len, reach, 0, bytes), Rule::V9),
             Region::Stack => {
@@ -32,12 +32,12 @@ fn payload_rule(state_len: u16, frame: &Cells, place: Kind, bytes: u16) -> Optio
 }
 
 /// The rule that a helper's argument breaks that is a place with the number of bytes there.
-fn sized_rule(state_len: u16, frame: &Cells, place: Kind, count: Kind) -> Option<Rule>
+fn sized_rule(state_len: u16, frame: &Cells, place: SpanKind, count: SpanKind) -> Option<Rule>
     ensures { result ≡ sized_rule state_len (kind_at frame.now.kinds) place count }
 {
     match count {
-        Kind::Num(span) => payload_rule(state_len, frame, place, span.hi.min(256) as u16),
-        Kind::Unset | Kind::Place(_, _) => Some(Rule::V9),
+        SpanKind::Num(span) => payload_rule(state_len, frame, place, span.hi.min(256) as u16),
+        SpanKind::Unset | SpanKind::Place(_, _) => Some(Rule::V9),
     }
 }
 
@@ -63,12 +63,12 @@ pub fn call_rule(state_len: u16, frame: &Cells, helper: i32) -> Option<Rule>
 }
 
 /// The kind that a helper leaves in a cell.
-fn answered_kind(cell: usize, kind: Kind) -> Kind
-    ensures { result ≡ (if cell == 0 then Kind.Num (span 0 15) else if nat_lt cell 6 then Kind.Unset else kind) }
+fn answered_kind(cell: usize, kind: SpanKind) -> SpanKind
+    ensures { result ≡ (if cell == 0 then SpanKind.Num (span 0 15) else if nat_lt cell 6 then SpanKind.Unset else kind) }
 {
     match cell {
-        0 => Kind::Num(Span { lo: 0, hi: 15 }),
-        1..=5 => Kind::Unset,
+        0 => SpanKind::Num(Span { lo: 0, hi: 15 }),
+        1..=5 => SpanKind::Unset,
         _ => kind,
     }
 }

@@ -4,7 +4,7 @@ use thiserror::Error;
 
 /// Why code is refused.
 #[derive(Clone, Copy, Debug, PartialEq, Eq, Error)]
-pub enum VerifyError {
+pub enum SpanVerifyError {
     /// Memory ran out.
     #[error("out of memory")]
     Memory,

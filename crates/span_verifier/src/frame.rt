@@ -5,22 +5,22 @@ ghost use Rattle.spans.specs.Frame.{entry_frame, joined, kind_at};
 
 use crate::kind::join_kinds;
 use regtypes::Region;
-use spans::{Cells, Kind, Reach, Span};
+use spans::{Cells, SpanKind, Reach, Span};
 
 /// The kind of a cell at the entry.
-fn entry_kind(cell: usize) -> Kind
+fn entry_kind(cell: usize) -> SpanKind
     ensures { result ≡ entry_frame cell }
 {
     match cell {
-        1 => Kind::Place(Region::Message, Reach { lo: 0, hi: 0 }),
-        2 => Kind::Place(Region::State, Reach { lo: 0, hi: 0 }),
-        3 => Kind::Num(Span { lo: 0, hi: 256 }),
-        10 => Kind::Place(Region::Stack, Reach { lo: 512, hi: 512 }),
-        11..=74 => Kind::Num(Span {
+        1 => SpanKind::Place(Region::Message, Reach { lo: 0, hi: 0 }),
+        2 => SpanKind::Place(Region::State, Reach { lo: 0, hi: 0 }),
+        3 => SpanKind::Num(Span { lo: 0, hi: 256 }),
+        10 => SpanKind::Place(Region::Stack, Reach { lo: 512, hi: 512 }),
+        11..=74 => SpanKind::Num(Span {
             lo: 0,
             hi: u64::MAX,
         }),
-        _ => Kind::Unset,
+        _ => SpanKind::Unset,
     }
 }
 
@@ -29,7 +29,7 @@ fn entry_kind(cell: usize) -> Kind
 pub fn entry() -> Cells
     ensures { kind_at result.kinds ≡ entry_frame }
 {
-    let mut kinds = [Kind::Unset; 75];
+    let mut kinds = [SpanKind::Unset; 75];
     for cell in 0..75 {
         kinds[cell] = entry_kind(cell);
     }

@@ -9,7 +9,7 @@ ghost use Rattle.span_verifier.specs.Layout.{Follows};
 ghost use Rattle.span_verifier.specs.Least.{IsLeast};
 
 use crate::targets::leads;
-use crate::ways::{Leaving, transfer};
+use crate::ways::{SpanLeaving, transfer};
 use crate::propagation::spread;
 use decode::Insn;
 use limits::SLOTS;
@@ -24,7 +24,7 @@ fn leave(
     slot: usize,
     insn: &Insn,
     frame: &Cells,
-) -> Result<Leaving, Rule>
+) -> Result<SpanLeaving, Rule>
     requires short { slot < SLOTS }
     requires within { slot < length slots.now }
     requires fits { Fits insn.now }

@@ -4,7 +4,7 @@ ghost use Rattle.std.specs.Prelude.{◌≡◌};
 ghost use Rattle.spans.specs.Span.{joined_span};
 ghost use Rattle.spans.specs.Frame.{joined_kind, joined_reach};
 
-use spans::{Kind, Reach, Span};
+use spans::{SpanKind, Reach, Span};
 
 /// The least span that has the numbers of both.
 fn join_spans(a: Span, b: Span) -> Span
@@ -28,24 +28,24 @@ fn join_reaches(s: Reach, t: Reach) -> Reach
 
 /// The join: what both kinds say.
 #[tactic(auto, using(crate::proofs::KindLemmas::joined_same, crate::proofs::KindLemmas::joined_apart, crate::proofs::KindLemmas::joined_unset, crate::proofs::KindLemmas::joined_num))]
-pub fn join_kinds(a: Kind, b: Kind) -> Kind
+pub fn join_kinds(a: SpanKind, b: SpanKind) -> SpanKind
     ensures { result ≡ joined_kind a b }
 {
     match a {
-        Kind::Unset => Kind::Unset,
-        Kind::Num(s) => match b {
-            Kind::Unset => Kind::Unset,
-            Kind::Num(t) => Kind::Num(join_spans(s, t)),
-            Kind::Place(_, _) => Kind::Unset,
+        SpanKind::Unset => SpanKind::Unset,
+        SpanKind::Num(s) => match b {
+            SpanKind::Unset => SpanKind::Unset,
+            SpanKind::Num(t) => SpanKind::Num(join_spans(s, t)),
+            SpanKind::Place(_, _) => SpanKind::Unset,
         },
-        Kind::Place(r, s) => match b {
-            Kind::Unset => Kind::Unset,
-            Kind::Num(_) => Kind::Unset,
-            Kind::Place(q, t) => {
+        SpanKind::Place(r, s) => match b {
+            SpanKind::Unset => SpanKind::Unset,
+            SpanKind::Num(_) => SpanKind::Unset,
+            SpanKind::Place(q, t) => {
                 if r == q {
-                    Kind::Place(r, join_reaches(s, t))
+                    SpanKind::Place(r, join_reaches(s, t))
                 } else {
-                    Kind::Unset
+                    SpanKind::Unset
                 }
             }
         },

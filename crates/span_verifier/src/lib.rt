@@ -12,7 +12,7 @@
 //!
 //! [`transfer`] applies the rules to one instruction: it answers the frames that leave on its two ways, none on a way
 //! that no number takes, or the least of the rules V3 to V10 that is broken. `specs/Rules` defines that rule and
-//! `specs/Leaving` the frames that leave. [`rules_are_exact`] says that both agree with the definition of form 3, which
+//! `specs/SpanLeaving` the frames that leave. [`rules_are_exact`] says that both agree with the definition of form 3, which
 //! defines only whether frames leave, and which. Each part of [`transfer`] promises the equation that is its
 //! definition: [`alu_rule`] and [`alu_kind`] for arithmetic, [`shown`] for conditions, [`load_rule`], [`loaded`],
 //! [`store_rule`] and [`stored`] for memory, [`call_rule`] and [`answered`] for helpers.
@@ -70,14 +70,14 @@ pub use access::{is_inside, whole_word, wiped, words_rule};
 pub use alu::{alu_kind, alu_rule, any_number, extended, operand_kind};
 pub use call::{answered, call_rule};
 pub use exactness::rules_are_exact;
-pub use fault::VerifyError;
+pub use fault::SpanVerifyError;
 pub use flat_laws::{order_is_kept, rules_are_subsumed, typings_are_subsumed};
 pub use frame::{entry, join};
-pub use pass::{Frames, frames_of};
+pub use pass::{SpanFrames, frames_of};
 pub use laws::{form_3_keeps_laws, refusals_are_one, typed_calls_are_shown, typings_are_typings};
 pub use layout::lay_out;
 pub use targets::leads;
-pub use ways::{Leaving, transfer};
+pub use ways::{SpanLeaving, transfer};
 pub use memory::{load_rule, loaded, store_rule, stored};
 pub use narrowing::{opposite, shown};
 pub use results::{result, whole};

@@ -11,16 +11,16 @@ use crate::access::{is_inside, whole_word, wiped, words_rule};
 use crate::results::power;
 use crate::rules::{lesser, number_rule, unless, value_rule};
 use regtypes::{Region, Rule};
-use spans::{Cells, Kind, Reach, Span};
+use spans::{Cells, SpanKind, Reach, Span};
 
 /// The kind of a cell; after the last cell nothing is known.
-fn kind_in(frame: &Cells, cell: usize) -> Kind
+fn kind_in(frame: &Cells, cell: usize) -> SpanKind
     ensures { result ≡ kind_at frame.now.kinds cell }
 {
     if cell < 75 {
         frame.kinds[cell]
     } else {
-        Kind::Unset
+        SpanKind::Unset
     }
 }
 
@@ -35,7 +35,7 @@ fn read_rule(frame: &Cells, reach: Reach, offset: i16, bytes: u16) -> Option<Rul
 }
 
 /// The rule that a store inside the stack breaks.
-fn write_rule(frame: &Cells, kind: Kind, reach: Reach, offset: i16, bytes: u16) -> Option<Rule>
+fn write_rule(frame: &Cells, kind: SpanKind, reach: Reach, offset: i16, bytes: u16) -> Option<Rule>
     ensures { result ≡ write_rule (whole_word reach offset bytes) (kind_at frame.now.kinds) kind reach offset bytes }
 {
     match whole_word(reach, offset, bytes) {
@@ -45,13 +45,13 @@ fn write_rule(frame: &Cells, kind: Kind, reach: Reach, offset: i16, bytes: u16) 
 }
 
 /// The rule that a load through a base of this kind breaks.
-pub fn load_rule(state_len: u16, frame: &Cells, base: Kind, offset: i16, bytes: u16) -> Option<Rule>
+pub fn load_rule(state_len: u16, frame: &Cells, base: SpanKind, offset: i16, bytes: u16) -> Option<Rule>
     ensures { result ≡ load_rule state_len (kind_at frame.now.kinds) base offset bytes }
 {
     match base {
-        Kind::Unset => Some(Rule::V3),
-        Kind::Num(_) => Some(Rule::V5),
-        Kind::Place(region, reach) => match region {
+        SpanKind::Unset => Some(Rule::V3),
+        SpanKind::Num(_) => Some(Rule::V5),
+        SpanKind::Place(region, reach) => match region {
             Region::Message => unless(is_inside(512, reach, offset, bytes), Rule::V6),
             Region::State => unless(is_inside(state_len, reach, offset, bytes), Rule::V6),
             Region::Stack => {
@@ -66,20 +66,20 @@ pub fn load_rule(state_len: u16, frame: &Cells, base: Kind, offset: i16, bytes: 
 }
 
 /// A number of this many bytes, at most eight.
-fn loaded_number(bytes: u16) -> Kind
+fn loaded_number(bytes: u16) -> SpanKind
     requires { bytes ≤ 8 }
-    ensures { result ≡ Kind.Num (whole (8 * bytes)) }
+    ensures { result ≡ SpanKind.Num (whole (8 * bytes)) }
 {
     let hi = if bytes < 8 {
         power(u64::from(8 * bytes)) - 1
     } else {
         u64::MAX
     };
-    Kind::Num(Span { lo: 0, hi })
+    SpanKind::Num(Span { lo: 0, hi })
 }
 
 /// The kind that a load from the stack gives; a whole word gives its own kind.
-fn read(frame: &Cells, reach: Reach, offset: i16, bytes: u16) -> Kind
+fn read(frame: &Cells, reach: Reach, offset: i16, bytes: u16) -> SpanKind
     requires { bytes ≤ 8 }
     ensures { result ≡ word_kind (whole_word reach offset bytes) (kind_at frame.now.kinds) bytes }
 {
@@ -90,13 +90,13 @@ fn read(frame: &Cells, reach: Reach, offset: i16, bytes: u16) -> Kind
 }
 
 /// The kind that a load gives if it breaks no rule.
-pub fn loaded(frame: &Cells, base: Kind, offset: i16, bytes: u16) -> Kind
+pub fn loaded(frame: &Cells, base: SpanKind, offset: i16, bytes: u16) -> SpanKind
     requires { bytes ≤ 8 }
     ensures { result ≡ loaded_kind (kind_at frame.now.kinds) base offset bytes }
 {
     match base {
-        Kind::Unset | Kind::Num(_) => loaded_number(bytes),
-        Kind::Place(region, reach) => match region {
+        SpanKind::Unset | SpanKind::Num(_) => loaded_number(bytes),
+        SpanKind::Place(region, reach) => match region {
             Region::Message | Region::State => loaded_number(bytes),
             Region::Stack => read(frame, reach, offset, bytes),
         },
@@ -107,17 +107,17 @@ pub fn loaded(frame: &Cells, base: Kind, offset: i16, bytes: u16) -> Kind
 pub fn store_rule(
     state_len: u16,
     frame: &Cells,
-    kind: Kind,
-    base: Kind,
+    kind: SpanKind,
+    base: SpanKind,
     offset: i16,
     bytes: u16,
 ) -> Option<Rule>
     ensures { result ≡ store_rule state_len (kind_at frame.now.kinds) kind base offset bytes }
 {
     match base {
-        Kind::Unset => Some(Rule::V3),
-        Kind::Num(_) => lesser(value_rule(kind), Some(Rule::V5)),
-        Kind::Place(region, reach) => match region {
+        SpanKind::Unset => Some(Rule::V3),
+        SpanKind::Num(_) => lesser(value_rule(kind), Some(Rule::V5)),
+        SpanKind::Place(region, reach) => match region {
             Region::Message => {
                 let rule = if is_inside(512, reach, offset, bytes) {
                     Rule::V7
@@ -142,7 +142,7 @@ pub fn store_rule(
 }
 
 /// The frame with another kind in a cell.
-fn with_cell(frame: &Cells, cell: usize, kind: Kind) -> Cells
+fn with_cell(frame: &Cells, cell: usize, kind: SpanKind) -> Cells
     requires { cell < 75 }
     ensures { kind_at result.kinds ≡ with_kind (kind_at frame.now.kinds) cell kind }
 {
@@ -152,7 +152,7 @@ fn with_cell(frame: &Cells, cell: usize, kind: Kind) -> Cells
 }
 
 /// The frame that a store inside the stack leaves.
-fn written(frame: &Cells, kind: Kind, reach: Reach, offset: i16, bytes: u16) -> Cells
+fn written(frame: &Cells, kind: SpanKind, reach: Reach, offset: i16, bytes: u16) -> Cells
     requires some { reach.lo ≤ℤ reach.hi }
     requires inside { is_inside 512 reach offset bytes ≡ true }
     ensures { kind_at result.kinds ≡ written_frame (whole_word reach offset bytes) (kind_at frame.now.kinds) kind reach offset bytes }
@@ -164,13 +164,13 @@ fn written(frame: &Cells, kind: Kind, reach: Reach, offset: i16, bytes: u16) -> 
 }
 
 /// The frame that a store leaves if it breaks no rule.
-pub fn stored(frame: &Cells, kind: Kind, base: Kind, offset: i16, bytes: u16) -> Cells
+pub fn stored(frame: &Cells, kind: SpanKind, base: SpanKind, offset: i16, bytes: u16) -> Cells
     requires { StaysInside base offset bytes }
     ensures { kind_at result.kinds ≡ stored_frame (kind_at frame.now.kinds) kind base offset bytes }
 {
     match base {
-        Kind::Unset | Kind::Num(_) => *frame,
-        Kind::Place(region, reach) => match region {
+        SpanKind::Unset | SpanKind::Num(_) => *frame,
+        SpanKind::Place(region, reach) => match region {
             Region::Message | Region::State => *frame,
             Region::Stack => written(frame, kind, reach, offset, bytes),
         },

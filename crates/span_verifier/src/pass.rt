@@ -19,7 +19,7 @@ use std::alloc::{AllocError, Global};
 
 /// Code slot by slot, with what is known of registers and of the stack's words there, also for code that is refused.
 #[derive(Debug, Drop)]
-pub struct Frames {
+pub struct SpanFrames {
     /// For each slot the instruction that begins there.
     pub slots: Vec<Option<Insn>>,
     /// For each slot what is known there, if a path leads to it; other slots take no memory for it. If the code is
@@ -46,7 +46,7 @@ fn opening(alloc: Global, slots: usize) -> Result<Vec<Option<Box<Cells>>>, Alloc
 /// What is known at each slot of these instructions, and the first slot that breaks a rule. The code has 1 to 1,024
 /// slots. The frame of a slot is the join of all frames that arrive there. Instructions that no path reaches are not
 /// judged.
-pub fn frames_of(alloc: Global, code: &[Insn], state_len: u16) -> Result<Frames, AllocError>
+pub fn frames_of(alloc: Global, code: &[Insn], state_len: u16) -> Result<SpanFrames, AllocError>
     requires some { 0 < length code.now }
     requires slots { length (slots_of code.now) ≤ SLOTS }
     requires fits { AllByRecursion Fits code.now }
@@ -58,14 +58,14 @@ pub fn frames_of(alloc: Global, code: &[Insn], state_len: u16) -> Result<Frames,
     for slot in 0..slots.len() {
         if let Some(rule) = judge(alloc, &slots, state_len, slot, &mut table)? {
             let refusal = Some((rule, slot));
-            return Ok(Frames {
+            return Ok(SpanFrames {
                 slots,
                 table,
                 refusal,
             });
         }
     }
-    Ok(Frames {
+    Ok(SpanFrames {
         slots,
         table,
         refusal: None,

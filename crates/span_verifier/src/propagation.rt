@@ -10,7 +10,7 @@ ghost use Rattle.span_verifier.specs.Inside.Pass.{IsMerged, IsSpread, IsWayMerge
 ghost use Rattle.span_verifier.specs.Typing.{table_of};
 
 use crate::frame::join;
-use crate::ways::Leaving;
+use crate::ways::SpanLeaving;
 use decode::Insn;
 use limits::SLOTS;
 use spans::Cells;
@@ -80,7 +80,7 @@ pub fn spread(
     table: &mut [Option<Box<Cells>>],
     slot: usize,
     insn: &Insn,
-    left: &Leaving,
+    left: &SpanLeaving,
 ) -> Result<(), AllocError>
     requires short { slot < SLOTS }
     requires forward { pos 0 ≤ℤ distance insn.now }

@@ -4,7 +4,7 @@ ghost use Rattle.std.specs.Prelude.{◌≡◌};
 ghost use Rattle.span_verifier.specs.Rules.{argument_rule, exit_rule, lesser, number_rule, unless, value_rule};
 
 use regtypes::Rule;
-use spans::Kind;
+use spans::SpanKind;
 
 /// The lesser of two rules, if both are broken.
 pub fn lesser(first: Option<Rule>, second: Option<Rule>) -> Option<Rule>
@@ -33,23 +33,23 @@ pub fn unless(holds: bool, rule: Rule) -> Option<Rule>
 }
 
 /// What is read as a number has to be one.
-pub fn number_rule(kind: Kind) -> Option<Rule>
+pub fn number_rule(kind: SpanKind) -> Option<Rule>
     ensures { result ≡ number_rule kind }
 {
     match kind {
-        Kind::Unset => Some(Rule::V3),
-        Kind::Num(_) => None,
-        Kind::Place(_, _) => Some(Rule::V5),
+        SpanKind::Unset => Some(Rule::V3),
+        SpanKind::Num(_) => None,
+        SpanKind::Place(_, _) => Some(Rule::V5),
     }
 }
 
 /// What is copied has to be set.
-pub fn value_rule(kind: Kind) -> Option<Rule>
+pub fn value_rule(kind: SpanKind) -> Option<Rule>
     ensures { result ≡ value_rule kind }
 {
     match kind {
-        Kind::Unset => Some(Rule::V3),
-        Kind::Num(_) | Kind::Place(_, _) => None,
+        SpanKind::Unset => Some(Rule::V3),
+        SpanKind::Num(_) | SpanKind::Place(_, _) => None,
     }
 }
 
@@ -64,11 +64,11 @@ pub fn argument_rule(rule: Option<Rule>) -> Option<Rule>
 }
 
 /// r0 has to be a number at the end.
-pub fn exit_rule(kind: Kind) -> Option<Rule>
+pub fn exit_rule(kind: SpanKind) -> Option<Rule>
     ensures { result ≡ exit_rule kind }
 {
     match kind {
-        Kind::Num(_) => None,
-        Kind::Unset | Kind::Place(_, _) => Some(Rule::V10),
+        SpanKind::Num(_) => None,
+        SpanKind::Unset | SpanKind::Place(_, _) => Some(Rule::V10),
     }
 }

@@ -12,7 +12,7 @@ use crate::results::{bounded, result, whole};
 use crate::rules::unless;
 use decode::{AluOp, Width};
 use regtypes::{Region, Rule};
-use spans::{Kind, Reach, Span};
+use spans::{SpanKind, Reach, Span};
 
 /// The low bits of a register that an operation of this width uses.
 pub fn low_span(width: Width, span: Span) -> Span
@@ -32,16 +32,16 @@ fn near_rule(lo: i128, hi: i128) -> Option<Rule>
 }
 
 /// The places with distances from one number to another; nothing is known if one is too far off.
-fn near_place(region: Region, lo: i128, hi: i128) -> Kind
+fn near_place(region: Region, lo: i128, hi: i128) -> SpanKind
     requires { lo ≤ℤ hi }
-    ensures { result ≡ unwrap_or (near_place region (record { lo = lo; hi = hi })) Kind.Unset }
+    ensures { result ≡ unwrap_or (near_place region (record { lo = lo; hi = hi })) SpanKind.Unset }
 {
     if -32768 <= lo && hi <= 32767 {
         let lo = lo as i16;
         let hi = hi as i16;
-        Kind::Place(region, Reach { lo, hi })
+        SpanKind::Place(region, Reach { lo, hi })
     } else {
-        Kind::Unset
+        SpanKind::Unset
     }
 }
 
@@ -52,61 +52,61 @@ fn rule_by(reach: Reach, by: Span) -> Option<Rule>
 }
 
 /// A place that a number moves; nothing is known if it may get too far off.
-fn place_by(region: Region, reach: Reach, by: Span) -> Kind
+fn place_by(region: Region, reach: Reach, by: Span) -> SpanKind
     requires reach { reach.lo ≤ℤ reach.hi }
     requires by { by.lo ≤ by.hi }
-    ensures { result ≡ unwrap_or (near_place region (moved_reach reach (pos by.lo) (pos by.hi))) Kind.Unset }
+    ensures { result ≡ unwrap_or (near_place region (moved_reach reach (pos by.lo) (pos by.hi))) SpanKind.Unset }
 {
     near_place(region, further(reach.lo, by.lo), further(reach.hi, by.hi))
 }
 
 /// The rule that a sum of two registers breaks.
-pub fn sum_rule(a: Kind, b: Kind) -> Option<Rule>
+pub fn sum_rule(a: SpanKind, b: SpanKind) -> Option<Rule>
     ensures { result ≡ sum_rule a b }
 {
     match a {
-        Kind::Unset => Some(Rule::V3),
-        Kind::Num(s) => match b {
-            Kind::Unset => Some(Rule::V3),
-            Kind::Num(_) => None,
-            Kind::Place(_, t) => rule_by(t, s),
+        SpanKind::Unset => Some(Rule::V3),
+        SpanKind::Num(s) => match b {
+            SpanKind::Unset => Some(Rule::V3),
+            SpanKind::Num(_) => None,
+            SpanKind::Place(_, t) => rule_by(t, s),
         },
-        Kind::Place(_, s) => match b {
-            Kind::Unset => Some(Rule::V3),
-            Kind::Num(t) => rule_by(s, t),
-            Kind::Place(_, _) => Some(Rule::V5),
+        SpanKind::Place(_, s) => match b {
+            SpanKind::Unset => Some(Rule::V3),
+            SpanKind::Num(t) => rule_by(s, t),
+            SpanKind::Place(_, _) => Some(Rule::V5),
         },
     }
 }
 
 /// The kind of a sum of two registers.
-pub fn summed(a: Kind, b: Kind) -> Kind
+pub fn summed(a: SpanKind, b: SpanKind) -> SpanKind
     requires a { IsKind a }
     requires b { IsKind b }
-    ensures { result ≡ unwrap_or (summed_kind a b) Kind.Unset }
+    ensures { result ≡ unwrap_or (summed_kind a b) SpanKind.Unset }
 {
     match a {
-        Kind::Unset => Kind::Unset,
-        Kind::Num(s) => match b {
-            Kind::Unset => Kind::Unset,
-            Kind::Num(t) => Kind::Num(result(AluOp::Add, Width::W64, s, t)),
-            Kind::Place(region, t) => place_by(region, t, s),
+        SpanKind::Unset => SpanKind::Unset,
+        SpanKind::Num(s) => match b {
+            SpanKind::Unset => SpanKind::Unset,
+            SpanKind::Num(t) => SpanKind::Num(result(AluOp::Add, Width::W64, s, t)),
+            SpanKind::Place(region, t) => place_by(region, t, s),
         },
-        Kind::Place(region, s) => match b {
-            Kind::Num(t) => place_by(region, s, t),
-            Kind::Unset | Kind::Place(_, _) => Kind::Unset,
+        SpanKind::Place(region, s) => match b {
+            SpanKind::Num(t) => place_by(region, s, t),
+            SpanKind::Unset | SpanKind::Place(_, _) => SpanKind::Unset,
         },
     }
 }
 
 /// The rule that a sum with a whole number breaks.
-pub fn move_rule(width: Width, by: i64, kind: Kind) -> Option<Rule>
+pub fn move_rule(width: Width, by: i64, kind: SpanKind) -> Option<Rule>
     ensures { result ≡ move_rule width by kind }
 {
     match kind {
-        Kind::Unset => Some(Rule::V3),
-        Kind::Num(_) => None,
-        Kind::Place(_, s) => match width {
+        SpanKind::Unset => Some(Rule::V3),
+        SpanKind::Num(_) => None,
+        SpanKind::Place(_, s) => match width {
             Width::W32 => Some(Rule::V5),
             Width::W64 => near_rule(changed(s.lo, by), changed(s.hi, by)),
         },
@@ -137,15 +137,15 @@ fn moved_span(width: Width, by: i64, span: Span) -> Span
 }
 
 /// The kind of a sum with a whole number.
-pub fn moved(width: Width, by: i64, kind: Kind) -> Kind
+pub fn moved(width: Width, by: i64, kind: SpanKind) -> SpanKind
     requires { IsKind kind }
-    ensures { result ≡ unwrap_or (moved_kind width by kind) Kind.Unset }
+    ensures { result ≡ unwrap_or (moved_kind width by kind) SpanKind.Unset }
 {
     match kind {
-        Kind::Unset => Kind::Unset,
-        Kind::Num(s) => Kind::Num(moved_span(width, by, low_span(width, s))),
-        Kind::Place(region, s) => match width {
-            Width::W32 => Kind::Unset,
+        SpanKind::Unset => SpanKind::Unset,
+        SpanKind::Num(s) => SpanKind::Num(moved_span(width, by, low_span(width, s))),
+        SpanKind::Place(region, s) => match width {
+            Width::W32 => SpanKind::Unset,
             Width::W64 => near_place(region, changed(s.lo, by), changed(s.hi, by)),
         },
     }

@@ -6,8 +6,8 @@ ghost use Rattle.decode.specs.Encoding.{Fits};
 ghost use Rattle.decode.specs.Slots.{slots_of};
 ghost use Rattle.span_verifier.specs.Verdict.{IsFramesOf, IsWhy};
 
-use crate::fault::VerifyError;
-use crate::pass::{Frames, frames_of};
+use crate::fault::SpanVerifyError;
+use crate::pass::{SpanFrames, frames_of};
 use decode::Insn;
 use limits::SLOTS;
 use regtypes::Rule;
@@ -15,23 +15,23 @@ use std::alloc::Global;
 
 /// What is known at each slot of these instructions with a state of this length, if they are typable in form 3. The
 /// code has at most 1,024 slots.
-pub fn verify(alloc: Global, code: &[Insn], state_len: u16) -> Result<Frames, VerifyError>
+pub fn verify(alloc: Global, code: &[Insn], state_len: u16) -> Result<SpanFrames, SpanVerifyError>
     requires slots { length (slots_of code.now) ≤ SLOTS }
     requires fits { AllByRecursion Fits code.now }
     ensures { MatchResult result (λ frames. IsFramesOf code.now state_len frames) (λ why. IsWhy code.now state_len why) }
 {
     if code.is_empty() {
-        return Err(VerifyError::Fault {
+        return Err(SpanVerifyError::Fault {
             rule: Rule::V2,
             slot: 0,
         });
     }
     let frames = match frames_of(alloc, code, state_len) {
         Ok(frames) => frames,
-        Err(_) => return Err(VerifyError::Memory),
+        Err(_) => return Err(SpanVerifyError::Memory),
     };
     match frames.refusal {
-        Some((rule, slot)) => Err(VerifyError::Fault { rule, slot }),
+        Some((rule, slot)) => Err(SpanVerifyError::Fault { rule, slot }),
         None => Ok(frames),
     }
 }

@@ -18,11 +18,11 @@ use crate::results::whole;
 use crate::rules::{exit_rule, lesser, number_rule};
 use decode::{Condition, Insn, Operand, Reg, Width};
 use regtypes::{Rule, attributes_from, bytes_in, signed_bytes_in};
-use spans::{Cells, Kind, Span};
+use spans::{Cells, SpanKind, Span};
 
 /// What is known after an instruction; no step takes a way without a frame.
 #[derive(Clone, Copy)]
-pub struct Leaving {
+pub struct SpanLeaving {
     /// On the way to the next instruction.
     pub next: Option<Cells>,
     /// On the way of a jump.
@@ -30,20 +30,20 @@ pub struct Leaving {
 }
 
 /// The frame leaves only to the next instruction.
-fn falls(frame: Cells) -> Leaving
+fn falls(frame: Cells) -> SpanLeaving
     ensures { frames_of result ≡ (Some (frame_of frame), None) }
 {
-    Leaving {
+    SpanLeaving {
         next: Some(frame),
         taken: None,
     }
 }
 
 /// The frame leaves only by a jump.
-fn leaps(frame: Cells) -> Leaving
+fn leaps(frame: Cells) -> SpanLeaving
     ensures { frames_of result ≡ (None, Some (frame_of frame)) }
 {
-    Leaving {
+    SpanLeaving {
         next: None,
         taken: Some(frame),
     }
@@ -54,12 +54,12 @@ fn narrowed(frame: &Cells, dst: Reg, operand: Operand, a: Span, b: Span) -> Cell
     ensures { kind_at result.kinds ≡ narrowed_frame (kind_at frame.now.kinds) dst operand (a, b) }
 {
     match operand {
-        Operand::Imm(_) => frame.with(dst, Kind::Num(a)),
+        Operand::Imm(_) => frame.with(dst, SpanKind::Num(a)),
         Operand::Reg(src) => {
             if dst.number == src.number {
                 *frame
             } else {
-                frame.with(dst, Kind::Num(a)).with(src, Kind::Num(b))
+                frame.with(dst, SpanKind::Num(a)).with(src, SpanKind::Num(b))
             }
         }
     }
@@ -90,28 +90,28 @@ fn compared(
     dst: Reg,
     operand: Operand,
     frame: &Cells,
-) -> Leaving
+) -> SpanLeaving
     ensures { frames_of result ≡ compares (kind_at frame.now.kinds dst.number) (operand_kind width operand (kind_at frame.now.kinds)) condition width dst operand (kind_at frame.now.kinds) }
 {
     match frame.kind(dst) {
-        Kind::Num(a) => match operand_kind(width, operand, frame) {
-            Kind::Num(b) => Leaving {
+        SpanKind::Num(a) => match operand_kind(width, operand, frame) {
+            SpanKind::Num(b) => SpanLeaving {
                 next: way(opposite(condition), width, dst, operand, frame, a, b),
                 taken: way(Some(condition), width, dst, operand, frame, a, b),
             },
-            Kind::Unset | Kind::Place(_, _) => NOWHERE,
+            SpanKind::Unset | SpanKind::Place(_, _) => NOWHERE,
         },
-        Kind::Unset | Kind::Place(_, _) => NOWHERE,
+        SpanKind::Unset | SpanKind::Place(_, _) => NOWHERE,
     }
 }
 
-const NOWHERE: Leaving = Leaving {
+const NOWHERE: SpanLeaving = SpanLeaving {
     next: None,
     taken: None,
 };
 
 /// The frame that a store leaves if it breaks no rule.
-fn store(frame: &Cells, state_len: u16, kind: Kind, base: Kind, offset: i16, bytes: u16) -> Leaving
+fn store(frame: &Cells, state_len: u16, kind: SpanKind, base: SpanKind, offset: i16, bytes: u16) -> SpanLeaving
     requires base { IsKind base }
     requires unbroken { store_rule state_len (kind_at frame.now.kinds) kind base offset bytes ≡ None }
     ensures { frames_of result ≡ (Some (stored_frame (kind_at frame.now.kinds) kind base offset bytes), None) }
@@ -120,7 +120,7 @@ fn store(frame: &Cells, state_len: u16, kind: Kind, base: Kind, offset: i16, byt
 }
 
 /// The frames that leave if no rule is broken.
-fn leave(insn: &Insn, frame: &Cells, state_len: u16) -> Leaving
+fn leave(insn: &Insn, frame: &Cells, state_len: u16) -> SpanLeaving
     requires fits { Fits insn.now }
     requires frame { IsFrame (kind_at frame.now.kinds) }
     requires unbroken { frame_rule state_len insn.now (kind_at frame.now.kinds) ≡ None }
@@ -150,7 +150,7 @@ fn leave(insn: &Insn, frame: &Cells, state_len: u16) -> Leaving
                 lo: value,
                 hi: value,
             };
-            falls(frame.with(dst, Kind::Num(span)))
+            falls(frame.with(dst, SpanKind::Num(span)))
         }
         Insn::Jump { .. } | Insn::JumpLong { .. } => leaps(*frame),
         Insn::JumpIf {
@@ -171,7 +171,7 @@ fn leave(insn: &Insn, frame: &Cells, state_len: u16) -> Leaving
             let kind = loaded(frame, frame.kind(src), offset, u16::from(bytes_in(size)));
             falls(frame.with(dst, kind))
         }
-        Insn::LoadSx { dst, .. } => falls(frame.with(dst, Kind::Num(whole(Width::W64)))),
+        Insn::LoadSx { dst, .. } => falls(frame.with(dst, SpanKind::Num(whole(Width::W64)))),
         Insn::StoreReg {
             size,
             dst,
@@ -289,7 +289,7 @@ fn frame_pointer_rule(insn: &Insn) -> Option<Rule>
 
 /// The frames that leave an instruction on its two ways, as far as a step can take them, or the least of the rules V3
 /// to V10 that it breaks.
-pub fn transfer(insn: &Insn, frame: &Cells, state_len: u16) -> Result<Leaving, Rule>
+pub fn transfer(insn: &Insn, frame: &Cells, state_len: u16) -> Result<SpanLeaving, Rule>
     requires fits { Fits insn.now }
     requires frame { IsFrame (kind_at frame.now.kinds) }
     ensures { IsLeaving state_len insn.now (kind_at frame.now.kinds) result }

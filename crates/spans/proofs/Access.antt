@@ -7,20 +7,20 @@ use Rattle.std.proofs.lemmas.Int.{ints}
 use Rattle.regtypes.specs.declared.frame.Region.{Region}
 use Rattle.regtypes.specs.declared.frame.Region.TheVariants.{Message, State, Stack}
 use Rattle.spans.specs.Span.{Within, whole}
-use Rattle.spans.specs.Frame.{Frame, IsFrame, IsKind, Kind, Leq, LeqKind, Num, Place, Reach, Unset, WithinReach, is_num, is_set, with_kind}
+use Rattle.spans.specs.Frame.{Frame, IsFrame, IsKind, SpanKind, Leq, LeqKind, Num, Place, Reach, Unset, WithinReach, is_num, is_set, with_kind}
 use Rattle.spans.specs.Access.{AreNumbers, IsReadable, IsWritable, MayLoad, MayStore, cell_at, is_inside, is_reached, loaded_kind, stored_frame, whole_word, wiped, word_kind, written_frame}
 use Rattle.spans.proofs.Tests.{parts, both}
 
 -- what a weaker frame allows to load a stronger one allows, and gives no less
 abbrev LoadsGrow : Type 0
 LoadsGrow =
-    (state : ℕ) (f g : Frame) (a b : Kind) (o : ℤ) (n : ℕ) → IsFrame f → IsKind a → Leq f g → LeqKind a b → MayLoad state g b o n
+    (state : ℕ) (f g : Frame) (a b : SpanKind) (o : ℤ) (n : ℕ) → IsFrame f → IsKind a → Leq f g → LeqKind a b → MayLoad state g b o n
     → MayLoad state f a o n × LeqKind (loaded_kind f a o n) (loaded_kind g b o n)
 
 -- and so for stores
 abbrev StoresGrow : Type 0
 StoresGrow =
-    (state : ℕ) (f g : Frame) (k h a b : Kind) (o : ℤ) (n : ℕ) → IsFrame f → IsKind k → IsKind a → Leq f g → LeqKind k h → LeqKind a b → MayStore state g h b o n
+    (state : ℕ) (f g : Frame) (k h a b : SpanKind) (o : ℤ) (n : ℕ) → IsFrame f → IsKind k → IsKind a → Leq f g → LeqKind k h → LeqKind a b → MayStore state g h b o n
     → MayStore state f k a o n × Leq (stored_frame f k a o n) (stored_frame g h b o n)
 
 -- bytes that lie inside from each of some distances do from each of fewer
@@ -102,7 +102,7 @@ whole_word-is_reached s t o n c i l e =
     let wide : pos n ≡ pos 8 = ap pos eight in
     (eight, reached_by t o n c (record { some = omega arith; cell = a.0; begins = grind (arith, ints, a.1, l.1, wide, w.alone, i); ends = grind (arith, ints, a.1, l.0) }))
 
-set-grows : (a b : Kind) → LeqKind a b → is_set b ≡ true → is_set a ≡ true
+set-grows : (a b : SpanKind) → LeqKind a b → is_set b ≡ true → is_set a ≡ true
 set-grows a Unset l h = cc
 set-grows Unset (Num t) l h = absurd l
 set-grows (Num s) (Num t) l h = refl
@@ -112,7 +112,7 @@ set-grows (Num s) (Place q t) l h = refl
 set-grows (Place r s) (Place q t) l h = refl
 
 -- what is known to be a number is one where more is known
-pub num-grows : (a b : Kind) → LeqKind a b → is_num b ≡ true → is_num a ≡ true
+pub num-grows : (a b : SpanKind) → LeqKind a b → is_num b ≡ true → is_num a ≡ true
 num-grows a Unset l h = cc
 num-grows Unset (Num t) l h = absurd l
 num-grows (Num s) (Num t) l h = refl
@@ -123,13 +123,13 @@ num-grows a (Place q t) l h = cc
 pub numbers-grow : (f g : Frame) (s t : Reach) (o : ℤ) (n : ℕ) → Leq f g → WithinReach s t → AreNumbers g t o n → AreNumbers f s o n
 numbers-grow f g s t o n l m h c r = num-grows (f c) (g c) (l c) (h c (is_reached-grows s t o n c m r))
 
-num_is_set : (k : Kind) → is_num k ≡ true → is_set k ≡ true
+num_is_set : (k : SpanKind) → is_num k ≡ true → is_set k ≡ true
 num_is_set Unset h = cc
 num_is_set (Num s) h = refl
 num_is_set (Place r s) h = refl
 
 -- a number is a word
-num-whole : (k : Kind) (n : ℕ) → n ≡ 8 → IsKind k → is_num k ≡ true → LeqKind k (Num (whole (8 * n)))
+num-whole : (k : SpanKind) (n : ℕ) → n ≡ 8 → IsKind k → is_num k ≡ true → LeqKind k (Num (whole (8 * n)))
 num-whole Unset n e i h = cc
 num-whole (Num s) n e i h = subst (λ m. Within s (whole (8 * m))) (sym e) (omega arith, omega (arith, i.words))
 num-whole (Place r s) n e i h = cc
@@ -162,7 +162,7 @@ loads-grow state f g (Place r s) (Place q t) o n i k l m h =
 -- ---- stores
 
 -- where frame and kind say more, the frame with the kind in a cell does
-pub with_kind-grows : (f g : Frame) (c : ℕ) (k h : Kind) → Leq f g → LeqKind k h → Leq (with_kind f c k) (with_kind g c h)
+pub with_kind-grows : (f g : Frame) (c : ℕ) (k h : SpanKind) → Leq f g → LeqKind k h → Leq (with_kind f c k) (with_kind g c h)
 with_kind-grows f g c k h l m d = by_test (d == c)
   where
     by_test : (t : Bool) → LeqKind (if t then k else f d) (if t then h else g d)
@@ -179,7 +179,7 @@ wiped-grows f g s t o n i l m h c = by_tests (is_reached s o n c) (is_reached t 
     by_tests false false k r = l c
 
 -- one word of the narrower reach, and the words of the wider one
-whole_word-wiped : (f g : Frame) (k h : Kind) (t : Reach) (o : ℤ) (n c : ℕ) → IsFrame f → IsKind k → Leq f g → LeqKind k h → is_num h ≡ true → is_reached t o n c ≡ true → AreNumbers g t o n → Leq (with_kind f c k) (wiped g t o n)
+whole_word-wiped : (f g : Frame) (k h : SpanKind) (t : Reach) (o : ℤ) (n c : ℕ) → IsFrame f → IsKind k → Leq f g → LeqKind k h → is_num h ≡ true → is_reached t o n c ≡ true → AreNumbers g t o n → Leq (with_kind f c k) (wiped g t o n)
 whole_word-wiped f g k h t o n c i ik l lk number r all d = by_tests (d == c) (is_reached t o n d) (λ e. subst (λ x. is_reached t o n x ≡ true) (sym (equal d c e)) r) (all d)
   where
     equal : (d c : ℕ) → (d == c) ≡ true → d ≡ c
@@ -191,7 +191,7 @@ whole_word-wiped f g k h t o n c i ik l lk number r all d = by_tests (d == c) (i
     by_tests false true p q = num-whole (f d) 8 refl (i d) (num-grows (f d) (g d) (l d) (q refl))
     by_tests false false p q = l d
 
-stack-stores : (f g : Frame) (k h : Kind) (s t : Reach) (o : ℤ) (n : ℕ) (v w : Option ℕ) → IsFrame f → IsKind k → s.lo ≤ℤ s.hi → Leq f g → LeqKind k h → WithinReach s t → whole_word s o n ≡ v → whole_word t o n ≡ w → IsWritable w g h t o n → IsWritable v f k s o n × Leq (written_frame v f k s o n) (written_frame w g h t o n)
+stack-stores : (f g : Frame) (k h : SpanKind) (s t : Reach) (o : ℤ) (n : ℕ) (v w : Option ℕ) → IsFrame f → IsKind k → s.lo ≤ℤ s.hi → Leq f g → LeqKind k h → WithinReach s t → whole_word s o n ≡ v → whole_word t o n ≡ w → IsWritable w g h t o n → IsWritable v f k s o n × Leq (written_frame v f k s o n) (written_frame w g h t o n)
 stack-stores f g k h s t o n v (Some c) i ik ip l lk m ev ew e =
     subst (λ u. IsWritable u f k s o n × Leq (written_frame u f k s o n) (with_kind g c h)) (sym (whole_word-same s t o n c ip m ew) ∙ ev) (set-grows k h lk e, with_kind-grows f g c k h l lk)
 stack-stores f g k h s t o n None None i ik ip l lk m ev ew e =
@@ -199,7 +199,7 @@ stack-stores f g k h s t o n None None i ik ip l lk m ev ew e =
 stack-stores f g k h s t o n (Some c) None i ik ip l lk m ev ew e =
     (num_is_set k (num-grows k h lk e.0), whole_word-wiped f g k h t o n c i ik l lk e.0 (whole_word-is_reached s t o n c ip m ev).1 e.1)
 
-place-stores : (state : ℕ) (f g : Frame) (k h : Kind) (q : Region) (s t : Reach) (o : ℤ) (n : ℕ) → IsFrame f → IsKind k → s.lo ≤ℤ s.hi → Leq f g → LeqKind k h → WithinReach s t → MayStore state g h (Place q t) o n → MayStore state f k (Place q s) o n × Leq (stored_frame f k (Place q s) o n) (stored_frame g h (Place q t) o n)
+place-stores : (state : ℕ) (f g : Frame) (k h : SpanKind) (q : Region) (s t : Reach) (o : ℤ) (n : ℕ) → IsFrame f → IsKind k → s.lo ≤ℤ s.hi → Leq f g → LeqKind k h → WithinReach s t → MayStore state g h (Place q t) o n → MayStore state f k (Place q s) o n × Leq (stored_frame f k (Place q s) o n) (stored_frame g h (Place q t) o n)
 place-stores state f g k h Message s t o n i ik ip l lk m e = absurd e
 place-stores state f g k h State s t o n i ik ip l lk m e = ((is_inside-grows state s t o n m e.0, num-grows k h lk e.1), l)
 place-stores state f g k h Stack s t o n i ik ip l lk m e =

@@ -22,7 +22,7 @@ use Rattle.regtypes.specs.declared.frame.Region.{Region}
 use Rattle.regtypes.specs.declared.frame.Region.TheVariants.{Message, State, Stack}
 use Rattle.spans.specs.Span.{IsSpan, Span, bounded, one, ones, result_span, span, whole}
 use Rattle.spans.specs.Narrowing.{SpanPair, is_one, not_negative, opposite, shown, swapped, unless_empty, where_at_most, where_less, where_met, where_signed}
-use Rattle.spans.specs.Frame.{Frame, IsFrame, IsKind, Kind, Num, Place, Reach, Unset, with_kind}
+use Rattle.spans.specs.Frame.{Frame, IsFrame, IsKind, SpanKind, Num, Place, Reach, Unset, with_kind}
 use Rattle.spans.specs.Access.{is_reached, loaded_kind, stored_frame, whole_word, wiped, word_kind, written_frame}
 use Rattle.spans.specs.Ways.{AluForm, Computes, Copies, Gives, Moves, Sets, Sums, Ways, alu_form, behind_helper, extended_span, from_span, from_spans, low_span, moved_kind, moved_reach, moved_span, narrowed_frame, near_place, operand_kind, result_kind, set_kind, summed_kind}
 use Rattle.spans.specs.Laws.{IsClosed, IsWay}
@@ -94,21 +94,21 @@ extended_span-is k n s h i = by_case (nat_lt s.hi (2 ^ (k - 1)))
 
 -- ---- kinds that arithmetic leaves
 
-abbrev IsGiven : Option Kind → Type 0
+abbrev IsGiven : Option SpanKind → Type 0
 IsGiven None = Unit {0}
 IsGiven (Some k) = IsKind k
 
-from_span-is : (make : Span → Span) → ((s : Span) → IsSpan 64 s → IsSpan 64 (make s)) → (k : Kind) → IsKind k → IsGiven (from_span make k)
+from_span-is : (make : Span → Span) → ((s : Span) → IsSpan 64 s → IsSpan 64 (make s)) → (k : SpanKind) → IsKind k → IsGiven (from_span make k)
 from_span-is make h Unset i = tt
 from_span-is make h (Num s) i = h s i
 from_span-is make h (Place r s) i = tt
 
-from_spans-is : (make : Span → Span → Span) → ((s t : Span) → IsSpan 64 s → IsSpan 64 t → IsSpan 64 (make s t)) → (a b : Kind) → IsKind a → IsKind b → IsGiven (from_spans make a b)
+from_spans-is : (make : Span → Span → Span) → ((s t : Span) → IsSpan 64 s → IsSpan 64 t → IsSpan 64 (make s t)) → (a b : SpanKind) → IsKind a → IsKind b → IsGiven (from_spans make a b)
 from_spans-is make h Unset b i j = tt
 from_spans-is make h (Num s) b i j = from_span-is (make s) (λ t k. h s t i k) b j
 from_spans-is make h (Place r s) b i j = tt
 
-set_kind-is : (k : Kind) → IsKind k → IsGiven (set_kind k)
+set_kind-is : (k : SpanKind) → IsKind k → IsGiven (set_kind k)
 set_kind-is Unset i = tt
 set_kind-is (Num s) i = i
 set_kind-is (Place r s) i = i
@@ -129,7 +129,7 @@ moved_reach-is s lo hi h k = apart s.lo s.hi lo hi h k
 as_ints : (x y : ℕ) → x ≤ y → pos x ≤ℤ pos y
 as_ints x y h = grind (arith, ints)
 
-summed_kind-is : (a b : Kind) → IsKind a → IsKind b → IsGiven (summed_kind a b)
+summed_kind-is : (a b : SpanKind) → IsKind a → IsKind b → IsGiven (summed_kind a b)
 summed_kind-is (Num s) (Num t) i j = result_span-is Add 64 s t i j
 summed_kind-is (Place r s) (Num t) i j = near_place-is r _ (moved_reach-is s (pos t.lo) (pos t.hi) i (as_ints t.lo t.hi j.some))
 summed_kind-is (Num s) (Place r t) i j = near_place-is r _ (moved_reach-is t (pos s.lo) (pos s.hi) j (as_ints s.lo s.hi i.some))
@@ -138,7 +138,7 @@ summed_kind-is Unset b i j = tt
 summed_kind-is (Num s) Unset i j = tt
 summed_kind-is (Place r s) Unset i j = tt
 
-moved_kind-is : (width : Width) (z : ℤ) (k : Kind) → IsKind k → IsGiven (moved_kind width z k)
+moved_kind-is : (width : Width) (z : ℤ) (k : SpanKind) → IsKind k → IsGiven (moved_kind width z k)
 moved_kind-is width z (Num s) i = wider (bits_of width) _ (few_bits width) (moved_span-is (bits_of width) z (low_span width s) (low_span-is width s i))
 moved_kind-is W64 z (Place r s) i = near_place-is r _ (moved_reach-is s z z i (stays z))
   where
@@ -147,7 +147,7 @@ moved_kind-is W64 z (Place r s) i = near_place-is r _ (moved_reach-is s z z i (s
 moved_kind-is W32 z (Place r s) i = tt
 moved_kind-is width z Unset i = tt
 
-result_kind-is : (form : AluForm) (a b : Kind) → IsKind a → IsKind b → IsGiven (result_kind form a b)
+result_kind-is : (form : AluForm) (a b : SpanKind) → IsKind a → IsKind b → IsGiven (result_kind form a b)
 result_kind-is Copies a b i j = set_kind-is b j
 result_kind-is Sums a b i j = summed_kind-is a b i j
 result_kind-is (Moves width z) a b i j = moved_kind-is width z a i
@@ -217,7 +217,7 @@ shown-are (Some condition) n a b i j = by_case (nat_lt a.hi (2 ^ n) && nat_lt b.
 -- ---- frames
 
 -- a frame with another kind in a cell is a frame
-pub with_kind-is : (f : Frame) (c : ℕ) (k : Kind) → IsFrame f → IsKind k → IsFrame (with_kind f c k)
+pub with_kind-is : (f : Frame) (c : ℕ) (k : SpanKind) → IsFrame f → IsKind k → IsFrame (with_kind f c k)
 with_kind-is f c k h i d = by_case (d == c)
   where
     by_case : (t : Bool) → IsKind (if t then k else f d)
@@ -243,11 +243,11 @@ wiped-is f s o n h c = by_case (is_reached s o n c)
     by_case true = whole-is 64
     by_case false = h c
 
-written_frame-is : (w : Option ℕ) (f : Frame) (k : Kind) (s : Reach) (o : ℤ) (n : ℕ) → IsFrame f → IsKind k → IsFrame (written_frame w f k s o n)
+written_frame-is : (w : Option ℕ) (f : Frame) (k : SpanKind) (s : Reach) (o : ℤ) (n : ℕ) → IsFrame f → IsKind k → IsFrame (written_frame w f k s o n)
 written_frame-is (Some c) f k s o n h i = with_kind-is f c k h i
 written_frame-is None f k s o n h i = wiped-is f s o n h
 
-stored_frame-is : (f : Frame) (k a : Kind) (o : ℤ) (n : ℕ) → IsFrame f → IsKind k → IsFrame (stored_frame f k a o n)
+stored_frame-is : (f : Frame) (k a : SpanKind) (o : ℤ) (n : ℕ) → IsFrame f → IsKind k → IsFrame (stored_frame f k a o n)
 stored_frame-is f k Unset o n h i = h
 stored_frame-is f k (Num s) o n h i = h
 stored_frame-is f k (Place Message s) o n h i = h
@@ -258,7 +258,7 @@ word_kind-is : (w : Option ℕ) (f : Frame) (n : ℕ) → n ≤ 8 → IsFrame f 
 word_kind-is (Some c) f n l h = h c
 word_kind-is None f n l h = wider (8 * n) (whole (8 * n)) (omega arith) (whole-is (8 * n))
 
-loaded_kind-is : (f : Frame) (a : Kind) (o : ℤ) (n : ℕ) → n ≤ 8 → IsFrame f → IsKind (loaded_kind f a o n)
+loaded_kind-is : (f : Frame) (a : SpanKind) (o : ℤ) (n : ℕ) → n ≤ 8 → IsFrame f → IsKind (loaded_kind f a o n)
 loaded_kind-is f Unset o n l h = word_kind-is None f n l h
 loaded_kind-is f (Num s) o n l h = word_kind-is None f n l h
 loaded_kind-is f (Place Message s) o n l h = word_kind-is None f n l h
@@ -281,7 +281,7 @@ one_way g w h e = subst (λ (z : Ways). IsWay z.0 × IsWay z.1) (sym e) (h, tt)
 jump_way : (g : Frame) (w : Ways) → IsFrame g → w ≡ (None, Some g) → IsWay w.0 × IsWay w.1
 jump_way g w h e = subst (λ (z : Ways). IsWay z.0 × IsWay z.1) (sym e) (tt, h)
 
-gives-is : (k : Option Kind) (f : Frame) (dst : Reg) (w : Ways) → IsFrame f → IsGiven k → Gives k f dst w → IsWay w.0 × IsWay w.1
+gives-is : (k : Option SpanKind) (f : Frame) (dst : Reg) (w : Ways) → IsFrame f → IsGiven k → Gives k f dst w → IsWay w.0 × IsWay w.1
 gives-is k f dst w h i g = one_way (with_kind f dst.number g.0) w (with_kind-is f dst.number g.0 h (subst IsGiven g.1 i)) g.2
 
 any-is : IsKind (Num (whole 64))

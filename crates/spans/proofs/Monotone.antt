@@ -22,7 +22,7 @@ use Rattle.operations.specs.Words.{bits_of, word_of}
 use Rattle.regtypes.specs.declared.frame.Region.{Region}
 use Rattle.spans.specs.Span.{IsSpan, Span, Within, one, result_span, span, whole}
 use Rattle.spans.specs.Narrowing.{SpanPair, opposite, shown, where_met}
-use Rattle.spans.specs.Frame.{Frame, IsFrame, IsKind, Kind, Leq, LeqKind, Num, Place, Reach, Unset, WithinReach, with_kind}
+use Rattle.spans.specs.Frame.{Frame, IsFrame, IsKind, SpanKind, Leq, LeqKind, Num, Place, Reach, Unset, WithinReach, with_kind}
 use Rattle.spans.specs.Access.{is_inside, is_reached, loaded_kind, region_size, stored_frame}
 use Rattle.spans.specs.Ways.{AluForm, Computes, Copies, Gives, HasArguments, HasPayload, HasSized, LeqWay, Moves, Sets, Sums, Ways, alu_form, behind_helper, extended_span, from_span, from_spans, low_span, moved_kind, moved_reach, moved_span, narrowed_frame, near_place, operand_kind, result_kind, set_kind, summed_kind, way}
 use Rattle.spans.specs.Laws.{IsMonotone}
@@ -33,18 +33,18 @@ use Rattle.spans.proofs.Narrowing.{WithinWay, where_met-narrows, where_met-insid
 use Rattle.spans.proofs.Access.{is_inside-grows, numbers-grow, num-grows, with_kind-grows, reaches, reached_by, loads-grow, stores-grow}
 
 -- what the weaker frame gives the stronger one gives too, and says no less
-abbrev Refines : Option Kind → Option Kind → Type 0
+abbrev Refines : Option SpanKind → Option SpanKind → Type 0
 Refines v None = Unit {0}
 Refines None (Some h) = ⊥
 Refines (Some k) (Some h) = LeqKind k h
 
 -- a kind that says more than a span of numbers is a span within it
-pub num_shape : (a : Kind) (t : Span) → LeqKind a (Num t) → (s : Span) × (a ≡ Num s) × Within s t
+pub num_shape : (a : SpanKind) (t : Span) → LeqKind a (Num t) → (s : Span) × (a ≡ Num s) × Within s t
 num_shape Unset t l = absurd l
 num_shape (Num s) t l = (s, refl, l)
 num_shape (Place r s) t l = absurd l
 
-place_shape : (a : Kind) (q : Region) (t : Reach) → LeqKind a (Place q t) → (s : Reach) × (a ≡ Place q s) × WithinReach s t
+place_shape : (a : SpanKind) (q : Region) (t : Reach) → LeqKind a (Place q t) → (s : Reach) × (a ≡ Place q s) × WithinReach s t
 place_shape Unset q t l = absurd l
 place_shape (Num s) q t l = absurd l
 place_shape (Place r s) q t l = (s, ap (λ x. Place x s) l.0, l.1)
@@ -90,7 +90,7 @@ as_ints x y h = grind (arith, ints)
 moved_reach-grows : (s t : Reach) (a b c d : ℤ) → WithinReach s t → c ≤ℤ a → b ≤ℤ d → WithinReach (moved_reach s a b) (moved_reach t c d)
 moved_reach-grows s t a b c d l h k = (further t.lo s.lo c a l.0 h, further s.hi t.hi b d l.1 k)
 
-set_kind-refines : (a b : Kind) → LeqKind a b → Refines (set_kind a) (set_kind b)
+set_kind-refines : (a b : SpanKind) → LeqKind a b → Refines (set_kind a) (set_kind b)
 set_kind-refines a Unset l = tt
 set_kind-refines Unset (Num t) l = l
 set_kind-refines (Num s) (Num t) l = l
@@ -99,7 +99,7 @@ set_kind-refines Unset (Place q t) l = l
 set_kind-refines (Num s) (Place q t) l = l
 set_kind-refines (Place r s) (Place q t) l = l
 
-summed_kind-refines : (a b c d : Kind) → LeqKind a c → LeqKind b d → IsKind a → IsKind b → IsKind c → IsKind d → Refines (summed_kind a b) (summed_kind c d)
+summed_kind-refines : (a b c d : SpanKind) → LeqKind a c → LeqKind b d → IsKind a → IsKind b → IsKind c → IsKind d → Refines (summed_kind a b) (summed_kind c d)
 summed_kind-refines a b (Num t) (Num u) l m ia ib ic id =
     let x = num_shape a t l in
     let y = num_shape b u m in
@@ -117,7 +117,7 @@ summed_kind-refines a b Unset d l m ia ib ic id = tt
 summed_kind-refines a b (Num t) Unset l m ia ib ic id = tt
 summed_kind-refines a b (Place q t) Unset l m ia ib ic id = tt
 
-moved_kind-refines : (width : Width) (z : ℤ) (a c : Kind) → LeqKind a c → IsKind a → Refines (moved_kind width z a) (moved_kind width z c)
+moved_kind-refines : (width : Width) (z : ℤ) (a c : SpanKind) → LeqKind a c → IsKind a → Refines (moved_kind width z a) (moved_kind width z c)
 moved_kind-refines width z a Unset l i = tt
 moved_kind-refines width z Unset (Num t) l i = absurd l
 moved_kind-refines width z (Num s) (Num t) l i = moved_span-grows (bits_of width) z (low_span width s) (low_span width t) (low_span-is width s i) (low_span-grows width s t l)
@@ -127,14 +127,14 @@ moved_kind-refines W64 z a (Place q t) l i =
     let x = place_shape a q t l in
     subst (λ k. Refines (moved_kind W64 z k) (near_place q (moved_reach t z z))) (sym x.1) (near_place-refines q _ _ (moved_reach-grows x.0 t z z z z x.2 (grind (arith, ints)) (grind (arith, ints))))
 
-from_span-refines : (f : Span → Span) → ((s t : Span) → IsSpan 64 s → IsSpan 64 t → Within s t → Within (f s) (f t)) → (a c : Kind) → IsKind a → IsKind c → LeqKind a c → Refines (from_span f a) (from_span f c)
+from_span-refines : (f : Span → Span) → ((s t : Span) → IsSpan 64 s → IsSpan 64 t → Within s t → Within (f s) (f t)) → (a c : SpanKind) → IsKind a → IsKind c → LeqKind a c → Refines (from_span f a) (from_span f c)
 from_span-refines f h a Unset i j l = tt
 from_span-refines f h a (Place q t) i j l = tt
 from_span-refines f h Unset (Num t) i j l = absurd l
 from_span-refines f h (Num s) (Num t) i j l = h s t i j l
 from_span-refines f h (Place r s) (Num t) i j l = absurd l
 
-from_spans-refines : (f : Span → Span → Span) → ((s t u v : Span) → IsSpan 64 s → IsSpan 64 t → IsSpan 64 u → IsSpan 64 v → Within s u → Within t v → Within (f s t) (f u v)) → (a b c d : Kind) → IsKind a → IsKind b → IsKind c → IsKind d → LeqKind a c → LeqKind b d → Refines (from_spans f a b) (from_spans f c d)
+from_spans-refines : (f : Span → Span → Span) → ((s t u v : Span) → IsSpan 64 s → IsSpan 64 t → IsSpan 64 u → IsSpan 64 v → Within s u → Within t v → Within (f s t) (f u v)) → (a b c d : SpanKind) → IsKind a → IsKind b → IsKind c → IsKind d → LeqKind a c → LeqKind b d → Refines (from_spans f a b) (from_spans f c d)
 from_spans-refines f h a b Unset d ia ib ic id l m = tt
 from_spans-refines f h a b (Place q t) d ia ib ic id l m = tt
 from_spans-refines f h Unset b (Num u) d ia ib ic id l m = absurd l
@@ -149,7 +149,7 @@ pub some_bits : (width : Width) → 0 < bits_of width
 some_bits W32 = omega arith
 some_bits W64 = omega arith
 
-computed-refines : (form : AluForm) (a b c d : Kind) → IsKind a → IsKind b → IsKind c → IsKind d → LeqKind a c → LeqKind b d → Refines (result_kind form a b) (result_kind form c d)
+computed-refines : (form : AluForm) (a b c d : SpanKind) → IsKind a → IsKind b → IsKind c → IsKind d → LeqKind a c → LeqKind b d → Refines (result_kind form a b) (result_kind form c d)
 computed-refines Copies a b c d ia ib ic id l m = set_kind-refines b d m
 computed-refines Sums a b c d ia ib ic id l m = summed_kind-refines a b c d l m ia ib ic id
 computed-refines (Moves width z) a b c d ia ib ic id l m = moved_kind-refines width z a c l ia
@@ -181,7 +181,7 @@ extended_span-grows k n s t h l = let wide : 2 ^ (k - 1) ≤ 2 ^ n = powers (k -
     below : s.hi < 2 ^ (k - 1) → 2 ^ (k - 1) ≤ 2 ^ n → s.hi ≤ 2 ^ n - 1
     below h w = omega arith
 
-gives-grows : (f g : Frame) (dst : Reg) (v u : Option Kind) (w : Ways) → Leq f g → Refines v u → Gives u g dst w → (x : Ways) × (Gives v f dst x × (LeqWay x.0 w.0 × LeqWay x.1 w.1))
+gives-grows : (f g : Frame) (dst : Reg) (v u : Option SpanKind) (w : Ways) → Leq f g → Refines v u → Gives u g dst w → (x : Ways) × (Gives v f dst x × (LeqWay x.0 w.0 × LeqWay x.1 w.1))
 gives-grows f g dst None u w l r h = absurd (subst (λ z. Refines None z) h.1 r)
 gives-grows f g dst (Some k) u w l r h =
     let lk : LeqKind k h.0 = subst (λ z. Refines (Some k) z) h.1 r in
@@ -231,14 +231,14 @@ is_inside-shrinks len s o n m h e =
     shorter : (u v : ℤ) (n m : ℕ) → n ≤ m → int_le (u +ℤ pos m) v ≡ true → int_le (u +ℤ pos n) v ≡ true
     shorter u v n m h k = grind (arith, ints)
 
-payload-grows : (state : ℕ) (f g : Frame) (a b : Kind) (n m : ℕ) → Leq f g → LeqKind a b → n ≤ m → HasPayload state g b m → HasPayload state f a n
+payload-grows : (state : ℕ) (f g : Frame) (a b : SpanKind) (n m : ℕ) → Leq f g → LeqKind a b → n ≤ m → HasPayload state g b m → HasPayload state f a n
 payload-grows state f g a Unset n m l la h e = absurd e
 payload-grows state f g a (Num t) n m l la h e = absurd e
 payload-grows state f g a (Place q t) n m l la h e =
     let x = place_shape a q t la in
     subst (λ k. HasPayload state f k n) (sym x.1) (is_inside-shrinks (region_size state q) x.0 (pos 0) n m h (is_inside-grows (region_size state q) x.0 t (pos 0) m x.2 e.0), λ stack c r. numbers-grow f g x.0 t (pos 0) m l x.2 (e.1 stack) c (is_reached-grows x.0 (pos 0) n m c h r))
 
-sized-grows : (state : ℕ) (f g : Frame) (a b c d : Kind) → Leq f g → LeqKind a b → LeqKind c d → HasSized state g b d → HasSized state f a c
+sized-grows : (state : ℕ) (f g : Frame) (a b c d : SpanKind) → Leq f g → LeqKind a b → LeqKind c d → HasSized state g b d → HasSized state f a c
 sized-grows state f g a b c Unset l la lc e = absurd e
 sized-grows state f g a b c (Place q t) l la lc e = absurd e
 sized-grows state f g a b c (Num t) l la lc e =

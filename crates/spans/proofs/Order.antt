@@ -5,7 +5,7 @@ use Rattle.std.proofs.Math.Nat.{le-max_left, le-max_right, le-min, max-le, min-l
 use Rattle.std.proofs.lemmas.Int.{ints}
 use Rattle.regtypes.specs.declared.frame.Region.TheVariants.{Message, State, Stack}
 use Rattle.spans.specs.Span.{IsSpan, Span, Within, joined_span}
-use Rattle.spans.specs.Frame.{Frame, IsKind, Kind, Leq, LeqKind, Num, Place, Reach, Unset, WithinReach, joined_kind, joined_reach}
+use Rattle.spans.specs.Frame.{Frame, IsKind, SpanKind, Leq, LeqKind, Num, Place, Reach, Unset, WithinReach, joined_kind, joined_reach}
 use Rattle.spans.specs.Laws.{IsLeastJoin, IsOrder}
 
 pub within-refl : (a : Span) → Within a a
@@ -23,12 +23,12 @@ reach-trans s t u l m = (up u.lo t.lo s.lo m.0 l.0, up s.hi t.hi u.hi l.1 m.1)
     up : (x y z : ℤ) → x ≤ℤ y → y ≤ℤ z → x ≤ℤ z
     up x y z h k = grind (arith, ints)
 
-pub LeqKind-refl : (k : Kind) → LeqKind k k
+pub LeqKind-refl : (k : SpanKind) → LeqKind k k
 LeqKind-refl Unset = tt
 LeqKind-refl (Num s) = within-refl s
 LeqKind-refl (Place r s) = (refl, reach-refl s)
 
-pub LeqKind-trans : (a b c : Kind) → LeqKind a b → LeqKind b c → LeqKind a c
+pub LeqKind-trans : (a b c : SpanKind) → LeqKind a b → LeqKind b c → LeqKind a c
 LeqKind-trans a b Unset l m = tt
 LeqKind-trans a Unset (Num u) l m = absurd m
 LeqKind-trans Unset (Num t) (Num u) l m = l
@@ -93,28 +93,28 @@ joined_reach-is s t h = let l = joined_reach-left s t in between (joined_reach s
     between : (w x y z : ℤ) → w ≤ℤ x → x ≤ℤ y → y ≤ℤ z → w ≤ℤ z
     between w x y z a b c = grind (arith, ints)
 
-joined_kind-is : (a b : Kind) → IsKind a → IsKind b → IsKind (joined_kind a b)
+joined_kind-is : (a b : SpanKind) → IsKind a → IsKind b → IsKind (joined_kind a b)
 joined_kind-is (Num s) (Num t) i j = joined_span-is s t i j
 joined_kind-is (Place Message s) (Place Message t) i j = joined_reach-is s t i
 joined_kind-is (Place State s) (Place State t) i j = joined_reach-is s t i
 joined_kind-is (Place Stack s) (Place Stack t) i j = joined_reach-is s t i
 joined_kind-is a b i j = tt
 
-joined_kind-left : (a b : Kind) → LeqKind a (joined_kind a b)
+joined_kind-left : (a b : SpanKind) → LeqKind a (joined_kind a b)
 joined_kind-left (Num s) (Num t) = joined_span-left s t
 joined_kind-left (Place Message s) (Place Message t) = (refl, joined_reach-left s t)
 joined_kind-left (Place State s) (Place State t) = (refl, joined_reach-left s t)
 joined_kind-left (Place Stack s) (Place Stack t) = (refl, joined_reach-left s t)
 joined_kind-left a b = tt
 
-joined_kind-right : (a b : Kind) → LeqKind b (joined_kind a b)
+joined_kind-right : (a b : SpanKind) → LeqKind b (joined_kind a b)
 joined_kind-right (Num s) (Num t) = joined_span-right s t
 joined_kind-right (Place Message s) (Place Message t) = (refl, joined_reach-right s t)
 joined_kind-right (Place State s) (Place State t) = (refl, joined_reach-right s t)
 joined_kind-right (Place Stack s) (Place Stack t) = (refl, joined_reach-right s t)
 joined_kind-right a b = tt
 
-joined_kind-least : (a b k : Kind) → LeqKind a k → LeqKind b k → LeqKind (joined_kind a b) k
+joined_kind-least : (a b k : SpanKind) → LeqKind a k → LeqKind b k → LeqKind (joined_kind a b) k
 joined_kind-least a b Unset l m = tt
 joined_kind-least (Num s) (Num t) (Num u) l m = joined_span-least s t u l m
 joined_kind-least Unset b (Num u) l m = absurd l

@@ -12,7 +12,7 @@ use Rattle.decode.specs.declared.insn.Insn.{Insn}
 use Rattle.decode.specs.declared.insn.Insn.TheVariants.{Alu, Load, StoreReg, Exit}
 use Rattle.regtypes.specs.declared.frame.Region.TheVariants.{State}
 use Rattle.spans.specs.Span.{whole}
-use Rattle.spans.specs.declared.kind.Kind.TheVariants.{Num, Place}
+use Rattle.spans.specs.declared.kind.SpanKind.TheVariants.{Num, Place}
 use Rattle.spans.specs.Frame.{Frame, IsFrame, IsKind, at_place, entry_frame, with_kind}
 use Rattle.spans.specs.Typing.{Code, IsAllowed, Table}
 use Rattle.spans.specs.Worked.{IsSpillingTyped}

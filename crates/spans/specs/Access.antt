@@ -3,7 +3,7 @@ use Rattle.std.specs.Prelude.{◌≡◌, ℕ, ◌+◌, ◌-◌, ◌*◌, ◌/◌
 use Rattle.regtypes.specs.declared.frame.Region.{Region}
 use Rattle.regtypes.specs.declared.frame.Region.TheVariants.{Message, State, Stack}
 use Rattle.spans.specs.Span.{whole}
-use Rattle.spans.specs.Frame.{Reach, Kind, Unset, Num, Place, is_num, is_set, Frame, with_kind}
+use Rattle.spans.specs.Frame.{Reach, SpanKind, Unset, Num, Place, is_num, is_set, Frame, with_kind}
 
 -- how many bytes a region has: the message 512 with zeros after its own bytes, the state `state`, the stack 512
 abbrev pub region_size : ℕ → Region → ℕ
@@ -44,7 +44,7 @@ IsReadable (Some c) f s o n = is_set (f c) ≡ true
 IsReadable None f s o n = AreNumbers f s o n
 
 -- a load of n bytes through a base of this kind breaks no rule
-abbrev pub MayLoad : ℕ → Frame → Kind → ℤ → ℕ → Type 0
+abbrev pub MayLoad : ℕ → Frame → SpanKind → ℤ → ℕ → Type 0
 MayLoad state f Unset o n = ⊥
 MayLoad state f (Num s) o n = ⊥
 MayLoad state f (Place Message s) o n = is_inside 512 s o n ≡ true
@@ -52,12 +52,12 @@ MayLoad state f (Place State s) o n = is_inside state s o n ≡ true
 MayLoad state f (Place Stack s) o n = (is_inside 512 s o n ≡ true) × IsReadable (whole_word s o n) f s o n
 
 -- the load of a whole word gives its kind, also a place; any other load gives a number of n bytes
-abbrev pub word_kind : Option ℕ → Frame → ℕ → Kind
+abbrev pub word_kind : Option ℕ → Frame → ℕ → SpanKind
 word_kind (Some c) f n = f c
 word_kind None f n = Num (whole (8 * n))
 
 -- what a load gives
-abbrev pub loaded_kind : Frame → Kind → ℤ → ℕ → Kind
+abbrev pub loaded_kind : Frame → SpanKind → ℤ → ℕ → SpanKind
 loaded_kind f (Place Stack s) o n = word_kind (whole_word s o n) f n
 loaded_kind f (Place Message s) o n = Num (whole (8 * n))
 loaded_kind f (Place State s) o n = Num (whole (8 * n))
@@ -68,12 +68,12 @@ loaded_kind f Unset o n = Num (whole (8 * n))
 
 -- a store of a kind in the stack: a whole word takes whatever is set; any other store takes a number, and only over
 -- numbers
-abbrev pub IsWritable : Option ℕ → Frame → Kind → Reach → ℤ → ℕ → Type 0
+abbrev pub IsWritable : Option ℕ → Frame → SpanKind → Reach → ℤ → ℕ → Type 0
 IsWritable (Some c) f k s o n = is_set k ≡ true
 IsWritable None f k s o n = (is_num k ≡ true) × AreNumbers f s o n
 
 -- a store of a kind through a base of kind a breaks no rule; no handler may write the message
-abbrev pub MayStore : ℕ → Frame → Kind → Kind → ℤ → ℕ → Type 0
+abbrev pub MayStore : ℕ → Frame → SpanKind → SpanKind → ℤ → ℕ → Type 0
 MayStore state f k Unset o n = ⊥
 MayStore state f k (Num s) o n = ⊥
 MayStore state f k (Place Message s) o n = ⊥
@@ -85,12 +85,12 @@ abbrev pub wiped : Frame → Reach → ℤ → ℕ → Frame
 wiped f s o n c = if is_reached s o n c then Num (whole 64) else f c
 
 -- a whole word gets the stored kind, also a place
-abbrev pub written_frame : Option ℕ → Frame → Kind → Reach → ℤ → ℕ → Frame
+abbrev pub written_frame : Option ℕ → Frame → SpanKind → Reach → ℤ → ℕ → Frame
 written_frame (Some c) f k s o n = with_kind f c k
 written_frame None f k s o n = wiped f s o n
 
 -- what a store leaves; of the bytes of message and state no frame says anything
-abbrev pub stored_frame : Frame → Kind → Kind → ℤ → ℕ → Frame
+abbrev pub stored_frame : Frame → SpanKind → SpanKind → ℤ → ℕ → Frame
 stored_frame f k (Place Stack s) o n = written_frame (whole_word s o n) f k s o n
 stored_frame f k (Place Message s) o n = f
 stored_frame f k (Place State s) o n = f

@@ -2,8 +2,8 @@
 use Rattle.std.specs.Prelude.{◌≡◌, ℕ, List, slice_index_or, nat_lt, int_le, ◌==◌, ◌&&◌, ℤ, pos, ◌≤ℤ◌, Bool, true, false, if◌then◌else◌}
 use Rattle.regtypes.specs.declared.frame.Region.TheVariants.{Message, State, Stack}
 pub use Rattle.spans.specs.declared.kind.Reach.{Reach}
-pub use Rattle.spans.specs.declared.kind.Kind.{Kind}
-pub use Rattle.spans.specs.declared.kind.Kind.TheVariants.{Unset, Num, Place}
+pub use Rattle.spans.specs.declared.kind.SpanKind.{SpanKind}
+pub use Rattle.spans.specs.declared.kind.SpanKind.TheVariants.{Unset, Num, Place}
 use Rattle.spans.specs.Span.{span, whole, IsSpan, Within, joined_span}
 
 -- one place only
@@ -19,13 +19,13 @@ abbrev pub joined_reach : Reach → Reach → Reach
 joined_reach s t = record { lo = if int_le s.lo t.lo then s.lo else t.lo; hi = if int_le s.hi t.hi then t.hi else s.hi }
 
 -- a kind has at least one value, and its numbers are words of 64 bits
-abbrev pub IsKind : Kind → Type 0
+abbrev pub IsKind : SpanKind → Type 0
 IsKind Unset = Unit {0}
 IsKind (Num s) = IsSpan 64 s
 IsKind (Place r s) = s.lo ≤ℤ s.hi
 
 -- the first kind says what the second says
-abbrev pub LeqKind : Kind → Kind → Type 0
+abbrev pub LeqKind : SpanKind → SpanKind → Type 0
 LeqKind a Unset = Unit {0}
 LeqKind Unset (Num t) = ⊥
 LeqKind (Num s) (Num t) = Within s t
@@ -35,7 +35,7 @@ LeqKind (Num s) (Place q t) = ⊥
 LeqKind (Place r s) (Place q t) = (r ≡ q) × WithinReach s t
 
 -- what both kinds say: the numbers of both, or the places of both if they have one region
-abbrev pub joined_kind : Kind → Kind → Kind
+abbrev pub joined_kind : SpanKind → SpanKind → SpanKind
 joined_kind (Num s) (Num t) = Num (joined_span s t)
 joined_kind (Place Message s) (Place Message t) = Place Message (joined_reach s t)
 joined_kind (Place State s) (Place State t) = Place State (joined_reach s t)
@@ -43,13 +43,13 @@ joined_kind (Place Stack s) (Place Stack t) = Place Stack (joined_reach s t)
 joined_kind a b = Unset
 
 -- it is known to be a number
-abbrev pub is_num : Kind → Bool
+abbrev pub is_num : SpanKind → Bool
 is_num Unset = false
 is_num (Num s) = true
 is_num (Place r s) = false
 
 -- it is known to be set, a number or a place
-abbrev pub is_set : Kind → Bool
+abbrev pub is_set : SpanKind → Bool
 is_set Unset = false
 is_set (Num s) = true
 is_set (Place r s) = true
@@ -57,13 +57,13 @@ is_set (Place r s) = true
 -- ---- frames
 
 -- the kind of a cell in a list of them; after the end of the list nothing is known
-abbrev pub kind_at : List Kind → ℕ → Kind
+abbrev pub kind_at : List SpanKind → ℕ → SpanKind
 kind_at kinds c = slice_index_or kinds c Unset
 
 -- the kind of each cell: cells 0 to 10 are the registers, cells 11 to 74 the 64 words of the stack from its first byte
 -- on (no instruction reaches a later cell)
 abbrev pub Frame : Type 0
-Frame = ℕ → Kind
+Frame = ℕ → SpanKind
 
 -- each cell has such a kind
 abbrev pub IsFrame : Frame → Type 0
@@ -78,7 +78,7 @@ abbrev pub joined : Frame → Frame → Frame
 joined f g c = joined_kind (f c) (g c)
 
 -- the frame with another kind in one cell
-abbrev pub with_kind : Frame → ℕ → Kind → Frame
+abbrev pub with_kind : Frame → ℕ → SpanKind → Frame
 with_kind f c k d = if d == c then k else f d
 
 -- the entry: r1 is the message, r2 the state, r3 the message's length, r10 the end of the stack, whose 64 words are

@@ -18,7 +18,7 @@ use Rattle.regtypes.specs.declared.frame.Region.{Region}
 use Rattle.regtypes.specs.declared.frame.Region.TheVariants.{Stack}
 use Rattle.spans.specs.Span.{Span, span, whole, one, bounded, result_span}
 use Rattle.spans.specs.Narrowing.{SpanPair, opposite, shown}
-use Rattle.spans.specs.Frame.{Reach, Kind, Unset, Num, Place, Frame, Leq, is_num, with_kind}
+use Rattle.spans.specs.Frame.{Reach, SpanKind, Unset, Num, Place, Frame, Leq, is_num, with_kind}
 use Rattle.spans.specs.Access.{region_size, is_inside, AreNumbers, MayLoad, loaded_kind, MayStore, stored_frame}
 
 -- ---- arithmetic: None if a rule is broken
@@ -48,30 +48,30 @@ low_span W32 s = bounded 32 s.lo s.hi
 low_span W64 s = s
 
 -- the kind of an operand; of an immediate it is the one word
-abbrev pub operand_kind : Width → Operand → Frame → Kind
+abbrev pub operand_kind : Width → Operand → Frame → SpanKind
 operand_kind width (operand.Imm z) f = Num (one (word_of z % 2 ^ bits_of width))
 operand_kind width (operand.Reg r) f = f r.number
 
 -- applies to a span, if the kind is one
-abbrev pub from_span : (Span → Span) → Kind → Option Kind
+abbrev pub from_span : (Span → Span) → SpanKind → Option SpanKind
 from_span make (Num s) = Some (Num (make s))
 from_span make (Place r s) = None
 from_span make Unset = None
 
 -- applies to two spans, if both kinds are one
-abbrev pub from_spans : (Span → Span → Span) → Kind → Kind → Option Kind
+abbrev pub from_spans : (Span → Span → Span) → SpanKind → SpanKind → Option SpanKind
 from_spans make (Num s) b = from_span (make s) b
 from_spans make (Place r s) b = None
 from_spans make Unset b = None
 
 -- any kind that is set
-abbrev pub set_kind : Kind → Option Kind
+abbrev pub set_kind : SpanKind → Option SpanKind
 set_kind Unset = None
 set_kind (Num s) = Some (Num s)
 set_kind (Place r s) = Some (Place r s)
 
 -- places with distances from their region's first byte that fit 16 bits and a sign
-abbrev pub near_place : Region → Reach → Option Kind
+abbrev pub near_place : Region → Reach → Option SpanKind
 near_place r s = if int_le (negsuc 32767) s.lo && int_le s.hi (pos 32767) then Some (Place r s) else None
 
 -- each distance, after a number from lo to hi is added
@@ -79,7 +79,7 @@ abbrev pub moved_reach : Reach → ℤ → ℤ → Reach
 moved_reach s lo hi = record { lo = s.lo +ℤ lo; hi = s.hi +ℤ hi }
 
 -- a sum of two registers: of two numbers, or of a place and a number, which is read as unsigned
-abbrev pub summed_kind : Kind → Kind → Option Kind
+abbrev pub summed_kind : SpanKind → SpanKind → Option SpanKind
 summed_kind (Num s) (Num t) = Some (Num (result_span alu.Add 64 s t))
 summed_kind (Place r s) (Num t) = near_place r (moved_reach s (pos t.lo) (pos t.hi))
 summed_kind (Num s) (Place r t) = near_place r (moved_reach t (pos s.lo) (pos s.hi))
@@ -94,14 +94,14 @@ moved_span n (pos m) s = bounded n (s.lo + m) (s.hi + m)
 moved_span n (negsuc m) s = if nat_le (suc m) s.lo then span (s.lo - suc m) (s.hi - suc m) else whole n
 
 -- dst after a whole number is added; a place only by a 64-bit operation
-abbrev pub moved_kind : Width → ℤ → Kind → Option Kind
+abbrev pub moved_kind : Width → ℤ → SpanKind → Option SpanKind
 moved_kind width z (Num s) = Some (Num (moved_span (bits_of width) z (low_span width s)))
 moved_kind W64 z (Place r s) = near_place r (moved_reach s z z)
 moved_kind W32 z (Place r s) = None
 moved_kind width z Unset = None
 
 -- what arithmetic leaves in dst, whose kind is a, with an operand of kind b
-abbrev pub result_kind : AluForm → Kind → Kind → Option Kind
+abbrev pub result_kind : AluForm → SpanKind → SpanKind → Option SpanKind
 result_kind Copies a b = set_kind b
 result_kind Sums a b = summed_kind a b
 result_kind (Moves width z) a b = moved_kind width z a
@@ -128,13 +128,13 @@ way condition width dst o f a b = option_map (narrowed_frame f dst o) (shown con
 -- ---- helpers
 
 -- n bytes from a place on are in its region, for each of its distances; in the stack they are numbers
-abbrev pub HasPayload : ℕ → Frame → Kind → ℕ → Type 0
+abbrev pub HasPayload : ℕ → Frame → SpanKind → ℕ → Type 0
 HasPayload state f Unset n = ⊥
 HasPayload state f (Num s) n = ⊥
 HasPayload state f (Place r s) n = (is_inside (region_size state r) s (pos 0) n ≡ true) × (r ≡ Stack → AreNumbers f s (pos 0) n)
 
 -- the same for as many bytes as a number says, and for 256 if it may be greater
-abbrev pub HasSized : ℕ → Frame → Kind → Kind → Type 0
+abbrev pub HasSized : ℕ → Frame → SpanKind → SpanKind → Type 0
 HasSized state f p Unset = ⊥
 HasSized state f p (Place r s) = ⊥
 HasSized state f p (Num s) = HasPayload state f p (min s.hi 256)
@@ -160,8 +160,8 @@ abbrev pub Ways : Type 0
 Ways = Option Frame × Option Frame
 
 -- dst gets this kind if there is one, and then no rule is broken
-abbrev pub Gives : Option Kind → Frame → Reg → Ways → Type 0
-Gives k f dst w = (h : Kind) × (k ≡ Some h) × (w ≡ (Some (with_kind f dst.number h), None))
+abbrev pub Gives : Option SpanKind → Frame → Reg → Ways → Type 0
+Gives k f dst w = (h : SpanKind) × (k ≡ Some h) × (w ≡ (Some (with_kind f dst.number h), None))
 
 -- an instruction breaks none of the rules V3 and V5 to V10 under a frame, and these frames leave; the state has `state`
 -- bytes

@@ -12,7 +12,7 @@ pub struct Reach {
 
 /// Nothing is known; or it is a number of this span; or it is a place of this region with one of these distances.
 #[derive(Clone, Copy, Debug, PartialEq, Eq)]
-pub enum Kind {
+pub enum SpanKind {
     Unset,
     Num(Span),
     Place(Region, Reach),

@@ -45,7 +45,7 @@ pub use call_laws::{
     spilled_place_is_typed, steps_are_shown,
 };
 pub use cells::Cells;
-pub use kind::{Kind, Reach};
+pub use kind::{SpanKind, Reach};
 pub use laws::{
     calls_fit, frames_are_ordered, frames_stay_frames, joins_are_least, rules_are_monotone,
     steps_fit,

@@ -9,7 +9,7 @@ use Rattle.stores.specs.declared.change.Output.{Output}
 use Rattle.stores.specs.declared.stored.StoredEntry.{StoredEntry}
 use Rattle.stores.specs.declared.stored.StoredHead.{StoredHead}
 use Rattle.stores.specs.declared.stored.StoredLog.{StoredLog}
-use Rattle.stores.specs.declared.stored.Stored.{Stored}
+use Rattle.stores.specs.declared.stored.StoredStore.{StoredStore}
 use Rattle.stores.specs.Format.{head_bytes, entry_bytes, log_bytes, output_bytes, stored_bytes}
 use Rattle.stores.specs.Faults.{IsHead, IsEntry, IsLog, IsOutputRoom, StoredHasRoom}
 use Rattle.stores.specs.Inside.Reader.{head_at, entry_at, entries_at, log_at, output_at, outputs_at, stored_of, stored_at}
@@ -87,14 +87,14 @@ parts_codec n =
     (times_codec n StoredLog (λ l. IsLog l) (λ l. log_bytes l) log_at log_codec) outputs_codec)
 
 -- the fields of so many processes are these
-pub record IsStoredBody (n : ℕ) (fields : List ℕ) (r : Stored) : Type 0 where
+pub record IsStoredBody (n : ℕ) (fields : List ℕ) (r : StoredStore) : Type 0 where
   pub heads_are : length r.heads ≡ n
   pub logs_are : length r.logs ≡ n
   pub room : StoredHasRoom r
   pub spelled : fields ≡ stored_bytes r
 
 -- fields that are read are those of what they are read as
-pub stored_found : (n : ℕ) (fields : List ℕ) (r : Stored) → IsBytes fields → stored_at n fields ≡ Ok r → IsStoredBody n fields r
+pub stored_found : (n : ℕ) (fields : List ℕ) (r : StoredStore) → IsBytes fields → stored_at n fields ≡ Ok r → IsStoredBody n fields r
 unfolding stored_at
 stored_found n fields r fits e =
     let a = bind_ok (whole (parts_at n) fields) (λ x. Ok (stored_of x)) r e in
@@ -106,10 +106,10 @@ stored_found n fields r fits e =
       room = record { heads = p.0.1; logs = p.1.0.1; few = p.1.1.0; outputs = p.1.1.1 };
       spelled = t.1;
     } in
-    subst (λ (l : Stored). IsStoredBody n fields l) (ok_is (stored_of a.0) r a.2) here
+    subst (λ (l : StoredStore). IsStoredBody n fields l) (ok_is (stored_of a.0) r a.2) here
 
 -- and they are read as that
-pub stored_again : (n : ℕ) (fields : List ℕ) (r : Stored) → IsStoredBody n fields r → stored_at n fields ≡ Ok r
+pub stored_again : (n : ℕ) (fields : List ℕ) (r : StoredStore) → IsStoredBody n fields r → stored_at n fields ≡ Ok r
 unfolding stored_at
 stored_again n fields r is =
     let x : Parts = (r.heads, (r.logs, r.outputs)) in

@@ -14,7 +14,7 @@ use Rattle.packets.specs.Kept.{word_bytes}
 use Rattle.packets.specs.Faults.{fields_of}
 use Rattle.packets.proofs.Codecs.{IsBytes, IsBytes-drop, IsBytes-take, number_again}
 use Rattle.packets.proofs.WholeLemmas.{turned, turned_back, neither, count_wrong, eight, split_as, last_of, crc_fits}
-use Rattle.stores.specs.declared.stored.Stored.{Stored}
+use Rattle.stores.specs.declared.stored.StoredStore.{StoredStore}
 use Rattle.stores.specs.declared.store_fault.StoreFault.{StoreFault}
 use Rattle.stores.specs.declared.store_fault.StoreFault.TheVariants.{Short, Magic, Checksum, Count, Zeros, Fields, Range}
 use Rattle.stores.specs.Format.{store_magic, head_bytes, log_bytes, output_bytes, stored_bytes, stored_unsealed, sealed_bytes}
@@ -52,22 +52,22 @@ cond_err : {A : Type 0} (b : Bool) (d : StoreFault) (r : Result A StoreFault) (f
 cond_err {A} true d r f e = inl (refl, err_is {A = A} d f e)
 cond_err false d r f e = inr (refl, e)
 
-chosen_ok : (c : Bool) (k l : Stored) → cond c (Ok k) (broken Range) ≡ Ok l → (c ≡ true) × (k ≡ l)
+chosen_ok : (c : Bool) (k l : StoredStore) → cond c (Ok k) (broken Range) ≡ Ok l → (c ≡ true) × (k ≡ l)
 chosen_ok true k l e = (refl, ok_is k l e)
 chosen_ok false k l e = absurd cc
 
-chosen_err : (c : Bool) (k : Stored) (f : StoreFault) → cond c (Ok k) (broken Range) ≡ Err f → (c ≡ false) × (Range ≡ f)
+chosen_err : (c : Bool) (k : StoredStore) (f : StoreFault) → cond c (Ok k) (broken Range) ≡ Err f → (c ≡ false) × (Range ≡ f)
 chosen_err true k f e = absurd cc
-chosen_err false k f e = (refl, err_is {A = Stored} Range f e)
+chosen_err false k f e = (refl, err_is {A = StoredStore} Range f e)
 
 -- what the fields are read as
-read_ok : (r : Result Stored PacketFault) (k : Stored) → read_stored r ≡ Ok k → r ≡ Ok k
-read_ok (Ok l) k e = ap (λ (m : Stored). Ok m) (ok_is l k e)
+read_ok : (r : Result StoredStore PacketFault) (k : StoredStore) → read_stored r ≡ Ok k → r ≡ Ok k
+read_ok (Ok l) k e = ap (λ (m : StoredStore). Ok m) (ok_is l k e)
 read_ok (Err d) k e = absurd cc
 
-read_err : (r : Result Stored PacketFault) (f : StoreFault) → read_stored r ≡ Err f → (Fields ≡ f) × ((k : Stored) → r ≢ Ok k)
+read_err : (r : Result StoredStore PacketFault) (f : StoreFault) → read_stored r ≡ Err f → (Fields ≡ f) × ((k : StoredStore) → r ≢ Ok k)
 read_err (Ok l) f e = absurd cc
-read_err (Err d) f e = (err_is {A = Stored} Fields f e, λ k same. absurd cc)
+read_err (Err d) f e = (err_is {A = StoredStore} Fields f e, λ k same. absurd cc)
 
 -- ---- faults before others
 
@@ -208,14 +208,14 @@ counted_refused bytes f clear e =
 
 -- ---- the fields
 
-spelled : (bytes fields : List ℕ) (n : ℕ) (r : Stored) → Sealed bytes fields → Counted bytes n → IsStoredBody n fields r → SpellsStored r bytes
+spelled : (bytes fields : List ℕ) (n : ℕ) (r : StoredStore) → Sealed bytes fields → Counted bytes n → IsStoredBody n fields r → SpellsStored r bytes
 spelled bytes fields n r s t is = record { heads_are = is.heads_are ∙ t.count_is; logs_are = is.logs_are ∙ t.count_is; room = is.room; fields = sym s.fields_are ∙ is.spelled }
 
-read_again : (bytes fields : List ℕ) (n : ℕ) (r : Stored) → Sealed bytes fields → Counted bytes n → SpellsStored r bytes → stored_at n fields ≡ Ok r
+read_again : (bytes fields : List ℕ) (n : ℕ) (r : StoredStore) → Sealed bytes fields → Counted bytes n → SpellsStored r bytes → stored_at n fields ≡ Ok r
 read_again bytes fields n r s t is =
     stored_again n fields r (record { heads_are = is.heads_are ∙ sym t.count_is; logs_are = is.logs_are ∙ sym t.count_is; room = is.room; spelled = s.fields_are ∙ is.fields })
 
-abbrev finish : Stored → Result Stored StoreFault
+abbrev finish : StoredStore → Result StoredStore StoreFault
 finish r = cond (stored_in_range r) (Ok r) (Err Range)
 
 fields_fit : (bytes fields : List ℕ) → IsBytes bytes → Sealed bytes fields → IsBytes fields
@@ -244,7 +244,7 @@ refused bytes f fits e =
                       let out = chosen_err (stored_in_range c.0) c.0 f c.2 in
                       let here : SpellsStored c.0 bytes = spelled bytes a.0 b.0 c.0 s t (stored_found b.0 a.0 c.0 (fields_fit bytes a.0 fits s) read) in
                       let wrong : HasStoreFault Range bytes = λ r is good.
-                      let same : r ≡ c.0 = ok_is r c.0 (ap (λ (x : Result Stored PacketFault). read_stored x) (sym (read_again bytes a.0 b.0 r s t is) ∙ read)) in
+                      let same : r ≡ c.0 = ok_is r c.0 (ap (λ (x : Result StoredStore PacketFault). read_stored x) (sym (read_again bytes a.0 b.0 r s t is) ∙ read)) in
                       let no : true ≡ false = sym good ∙ ap stored_in_range same ∙ out.0 in
                       absurd cc in
                       as_first Range f bytes out.1 wrong (clear_more Fields bytes c5 (λ no. no c.0 here))
@@ -255,7 +255,7 @@ refused bytes f fits e =
 -- ---- what is read is written so
 
 -- the bytes are those of these fields, which are in their ranges
-pub record IsSealed (r : Stored) (bytes : List ℕ) : Type 0 where
+pub record IsSealed (r : StoredStore) (bytes : List ℕ) : Type 0 where
   pub some : 1 ≤ length r.heads
   pub few : length r.heads ≤ 15
   pub logs_are : length r.logs ≡ length r.heads
@@ -263,7 +263,7 @@ pub record IsSealed (r : Stored) (bytes : List ℕ) : Type 0 where
   pub range : stored_in_range r ≡ true
   pub bytes_are : bytes ≡ sealed_bytes r
 
-text_of : (bytes : List ℕ) (r : Stored) → 16 ≤ length bytes → take 4 bytes ≡ store_magic → three_of bytes ≡ zeros → SpellsStored r bytes → take (length bytes - 4) bytes ≡ stored_unsealed r
+text_of : (bytes : List ℕ) (r : StoredStore) → 16 ≤ length bytes → take 4 bytes ≡ store_magic → three_of bytes ≡ zeros → SpellsStored r bytes → take (length bytes - 4) bytes ≡ stored_unsealed r
 text_of bytes r long magical three is =
     let m = length bytes - 4 - 8 in
     let cut : length bytes - 4 ≡ suc (suc (suc (suc (suc (suc (suc (suc m))))))) = omega (arith, long) in
@@ -274,7 +274,7 @@ text_of bytes r long magical three is =
     ∙ ap (λ (n : ℕ). store_magic ++ (n ∷ 0 ∷ 0 ∷ 0 ∷ stored_bytes r)) (sym is.heads_are)
 
 -- bytes that are read as the fields of a store are theirs
-pub found : (bytes : List ℕ) (r : Stored) → IsBytes bytes → store_reading bytes ≡ Ok r → IsSealed r bytes
+pub found : (bytes : List ℕ) (r : StoredStore) → IsBytes bytes → store_reading bytes ≡ Ok r → IsSealed r bytes
 unfolding store_reading
 found bytes r fits e =
     let a = then_ok (store_fields_at bytes) (λ fields. and_then (count_at bytes) (λ n. and_then (read_stored (stored_at n fields)) finish)) r e in
@@ -283,12 +283,12 @@ found bytes r fits e =
     let g = chosen_ok (stored_in_range c.0) c.0 r c.2 in
     let s : Sealed bytes a.0 = sealed bytes a.0 a.1 in
     let t : Counted bytes b.0 = counted bytes b.0 b.1 in
-    let l : Stored = c.0 in
+    let l : StoredStore = c.0 in
     let is : SpellsStored l bytes = spelled bytes a.0 b.0 l s t (stored_found b.0 a.0 l (fields_fit bytes a.0 fits s) (read_ok (stored_at b.0 a.0) l c.1)) in
     let text : take (length bytes - 4) bytes ≡ stored_unsealed l = text_of bytes l s.long s.magical t.zeros_are is in
     let last : drop (length bytes - 4) bytes ≡ checksum_bytes (stored_unsealed l) = last_of bytes (stored_unsealed l) fits (omega (arith, s.long)) s.summed text in
     let so : bytes ≡ sealed_bytes l = split_as (length bytes - 4) bytes (stored_unsealed l) (checksum_bytes (stored_unsealed l)) text last in
-    subst (λ (m : Stored). IsSealed m bytes) g.1 (record { some = omega (arith, is.heads_are, t.some); few = omega (arith, is.heads_are, t.few); logs_are = is.logs_are ∙ sym is.heads_are; room = is.room; range = g.0; bytes_are = so })
+    subst (λ (m : StoredStore). IsSealed m bytes) g.1 (record { some = omega (arith, is.heads_are, t.some); few = omega (arith, is.heads_are, t.few); logs_are = is.logs_are ∙ sym is.heads_are; room = is.room; range = g.0; bytes_are = so })
 
 -- ---- what is written so is read
 
@@ -296,7 +296,7 @@ word_length : (n : ℕ) → length (word_bytes n) ≡ 4
 unfolding word_bytes
 word_length n = length-bytes_low_first 0 4 n
 
-some_fields : (r : Stored) → 4 ≤ length (stored_bytes r)
+some_fields : (r : StoredStore) → 4 ≤ length (stored_bytes r)
 some_fields r =
     let heads = flat_map head_bytes r.heads in
     let logs = flat_map log_bytes r.logs in
@@ -304,7 +304,7 @@ some_fields r =
     let outputs = flat_map output_bytes r.outputs in
     omega (arith, length-append heads (logs ++ (count ++ outputs)), length-append logs (count ++ outputs), length-append count outputs, word_length (length r.outputs))
 
-fields_again : (r : Stored) → store_fields_at (sealed_bytes r) ≡ Ok (stored_bytes r)
+fields_again : (r : StoredStore) → store_fields_at (sealed_bytes r) ≡ Ok (stored_bytes r)
 unfolding store_fields_at checksum_bytes
 fields_again r =
     let body = stored_bytes r in
@@ -323,7 +323,7 @@ fields_again r =
     let text : fields_of bytes ≡ body = take_at body sum (length bytes - 4 - 8) inner in
     rw (long, summed, text) refl
 
-count_again : (r : Stored) → 1 ≤ length r.heads → length r.heads ≤ 15 → count_at (sealed_bytes r) ≡ Ok (length r.heads)
+count_again : (r : StoredStore) → 1 ≤ length r.heads → length r.heads ≤ 15 → count_at (sealed_bytes r) ≡ Ok (length r.heads)
 unfolding count_at
 count_again r some few =
     let a : nat_lt (length r.heads) 1 ≡ false = le-ltb _ _ some in
@@ -331,7 +331,7 @@ count_again r some few =
     rw (a, b) refl
 
 -- the bytes of the fields of a store are read as these
-pub reading_again : (r : Stored) (bytes : List ℕ) → IsSealed r bytes → store_reading bytes ≡ Ok r
+pub reading_again : (r : StoredStore) (bytes : List ℕ) → IsSealed r bytes → store_reading bytes ≡ Ok r
 unfolding store_reading
 reading_again r bytes is =
     let body : stored_at (length r.heads) (stored_bytes r) ≡ Ok r = stored_again (length r.heads) (stored_bytes r) r (record { heads_are = refl; logs_are = is.logs_are; room = is.room; spelled = refl }) in

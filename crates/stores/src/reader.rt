@@ -3,7 +3,7 @@
 ghost use Rattle.std.specs.Prelude.{◌≡◌, ◌≤◌, length, Result, IfOk, IfErr};
 ghost use Rattle.packets.specs.declared.fault.PacketFault.{PacketFault};
 ghost use Rattle.packets.specs.Inside.Reader.{Gives};
-ghost use Rattle.stores.specs.declared.stored.Stored.{Stored as TheFields};
+ghost use Rattle.stores.specs.declared.stored.StoredStore.{StoredStore as TheFields};
 ghost use Rattle.stores.specs.Store.{TheStore};
 ghost use Rattle.stores.specs.Format.{IsStoreBytes};
 ghost use Rattle.stores.specs.Faults.{IsStoreReason, ReadsStore};
@@ -12,7 +12,7 @@ ghost use Rattle.stores.specs.Inside.Reader.{GivesStore, stored_at, read_stored,
 use crate::fields::{heads_of, logs_of, outputs_of};
 use crate::store::Store;
 use crate::store_fault::{StoreError, StoreFault};
-use crate::stored::Stored;
+use crate::stored::StoredStore;
 use byteorder::{ByteOrder, LittleEndian};
 use limits::PROCESSES;
 use packets::{CHECKSUM_LEN, HEAD_LEN, PacketError, PacketFault, crc32c};
@@ -47,7 +47,7 @@ fn store_of(alloc: Global, bytes: &[u8]) -> Result<Store, StoreError>
 
 /// The fields of a store, read one by one.
 #[tactic(auto, unfolding(crate::specs::Inside::Reader::store_reading))]
-fn stored_of(alloc: Global, bytes: &[u8]) -> Result<Stored, StoreError>
+fn stored_of(alloc: Global, bytes: &[u8]) -> Result<StoredStore, StoreError>
     ensures { GivesStore (λ x. x) result (store_reading bytes.now) }
 {
     let fields = fields_of(bytes)?;
@@ -97,7 +97,7 @@ fn count_of(bytes: &[u8]) -> Result<u8, StoreError>
 
 /// The fields of `count` processes.
 #[tactic(auto, unfolding(crate::specs::Inside::Reader::stored_at))]
-fn body_of(alloc: Global, count: u8, bytes: &[u8]) -> Result<Stored, PacketError>
+fn body_of(alloc: Global, count: u8, bytes: &[u8]) -> Result<StoredStore, PacketError>
     ensures { Gives (λ x. x) result (stored_at count bytes.now) }
 {
     let (heads, rest) = heads_of(alloc, count, bytes)?;
@@ -106,7 +106,7 @@ fn body_of(alloc: Global, count: u8, bytes: &[u8]) -> Result<Stored, PacketError
     if !rest.is_empty() {
         return Err(PacketError::Fault(PacketFault::Fields));
     }
-    Ok(Stored {
+    Ok(StoredStore {
         heads,
         logs,
         outputs,
@@ -114,7 +114,7 @@ fn body_of(alloc: Global, count: u8, bytes: &[u8]) -> Result<Stored, PacketError
 }
 
 /// A field that can't be read is fault 6.
-fn with_fault(read: Result<Stored, PacketError>) -> Result<Stored, StoreError>
+fn with_fault(read: Result<StoredStore, PacketError>) -> Result<StoredStore, StoreError>
     ensures { (r : Result TheFields PacketFault) → Gives (λ x. x) read r → GivesStore (λ x. x) result (read_stored r) }
 {
     match read {

@@ -9,7 +9,7 @@ ghost use Rattle.styles.specs.declared.field.Value.TheVariants.{Number, Party};
 
 use crate::style::Style;
 use indexmap::IndexMap;
-use scenario::Process;
+use scenario::NamedProcess;
 use std::alloc::AllocError;
 use scenario::name_at;
 
@@ -52,7 +52,7 @@ pub(crate) fn amount(label: &'static str, amount: u32) -> Field
 }
 
 /// The name of a process, or of the outside.
-fn party_name(processes: &IndexMap<String, Process>, party: u8) -> &str
+fn party_name(processes: &IndexMap<String, NamedProcess>, party: u8) -> &str
     ensures { result.now ≡ party_text (names_of processes.now) party }
 {
     if party == 0 {

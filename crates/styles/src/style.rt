@@ -1,7 +1,7 @@
 //! Styles: how a run is printed.
 
 use indexmap::IndexMap;
-use scenario::Process;
+use scenario::NamedProcess;
 
 /// How a run is printed.
 #[derive(Clone, Copy)]
@@ -9,5 +9,5 @@ pub struct Style<'a> {
     /// As lines of JSON; else as the lines of the trace and the report.
     pub json: bool,
     /// The processes whose names are printed in place of their numbers, if they are.
-    pub names: Option<&'a IndexMap<String, Process>>,
+    pub names: Option<&'a IndexMap<String, NamedProcess>>,
 }

@@ -2,8 +2,8 @@
 use Rattle.std.proofs.Common.{◌≡◌, ◌⊎◌, ◌||◌, ℕ, Bool, true, false, List, refl, sym, subst, inl, inr, true≢false}
 use Rattle.std.specs.Prelude.{[]}
 use Rattle.cli.specs.Asks.{AsksFor, IsRefusal, Order}
-use Rattle.cli.specs.declared.refusal.Refusal.{Refusal}
-use Rattle.cli.specs.declared.refusal.Refusal.TheVariants as refusal
+use Rattle.cli.specs.declared.refusal.UsageRefusal.{UsageRefusal}
+use Rattle.cli.specs.declared.refusal.UsageRefusal.TheVariants as refusal
 use Rattle.image_commands.specs.Fault.{fault_of_refusal}
 use Rattle.image_commands.specs.Files.{Content, Sameness}
 use Rattle.image_commands.specs.declared.fault.Fault.{Fault}
@@ -12,7 +12,7 @@ use Rattle.tracer.specs.Inside.{EndsShort, IsWriteFault}
 use Rattle.tracer.specs.Program.{IsCause}
 
 -- a command line that is refused
-pub refusal_is_cause : (words : List (List ℕ)) (content : Content) (one : Sameness) (failed : Bool) (e : Refusal) (f : Fault)
+pub refusal_is_cause : (words : List (List ℕ)) (content : Content) (one : Sameness) (failed : Bool) (e : UsageRefusal) (f : Fault)
     → IsRefusal words e → f ≡ fault_of_refusal e → IsCause words content one failed f
 refusal_is_cause words content one failed (refusal.Usage usage) f why is = subst (IsCause words content one failed) (sym is) (inl why)
 refusal_is_cause words content one failed refusal.Memory f why is = subst (IsCause words content one failed) (sym is) tt

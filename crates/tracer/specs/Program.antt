@@ -3,7 +3,7 @@ use Rattle.std.specs.Prelude.{◌≡◌, ◌≢◌, ◌⊎◌, ℕ, Bool, true, 
 use Rattle.std.specs.Io.KnownBytes.{Appends}
 use Rattle.std.specs.String.{string_bytes}
 use Rattle.cli.specs.Asks.{AsksFor, IsRefusal, own_input_text, Order, Run, Tell, Live, Draw, Check, Explain, Why, Asm, Pack, Dis, Native}
-use Rattle.cli.specs.declared.refusal.Refusal.TheVariants as refusal
+use Rattle.cli.specs.declared.refusal.UsageRefusal.TheVariants as refusal
 use Rattle.block_order.specs.declared.blocks.Blocks.{Blocks}
 use Rattle.rule_pages.specs.Page.{page_text}
 use Rattle.scenario.specs.Scenario.{IsScenario}

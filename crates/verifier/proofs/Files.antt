@@ -4,7 +4,7 @@ use Rattle.std.specs.Int.{w16, to_le_bytes, from_le_bytes}
 use Rattle.std.proofs.lemmas.Nat.{from_le_bytes-to_le_bytes_2}
 use Rattle.std.proofs.lemmas.List.{length-append}
 use Rattle.decode.specs.declared.insn.Insn.{Insn}
-use Rattle.decode.specs.declared.fault.Rule.{Rule}
+use Rattle.decode.specs.declared.fault.EncodingRule.{EncodingRule}
 use Rattle.decode.specs.Slots.{slots, slots_of}
 use Rattle.std.specs.List.{AllByRecursion}
 use Rattle.decode.specs.Encoding.{Fits, encoding}
@@ -149,7 +149,7 @@ faultless : (bytes : List ℕ) (fault : HeaderFault) → ((q : HeaderFault) → 
 faultless bytes fault none first = none fault (firsts.first_holds (HasFault bytes) _ fault first)
 
 -- behind a sound header a fault of the code is one of the file
-pub code_fault : (form : ImageForm) (h : FileHeader) (rest bytes : List ℕ) (rule : Rule) (slot : ℕ) → HasHeader h rest bytes → IsSound form h rest → decoding.IsFault rest rule slot → IsCodeFault bytes rule slot
+pub code_fault : (form : ImageForm) (h : FileHeader) (rest bytes : List ℕ) (rule : EncodingRule) (slot : ℕ) → HasHeader h rest bytes → IsSound form h rest → decoding.IsFault rest rule slot → IsCodeFault bytes rule slot
 code_fault form h rest bytes rule slot has s fault =
     (sound_has form h rest bytes has s, subst (λ (r : List ℕ). decoding.IsFault r rule slot) (sym (fields_of h rest bytes has).code) fault)
 
@@ -201,7 +201,7 @@ pub no_header_fault : (form : ImageForm) (is : List Insn) (len : ℕ) (bytes : L
 no_header_fault form is len bytes fault f b =
     faultless bytes fault (sound_has form (file_header form is len) (encoding is) bytes (file_has form is len bytes f) (file_sound form is len bytes f)) b
 
-pub no_code_fault : (form : ImageForm) (is : List Insn) (len : ℕ) (bytes : List ℕ) (rule : Rule) (slot : ℕ) → IsFile form is len bytes → IsCodeFault bytes rule slot → ⊥
+pub no_code_fault : (form : ImageForm) (is : List Insn) (len : ℕ) (bytes : List ℕ) (rule : EncodingRule) (slot : ℕ) → IsFile form is len bytes → IsCodeFault bytes rule slot → ⊥
 no_code_fault form is len bytes rule slot f b =
     let k = fields_of (file_header form is len) (encoding is) bytes (file_has form is len bytes f) in
     no_fault is rule slot f.fits (subst (λ (r : List ℕ). decoding.IsFault r rule slot) k.code b.1)
@@ -248,10 +248,10 @@ not_typable form form' is js m n bytes rule slot f g h t typing =
 one_header_fault : (bytes : List ℕ) (a b : HeaderFault) → IsHeaderFault bytes a → IsHeaderFault bytes b → a ≡ b
 one_header_fault bytes a b x y = firsts.first_once (HasFault bytes) _ a b x y
 
-header_or_code : (bytes : List ℕ) (fault : HeaderFault) (rule : Rule) (slot : ℕ) → IsHeaderFault bytes fault → IsCodeFault bytes rule slot → ⊥
+header_or_code : (bytes : List ℕ) (fault : HeaderFault) (rule : EncodingRule) (slot : ℕ) → IsHeaderFault bytes fault → IsCodeFault bytes rule slot → ⊥
 header_or_code bytes fault rule slot x y = faultless bytes fault y.0 x
 
-one_code_fault : (bytes : List ℕ) (q r : Rule) (m n : ℕ) → IsCodeFault bytes q m → IsCodeFault bytes r n → (q ≡ r) × (m ≡ n)
+one_code_fault : (bytes : List ℕ) (q r : EncodingRule) (m n : ℕ) → IsCodeFault bytes q m → IsCodeFault bytes r n → (q ≡ r) × (m ≡ n)
 one_code_fault bytes q r m n x y = one_fault (drop 8 bytes) q r m n x.1 y.1
 
 one_rule : (form form' : ImageForm) (is js : List Insn) (l k : ℕ) (bytes : List ℕ) (q r : rules.Rule) (m n : ℕ) → IsFile form is l bytes → IsFile form' js k bytes → IsFault form is l q m → IsFault form' js k r n → (q ≡ r) × (m ≡ n)

@@ -69,7 +69,7 @@ pub enum ImageError {
     #[error("code at slot {slot}: {rule} (rule {})", .rule.number())]
     Decode {
         /// The first rule of the encoding that the slot breaks.
-        rule: decode::Rule,
+        rule: decode::EncodingRule,
         /// The first slot that breaks one, counted from 0.
         slot: usize,
     },

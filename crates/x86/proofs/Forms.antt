@@ -15,8 +15,8 @@ use Rattle.x86.specs.declared.instruction.Alu.{Alu}
 use Rattle.x86.specs.declared.instruction.Alu.TheVariants as alu
 use Rattle.x86.specs.declared.instruction.Shift.{Shift}
 use Rattle.x86.specs.declared.instruction.Shift.TheVariants as shift
-use Rattle.x86.specs.declared.instruction.Condition.{Condition}
-use Rattle.x86.specs.declared.instruction.Condition.TheVariants as condition
+use Rattle.x86.specs.declared.instruction.ConditionCode.{ConditionCode}
+use Rattle.x86.specs.declared.instruction.ConditionCode.TheVariants as condition
 use Rattle.x86.specs.declared.instruction.Instr.{Instr}
 use Rattle.x86.specs.declared.instruction.Instr.TheVariants as instr
 use Rattle.x86.specs.Encoding.{rex, rex_by, prefix, prefix_by, byte_prefix, two, with_two, with_two_0f, with_memory, with_memory_0f, memory, memory_by, op_number, shift_number, code_of, is_small, bytes_of}
@@ -316,7 +316,7 @@ indexed to base index disp rest h k i ne l =
     ∙ by_modrm 141 W64 to index base (memory_by to base index disp ++ rest) rest (MemoryBy base index disp) (λ p bs. refl)
     (modrm_memory_by (rex_by W64 to index base) to base index disp rest x.r x.x x.b h k i ne l)
 
-short_if : (x : Condition) (distance : ℕ) (rest : List ℕ) → read (bytes_of (instr.JumpIfShort x distance) ++ rest) ≡ Some (instr.JumpIfShort x (distance % 256), rest)
+short_if : (x : ConditionCode) (distance : ℕ) (rest : List ℕ) → read (bytes_of (instr.JumpIfShort x distance) ++ rest) ≡ Some (instr.JumpIfShort x (distance % 256), rest)
 short_if condition.Below distance rest = refl
 short_if condition.AboveEqual distance rest = refl
 short_if condition.Equal distance rest = refl
@@ -328,7 +328,7 @@ short_if condition.GreaterEqual distance rest = refl
 short_if condition.LessEqual distance rest = refl
 short_if condition.Greater distance rest = refl
 
-long_if : (x : Condition) (distance : ℕ) (rest : List ℕ) → distance < 2 ^ 32 → read (bytes_of (instr.JumpIf x distance) ++ rest) ≡ Some (instr.JumpIf x distance, rest)
+long_if : (x : ConditionCode) (distance : ℕ) (rest : List ℕ) → distance < 2 ^ 32 → read (bytes_of (instr.JumpIf x distance) ++ rest) ≡ Some (instr.JumpIf x distance, rest)
 long_if condition.Below distance rest h = word_behind distance rest (λ d. instr.JumpIf condition.Below d) h
 long_if condition.AboveEqual distance rest h = word_behind distance rest (λ d. instr.JumpIf condition.AboveEqual d) h
 long_if condition.Equal distance rest h = word_behind distance rest (λ d. instr.JumpIf condition.Equal d) h

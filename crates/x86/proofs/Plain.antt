@@ -10,7 +10,7 @@ use Rattle.decode.specs.Encoding.{bytes_in, loaded}
 use Rattle.operations.specs.Words.{bits_of, low_of}
 use Rattle.operations.specs.Bytes.{le_value, le_bytes, overwritten}
 use Rattle.operations.specs.Operations.{sign_extension_of}
-use Rattle.x86.specs.declared.instruction.Condition.{Condition}
+use Rattle.x86.specs.declared.instruction.ConditionCode.{ConditionCode}
 use Rattle.x86.specs.declared.instruction.Instr.{Instr}
 use Rattle.x86.specs.declared.instruction.Instr.TheVariants as instr
 use Rattle.x86.specs.Encoding.{prefix, prefix_by, byte_prefix, is_small, number, memory, memory_by, op_number, shift_number, code_of, with_two, with_memory, with_memory_0f, bytes_of}
@@ -207,7 +207,7 @@ module _ (c : State) (goes : State → Type 0) (leaps : ℕ → Type 0) (returns
   asked true d e f h = as_far d e f h
   asked false d e f h = h
 
-  branched : (x : Condition) (d e : ℕ) (f : Flags) → extended d ≡ extended e → By (branch c x d f) → By (branch c x e f)
+  branched : (x : ConditionCode) (d e : ℕ) (f : Flags) → extended d ≡ extended e → By (branch c x d f) → By (branch c x e f)
   branched x d e Unknown q h = absurd h
   branched x d e (Known cf zf sf off) q h = asked (asks x cf zf sf off) d e q h
 

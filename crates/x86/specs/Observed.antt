@@ -7,7 +7,7 @@ use Rattle.decode.specs.declared.insn.Size.TheVariants as size
 use Rattle.decode.specs.declared.insn.SignedSize.TheVariants as signed
 use Rattle.x86.specs.declared.instruction.Alu.TheVariants as alu
 use Rattle.x86.specs.declared.instruction.Shift.TheVariants as shift
-use Rattle.x86.specs.declared.instruction.Condition.TheVariants as condition
+use Rattle.x86.specs.declared.instruction.ConditionCode.TheVariants as condition
 use Rattle.x86.specs.declared.instruction.Instr.TheVariants as instr
 use Rattle.x86.specs.Machine.{State, Word, At, Array, Record, Known, Unknown}
 use Rattle.x86.specs.Worked.{Row, Asked, Reg, ArrayAt, RecordAt, Long, Pushed, Sets}

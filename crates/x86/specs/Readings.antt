@@ -10,8 +10,8 @@ use Rattle.x86.specs.declared.instruction.Alu.{Alu}
 use Rattle.x86.specs.declared.instruction.Alu.TheVariants as alu
 use Rattle.x86.specs.declared.instruction.Shift.{Shift}
 use Rattle.x86.specs.declared.instruction.Shift.TheVariants as shift
-use Rattle.x86.specs.declared.instruction.Condition.{Condition}
-use Rattle.x86.specs.declared.instruction.Condition.TheVariants as condition
+use Rattle.x86.specs.declared.instruction.ConditionCode.{ConditionCode}
+use Rattle.x86.specs.declared.instruction.ConditionCode.TheVariants as condition
 use Rattle.x86.specs.declared.instruction.Instr.{Instr}
 use Rattle.x86.specs.declared.instruction.Instr.TheVariants as instr
 use Rattle.x86.specs.Encoding.{bytes_of}
@@ -114,7 +114,7 @@ abbrev pub shift_of : ℕ → Option Shift
 shift_of n = if n == 4 then Some shift.Left else if n == 5 then Some shift.Right else if n == 7 then Some shift.RightSigned else None
 
 -- the condition n of 0F 80 + n and 70 + n
-abbrev pub condition_of : ℕ → Option Condition
+abbrev pub condition_of : ℕ → Option ConditionCode
 condition_of n =
     if n == 2 then Some condition.Below else if n == 3 then Some condition.AboveEqual else if n == 4 then Some condition.Equal
     else if n == 5 then Some condition.NotEqual else if n == 6 then Some condition.BelowEqual else if n == 7 then Some condition.Above

@@ -3,13 +3,13 @@ use Rattle.std.specs.Prelude.{◌≡◌, ℕ, ◌-◌, ◌^◌, ◌==◌, List, 
 use Rattle.std.specs.Int.{bit_at}
 use Rattle.operations.specs.Bits.{word_of_bits}
 use Rattle.operations.specs.Bytes.{overwritten}
-use Rattle.x86.specs.declared.instruction.Condition.{Condition}
+use Rattle.x86.specs.declared.instruction.ConditionCode.{ConditionCode}
 use Rattle.x86.specs.declared.instruction.Instr.{Instr}
 use Rattle.x86.specs.declared.instruction.Instr.TheVariants as instr
 use Rattle.x86.specs.declared.instruction.Instr.TheVariants.{JumpIf, JumpIfShort}
 use Rattle.x86.specs.declared.instruction.Alu.TheVariants as alu
 use Rattle.x86.specs.declared.instruction.Shift.TheVariants as shift
-use Rattle.x86.specs.declared.instruction.Condition.TheVariants as condition
+use Rattle.x86.specs.declared.instruction.ConditionCode.TheVariants as condition
 use Rattle.decode.specs.declared.insn.Width.TheVariants.{W32, W64}
 use Rattle.decode.specs.declared.insn.Size.TheVariants as size
 use Rattle.x86.specs.Encoding.{bytes_of}
@@ -56,21 +56,21 @@ AreDone begin rows =
     ≡ map {B = List ℕ × Outcome} (λ (is, bs, before, after). (bs, Goes (changed_by (changed_by begin before) after))) rows
 
 -- jumps over 7 bytes
-abbrev pub long_jump : Condition → Instr
+abbrev pub long_jump : ConditionCode → Instr
 long_jump x = JumpIf x 7
 
-abbrev pub short_jump : Condition → Instr
+abbrev pub short_jump : ConditionCode → Instr
 short_jump x = JumpIfShort x 7
 
 -- a condition, the bytes of its jump over 7 bytes, and its answers: bit k is the answer if carry, zero, sign and
 -- overflow are bits 0 to 3 of k
 abbrev pub Asked : Type 0
-Asked = Condition × List ℕ × ℕ
+Asked = ConditionCode × List ℕ × ℕ
 
-abbrev pub answers : Condition → ℕ
+abbrev pub answers : ConditionCode → ℕ
 answers x = word_of_bits (λ k. if asks x (bit_at k 0 == 1) (bit_at k 1 == 1) (bit_at k 2 == 1) (bit_at k 3 == 1) then 1 else 0) 16
 
-abbrev pub AreAsked : (Condition → Instr) → List Asked → Type 0
+abbrev pub AreAsked : (ConditionCode → Instr) → List Asked → Type 0
 AreAsked jump rows =
     map {B = List ℕ × ℕ} (λ (x, bs, n). (bytes_of (jump x), answers x)) rows ≡ map {B = List ℕ × ℕ} (λ (x, bs, n). (bs, n)) rows
 

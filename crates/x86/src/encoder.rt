@@ -4,7 +4,7 @@ ghost use Rattle.std.specs.Prelude.{◌≡◌, ◌<◌, ◌==◌, ◌+◌, ◌*�
 ghost use Rattle.operations.specs.Bytes.{le_bytes};
 ghost use Rattle.x86.specs.Encoding as encoding;
 
-use crate::instruction::{Alu, Condition, Instr, Shift};
+use crate::instruction::{Alu, ConditionCode, Instr, Shift};
 use decode::{Extension, SignedSize, Size, Width};
 use std::alloc::AllocError;
 
@@ -180,20 +180,20 @@ fn shift_number(op: Shift) -> u8
 }
 
 // The number n of a condition in its opcode.
-fn code_of(condition: Condition) -> u8
+fn code_of(condition: ConditionCode) -> u8
     ensures { result ≡ encoding.code_of condition }
 {
     match condition {
-        Condition::Below => 2,
-        Condition::AboveEqual => 3,
-        Condition::Equal => 4,
-        Condition::NotEqual => 5,
-        Condition::BelowEqual => 6,
-        Condition::Above => 7,
-        Condition::Less => 12,
-        Condition::GreaterEqual => 13,
-        Condition::LessEqual => 14,
-        Condition::Greater => 15,
+        ConditionCode::Below => 2,
+        ConditionCode::AboveEqual => 3,
+        ConditionCode::Equal => 4,
+        ConditionCode::NotEqual => 5,
+        ConditionCode::BelowEqual => 6,
+        ConditionCode::Above => 7,
+        ConditionCode::Less => 12,
+        ConditionCode::GreaterEqual => 13,
+        ConditionCode::LessEqual => 14,
+        ConditionCode::Greater => 15,
     }
 }
 
@@ -493,7 +493,7 @@ fn put_lea_by(code: &mut Vec<u8>, to: u8, base: u8, index: u8, disp: u64) -> Res
     memory_by(code, to, base, index, disp)
 }
 
-fn put_jump_if(code: &mut Vec<u8>, condition: Condition, distance: u64) -> Result<(), AllocError>
+fn put_jump_if(code: &mut Vec<u8>, condition: ConditionCode, distance: u64) -> Result<(), AllocError>
     ensures { OnOk result (code.new.items ≡ code.old.items ++ encoding.bytes_of (Instr.JumpIf condition distance)) }
 {
     put_pair(code, 0x0f, 0x80 + code_of(condition))?;

@@ -5,7 +5,7 @@ use Rattle.limits.specs.declared.TheConstants.{SLOTS}
 use Rattle.decode.specs.Encoding.{Fits}
 use Rattle.decode.specs.Slots.{size_of}
 use Rattle.decode.specs.declared.insn.Insn.{Insn}
-use Rattle.assemble.specs.declared.fault.Rule.{Rule}
+use Rattle.assemble.specs.declared.fault.TextRule.{TextRule}
 use Rattle.assemble.specs.Text.{line_of, lines_of, is_silent}
 use Rattle.assemble.specs.Refusal.{AreLines, LineBreaksFirst}
 
@@ -20,7 +20,7 @@ left None = 0
 left (Some x) = length x.now + 1
 
 -- a line gives nothing, or an instruction for which there is room after n slots; or it is refused
-abbrev pub ReadsAfter : ℕ → List ℕ → Result (Option Insn) Rule → Type 0
+abbrev pub ReadsAfter : ℕ → List ℕ → Result (Option Insn) TextRule → Type 0
 ReadsAfter n line (Ok None) = is_silent line ≡ true
 ReadsAfter n line (Ok (Some i)) = (is_silent line ≡ false) × Fits i × (line ≡ line_of i) × (n + size_of i ≤ SLOTS)
 ReadsAfter n line (Err r) = (is_silent line ≡ false) × LineBreaksFirst n r line

@@ -1,10 +1,10 @@
 -- The ranges of the first fields of a file.
 use Rattle.std.specs.Prelude.{◌≤◌}
 use Rattle.limits.specs.declared.TheConstants.{PROCESSES, RECEIPTS, STATE_BYTES}
-use Rattle.checkpoint.specs.declared.fields.Head.{Head}
+use Rattle.checkpoint.specs.declared.fields.CheckpointHead.{CheckpointHead}
 
 -- each of the first fields is in its range
-pub record HeadFits (head : Head) : Type 0 where
+pub record HeadFits (head : CheckpointHead) : Type 0 where
   pub state : head.state ≤ STATE_BYTES
   pub some : 1 ≤ head.count
   pub few : head.count ≤ PROCESSES

@@ -1,6 +1,6 @@
 -- A saved process that is kept as bytes.
 use Rattle.std.specs.Prelude.{◌≡◌, ℕ, List, [], length, Result, Ok, Err}
-use Rattle.checkpoint.specs.declared.form.Form.TheVariants.{Second}
+use Rattle.checkpoint.specs.declared.form.CheckpointForm.TheVariants.{Second}
 use Rattle.checkpoint.specs.declared.fault.SavedFault.{SavedFault}
 use Rattle.checkpoint.specs.Saved.{TheSaved}
 use Rattle.checkpoint.specs.Format.{IsCheckpoint}

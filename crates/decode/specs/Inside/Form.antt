@@ -23,8 +23,8 @@ use Rattle.decode.specs.declared.insn.Reg.{Reg}
 use Rattle.decode.specs.declared.word.Word.{Word}
 use Rattle.decode.specs.declared.form.Source.{Source}
 use Rattle.decode.specs.declared.form.Source.TheVariants.{Imm, Register}
-use Rattle.decode.specs.declared.form.Form.{Form}
-use Rattle.decode.specs.declared.form.Form.TheVariants.{Alu, Neg, End, Jump, JumpLong, JumpIf, Call, Exit, Load, LoadSx, StoreReg, StoreImm, Wide}
+use Rattle.decode.specs.declared.form.OpcodeForm.{OpcodeForm}
+use Rattle.decode.specs.declared.form.OpcodeForm.TheVariants.{Alu, Neg, End, Jump, JumpLong, JumpIf, Call, Exit, Load, LoadSx, StoreReg, StoreImm, Wide}
 
 -- the operation of a code; of two divisions the unsigned one
 abbrev pub alu_at : ℕ → Option AluOp
@@ -64,15 +64,15 @@ abbrev pub source_at : ℕ → Source
 source_at n = if n / 8 % 2 == 0 then Imm else Register
 
 -- arithmetic by code and source bit
-abbrev alu_form : Width → ℕ → Option Form
+abbrev alu_form : Width → ℕ → Option OpcodeForm
 alu_form width n = option_map (λ op. Alu op width (source_at n)) (alu_at (n / 16))
 
 -- a conditional jump by code and source bit
-abbrev jump_form : Width → ℕ → Option Form
+abbrev jump_form : Width → ℕ → Option OpcodeForm
 jump_form width n = option_map (λ c. JumpIf c width (source_at n)) (condition_at (n / 16))
 
 -- arithmetic and conditional jumps by class
-abbrev by_class : ℕ → Option Form
+abbrev by_class : ℕ → Option OpcodeForm
 by_class n =
     if n % 8 == 4 then alu_form W32 n
     else if n % 8 == 7 then alu_form W64 n
@@ -81,7 +81,7 @@ by_class n =
     else None
 
 -- the form of an opcode
-abbrev pub form_at : ℕ → Option Form
+abbrev pub form_at : ℕ → Option OpcodeForm
 form_at n =
     if n == 0x05 then Some Jump
     else if n == 0x06 then Some JumpLong
@@ -137,7 +137,7 @@ high_of None = 0
 high_of (Some s) = s.imm
 
 -- the instruction of a form, from the fields that it uses
-abbrev pub insn_from : Form → Reg → Reg → Word → Option Word → Insn
+abbrev pub insn_from : OpcodeForm → Reg → Reg → Word → Option Word → Insn
 insn_from (Alu op width Imm) dst src w next = insn.Alu (signed_at op w.offset) width dst (operand.Imm (cast_signed w32 w.imm))
 insn_from (Alu op width Register) dst src w next = option_map_or (λ x. insn.MovSx x dst src) (extension_at op width w.offset) (insn.Alu (signed_at op w.offset) width dst (operand.Reg src))
 insn_from (Neg width) dst src w next = insn.Neg width dst

@@ -5,7 +5,7 @@ use Rattle.std.specs.Prelude.{Option, Some, None}
 use Rattle.std.specs.Global.{Global}
 use Rattle.std.specs.Box.Ownership.{box_owns}
 use Rattle.std_heap.specs.contracts.GlobalAllocator.TheImpl.{ghosts}
-use Rattle.process.specs.contracts.process.Process.{the_row}
+use Rattle.process.specs.contracts.process.Member.{the_row}
 
 -- the box of a process at a pointer, or nothing
 abbrev pub held : Global → Ptr → Option the_row.Denot → Fml

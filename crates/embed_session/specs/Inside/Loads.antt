@@ -2,12 +2,12 @@
 use Rattle.std.specs.Prelude.{◌≡◌, ℕ, List, ◌++◌}
 use Rattle.handlers.specs.Image.{TheImage}
 use Rattle.world.specs.declared.refusal.Refusal.TheVariants.{Memory}
-use Rattle.embed_session.specs.declared.fault.Fault.{Fault}
-use Rattle.embed_session.specs.declared.fault.Fault.TheVariants.{Session, File}
+use Rattle.embed_session.specs.declared.fault.SessionFault.{SessionFault}
+use Rattle.embed_session.specs.declared.fault.SessionFault.TheVariants.{Session, File}
 use Rattle.embed_session.specs.Lifetime.{AreFiles}
 
 -- why files aren't read: they don't fit in this way, or memory ran out
-abbrev pub IsUnread : Type 0 → Fault → Type 0
+abbrev pub IsUnread : Type 0 → SessionFault → Type 0
 IsUnread misfit File = misfit
 IsUnread misfit (Session Memory) = Unit {0}
 IsUnread misfit other = ⊥

@@ -7,8 +7,8 @@ use Rattle.regtypes.specs.declared.frame.Kind.TheVariants as kind
 use Rattle.listing.specs.declared.study.Study.{Study}
 use Rattle.listing.specs.declared.why.Arrival.{Arrival}
 use Rattle.listing.specs.declared.why.Arrival.TheVariants.{Unset, Reason}
-use Rattle.listing.specs.declared.why.Why.{Why}
-use Rattle.listing.specs.declared.why.Why.TheVariants.{Unknown}
+use Rattle.listing.specs.declared.why.UnsetCause.{UnsetCause}
+use Rattle.listing.specs.declared.why.UnsetCause.TheVariants.{Unknown}
 use Rattle.listing.specs.Why.{Calls, Clash, IsReason, Leaves, Passes}
 
 -- an instruction at slot p, with this flow, can lead to slot t
@@ -28,10 +28,10 @@ IsSet s r at None = Unit {0}
 IsSet s r at (Some x) = Leaves s r x.0 at x.1 × (x.1 ≢ kind.Unset)
 
 -- a kind is set, and agrees with what was found before it, unless a reason was found
-abbrev pub GoesWith : Option (ℕ × Kind) → Why → Kind → Type 0
+abbrev pub GoesWith : Option (ℕ × Kind) → UnsetCause → Kind → Type 0
 GoesWith None why k = ⊥
 GoesWith (Some x) why k = (k ≢ kind.Unset) × (why ≡ Unknown → ¬ Clash x.1 k)
 
 -- all that the slots below n pass on to a slot agrees with what was found
-abbrev pub GoTogether : Study → ℕ → ℕ → ℕ → Option (ℕ × Kind) → Why → Type 0
+abbrev pub GoTogether : Study → ℕ → ℕ → ℕ → Option (ℕ × Kind) → UnsetCause → Type 0
 GoTogether s r at n set why = (p : ℕ) (k : Kind) → p < n → Passes s r p at k → GoesWith set why k

@@ -3,14 +3,14 @@ use Rattle.std.specs.Prelude.{◌≡◌, ℕ, zero, suc, ◌-◌, List, [], ◌�
 use Rattle.std.specs.Cmp.Lexicographic.{pointwise}
 use Rattle.limits.specs.declared.TheConstants.{PAYLOAD_BYTES, PROCESSES}
 use Rattle.byteorder.specs.Endian.{little_number}
-use Rattle.packets.specs.declared.kind.Kind.{Kind}
-use Rattle.packets.specs.declared.kind.Kind.TheVariants as kinds
-use Rattle.packets.specs.declared.page.Entry.{Entry}
+use Rattle.packets.specs.declared.kind.PacketKind.{PacketKind}
+use Rattle.packets.specs.declared.kind.PacketKind.TheVariants as kinds
+use Rattle.packets.specs.declared.page.LoggedMessage.{LoggedMessage}
 use Rattle.packets.specs.declared.page.Pair.{Pair}
 use Rattle.packets.specs.declared.packet.Body.{Body}
 use Rattle.packets.specs.declared.packet.Body.TheVariants.{Delivery, Number, Acknowledgement, Ask, Told, Resume, Restored, Saved}
-use Rattle.packets.specs.declared.packet.Packet.{Packet}
-use Rattle.packets.specs.declared.head.Head.{Head}
+use Rattle.packets.specs.declared.packet.NodePacket.{NodePacket}
+use Rattle.packets.specs.declared.head.PacketHead.{PacketHead}
 use Rattle.packets.specs.declared.fault.PacketFault.{PacketFault}
 use Rattle.packets.specs.declared.fault.PacketFault.TheVariants as faults
 use Rattle.packets.specs.declared.fault.PacketError.{PacketError}
@@ -70,7 +70,7 @@ times field (suc n) bytes = field bytes >>= λ first. times field n first.1 >>= 
 unfoldable pub page_at : {A : Type 0} → Reader A → Reader (List A)
 page_at field bytes = number_at 2 bytes >>= λ count. times field count.0 count.1
 
-unfoldable pub entry_at : Reader Entry
+unfoldable pub entry_at : Reader LoggedMessage
 entry_at bytes = both (number_at 8) (both (number_at 8) payload_at) bytes >>= λ x. Ok (record { number = x.0.0; ssn = x.0.1.0; payload = x.0.1.1 }, x.1)
 
 unfoldable pub pair_at : Reader Pair
@@ -83,7 +83,7 @@ abbrev pub whole : {A : Type 0} → Reader A → List ℕ → Result A PacketFau
 whole read bytes = read bytes >>= λ x. if length x.1 == 0 then Ok x.0 else Err faults.Fields
 
 -- the fields of a kind
-unfoldable pub body_at : Kind → List ℕ → Result Body PacketFault
+unfoldable pub body_at : PacketKind → List ℕ → Result Body PacketFault
 body_at kinds.Delivery bytes = whole (both (number_at 8) (both (number_at 8) payload_at)) bytes >>= λ x. Ok (Delivery x.0 x.1.0 x.1.1)
 body_at kinds.Number bytes = whole (both (number_at 8) (both (number_at 8) (number_at 8))) bytes >>= λ x. Ok (Number x.0 x.1.0 x.1.1)
 body_at kinds.Acknowledgement bytes = whole (both (number_at 8) (number_at 8)) bytes >>= λ x. Ok (Acknowledgement x.0 x.1)
@@ -102,20 +102,20 @@ fields_at bytes =
     if nat_lt (length bytes) 12 then Err faults.Short else if not (pointwise nat_eq (take 4 bytes) magic) then Err faults.Magic
     else if not (little_number 4 (drop (length bytes - 4) bytes) == crc32c (take (length bytes - 4) bytes)) then Err faults.Checksum else Ok (fields_of bytes)
 
-abbrev pub known : Option Kind → Result Kind PacketFault
+abbrev pub known : Option PacketKind → Result PacketKind PacketFault
 known None = Err faults.Kind
 known (Some kind) = Ok kind
 
 -- kind, the number of processes, from and to
-abbrev pub head_in_range : Kind → ℕ → ℕ → ℕ → Result Head PacketFault
+abbrev pub head_in_range : PacketKind → ℕ → ℕ → ℕ → Result PacketHead PacketFault
 head_in_range kind n from to =
     if nat_lt n 1 || nat_lt PROCESSES n then Err faults.Count else if nat_lt n from || (nat_lt n to || from == to) then Err faults.Ends else Ok (record { kind = kind; count = n; from = from; to = to })
 
-unfoldable pub head_at : List ℕ → Result Head PacketFault
+unfoldable pub head_at : List ℕ → Result PacketHead PacketFault
 head_at bytes = known (kind_at (slice_index bytes 4)) >>= λ kind. head_in_range kind (slice_index bytes 5) (slice_index bytes 6) (slice_index bytes 7)
 
-abbrev pub packet_of : Head → Body → Packet
+abbrev pub packet_of : PacketHead → Body → NodePacket
 packet_of head body = record { count = head.count; from = head.from; to = head.to; body = body }
 
-unfoldable pub reading : List ℕ → Result Packet PacketFault
+unfoldable pub reading : List ℕ → Result NodePacket PacketFault
 reading bytes = fields_at bytes >>= λ fields. head_at bytes >>= λ head. body_at head.kind fields >>= λ body. if in_range body then Ok (packet_of head body) else Err faults.Range

@@ -4,7 +4,7 @@ use Rattle.std.specs.Borrow.{Bor}
 use Rattle.std.specs.declared.alloc.Global.{Global}
 use Rattle.std.specs.String.{string_bytes}
 use Rattle.scenario.specs.declared.order.Allowed.{Allowed}
-use Rattle.scenario.specs.declared.process.Process.{Process}
+use Rattle.scenario.specs.declared.process.NamedProcess.{NamedProcess}
 use Rattle.scenario.specs.declared.scenario.Step.{Step}
 use Rattle.scenario.specs.declared.line.Line.{Line}
 use Rattle.scenario.specs.declared.line.Line.TheVariants as line_kind
@@ -37,8 +37,8 @@ ReadsLine names begun text None =
     (is_silent text ≡ false) × ReadsDeclaration names begun text None × Reads (order_text names) (IsInRange (length names)) text None
 
 -- one more process
-pub record Declares (number : ℕ) (name path : List ℕ) (old new : List (String Global × Process)) : Type 0 where
-  pub entry : String Global × Process
+pub record Declares (number : ℕ) (name path : List ℕ) (old new : List (String Global × NamedProcess)) : Type 0 where
+  pub entry : String Global × NamedProcess
   pub name_is : string_bytes entry.0 ≡ name
   pub path_is : string_bytes entry.1.path ≡ path
   pub line_is : entry.1.line ≡ number
@@ -50,7 +50,7 @@ TellsFree name names true = IsFresh name names
 TellsFree name names false = IsFresh name names → ⊥
 
 -- the lines that were read
-pub record HaveRead (allowed : Allowed) (text : List ℕ) (rest : Option (Bor (List ℕ))) (number : ℕ) (entries : List (String Global × Process)) (steps : List Step) : Type 0 where
+pub record HaveRead (allowed : Allowed) (text : List ℕ) (rest : Option (Bor (List ℕ))) (number : ℕ) (entries : List (String Global × NamedProcess)) (steps : List Step) : Type 0 where
   pub before : List (List ℕ)
   pub whole : lines_of text ≡ before ++ lines_left rest
   pub number_is : number ≡ length before

@@ -9,7 +9,7 @@ use Rattle.spans.specs.declared.cells.Cells.{Cells}
 use Rattle.spans.specs.Frame.{Frame, joined, entry_frame}
 use Rattle.spans.specs.Ways.{Ways}
 use Rattle.spans.specs.Typing.{Table, target}
-use Rattle.span_verifier.specs.declared.ways.Leaving.{Leaving}
+use Rattle.span_verifier.specs.declared.ways.SpanLeaving.{SpanLeaving}
 use Rattle.span_verifier.specs.Transfer.{frames_of}
 use Rattle.span_verifier.specs.Ways.{ways}
 use Rattle.span_verifier.specs.Least.{IsLeast, StopsAt}
@@ -42,7 +42,7 @@ pub record IsSpread (old : Table) (s : ℕ) (i : Insn) (w : Ways) (new : Table) 
   pub leaps : IsWayMerged mid (target s i) w.1 new
 
 -- the frames that leave the instruction at a slot if no rule is broken, else the least broken rule
-abbrev pub IsLeavingAt : ℕ → List (Option Insn) → ℕ → Insn → Frame → Result Leaving Rule → Type 0
+abbrev pub IsLeavingAt : ℕ → List (Option Insn) → ℕ → Insn → Frame → Result SpanLeaving Rule → Type 0
 IsLeavingAt state slots s i f (Ok l) = (broken_at state slots s (Some i) f ≡ None) × (frames_of l ≡ ways i f)
 IsLeavingAt state slots s i f (Err r) = broken_at state slots s (Some i) f ≡ Some r
 

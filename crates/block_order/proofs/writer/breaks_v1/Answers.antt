@@ -4,7 +4,7 @@ use Rattle.decode.specs.Slots.{slots_of}
 use Rattle.regtypes.specs.declared.rule.Rule.{Rule}
 use Rattle.regtypes.specs.declared.rule.Rule.TheVariants.{V1}
 use Rattle.span_verifier.specs.Verdict.{IsFault, IsFramesOf, IsWhy}
-use Rattle.span_verifier.specs.declared.pass.Frames.{Frames}
+use Rattle.span_verifier.specs.declared.pass.SpanFrames.{SpanFrames}
 use Rattle.span_verifier.specs.Typing.{table_of}
 use Rattle.span_verifier.proofs.Forms.{one_refusal_3}
 use Rattle.block_order.specs.Ordered.{BreaksV1}
@@ -12,7 +12,7 @@ use Rattle.block_order.proofs.writer.breaks_v1.Goals as goal
 use Rattle.block_order.proofs.writer.breaks_v1.Goals.{in-Ok, in-Err-Fault, in-Err-Memory}
 
 -- code with a typing is refused by no rule
-not-refused : (code : List Insn) (state : ℕ) (frames : Frames) → IsFramesOf code state frames → IsTrue false ↔ BreaksV1 code state
+not-refused : (code : List Insn) (state : ℕ) (frames : SpanFrames) → IsFramesOf code state frames → IsTrue false ↔ BreaksV1 code state
 not-refused code state frames found = ((λ no. absurd (cc)), (λ breaks. absurd (breaks.1.1 (table_of frames.table.items) found.typing.types)))
 
 -- code is refused by one rule

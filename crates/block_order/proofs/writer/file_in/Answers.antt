@@ -1,11 +1,11 @@
 use Rattle.std.proofs.Common.{subst}
 use Rattle.block_order.specs.Order.{IsMoved, IsForward, IsOrder}
-use Rattle.block_order.specs.declared.order.Order.{Order}
+use Rattle.block_order.specs.declared.order.BlockOrder.{BlockOrder}
 use Rattle.block_order.proofs.writer.file_in.Goals as goal
 
 -- what the order that was found is known to be
 moved : (c : goal.After-placed-1) → ¬ IsForward c.args.code.now × IsMoved c.args.code.now c.in-Moved.placed
-moved c = subst (λ (o : Order). IsOrder c.args.code.now o) c.in-Moved.is c.requires.order
+moved c = subst (λ (o : BlockOrder). IsOrder c.args.code.now o) c.in-Moved.is c.requires.order
 
 pub moved_file-requires-clause-state : goal.moved_file-requires-clause-state
 moved_file-requires-clause-state c = c.requires.state

@@ -1,6 +1,6 @@
 use Rattle.std.proofs.Common.{◌≡◌, ◌-◌, length}
 use Rattle.std.specs.List.{AllByRecursion}
-use Rattle.checkpoint.specs.declared.form.Form.TheVariants.{Second}
+use Rattle.checkpoint.specs.declared.form.CheckpointForm.TheVariants.{Second}
 use Rattle.checkpoint.specs.Saved.{PayloadFits}
 use Rattle.checkpoint.specs.Reader.{payload_at, times}
 use Rattle.checkpoint.proofs.Counted.{with_front}

@@ -1,6 +1,6 @@
 use Rattle.std.proofs.Common.{◌≡◌, ◌++◌, take}
 use Rattle.std.specs.List.{flat_map}
-use Rattle.checkpoint.specs.declared.form.Form.TheVariants.{Second}
+use Rattle.checkpoint.specs.declared.form.CheckpointForm.TheVariants.{Second}
 use Rattle.checkpoint.specs.Format.{kept_bytes}
 use Rattle.checkpoint.proofs.writer.put_queues.Given as goal
 

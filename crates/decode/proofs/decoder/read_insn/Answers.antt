@@ -1,5 +1,5 @@
 use Rattle.std.proofs.Common.{◌∙◌, subst, sym, arith, rules}
-use Rattle.decode.specs.declared.fault.Rule.TheVariants.{Opcode, Register, Profile, Cut, Width, Field}
+use Rattle.decode.specs.declared.fault.EncodingRule.TheVariants.{Opcode, Register, Profile, Cut, Width, Field}
 use Rattle.decode.specs.Refusal.{Begins}
 use Rattle.decode.proofs.Forms.{has_form, no_form, reads_back}
 use Rattle.decode.proofs.Firsts.{stops, passes}

@@ -1,7 +1,7 @@
 use Rattle.std.proofs.Common.{◌≡◌, ◌≢◌, length, rules, refl, inl, inr}
 use Rattle.images.specs.declared.file_form.FileForm.TheVariants.{Sbi2}
 use Rattle.handlers.specs.Image.{TheImage, the_image}
-use Rattle.embed.specs.declared.refusal.Refusal.TheVariants.{Form, State}
+use Rattle.embed.specs.declared.refusal.ImageRefusal.TheVariants.{Form, State}
 use Rattle.embed.specs.Calls.{IsTypableFile, IsCallableForm}
 use Rattle.embed.specs.Exports.{IsTypable, IsCallable, IsFormRefusal, IsStateRefusal}
 use Rattle.embed.proofs.calls.load_callable.Goals as goal

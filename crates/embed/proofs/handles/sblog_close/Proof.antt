@@ -38,7 +38,7 @@ use Rattle.std.proofs.alloc.Global.TheLaws as heap_laws
 use Rattle.std.specs.contracts.impls.GlobalAllocator.TheImpl.{ghosts}
 use Rattle.embed.specs.Handles.{may_free, owns_image}
 use Rattle.handlers.specs.Image.{TheImage}
-use Rattle.embed.specs.contracts.handler.Handler.{the_row}
+use Rattle.embed.specs.contracts.handler.OpenHandler.{the_row}
 use Rattle.embed.specs.contracts.loose.Loose as loose
 use Rattle.embed.proofs.Lent.{tested}
 use Rattle.embed.proofs.Loosened.{both, loose_good, loose_in}

@@ -45,9 +45,9 @@ use Rattle.std.proofs.alloc.Global.TheLaws as heap_laws
 use Rattle.handlers.specs.Image.{TheImage}
 use Rattle.embed.specs.Handles.{may_free, owns_image}
 use Rattle.embed.specs.MachineCode.{Compiles}
-use Rattle.embed.specs.declared.refusal.Refusal.TheVariants.{Handle}
-use Rattle.embed.specs.contracts.handler.Handler.{the_row}
-use Rattle.embed.proofs.handler.Handler.TheLaws.{the_row_laws, the_within}
+use Rattle.embed.specs.declared.refusal.ImageRefusal.TheVariants.{Handle}
+use Rattle.embed.specs.contracts.handler.OpenHandler.{the_row}
+use Rattle.embed.proofs.handler.OpenHandler.TheLaws.{the_row_laws, the_within}
 use Rattle.embed.proofs.Lent.{given_ref, given_slice, ref_left, slice_left, tested}
 use Rattle.embed.specs.contracts.machine_code.compile as of
 use Rattle.embed.proofs.machine_code.compile.Symbol.{name as #compile}

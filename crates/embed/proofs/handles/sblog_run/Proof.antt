@@ -41,11 +41,11 @@ use denote.Triple.Table.{entered}
 use denote.Triple.Walked.{Stays, stay_dropped, gave_slice, walk_of, Goes-dropped, Goes-gave_slice, walked, walk_Meets}
 use Rattle.std.proofs.raw_atomic.Walks.{leaves}
 use Rattle.embed.specs.Handles.{may_free, owns_image, Runs as IsRun}
-use Rattle.embed.specs.declared.refusal.Refusal.TheVariants.{Handle}
+use Rattle.embed.specs.declared.refusal.ImageRefusal.TheVariants.{Handle}
 use Rattle.helpers.specs.declared.effects.Who.{Who}
 use Rattle.embed.proofs.Lent.{given_slice, slice_left, tested}
 use Rattle.handlers.specs.Image.{TheImage}
-use Rattle.embed.specs.contracts.handler.Handler.{the_row}
+use Rattle.embed.specs.contracts.handler.OpenHandler.{the_row}
 use Rattle.embed.specs.contracts.runs.run as of
 use Rattle.embed.proofs.runs.run.Symbol.{name as #call}
 use Rattle.embed.proofs.runs.run.Met as of_thm

@@ -40,12 +40,12 @@ use Rattle.std.proofs.raw_atomic.Walks.{leaves}
 use Rattle.embed.specs.Handles.{may_free, owns_image}
 use Rattle.embed.specs.Handles.{state_len_of}
 use Rattle.handlers.specs.Image.{TheImage}
-use Rattle.embed.specs.contracts.handler.Handler.{the_row}
-use Rattle.embed.proofs.handler.Handler.TheLaws.{the_row_laws, the_within}
+use Rattle.embed.specs.contracts.handler.OpenHandler.{the_row}
+use Rattle.embed.proofs.handler.OpenHandler.TheLaws.{the_row_laws, the_within}
 use Rattle.embed.proofs.Lent.{tested}
-use Rattle.embed.specs.contracts.handler.Handler.state_len as of
-use Rattle.embed.proofs.handler.Handler.state_len.Symbol.{name as #len}
-use Rattle.embed.proofs.handler.Handler.state_len.Met as of_thm
+use Rattle.embed.specs.contracts.handler.OpenHandler.state_len as of
+use Rattle.embed.proofs.handler.OpenHandler.state_len.Symbol.{name as #len}
+use Rattle.embed.proofs.handler.OpenHandler.state_len.Met as of_thm
 use Rattle.embed.specs.contracts.handles.sblog_state_len.Key.{name as key}
 use Rattle.embed.specs.contracts.handles.sblog_state_len as f
 use Rattle.embed.proofs.handles.sblog_state_len.Statement as stated

@@ -1,8 +1,8 @@
 use Rattle.std.proofs.Common.{rules, ◌≡◌, sym, subst, ◌∙◌, arith}
 use Rattle.std.proofs.lemmas.Grind.{common_steps}
 use Rattle.gateway.specs.Gateway.{new_gateway}
-use Rattle.embed_gateway.specs.declared.fault.Fault.{Fault}
-use Rattle.embed_gateway.specs.declared.fault.Fault.TheVariants.{Memory}
+use Rattle.embed_gateway.specs.declared.fault.GatewayFault.{GatewayFault}
+use Rattle.embed_gateway.specs.declared.fault.GatewayFault.TheVariants.{Memory}
 use Rattle.embed_gateway.specs.Lifetime.{IsUnopened}
 use Rattle.embed_gateway.proofs.Called.{matched}
 use Rattle.embed_gateway.proofs.lifetime.open.Goals as goal
@@ -17,4 +17,4 @@ returns c =
     let refused : IsUnopened n page tick old Memory = first_of (search rules, grind (arith, common_steps)) in
     let value : g ≡ new_gateway n page tick = first_of (search rules, grind (arith, common_steps)) in
     matched c.hold.result _ _ _ _ (λ e. (refused.0, refused.1, (g, e, (value, c.in_ok-gateway.ensures.stands))))
-    (λ why h. (subst (λ (w : Fault). IsUnopened n page tick old w) (sym h.0) refused, h.1 ∙ c.is_open.ensures.same)) c.hold.ensures
+    (λ why h. (subst (λ (w : GatewayFault). IsUnopened n page tick old w) (sym h.0) refused, h.1 ∙ c.is_open.ensures.same)) c.hold.ensures

@@ -1,8 +1,8 @@
 use Rattle.std.proofs.Common.{rules, ◌≡◌, refl, sym, subst, ◌∙◌, arith}
 use Rattle.std.proofs.lemmas.Grind.{common_steps}
 use Rattle.gateway.specs.Since.{revived}
-use Rattle.embed_gateway.specs.declared.fault.Fault.{Fault}
-use Rattle.embed_gateway.specs.declared.fault.Fault.TheVariants.{Memory}
+use Rattle.embed_gateway.specs.declared.fault.GatewayFault.{GatewayFault}
+use Rattle.embed_gateway.specs.declared.fault.GatewayFault.TheVariants.{Memory}
 use Rattle.embed_gateway.specs.Lifetime.{IsUnrevived}
 use Rattle.embed_gateway.proofs.Called.{matched}
 use Rattle.embed_gateway.proofs.lifetime.revive.Goals as goal
@@ -19,4 +19,4 @@ returns c =
     let refused : IsUnrevived bytes page tick fault fault old Memory = first_of (search rules, grind (arith, common_steps)) in
     let value : g ≡ revived page tick s = first_of (search rules, grind (arith, common_steps)) in
     matched c.hold.result _ _ _ _ (λ e. ((refused.0, refused.1, (s, c.in-Ok.ensures.found, (g, e, (value, c.in_ok-gateway.ensures.stands)))), refl))
-    (λ why h. (subst (λ (w : Fault). IsUnrevived bytes page tick fault fault old w) (sym h.0) refused, h.1 ∙ c.is_open.ensures.same)) c.hold.ensures
+    (λ why h. (subst (λ (w : GatewayFault). IsUnrevived bytes page tick fault fault old w) (sym h.0) refused, h.1 ∙ c.is_open.ensures.same)) c.hold.ensures

@@ -5,7 +5,7 @@ use Rattle.std.specs.Arc.{arc_value}
 use Rattle.handlers.specs.Handler.{image_of}
 use Rattle.node.specs.Node.{IsPositive}
 use Rattle.process.specs.Revival.{IsRevived}
-use Rattle.embed_node.specs.declared.fault.Fault.TheVariants.{Memory}
+use Rattle.embed_node.specs.declared.fault.NodeFault.TheVariants.{Memory}
 use Rattle.embed_node.specs.Lifetime.{IsImageIn, AreLimits, limits_of}
 use Rattle.embed_node.proofs.Opened.{put-revives}
 use Rattle.embed_node.proofs.lifetime.revive.Goals as goal

@@ -1,13 +1,13 @@
 use Rattle.std.proofs.Common.{◌≡◌, ℕ, List, refl, subst}
 use Rattle.decode.specs.declared.insn.Insn.{Insn}
-use Rattle.span_verifier.specs.declared.pass.Frames.{Frames}
+use Rattle.span_verifier.specs.declared.pass.SpanFrames.{SpanFrames}
 use Rattle.span_verifier.specs.Typing.{table_of}
 use Rattle.span_verifier.specs.Verdict.{IsFramesOf}
 use Rattle.images.specs.Typed.{IsTypable}
 use Rattle.images.proofs.span_image.verified.Goals as goal
 
 -- code that has frames is typable
-typable : (code code' : List Insn) (len : ℕ) (frames : Frames) → code ≡ code' → IsFramesOf code len frames → IsTypable code' len
+typable : (code code' : List Insn) (len : ℕ) (frames : SpanFrames) → code ≡ code' → IsFramesOf code len frames → IsTypable code' len
 typable code code' len frames e h = subst (λ (l : List Insn). IsTypable l len) e (table_of frames.table.items, h.typing.types)
 
 pub invariant_of-result : goal.invariant_of-result

@@ -1,6 +1,6 @@
 use Rattle.std.proofs.Common.{ℕ, List, length, refl, sym, ap, subst, ◌∙◌, arith}
 use Rattle.decode.specs.declared.insn.Insn.{Insn}
-use Rattle.span_verifier.specs.declared.fault.VerifyError.{VerifyError}
+use Rattle.span_verifier.specs.declared.fault.SpanVerifyError.{SpanVerifyError}
 use Rattle.span_verifier.specs.Verdict.{IsWhy}
 use Rattle.images.specs.SpanFile.{IsFile}
 use Rattle.images.specs.Typed.{IsTypable}
@@ -27,7 +27,7 @@ returns-in-Ok-verified-clause-only c = λ is len f typable.
 
 pub returns-in-Err-Fault-clause-only : goal.returns-in-Err-Fault-clause-only
 returns-in-Err-Fault-clause-only c = λ is len f typable.
-    let why = subst (λ (e : VerifyError). IsWhy c.args.code.items c.args.state_len e) c.in-Err-Fault.field-0-is c.in-Err-Fault.ensures in
+    let why = subst (λ (e : SpanVerifyError). IsWhy c.args.code.items c.args.state_len e) c.in-Err-Fault.field-0-is c.in-Err-Fault.ensures in
     absurd (not_typable c.args.code.items is c.args.state_len len c.args.bytes.now c.in-Err-Fault.rule c.in-Err-Fault.slot c.requires f why typable)
 
 pub verified-requires-clause-state : goal.verified-requires-clause-state
@@ -43,7 +43,7 @@ returns-in-Ok-verified-clause-found c =
 
 pub returns-in-Err-Fault-clause-refused : goal.returns-in-Err-Fault-clause-refused
 returns-in-Err-Fault-clause-refused c =
-    let why = subst (λ (e : VerifyError). IsWhy c.args.code.items c.args.state_len e) c.in-Err-Fault.field-0-is c.in-Err-Fault.ensures in
+    let why = subst (λ (e : SpanVerifyError). IsWhy c.args.code.items c.args.state_len e) c.in-Err-Fault.field-0-is c.in-Err-Fault.ensures in
     (c.args.code.items, c.args.state_len, c.requires, why)
 
 pub split_at-requires : goal.split_at-requires

@@ -2,8 +2,8 @@ use Rattle.std.proofs.Common.{rules, ◌≡◌, ◌≢◌, ◌∙◌, ℕ, Optio
 use Rattle.std.specs.Prelude.{IfSome}
 use Rattle.regtypes.specs.declared.frame.Kind.{Kind}
 use Rattle.regtypes.specs.declared.frame.Kind.TheVariants.{Unset}
-use Rattle.listing.specs.declared.why.Why.{Why}
-use Rattle.listing.specs.declared.why.Why.TheVariants.{Unknown, Differs}
+use Rattle.listing.specs.declared.why.UnsetCause.{UnsetCause}
+use Rattle.listing.specs.declared.why.UnsetCause.TheVariants.{Unknown, Differs}
 use Rattle.listing.specs.Inside.Arrives.{GoesWith, IsSet}
 use Rattle.listing.specs.Why.{Clash, IsReason, Leaves}
 use Rattle.listing.proofs.Together.{first_kind, none_before, passes_none, passes_one, together_more, told, with_reason}
@@ -23,7 +23,7 @@ loop-from-preserved c =
           let none : c.kind_left.result ≡ None = search rules in
           record {
             set = subst (λ (x : Option (ℕ × Kind)). IsSet s r at x) (sym w.set-is) was.set;
-            reason = subst (λ (y : Why). y ≢ Unknown → IsReason s r y at) (sym w.reason-is) was.reason;
+            reason = subst (λ (y : UnsetCause). y ≢ Unknown → IsReason s r y at) (sym w.reason-is) was.reason;
             together = together_more s r at n c.loop-from.set c.loop-from.set c.match-kind_left.set c.loop-from.reason c.loop-from.reason c.match-kind_left.reason w.set-is w.reason-is was.together
                 (λ k goes. goes) (passes_none s r at n c.kind_left.result c.loop-from.set c.loop-from.reason each none);
           }
@@ -35,7 +35,7 @@ loop-from-preserved c =
           let left : Leaves s r n at x = subst (λ (o : Option Kind). IfSome o (Leaves s r n at)) found c.kind_left.ensures.left in
           record {
             set = subst (λ (y : Option (ℕ × Kind)). IsSet s r at y) (sym w.set-is) (left, full);
-            reason = subst (λ (y : Why). y ≢ Unknown → IsReason s r y at) (sym w.reason-is) was.reason;
+            reason = subst (λ (y : UnsetCause). y ≢ Unknown → IsReason s r y at) (sym w.reason-is) was.reason;
             together = together_more s r at n c.loop-from.set (Some (n, x)) c.match-kind_left.set c.loop-from.reason c.loop-from.reason c.match-kind_left.reason w.set-is w.reason-is was.together
                 (λ k goes. none_before (Some (n, x)) c.loop-from.reason k (subst (λ (y : Option (ℕ × Kind)). GoesWith y c.loop-from.reason k) none goes))
                 (passes_one s r at n c.kind_left.result x (Some (n, x)) c.loop-from.reason each found (first_kind n x c.loop-from.reason full));
@@ -54,7 +54,7 @@ loop-from-preserved c =
           let reason : IsReason s r (Differs first n at) at = (refl, record { first = had; one = one.0; set = one.1; second = x; other = left; kept = full; clash = clash }) in
           record {
             set = subst (λ (y : Option (ℕ × Kind)). IsSet s r at y) (sym w.set-is) was.set;
-            reason = subst (λ (y : Why). y ≢ Unknown → IsReason s r y at) (sym w.reason-is) (λ _. reason);
+            reason = subst (λ (y : UnsetCause). y ≢ Unknown → IsReason s r y at) (sym w.reason-is) (λ _. reason);
             together = together_more s r at n c.loop-from.set (Some (first, had)) c.match-kind_left.set c.loop-from.reason (Differs first n at) c.match-kind_left.reason (w.set-is ∙ before) w.reason-is was.together
                 (λ k goes. with_reason (first, had) c.loop-from.reason (Differs first n at) k other (subst (λ (y : Option (ℕ × Kind)). GoesWith y c.loop-from.reason k) before goes))
                 (passes_one s r at n c.kind_left.result x (Some (first, had)) (Differs first n at) each found (full, λ unknown. absurd (other unknown)));
@@ -69,7 +69,7 @@ loop-from-preserved c =
           let apart : ¬ Clash had x = λ clash. let both : true ≡ false = sym (w.clash.ensures.1 clash) ∙ w.if-clash.false in cc in
           record {
             set = subst (λ (y : Option (ℕ × Kind)). IsSet s r at y) (sym w.set-is) was.set;
-            reason = subst (λ (y : Why). y ≢ Unknown → IsReason s r y at) (sym w.reason-is) was.reason;
+            reason = subst (λ (y : UnsetCause). y ≢ Unknown → IsReason s r y at) (sym w.reason-is) was.reason;
             together = together_more s r at n c.loop-from.set (Some (first, had)) c.match-kind_left.set c.loop-from.reason c.loop-from.reason c.match-kind_left.reason (w.set-is ∙ before) w.reason-is was.together
                 (λ k goes. subst (λ (y : Option (ℕ × Kind)). GoesWith y c.loop-from.reason k) before goes)
                 (passes_one s r at n c.kind_left.result x (Some (first, had)) c.loop-from.reason each found (full, λ _. apart));

@@ -1,5 +1,5 @@
 use Rattle.std.proofs.Common.{◌≢◌}
-use Rattle.listing.specs.declared.why.Why.TheVariants.{Unknown}
+use Rattle.listing.specs.declared.why.UnsetCause.TheVariants.{Unknown}
 use Rattle.listing.specs.Inside.Arrives.{GoTogether, IsSet}
 use Rattle.listing.specs.Why.{IsReason}
 use Rattle.listing.proofs.why.arrival_at.Given as goal

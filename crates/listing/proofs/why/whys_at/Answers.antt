@@ -4,8 +4,8 @@ use Rattle.std.specs.Prelude.{Some}
 use Rattle.regtypes.specs.declared.frame.Kind.TheVariants.{Unset}
 use Rattle.regtypes.specs.Frame.{kind_at}
 use Rattle.regtypes.specs.Typing.{frame_at}
-use Rattle.listing.specs.declared.why.Why.{Why}
-use Rattle.listing.specs.declared.why.Why.TheVariants.{Unknown}
+use Rattle.listing.specs.declared.why.UnsetCause.{UnsetCause}
+use Rattle.listing.specs.declared.why.UnsetCause.TheVariants.{Unknown}
 use Rattle.listing.specs.Why.{Explains}
 use Rattle.listing.proofs.Reasons.{eleven, none_yet, of_nowhere, of_set, of_unset, one_more, set_here, set_others}
 use Rattle.listing.proofs.why.whys_at.Goals as goal
@@ -32,7 +32,7 @@ loop-number-preserved c =
           let why = w.why_of.result in
           let unset : kind_at frame.kinds n ≡ Unset = search rules in
           let others : (r : ℕ) → r ≢ n → get_or c.if-eq.whys r Unknown ≡ get_or old r Unknown = λ r apart. set_others old c.if-eq.whys why n r w.whys-is apart in
-          let now : Explains s n (get_or c.if-eq.whys n Unknown) c.args.slot = subst (λ (x : Why). Explains s n x c.args.slot) (sym (set_here old c.if-eq.whys why n w.whys-is within)) (of_unset s n c.args.slot frame why there unset w.why_of.ensures) in
+          let now : Explains s n (get_or c.if-eq.whys n Unknown) c.args.slot = subst (λ (x : UnsetCause). Explains s n x c.args.slot) (sym (set_here old c.if-eq.whys why n w.whys-is within)) (of_unset s n c.args.slot frame why there unset w.why_of.ensures) in
           record {
             size = ap length w.whys-is ∙ length-set old n why ∙ was.size;
             found = one_more s old c.if-eq.whys c.args.slot n was.found (λ r lt. others r (λ (q : r ≡ n). omega (arith, q, lt))) now;

@@ -1,7 +1,7 @@
 use Rattle.std.proofs.Common.{◌≡◌, ℕ, ◌<◌, ◌≤◌, length, get_or}
 use Rattle.limits.specs.declared.TheConstants.{REGISTERS}
 use Rattle.listing.specs.Why.{Explains}
-use Rattle.listing.specs.declared.why.Why.TheVariants.{Unknown}
+use Rattle.listing.specs.declared.why.UnsetCause.TheVariants.{Unknown}
 use Rattle.listing.proofs.why.whys_at.Given as goal
 
 abbrev pub invariant-loop-number : goal.invariant-loop-number

@@ -1,7 +1,7 @@
 use Rattle.std.proofs.Common.{◌≡◌, arith, refl}
 use Rattle.std.proofs.lemmas.List.{get_or_read}
 use Rattle.native.specs.SlotTasks.{task_at}
-use Rattle.native.specs.declared.task.Task.TheVariants as task
+use Rattle.native.specs.declared.task.SlotTask.TheVariants as task
 use Rattle.native.proofs.Preservation.{keeps_next, keeps_all, keeps_is}
 use Rattle.native.proofs.saved.saved_of.Goals as goal
 

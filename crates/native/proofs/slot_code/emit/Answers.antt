@@ -1,7 +1,7 @@
 use Rattle.std.proofs.Common.{◌≡◌, ◌-◌, true, sym, ◌∙◌, subst, arith}
 use Rattle.std.specs.Prelude.{OnOk}
 use Rattle.std.proofs.lemmas.Option.{slice_get-get_or}
-use Rattle.native.specs.declared.task.Task.TheVariants as task
+use Rattle.native.specs.declared.task.SlotTask.TheVariants as task
 use Rattle.native.specs.Tasks.{is_apt}
 use Rattle.native.specs.Code.{Emits, Serves, IsBalanced}
 use Rattle.native.specs.Laid.{Fuses, ServesBy}

@@ -1,11 +1,11 @@
 use Rattle.std.proofs.Common.{◌≡◌, ℕ, List, ◌++◌, ◌∷◌, [], ap, ◌∙◌}
 use Rattle.std.proofs.lemmas.Result.{err_from_is_err_and}
-use Rattle.packets.specs.declared.page.Entry.{Entry}
+use Rattle.packets.specs.declared.page.LoggedMessage.{LoggedMessage}
 use Rattle.packets.specs.Inside.Reader.{entry_at, times}
 use Rattle.packets.proofs.Counted.{goes_on, ends, is_done}
 use Rattle.packets.proofs.fields.so_many_entries.Goals as goal
 
-abbrev entry : ℕ → ℕ → List ℕ → Entry
+abbrev entry : ℕ → ℕ → List ℕ → LoggedMessage
 entry number ssn payload = record { number = number; ssn = ssn; payload = payload }
 
 pub returns-in_err-number : goal.returns-in_err-number

@@ -3,7 +3,7 @@ use Rattle.std.specs.Prelude.{codes, String}
 use Rattle.std.specs.declared.alloc.Global.{Global}
 use Rattle.std.specs.String.{string_bytes}
 use Rattle.std.proofs.lemmas.List.{length-map}
-use Rattle.scenario.specs.declared.process.Process.{Process}
+use Rattle.scenario.specs.declared.process.NamedProcess.{NamedProcess}
 use Rattle.scenario.specs.Order.{IsName}
 use Rattle.scenario.specs.Process.{IsPath, names_of}
 use Rattle.scenario.proofs.Lines.{bad_path, declares, name_taken, no_name, no_path, other_word}
@@ -48,7 +48,7 @@ returns c =
       declares c.args.text.now c.in_ok-word.word.now c.in_ok-word.operands.now cut.0 cut.1 c.in_ok-name.name.now c.in_ok-name.path.now more.0 more.1 is,
       record {
         first = search rules;
-        room = omega (arith, c.len.ensures.len, c.if-len-ge-PROCESSES.false, length-map c.args.processes.now.entries (λ (e : String Global × Process). string_bytes e.0));
+        room = omega (arith, c.len.ensures.len, c.if-len-ge-PROCESSES.false, length-map c.args.processes.now.entries (λ (e : String Global × NamedProcess). string_bytes e.0));
         named = search rules;
         pathed = search rules;
         fresh = c.if-not-is_free.ensures;

@@ -1,7 +1,7 @@
 use Rattle.std.proofs.Common.{◌≡◌, ◌+◌, length, sym, ap, ◌∙◌, subst, arith, w16, to_z, of_z}
 use Rattle.std.proofs.lemmas.Int.{to_z-of_z}
 use Rattle.std.proofs.lemmas.List.{length-set}
-use Rattle.spans.specs.declared.kind.Kind.TheVariants.{Num}
+use Rattle.spans.specs.declared.kind.SpanKind.TheVariants.{Num}
 use Rattle.spans.specs.Frame.{kind_at}
 use Rattle.span_verifier.proofs.Erasure.{Wiped, wiped_none, wiped_one, wiped_skip, wiped_all}
 use Rattle.span_verifier.proofs.access.wiped.Goals as goal

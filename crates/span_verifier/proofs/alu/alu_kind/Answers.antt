@@ -4,15 +4,15 @@ use Rattle.decode.specs.declared.insn.AluOp.{AluOp}
 use Rattle.decode.specs.declared.insn.Width.{Width}
 use Rattle.decode.specs.declared.insn.Operand.{Operand}
 use Rattle.decode.specs.declared.insn.Operand.TheVariants as operand
-use Rattle.spans.specs.declared.kind.Kind.{Kind}
-use Rattle.spans.specs.declared.kind.Kind.TheVariants.{Unset}
+use Rattle.spans.specs.declared.kind.SpanKind.{SpanKind}
+use Rattle.spans.specs.declared.kind.SpanKind.TheVariants.{Unset}
 use Rattle.spans.specs.Ways.{AluForm, Computes, alu_form, result_kind}
 use Rattle.span_verifier.proofs.AluForms.{half_sum, other_imm, other_reg}
 use Rattle.span_verifier.proofs.alu.alu_kind.Goals as goal
 use Rattle.span_verifier.proofs.alu.alu_kind.Goals.{in_default-2-via-in-Add+in_default, in_default-2-via-in_default}
 
 -- the form of an operation says what it gives
-by_form : (op : AluOp) (width : Width) (o p : Operand) (a b k : Kind) → k ≡ unwrap_or (result_kind (Computes op width) a b) Unset → Computes op width ≡ alu_form op width p → o ≡ p → k ≡ unwrap_or (result_kind (alu_form op width o) a b) Unset
+by_form : (op : AluOp) (width : Width) (o p : Operand) (a b k : SpanKind) → k ≡ unwrap_or (result_kind (Computes op width) a b) Unset → Computes op width ≡ alu_form op width p → o ≡ p → k ≡ unwrap_or (result_kind (alu_form op width o) a b) Unset
 by_form op width o p a b k e f q = e ∙ ap (λ (form : AluForm). unwrap_or (result_kind form a b) Unset) (f ∙ ap (alu_form op width) (sym q))
 
 pub returns-in_default : goal.returns-in_default

@@ -5,7 +5,7 @@ use Rattle.decode.specs.declared.insn.Width.{Width}
 use Rattle.decode.specs.declared.insn.Operand.{Operand}
 use Rattle.decode.specs.declared.insn.Operand.TheVariants as operand
 use Rattle.regtypes.specs.declared.rule.Rule.{Rule}
-use Rattle.spans.specs.declared.kind.Kind.{Kind}
+use Rattle.spans.specs.declared.kind.SpanKind.{SpanKind}
 use Rattle.spans.specs.Ways.{AluForm, Computes, alu_form}
 use Rattle.span_verifier.specs.Rules.{alu_rule, lesser, number_rule}
 use Rattle.span_verifier.proofs.AluForms.{half_sum, other_imm, other_reg}
@@ -13,7 +13,7 @@ use Rattle.span_verifier.proofs.alu.alu_rule.Goals as goal
 use Rattle.span_verifier.proofs.alu.alu_rule.Goals.{in_default-2-via-in-Add+in_default, in_default-2-via-in_default}
 
 -- the form of an operation that computes a word says what it breaks
-by_form : (op : AluOp) (width : Width) (o p : Operand) (a b : Kind) (x y r : Option Rule) → r ≡ lesser x y → x ≡ number_rule a → y ≡ number_rule b → Computes op width ≡ alu_form op width p → o ≡ p → r ≡ alu_rule (alu_form op width o) a b
+by_form : (op : AluOp) (width : Width) (o p : Operand) (a b : SpanKind) (x y r : Option Rule) → r ≡ lesser x y → x ≡ number_rule a → y ≡ number_rule b → Computes op width ≡ alu_form op width p → o ≡ p → r ≡ alu_rule (alu_form op width o) a b
 by_form op width o p a b x y r e ex ey f q =
     e ∙ ap (λ (z : Option Rule). lesser z y) ex ∙ ap (lesser (number_rule a)) ey ∙ ap (λ (form : AluForm). alu_rule form a b) (f ∙ ap (alu_form op width) (sym q))
 

@@ -1,6 +1,6 @@
 use Rattle.std.proofs.Common.{sym, arith}
 use Rattle.std.proofs.lemmas.List.{get_or_past}
-use Rattle.spans.specs.declared.kind.Kind.TheVariants.{Unset}
+use Rattle.spans.specs.declared.kind.SpanKind.TheVariants.{Unset}
 use Rattle.span_verifier.proofs.memory.kind_in.Goals as goal
 
 pub returns-else-cell-lt75 : goal.returns-else-cell-lt75

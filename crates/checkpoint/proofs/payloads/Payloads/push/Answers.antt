@@ -1,5 +1,5 @@
 use Rattle.std.proofs.Common.{rules, ◌≡◌, ◌++◌, ◌∷◌, [], ap, ◌∙◌}
-use Rattle.checkpoint.specs.declared.form.Form.TheVariants.{Second}
+use Rattle.checkpoint.specs.declared.form.CheckpointForm.TheVariants.{Second}
 use Rattle.checkpoint.specs.Format.{payload_bytes}
 use Rattle.checkpoint.proofs.PayloadLemmas.{pushed, pushed_are}
 use Rattle.checkpoint.proofs.payloads.Payloads.push.Goals as goal

@@ -1,5 +1,5 @@
 use Rattle.std.proofs.Common.{subst}
-use Rattle.checkpoint.specs.declared.form.Form.TheVariants.{Second}
+use Rattle.checkpoint.specs.declared.form.CheckpointForm.TheVariants.{Second}
 use Rattle.checkpoint.specs.Reader.{Fails, reading}
 use Rattle.checkpoint.specs.Inside.Stored.{saved_in}
 use Rattle.checkpoint.proofs.FileLemmas.{reading_again}

@@ -20,7 +20,7 @@ use Rattle.std.proofs.raw_atomic.Walks.{proved_at, leaves}
 use Rattle.std.specs.contracts.alloc.Global as heap
 use Rattle.std.proofs.alloc.Global.TheLaws as heap_laws
 use Rattle.std.specs.contracts.impls.GlobalAllocator.TheImpl.{ghosts}
-use Rattle.embed.specs.contracts.handler.Handler as handler
+use Rattle.embed.specs.contracts.handler.OpenHandler as handler
 use Rattle.handlers.specs.Image.{TheImage}
 use Rattle.embed.proofs.Loosened.{both, Loose, loose_good, loose_out}
 use Rattle.embed.proofs.OpenedValue.{word, opened_in}

@@ -2,7 +2,7 @@ use Rattle.std.proofs.Common.{◌≡◌, ◌<◌, ◌≤◌, length, map, subst,
 use Rattle.std.proofs.lemmas.List.{length-map}
 use Rattle.handlers.specs.Image.{TheImage, image_in}
 use Rattle.rsn.specs.Receipts.{Received}
-use Rattle.checkpoint.specs.declared.form.Form.TheVariants.{Second}
+use Rattle.checkpoint.specs.declared.form.CheckpointForm.TheVariants.{Second}
 use Rattle.checkpoint.specs.Saved.{TheSaved, Fits, log_again, receipts_again}
 use Rattle.replay.specs.Plan.{IsPlan, found}
 use Rattle.machine.specs.Process.{TheProcess, idle_process}

@@ -1,7 +1,7 @@
 use Rattle.std.proofs.Common.{◌≡◌, ◌≤◌, length, map, take, sym, ap, ◌∙◌, subst, arith}
 use Rattle.std.proofs.lemmas.List.{length-map}
 use Rattle.handlers.specs.Image.{TheImage, image_in}
-use Rattle.checkpoint.specs.declared.form.Form.TheVariants.{Second}
+use Rattle.checkpoint.specs.declared.form.CheckpointForm.TheVariants.{Second}
 use Rattle.checkpoint.specs.Format.{IsCheckpoint}
 use Rattle.checkpoint.specs.Saved.{TheSaved}
 use Rattle.machine.specs.Process.{TheProcess, idle_process}

@@ -1,0 +1,10 @@
+use Rattle.std.proofs.Common.{rules, arith}
+use Rattle.std.proofs.lemmas.Grind.{common_steps}
+use Rattle.process.specs.Calls.{IsHanded}
+use Rattle.process.proofs.Within as within
+use Rattle.process.proofs.process.Member.receive.Goals as goal
+
+pub invariant_of-self-2 : goal.invariant_of-self-2
+invariant_of-self-2 c =
+    let h : IsHanded c.args.packet.now c.self.inside.course c.hand.new.self = first_of (search rules, grind (arith, common_steps)) in
+    within.handed c.args.packet.now c.self.inside.course c.hand.new.self h c.self.invariant

@@ -1,0 +1,14 @@
+use Rattle.std.proofs.Common.{rules, arith, sym, ap, subst}
+use Rattle.std.proofs.lemmas.Grind.{common_steps}
+use Rattle.process.specs.Bounds.{IsWithin}
+use Rattle.process.proofs.Within as within
+use Rattle.process.proofs.process.Member.saved.Goals.{in-Up, in_default}
+use Rattle.process.proofs.process.Member.saved.Goals as goal
+
+pub invariant_of-self : goal.invariant_of-self
+invariant_of-self c =
+    elim c.match-self.branch [
+      | in-Up w ↦
+          subst IsWithin (sym (ap (λ i. i.course) w.self-inside-is)) (within.saved w.saved.result w.in-Up.node w.saved.new.self w.saved.ensures.value w.saved.ensures.err (subst IsWithin w.in-Up.is c.self.invariant))
+      | in_default w ↦ first_of (search rules, grind (arith, common_steps))
+    ]

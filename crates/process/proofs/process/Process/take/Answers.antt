@@ -1,5 +1,0 @@
-use Rattle.process.proofs.Within as within
-use Rattle.process.proofs.process.Process.take.Goals as goal
-
-pub invariant_of-self : goal.invariant_of-self
-invariant_of-self c = within.takes c.pop.result c.self.inside.course c.pop.new.self c.pop.ensures c.self.invariant
