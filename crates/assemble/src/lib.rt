@@ -22,9 +22,9 @@ mod mnemonic;
 mod number;
 mod operands;
 mod parser;
+mod printer;
 mod sentence;
 mod split;
-mod printer;
 
 pub use fault::{AsmError, TextRule};
 pub use laws::{one_fault, one_list, read_back, there_and_back};

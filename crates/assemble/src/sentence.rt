@@ -130,7 +130,9 @@ impl<'a> TextMistake<'a> {
             TextMistake::Mark => Some(
                 "a byte order mark (U+FEFF) before the first letter: save the text as UTF-8 without one",
             ),
-            TextMistake::CarriageReturn => Some("a carriage return: lines end with a line feed alone"),
+            TextMistake::CarriageReturn => Some(
+                "a carriage return: lines end with a line feed alone",
+            ),
             TextMistake::Null => {
                 Some(
                     "a NUL (U+0000), which each second letter of UTF-16 is: save the text as UTF-8",
@@ -144,7 +146,9 @@ impl<'a> TextMistake<'a> {
                 "a semicolon: each instruction stands on a line of its own, without one",
             ),
             TextMistake::Hash => Some("a number stands without a # before it"),
-            TextMistake::Comment => Some("a comment stands on a line of its own, which begins with #"),
+            TextMistake::Comment => Some(
+                "a comment stands on a line of its own, which begins with #",
+            ),
             TextMistake::Space => Some("a space at the end, or two in a row"),
             TextMistake::Comma => Some(
                 "a comma and one space stand between operands, and no space before the comma",

@@ -32,7 +32,8 @@ AreMovedRunsKept =
 -- the same for calls of code and of what is written of it
 abbrev pub AreRunsKept : Type 0
 AreRunsKept =
-    (form : FileForm) (code written : List Insn) (state : ℕ) (blocks : Blocks) (n : ℕ) (reply : Replies) (c : Configuration) (q : List Request)
+    (form : FileForm) (code written : List Insn)
+    (state : ℕ) (blocks : Blocks) (n : ℕ) (reply : Replies) (c : Configuration) (q : List Request)
     → Stands form code state written blocks
     → EndsAs (λ k. k + k) (call_from state (code_of code) reply n 0 c q) (call_from state (code_of written) reply (n + n) 0 c q)
     × EndsAs (λ k. k) (call_from state (code_of written) reply n 0 c q) (call_from state (code_of code) reply n 0 c q)

@@ -23,19 +23,19 @@
 //! ```
 #![tactic(auto)]
 
+mod arrangement;
 mod blocks;
 mod insns;
 mod laws;
 mod order;
 mod placement;
-mod arrangement;
 mod search;
 mod slots;
-mod writer;
 mod walk;
+mod writer;
 
+pub use arrangement::Placed;
 pub use blocks::Blocks;
 pub use laws::{moved_runs_are_kept, runs_are_kept};
 pub use order::{BlockOrder, order_blocks};
-pub use arrangement::Placed;
 pub use writer::{Ordered, ordered_file};

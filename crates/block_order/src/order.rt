@@ -4,9 +4,9 @@ ghost use Rattle.std.specs.Prelude.{◌≡◌, ◌<◌, ◌≤◌, IfOk, IfSome,
 ghost use Rattle.decode.specs.Slots.{insn_at, slots, slots_of};
 ghost use Rattle.block_order.specs.Order.{IsForward, IsLoop, IsMoved, IsOrder};
 
+use crate::arrangement::{Misplaced, Placed, place};
 use crate::insns::is_forward;
 use crate::placement::is_placement;
-use crate::arrangement::{Misplaced, Placed, place};
 use crate::search::{Search, search_slots};
 use crate::walk::loop_of;
 use decode::{Insn, slots as slots_in};
@@ -144,7 +144,11 @@ fn order_of(
 }
 
 /// The order of the blocks of code in which a jump goes back.
-fn order_slots(alloc: Global, code: &[Insn], slots: &[Option<Insn>]) -> Result<BlockOrder, AllocError>
+fn order_slots(
+    alloc: Global,
+    code: &[Insn],
+    slots: &[Option<Insn>],
+) -> Result<BlockOrder, AllocError>
     requires slots { slots.now ≡ slots_of code.now }
     requires back { ¬ IsForward code.now }
     ensures { IfOk result (IsOrder code.now) }

@@ -10,9 +10,9 @@ ghost use Rattle.verifier.specs.ImageFile.{IsUnwritten};
 ghost use Rattle.block_order.specs.Order.{IsForward, IsMoved, IsOrder};
 ghost use Rattle.block_order.specs.Ordered.{BreaksV1, IsOrdered};
 
+use crate::arrangement::Placed;
 use crate::blocks::Blocks;
 use crate::order::{BlockOrder, order_blocks};
-use crate::arrangement::Placed;
 use decode::Insn;
 use images::{FileForm, file};
 use limits::{SLOTS, STATE_BYTES};

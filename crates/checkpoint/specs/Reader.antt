@@ -1,5 +1,6 @@
 -- Reading a checkpoint from left to right. A field gives a value and the bytes after it, or the first fault.
-use Rattle.std.specs.Prelude.{◌≡◌, ℕ, zero, suc, ◌+◌, ◌-◌, List, [], ◌∷◌, length, take, drop, Result, Ok, Err, nat_lt, nat_eq, ◌==◌, ◌||◌, if◌then◌else◌}
+use Rattle.std.specs.Prelude.{◌≡◌, ℕ, zero, suc, ◌+◌, ◌-◌, List, [], ◌∷◌, length, take, drop, Result, Ok, Err, nat_lt, nat_eq, ◌==◌, ◌||◌}
+use Rattle.std.specs.Prelude.{if◌then◌else◌}
 use Rattle.std.specs.Int.{Width, w16, w32, byte_len, from_le_bytes}
 use Rattle.std.specs.List.{list_all, insert}
 use Rattle.std.specs.Cmp.Lexicographic.{pointwise}
@@ -103,7 +104,16 @@ body_at head bytes = do
   state ← bytes_at head.state bytes
   senders ← senders_at head.me head.count head.received state.1
   queues ← times (kept_at head.form) head.count senders.1
-  Ok (record { me = head.me; count = head.count; state = state.0; senders = senders.0; queues = insert queues.0 head.me nothing_kept }, queues.1)
+  Ok (
+    record {
+      me = head.me;
+      count = head.count;
+      state = state.0;
+      senders = senders.0;
+      queues = insert queues.0 head.me nothing_kept;
+    },
+    queues.1,
+  )
 
 -- all of the bytes, with none left over
 unfoldable pub reading : List ℕ → Result TheSaved SavedFault

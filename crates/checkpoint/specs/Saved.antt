@@ -70,7 +70,8 @@ queue_again kept = record { first = kept.first; payloads = kept.payloads; number
 
 -- a process with this state, these receipts and this log
 abbrev pub saved_of : ℕ → ℕ → List ℕ → Received → TheLog → TheSaved
-saved_of me count state receipts log = record { me = me; count = count; state = state; senders = receipts.senders; queues = map kept_of log.queues }
+saved_of me count state receipts log =
+    record { me = me; count = count; state = state; senders = receipts.senders; queues = map kept_of log.queues }
 
 -- the receipts of what was saved. All count as acknowledged
 abbrev pub receipts_again : TheSaved → Received

@@ -85,7 +85,11 @@ fn queues_of(
 
 /// What is kept for one destination.
 #[tactic(auto, unfolding(crate::specs::Reader::kept_at))]
-fn kept_of(alloc: Global, form: CheckpointForm, bytes: &[u8]) -> Result<(KeptMessages, &[u8]), SavedError>
+fn kept_of(
+    alloc: Global,
+    form: CheckpointForm,
+    bytes: &[u8],
+) -> Result<(KeptMessages, &[u8]), SavedError>
     ensures exact { Gives (λ x. (x.0, x.1.now)) result (kept_at form bytes.now) }
     ensures fits { IfOk result (λ x. KeptFits Second x.0) }
 {

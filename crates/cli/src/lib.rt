@@ -15,5 +15,5 @@ mod command;
 mod refusal;
 mod request;
 
-pub use refusal::{UsageRefusal, Usage};
+pub use refusal::{Usage, UsageRefusal};
 pub use request::{Request, parse_words};

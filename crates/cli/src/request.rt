@@ -5,7 +5,7 @@ ghost use Rattle.clap.specs.Words.{first_of, found_of, kind_of, rows_of, subcomm
 ghost use Rattle.cli.specs.Asks.{AsksBy, AsksFor, AsksIn, Explains, Gives, GivesOrder, HasForm, HasNumber, IsInRange, IsRefusal, is_set, order_of};
 
 use crate::command::{BUDGET, sblog};
-use crate::refusal::{UsageRefusal, Usage};
+use crate::refusal::{Usage, UsageRefusal};
 use clap::error::ErrorKind;
 use clap::{ArgMatches, Error};
 use images::FileForm;

@@ -5,8 +5,10 @@ use Rattle.world.specs.Logs.{state_of}
 use Rattle.world.specs.Worked.{relaying}
 use Rattle.cluster.specs.Parcels.{Number, Told, Saved, parcel, In}
 use Rattle.cluster.specs.Cluster.{opening, seen, is_well}
-use Rattle.cluster.specs.Rules.{Act, Puts, Starts, Works, Replays, Records, Counts, Collects, Recovers, Freezes, Keeps, Dies, May, Run, after_run, message}
-use Rattle.cluster.specs.Pieces.{receives, number_recorded, falls, asks, tells, resumes, restores, no_numbers, no_entries, greets, first_entry, one_after}
+use Rattle.cluster.specs.Rules.{Act, Puts, Starts, Works, Replays, Records, Counts, Collects, Recovers, Freezes, Keeps, Dies, May, Run}
+use Rattle.cluster.specs.Rules.{after_run, message}
+use Rattle.cluster.specs.Pieces.{receives, number_recorded, falls, asks, tells, resumes, restores, no_numbers, no_entries, greets}
+use Rattle.cluster.specs.Pieces.{first_entry, one_after}
 
 -- node 1 receives two messages, and only the RSN of the second is recorded
 abbrev pub gap : List ℕ → List ℕ → List Act

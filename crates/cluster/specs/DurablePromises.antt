@@ -23,11 +23,16 @@ AreFirst h p sent =
 
 -- whatever a node received from p, or the gateway showed of it, the messages that p's durable checkpoint covers send it
 abbrev pub NobodyHasMore : Cluster → ℕ → Type 0
-NobodyHasMore c p = record { received : (d : ℕ) → AreFirst (c.history d) p (kept_sends c p d); shown : AreFirst c.shown p (kept_sends c p 0) }
+NobodyHasMore c p =
+    record { received : (d : ℕ) → AreFirst (c.history d) p (kept_sends c p d); shown : AreFirst c.shown p (kept_sends c p 0) }
 
 -- the messages that p's checkpoint covers in c are covered in v too, and with them what they send
 abbrev pub Stays : Cluster → Cluster → ℕ → Type 0
-Stays c v p = record { messages : Begins (take (c.saved p) (c.history p)) (take (v.saved p) (v.history p)); sends : (d : ℕ) → Begins (kept_sends c p d) (kept_sends v p d) }
+Stays c v p = record {
+  messages : Begins (take (c.saved p) (c.history p)) (take (v.saved p) (v.history p));
+  sends : (d : ℕ)
+      → Begins (kept_sends c p d) (kept_sends v p d);
+}
 
 -- the messages of each sender have the SSNs 1, 2, .. in order and without a gap
 abbrev pub InOrder : List Message → Type 0
@@ -41,12 +46,14 @@ AlwaysInOrder = (n : ℕ) (f : Handlers) (durable : ℕ → Bool) (es : List Dee
 
 -- in each run in which some nodes are durable
 abbrev pub DurableKeep : Type 0
-DurableKeep = (n : ℕ) (f : Handlers) (durable : ℕ → Bool) (es : List Deed) (p : ℕ) → Grows f → Deeds durable (opening n f) es → lasts durable p ≡ true
+DurableKeep = (n : ℕ) (f : Handlers) (durable : ℕ → Bool) (es : List Deed) (p : ℕ) → Grows f → Deeds durable (opening n f) es
+    → lasts durable p ≡ true
     → NobodyHasMore (after_deeds durable (opening n f) es) p
 
 -- a message that a checkpoint covers stays covered for good, of any node
 abbrev pub CheckpointsStay : Type 0
-CheckpointsStay = (n : ℕ) (f : Handlers) (durable : ℕ → Bool) (es more : List Deed) (p : ℕ) → Grows f → Deeds durable (opening n f) (es ++ more)
+CheckpointsStay = (n : ℕ) (f : Handlers) (durable : ℕ → Bool) (es more : List Deed) (p : ℕ) → Grows f
+    → Deeds durable (opening n f) (es ++ more)
     → Stays (after_deeds durable (opening n f) es) (after_deeds durable (opening n f) (es ++ more)) p
 
 -- if all nodes are durable: no orphan, and each output once

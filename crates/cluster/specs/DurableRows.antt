@@ -6,7 +6,8 @@ use Rattle.world.specs.History.{Payload}
 use Rattle.theorems.specs.Overlap.{passing}
 use Rattle.cluster.specs.Parcels.{Delivery, Number, Ask, Told}
 use Rattle.cluster.specs.Cluster.{opening}
-use Rattle.cluster.specs.Rules.{Act, Input, Puts, Starts, Shows, Works, Records, Counts, Hears, Collects, Recovers, Freezes, Keeps, Thaws, Dies, Opens, message}
+use Rattle.cluster.specs.Rules.{Act, Input, Puts, Starts, Shows, Works, Records, Counts, Hears, Collects, Recovers, Freezes, Keeps, Thaws}
+use Rattle.cluster.specs.Rules.{Dies, Opens, message}
 use Rattle.cluster.specs.Promises.{NoOrphanNode}
 use Rattle.cluster.specs.Late.{old_ask_answered}
 use Rattle.cluster.specs.Overlap.{Deed, Acts, Meets, Loses, Leaves, Deeds, after_deeds}

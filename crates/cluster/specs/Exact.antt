@@ -93,9 +93,18 @@ said_after s a = s.said
 
 -- what each step changes: a durable node releases only what the messages covered by its durable checkpoint send
 abbrev pub step : Telling → Step → Telling
-step s (Takes exact lost a) = record { durable = s.durable; cluster = steps s.durable s.cluster (Acts a); exact = exact_after s.exact exact lost a; lost = lost_after s.lost lost a; said = said_after s a }
+step s (Takes exact lost a) = record {
+  durable = s.durable;
+  cluster = steps s.durable s.cluster (Acts a);
+  exact = exact_after s.exact exact lost a;
+  lost = lost_after s.lost lost a;
+  said = said_after s a;
+}
 step s (Meeting q p i k) = record s { cluster = steps s.durable s.cluster (Meets q p i k); exact = put s.exact q false }
-step s (Losing q p i j k) = record s { cluster = steps s.durable s.cluster (Loses q p i j k); said = flagged (parcel q p (Told i j k None (λ _. None))) false true ∷ s.said }
+step s (Losing q p i j k) = record s {
+  cluster = steps s.durable s.cluster (Loses q p i j k);
+  said = flagged (parcel q p (Told i j k None (λ _. None))) false true ∷ s.said;
+}
 step s (Leaving p q) = record s { cluster = steps s.durable s.cluster (Leaves p q) }
 
 -- a run: a list of steps, each of which may happen after those before it
@@ -131,7 +140,8 @@ deeds_of (Leaving p q ∷ xs) = Leaves p q ∷ deeds_of xs
 -- the deeds of a run may happen: so it keeps their promises whatever fails
 abbrev pub StepsAreDeeds : Type 0
 StepsAreDeeds = (n : ℕ) (f : Handlers) (durable : ℕ → Bool) (xs : List Step) → Steps (starts n f durable) xs
-    → Deeds durable (opening n f) (deeds_of xs) × (after_deeds durable (opening n f) (deeds_of xs) ≡ (after_steps (starts n f durable) xs).cluster)
+    → Deeds durable (opening n f) (deeds_of xs)
+    × (after_deeds durable (opening n f) (deeds_of xs) ≡ (after_steps (starts n f durable) xs).cluster)
 
 -- these acts are a run of nodes whose recoveries don't meet. They lead where the steps lead, except for packets that say that something is
 -- lost, and for what durable nodes release: a node that is up may release less
@@ -139,17 +149,23 @@ abbrev pub IsRunOf : ℕ → Handlers → (ℕ → Bool) → List Act → Cluste
 IsRunOf n f durable acts c =
     record {
       run : Run (opening n f) acts;
-      same : after_run (opening n f) acts ≡ record c { parcels = (after_run (opening n f) acts).parcels; released = (after_run (opening n f) acts).released };
+      same : after_run (opening n f) acts ≡ record c {
+        parcels = (after_run (opening n f) acts).parcels;
+        released = (after_run (opening n f) acts).released;
+      };
       released : (p : ℕ) → durable p ≡ false → c.released p ≡ (after_run (opening n f) acts).released p;
       less : (p d : ℕ) → is_up (c.phase p) ≡ true → c.released p d ≤ (after_run (opening n f) acts).released p d;
     }
 
 -- so is each run in which every node was always exact. If there are durable nodes, each handler's sends only grow
 abbrev pub ExactRunsDontMeet : Type 0
-ExactRunsDontMeet = (n : ℕ) (f : Handlers) (durable : ℕ → Bool) (xs : List Step) → ((p : ℕ) → durable p ≡ true → Grows f) → Steps (starts n f durable) xs → AlwaysExact (starts n f durable) xs
+ExactRunsDontMeet = (n : ℕ) (f : Handlers) (durable : ℕ → Bool) (xs : List Step) → ((p : ℕ) → durable p ≡ true → Grows f)
+    → Steps (starts n f durable) xs → AlwaysExact (starts n f durable) xs
     → IsRunOf n f durable (acts_of xs) (after_steps (starts n f durable) xs).cluster
 
 -- so it keeps the promises of such a run
 abbrev pub ExactRunsKeep : Type 0
-ExactRunsKeep = (n : ℕ) (f : Handlers) (durable : ℕ → Bool) (xs : List Step) → n ≤ 15 → Grows f → Steps (starts n f durable) xs → AlwaysExact (starts n f durable) xs
-    → NoOrphanNode (after_steps (starts n f durable) xs).cluster × OutputOnce (after_steps (starts n f durable) xs).cluster × ReceivedOnce (after_steps (starts n f durable) xs).cluster
+ExactRunsKeep = (n : ℕ) (f : Handlers) (durable : ℕ → Bool) (xs : List Step) → n ≤ 15 → Grows f → Steps (starts n f durable) xs
+    → AlwaysExact (starts n f durable) xs
+    → NoOrphanNode (after_steps (starts n f durable) xs).cluster × OutputOnce (after_steps (starts n f durable) xs).cluster
+    × ReceivedOnce (after_steps (starts n f durable) xs).cluster

@@ -1,5 +1,6 @@
 -- How much a node keeps in memory, and what makes it grow
-use Rattle.std.specs.Prelude.{◌≡◌, ℕ, ◌+◌, ◌-◌, ◌≤◌, List, [], ◌∷◌, ◌++◌, length, Option, Some, None, is_some, Bool, true, false, ◌&&◌, ◌==◌, if◌then◌else◌, drop}
+use Rattle.std.specs.Prelude.{◌≡◌, ℕ, ◌+◌, ◌-◌, ◌≤◌, List, [], ◌∷◌, ◌++◌, length, Option, Some, None, is_some, Bool, true, false, ◌&&◌}
+use Rattle.std.specs.Prelude.{◌==◌, if◌then◌else◌, drop}
 use Rattle.world.specs.declared.message.Message.{Message}
 use Rattle.world.specs.History.{count_of}
 use Rattle.world.specs.Handlers.{Handlers}
@@ -72,19 +73,24 @@ ReceiptsAreNew = (n : ℕ) (f : Handlers) (acts : List Act) (p : ℕ) (test : Me
 
 -- a log has the messages that no checkpoint of the receiver covers, and those for which the node wasn't told so
 abbrev pub LogsWait : Type 0
-LogsWait = (n : ℕ) (f : Handlers) (acts : List Act) (p d : ℕ) → n ≤ 15 → Grows f → Run (opening n f) acts → LogHas (after_run (opening n f) acts) p d
+LogsWait = (n : ℕ) (f : Handlers) (acts : List Act) (p d : ℕ) → n ≤ 15 → Grows f → Run (opening n f) acts
+    → LogHas (after_run (opening n f) acts) p d
 
 -- if p is up it has dropped whatever d ever reported as covered for good, also before p died
 abbrev pub ToldIsDropped : Type 0
-ToldIsDropped = (n : ℕ) (f : Handlers) (acts more : List Act) (p d k : ℕ) → n ≤ 15 → Grows f → Run (opening n f) (acts ++ Drops d p k ∷ more)
-    → is_well (after_run (opening n f) (acts ++ Drops d p k ∷ more)) p ≡ true → k ≤ (after_run (opening n f) (acts ++ Drops d p k ∷ more)).trims p d
+ToldIsDropped = (n : ℕ) (f : Handlers) (acts more : List Act) (p d k : ℕ) → n ≤ 15 → Grows f
+    → Run (opening n f) (acts ++ Drops d p k ∷ more)
+    → is_well (after_run (opening n f) (acts ++ Drops d p k ∷ more)) p ≡ true
+    → k ≤ (after_run (opening n f) (acts ++ Drops d p k ∷ more)).trims p d
 
 -- no more RSNs than the window has wait for their acknowledgement
 abbrev pub FewWait : Type 0
-FewWait = (n : ℕ) (f : Handlers) (acts : List Act) (p : ℕ) → n ≤ 15 → Grows f → Run (opening n f) acts → IsNode (after_run (opening n f) acts) p → waiting (after_run (opening n f) acts) p ≤ WINDOW
+FewWait = (n : ℕ) (f : Handlers) (acts : List Act) (p : ℕ) → n ≤ 15 → Grows f → Run (opening n f) acts
+    → IsNode (after_run (opening n f) acts) p → waiting (after_run (opening n f) acts) p ≤ WINDOW
 
 -- while p collects, it holds from each peer at most as many messages as it took from that peer since its last durable checkpoint, however
 -- often it died since and whatever pages came
 abbrev pub ToldIsNew : Type 0
-ToldIsNew = (n : ℕ) (f : Handlers) (acts : List Act) (p q k : ℕ) → n ≤ 15 → Grows f → Run (opening n f) acts → IsNode (after_run (opening n f) acts) p → (after_run (opening n f) acts).stage p ≡ Collecting
+ToldIsNew = (n : ℕ) (f : Handlers) (acts : List Act) (p q k : ℕ) → n ≤ 15 → Grows f → Run (opening n f) acts
+    → IsNode (after_run (opening n f) acts) p → (after_run (opening n f) acts).stage p ≡ Collecting
     → count_below (holds ((after_run (opening n f) acts).told p q)) k ≤ taken_since (is_of q) p 0 acts

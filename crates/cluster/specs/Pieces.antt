@@ -5,7 +5,8 @@ use Rattle.world.specs.Worked.{relaying}
 use Rattle.theorems.specs.Overlap.{passing}
 use Rattle.cluster.specs.Parcels.{Delivery, Number, Ask, Told, Resume, Restored}
 use Rattle.cluster.specs.Cluster.{Cluster, opening}
-use Rattle.cluster.specs.Rules.{Act, Input, Puts, Starts, Works, Records, Hears, Collects, Obeys, Restores, Greets, Dies, Opens, after_run, message}
+use Rattle.cluster.specs.Rules.{Act, Input, Puts, Starts, Works, Records, Hears, Collects, Obeys, Restores, Greets, Dies, Opens}
+use Rattle.cluster.specs.Rules.{after_run, message}
 
 -- node 1 receives the gateway's message of this SSN
 abbrev pub receives : ℕ → List ℕ → List Act

@@ -26,8 +26,10 @@ AllUp c = (q : ℕ) → q ≤ c.count → is_well c q ≡ true
 -- after any run: if all nodes except p are up, p comes back, whether it is dead, collects, replays or restores RSNs: the nodes can go on,
 -- without a death, until all are up
 abbrev pub LoneComesBack : Type 0
-LoneComesBack = (n : ℕ) (f : Handlers) (acts : List Act) (p : ℕ) → n ≤ 15 → Grows f → Run (opening n f) acts → IsNode (after_run (opening n f) acts) p
-    → ((q : ℕ) → IsNode (after_run (opening n f) acts) q → q ≢ p → is_well (after_run (opening n f) acts) q ≡ true) → CanReach (after_run (opening n f) acts) AllUp
+LoneComesBack = (n : ℕ) (f : Handlers) (acts : List Act) (p : ℕ) → n ≤ 15 → Grows f → Run (opening n f) acts
+    → IsNode (after_run (opening n f) acts) p
+    → ((q : ℕ) → IsNode (after_run (opening n f) acts) q → q ≢ p → is_well (after_run (opening n f) acts) q ≡ true)
+    → CanReach (after_run (opening n f) acts) AllUp
 
 -- a step that is no failure and needs nothing from outside: no node dies, and the gateway gets no input
 abbrev pub is_quiet : Step → Bool
@@ -46,4 +48,5 @@ CanGo s P = (xs : List Step) × Steps s xs × AllQuiet xs × P (after_steps s xs
 -- after any run of the whole rules, whatever failed, with any number of nodes down or recovering and any packets on the way: the nodes can
 -- go on until all are up
 abbrev pub AllComeBack : Type 0
-AllComeBack = (n : ℕ) (f : Handlers) (durable : ℕ → Bool) (xs : List Step) → Steps (starts n f durable) xs → CanGo (after_steps (starts n f durable) xs) (λ s. AllUp s.cluster)
+AllComeBack = (n : ℕ) (f : Handlers) (durable : ℕ → Bool) (xs : List Step) → Steps (starts n f durable) xs
+    → CanGo (after_steps (starts n f durable) xs) (λ s. AllUp s.cluster)

@@ -16,20 +16,20 @@
 //! ```
 #![tactic(auto)]
 
+mod decoder;
 mod distance;
+mod encoder;
 mod fault;
 mod form;
 mod insn;
 mod laws;
-mod decoder;
 mod table;
 mod word;
-mod encoder;
 
+pub use decoder::decode;
+pub use encoder::{encode, slots};
 pub use fault::{DecodeError, EncodingRule};
 pub use insn::{
     AluOp, ByteOrder, Condition, Extension, Insn, Operand, Reg, SignedSize, Size, SwapBits, Width,
 };
 pub use laws::{one_fault, one_list};
-pub use decoder::decode;
-pub use encoder::{encode, slots};

@@ -19,5 +19,6 @@ far_side line other = if nat_lt other line then Beneath else Beyond
 -- a label: words in a style, in a column near a line
 abbrev pub label_text : List ℕ → Side → ℕ → ℕ → List ℕ → List ℕ
 label_text style side column line words =
-    codes "<text class='" ++ style ++ codes "' x='" ++ decimal (column_place column) ++ codes "' y='" ++ decimal (label_place side column line)
+    codes "<text class='" ++ style ++ codes "' x='" ++ decimal (column_place column) ++ codes "' y='"
+    ++ decimal (label_place side column line)
     ++ codes "'>" ++ words ++ codes "</text>\n"

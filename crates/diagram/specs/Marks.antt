@@ -1,5 +1,6 @@
 -- The mark and labels of an entry, in its column and on its process's line (docs/FORMATS.md, "Picture").
-use Rattle.std.specs.Prelude.{◌≡◌, ℕ, ◌+◌, List, [], ◌∷◌, ◌++◌, codes, decimal, length, nat_le, slice_get, take, Option, Some, None, if◌then◌else◌}
+use Rattle.std.specs.Prelude.{◌≡◌, ℕ, ◌+◌, List, [], ◌∷◌, ◌++◌, codes, decimal, length, nat_le, slice_get, take, Option, Some, None}
+use Rattle.std.specs.Prelude.{if◌then◌else◌}
 use Rattle.std.specs.Option.{option_map_or}
 use Rattle.world.specs.declared.call.Call.{Call}
 use Rattle.world.specs.declared.call.Call.TheVariants as call
@@ -16,7 +17,8 @@ use Rattle.diagram.specs.Page.{column_place, line_place}
 -- a shape, in a column at a height
 abbrev pub shape_at : List ℕ → ℕ → ℕ → List ℕ
 shape_at shape column height =
-    codes "<use href='#" ++ (shape ++ (codes "' x='" ++ (decimal (column_place column) ++ (codes "' y='" ++ (decimal height ++ codes "'/>\n")))))
+    codes "<use href='#" ++ (shape
+    ++ (codes "' x='" ++ (decimal (column_place column) ++ (codes "' y='" ++ (decimal height ++ codes "'/>\n")))))
 
 -- a shape on the line of a process, or of the outside (0)
 abbrev pub shape_text : List ℕ → ℕ → ℕ → List ℕ
@@ -46,7 +48,8 @@ input_mark column to feed =
 
 -- the mark of a call with the number in its answer, in a picture of n processes. Calls that move packets have no mark
 abbrev pub call_mark : ℕ → ℕ → Call → ℕ → List ℕ
-call_mark n column (call.Input to feed payload) k = input_mark column to feed ++ label_text (codes "b") Beyond column 0 (first_bytes payload)
+call_mark n column (call.Input to feed payload) k = input_mark column to feed
+    ++ label_text (codes "b") Beyond column 0 (first_bytes payload)
 call_mark n column (call.Checkpoint p) k =
     on_line n p (shape_text (codes "saved") column p ++ label_text (codes "t") Above column p (codes "save " ++ decimal k))
 call_mark n column (call.Trim p) k =
@@ -77,11 +80,14 @@ text_mark n column c (Some x) = []
 -- a number above a column, in a style and at a height
 abbrev pub number_text : List ℕ → ℕ → ℕ → ℕ → List ℕ
 number_text style column height number =
-    codes "<text class='" ++ (style ++ (codes "' x='" ++ (decimal (column_place column) ++ (codes "' y='" ++ (decimal height ++ (codes "'>" ++ (decimal number ++ codes "</text>\n")))))))
+    codes "<text class='"
+    ++ (style ++ (codes "' x='"
+    ++ (decimal (column_place column) ++ (codes "' y='" ++ (decimal height ++ (codes "'>" ++ (decimal number ++ codes "</text>\n")))))))
 
 -- the number of an entry, from 1, its mark, and the first bytes of its message
 abbrev pub numbered_mark : ℕ → ℕ → ℕ → Option Payload → Entry → List ℕ
-numbered_mark n column place text e = number_text (codes "place") column 18 (place + 1) ++ entry_mark n column e ++ text_mark n column e.call text
+numbered_mark n column place text e = number_text (codes "place") column 18 (place + 1) ++ entry_mark n column e
+    ++ text_mark n column e.call text
 
 -- the number, mark and bytes of the entry at a place, if there is one
 abbrev pub place_mark : ℕ → List Entry → ℕ → ℕ → Option Payload → List ℕ

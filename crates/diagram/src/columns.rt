@@ -5,8 +5,8 @@ ghost use Rattle.std.specs.Prelude.{◌≡◌, ◌<◌, ◌+◌, ◌^◌, ◌++�
 ghost use Rattle.diagram.specs.Columns.{behind, behind_entry, column, columns, keys_after, moves_other, outputs_in, text_of};
 ghost use Rattle.diagram.specs.Moments.{run_of, standing_of};
 
-use crate::run::{Moment, Run};
 use crate::moments::ColumnState;
+use crate::run::{Moment, Run};
 use helpers::Payload;
 use indexmap::IndexSet;
 use std::alloc::{AllocError, Global};

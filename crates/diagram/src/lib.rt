@@ -24,13 +24,13 @@ mod label;
 mod lane;
 mod legend;
 mod marks;
+mod moments;
 mod packets;
 mod page;
 mod picture;
 mod processes;
 mod run;
 mod sign;
-mod moments;
 mod wire;
 
 pub use page::draw;

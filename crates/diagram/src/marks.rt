@@ -11,8 +11,8 @@ use crate::columns::Column;
 use crate::label::{Side, push_number, push_word};
 use crate::page::{column_x, lane_y};
 use helpers::Payload;
-use std::alloc::AllocError;
 use scenario::Hex;
+use std::alloc::AllocError;
 use world::{Answer, Call, Entry};
 
 /// How many bytes of a message are shown.

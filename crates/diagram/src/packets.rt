@@ -4,7 +4,7 @@ use crate::ink::{Point, push_line, push_mark};
 use crate::label::{Side, push_number, push_word};
 use crate::picture::Picture;
 use crate::sign::Sign;
-use crate::wire::{WireKind, PacketLine};
+use crate::wire::{PacketLine, WireKind};
 use std::alloc::AllocError;
 use world::Answer;
 
@@ -79,7 +79,12 @@ impl Picture {
     }
 
     /// Marks the answer to an arrival at the end of its arrow.
-    fn receive(&mut self, column: usize, wire: PacketLine, answer: Answer) -> Result<(), AllocError> {
+    fn receive(
+        &mut self,
+        column: usize,
+        wire: PacketLine,
+        answer: Answer,
+    ) -> Result<(), AllocError> {
         let end = wire.end(column);
         let side = Side::away(wire.to, wire.from);
         let (here, back) = (wire.to, wire.from);
@@ -88,7 +93,10 @@ impl Picture {
                 return self.begin(column, here, serial, Some(back));
             }
             Answer::Numbered(new) => {
-                return self.place(new, PacketLine::new(WireKind::Acknowledgement, here, back, column));
+                return self.place(
+                    new,
+                    PacketLine::new(WireKind::Acknowledgement, here, back, column),
+                );
             }
             Answer::Shown(ssn) => {
                 push_mark(&mut self.marks, "shown", end)?;

@@ -16,9 +16,8 @@ use crate::picture::Picture;
 use crate::run::Run;
 use crate::sign::Sign;
 use indexmap::IndexMap;
-use scenario::NamedProcess;
+use scenario::{NamedProcess, name_at};
 use std::alloc::{AllocError, Global};
-use scenario::name_at;
 use world::Entry;
 
 /// The distance from a column to the next, in pixels.

@@ -1,7 +1,7 @@
 //! The drawing of entries, one after the other.
 
 use crate::ink::{Point, push_line};
-use crate::lane::{OpenCall, Lane, Phase};
+use crate::lane::{Lane, OpenCall, Phase};
 use crate::legend::Legend;
 use crate::page::{column_x, lane_y};
 use crate::sign::Sign;

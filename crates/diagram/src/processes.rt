@@ -2,11 +2,11 @@
 
 use crate::ink::{Point, push_box, push_count, push_line};
 use crate::label::{Side, push_number};
-use crate::lane::{OpenCall, Lane, Phase};
+use crate::lane::{Lane, OpenCall, Phase};
 use crate::page::{column_x, lane_y};
 use crate::picture::Picture;
 use crate::sign::Sign;
-use crate::wire::{WireKind, PacketLine};
+use crate::wire::{PacketLine, WireKind};
 use std::alloc::AllocError;
 use world::Answer;
 
@@ -84,7 +84,10 @@ impl Picture {
         };
         let side = Side::away(process, sender);
         push_number(&mut self.marks, "t", side, column, process, "rsn ", rsn)?;
-        self.place(key, PacketLine::new(WireKind::Number, process, sender, column))
+        self.place(
+            key,
+            PacketLine::new(WireKind::Number, process, sender, column),
+        )
     }
 
     /// A message is replayed.

@@ -38,4 +38,5 @@ span_image image = as_image (AnySpan image)
 -- the same of a call of form 3, in its array
 abbrev pub IsReportedAfter : span.Typed → Who → List ℕ → List ℕ → List ℕ → ℕ → List ℕ → ℕ → Type 0
 IsReportedAfter image who mem left out at written end =
-    IsReported (span_image image) who (span_array.state_in image.len mem) (slice_range mem 0 MESSAGE) (span_array.state_in image.len left) out at written end
+    IsReported (span_image image) who (span_array.state_in image.len mem)
+    (slice_range mem 0 MESSAGE) (span_array.state_in image.len left) out at written end

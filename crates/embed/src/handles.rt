@@ -9,9 +9,9 @@ ghost use Rattle.embed.specs.Handles.{owns_image, state_len_of, Opens, Runs};
 ghost use Rattle.embed.specs.MachineCode.{Compiles};
 
 use crate::handler::OpenHandler;
+use crate::lifetime::{Opened, close, open};
 use crate::loose::Loose;
 use crate::machine_code::compile;
-use crate::lifetime::{Opened, close, open};
 use crate::runs::run;
 use std::alloc::Global;
 

@@ -10,7 +10,12 @@ use std::alloc::Global;
 
 /// Writes the machine code of a handler's image to the front of `out`, and its length into `size`.
 /// If `out` is too short, writes only the length.
-fn write(alloc: Global, handler: &OpenHandler, out: &mut [u8], size: &mut usize) -> Result<(), ImageRefusal>
+fn write(
+    alloc: Global,
+    handler: &OpenHandler,
+    out: &mut [u8],
+    size: &mut usize,
+) -> Result<(), ImageRefusal>
     ensures done { OnOk result (IsCompiled handler.now out.old out.new size.new) }
     ensures refused { IfErr result (IsUncompiled handler.now out.old size.old size.new) }
     ensures unchanged { OnErr result (out.new ≡ out.old) }

@@ -18,16 +18,20 @@ fault_number Range = 23
 
 -- the meaning of a code, with what the handle held before and holds now: 0 means that this was done, any other number says why it was not,
 -- and the handle is unchanged
-abbrev pub Answers : ℕ → Option TheGateway → Option TheGateway → (Option TheGateway → Option TheGateway → Type 0) → (Option TheGateway → GatewayFault → Type 0) → Type 0
-Answers code old new done refused = ((code ≡ 0) × done old new) ⊎ ((why : GatewayFault) × (code ≡ fault_number why) × refused old why × (new ≡ old))
+abbrev pub Answers : ℕ → Option TheGateway → Option TheGateway → (Option TheGateway → Option TheGateway → Type 0)
+    → (Option TheGateway → GatewayFault → Type 0) → Type 0
+Answers code old new done refused = ((code ≡ 0) × done old new)
+    ⊎ ((why : GatewayFault) × (code ≡ fault_number why) × refused old why × (new ≡ old))
 
 -- the same of a result
-abbrev pub Results : Result (Unit {0}) GatewayFault → Option TheGateway → Option TheGateway → (Option TheGateway → Option TheGateway → Type 0) → (Option TheGateway → GatewayFault → Type 0)
+abbrev pub Results : Result (Unit {0}) GatewayFault → Option TheGateway → Option TheGateway
+    → (Option TheGateway → Option TheGateway → Type 0) → (Option TheGateway → GatewayFault → Type 0)
     → Type 0
 Results result old new done refused = MatchResult result (λ u. done old new) (λ why. refused old why × (new ≡ old))
 
 -- the same of a gateway without its handle
-abbrev pub Does : Result (Unit {0}) GatewayFault → TheGateway → TheGateway → (TheGateway → TheGateway → Type 0) → (TheGateway → GatewayFault → Type 0) → Type 0
+abbrev pub Does : Result (Unit {0}) GatewayFault → TheGateway → TheGateway → (TheGateway → TheGateway → Type 0)
+    → (TheGateway → GatewayFault → Type 0) → Type 0
 Does result old new done refused = MatchResult result (λ u. done old new) (λ why. refused old why × (new ≡ old))
 
 -- if the code is a fault, this holds

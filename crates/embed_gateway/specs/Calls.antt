@@ -18,7 +18,8 @@ use Rattle.embed_gateway.specs.Answers.{Calls, Refuses}
 -- a payload that isn't too long is logged for one of its processes, and sent; `ssn` is its SSN
 abbrev pub Logs : ℕ → List ℕ → ℕ → TheGateway → TheGateway → Type 0
 Logs p payload ssn g h =
-    (length payload ≤ PAYLOAD_BYTES) × IsOf p g.store × (ssn ≡ last_of (peer_of p g) + 1) × (h ≡ puts_in p payload g) × KeepsSince g h × Acts g h
+    (length payload ≤ PAYLOAD_BYTES) × IsOf p g.store × (ssn ≡ last_of (peer_of p g) + 1) × (h ≡ puts_in p payload g) × KeepsSince g h
+    × Acts g h
 
 -- why it isn't: the first of these: it is too long, there is no such process, or memory ran out
 abbrev pub LogsNot : ℕ → List ℕ → TheGateway → GatewayFault → Type 0

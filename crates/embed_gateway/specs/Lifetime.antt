@@ -41,13 +41,15 @@ IsUnopened n page tick old other = ⊥
 -- a handle that was closed holds the gateway with the store in these bytes; no fault is written
 abbrev pub IsRevived : List ℕ → ℕ → ℕ → ℕ → ℕ → Option TheGateway → Option TheGateway → Type 0
 IsRevived store page tick was fault old new =
-    ((old ≡ None) × AreLimits page tick × ((s : TheStore) × IsStoreBytes s store × OfOpen new (λ g. (g ≡ revived page tick s) × StandsFor s g))) × (fault ≡ was)
+    ((old ≡ None) × AreLimits page tick
+    × ((s : TheStore) × IsStoreBytes s store × OfOpen new (λ g. (g ≡ revived page tick s) × StandsFor s g))) × (fault ≡ was)
 
 -- why it doesn't: it was open, a limit is out of range, the bytes are not a store, by their first fault, or memory ran out
 abbrev pub IsUnrevived : List ℕ → ℕ → ℕ → ℕ → ℕ → Option TheGateway → GatewayFault → Type 0
 IsUnrevived store page tick was fault old Handle = (old ≢ None) × (fault ≡ was)
 IsUnrevived store page tick was fault old Range = (old ≡ None) × (¬ AreLimits page tick) × (fault ≡ was)
-IsUnrevived store page tick was fault old Bytes = (old ≡ None) × AreLimits page tick × ((f : StoreFault) × IsFirstFault f store × (fault ≡ store_fault_number f))
+IsUnrevived store page tick was fault old Bytes = (old ≡ None) × AreLimits page tick
+    × ((f : StoreFault) × IsFirstFault f store × (fault ≡ store_fault_number f))
 IsUnrevived store page tick was fault old Memory = (old ≡ None) × AreLimits page tick × (fault ≡ was)
 IsUnrevived store page tick was fault old other = ⊥
 
@@ -58,7 +60,8 @@ IsFresh g = (g.changes ≡ []) × (g.out ≡ [])
 -- the store is the one after the changes in these bytes
 abbrev pub IsLater : List ℕ → TheGateway → TheGateway → Type 0
 IsLater changes g h =
-    IsFresh g × ((ks : List Change) × AreChanges ks changes × FitAll ks g.store × (h ≡ revived g.page g.tick (applied_all ks g.store)) × StandsFor (applied_all ks g.store) h)
+    IsFresh g × ((ks : List Change) × AreChanges ks changes × FitAll ks g.store × (h ≡ revived g.page g.tick (applied_all ks g.store))
+    × StandsFor (applied_all ks g.store) h)
 
 abbrev pub IsApplied : List ℕ → ℕ → ℕ → Option TheGateway → Option TheGateway → Type 0
 IsApplied changes was fault old new = Calls old new (λ g h. IsLater changes g h × (fault ≡ was))
@@ -66,7 +69,8 @@ IsApplied changes was fault old new = Calls old new (λ g h. IsLater changes g h
 -- they aren't changes, or one of them doesn't fit
 abbrev pub AreMisfit : List ℕ → TheStore → ℕ → Type 0
 AreMisfit changes s fault =
-    ((fault ≡ NOT_CHANGES) × ((ks : List Change) → ¬ AreChanges ks changes)) ⊎ ((fault ≡ UNFIT) × ((ks : List Change) × AreChanges ks changes × ((n : ℕ) × IsUnfit n ks s)))
+    ((fault ≡ NOT_CHANGES) × ((ks : List Change) → ¬ AreChanges ks changes))
+    ⊎ ((fault ≡ UNFIT) × ((ks : List Change) × AreChanges ks changes × ((n : ℕ) × IsUnfit n ks s)))
 
 -- why it isn't: something waits, the changes are refused, or memory ran out
 abbrev pub IsUnlater : List ℕ → TheGateway → ℕ → ℕ → GatewayFault → Type 0

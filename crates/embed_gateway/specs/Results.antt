@@ -17,7 +17,8 @@ use Rattle.embed_gateway.specs.Answers.{OfOpen, Calls, Refuses, IsCopied, IsUnco
 
 -- the first packet that waits is taken: its bytes, and its receiver
 abbrev pub Gives : List ℕ → List ℕ → ℕ → ℕ → TheGateway → TheGateway → Type 0
-Gives out new size to g h = (x : NodePacket) × (bytes : List ℕ) × IsPacket x bytes × (x.to ≡ to) × Takes (Some x) g h × IsCopied bytes out new size
+Gives out new size to g h = (x : NodePacket) × (bytes : List ℕ) × IsPacket x bytes × (x.to ≡ to) × Takes (Some x) g h
+    × IsCopied bytes out new size
 
 -- why none is: none waits, memory ran out, or the buffer is too short for its bytes
 abbrev pub GivesNot : List ℕ → List ℕ → ℕ → ℕ → TheGateway → GatewayFault → Type 0
@@ -69,15 +70,18 @@ WritesNot Is out new was size Room = (bytes : List ℕ) × Is bytes × IsUncopie
 WritesNot Is out new was size other = ⊥
 
 abbrev pub IsUnstored : List ℕ → List ℕ → ℕ → ℕ → Option TheGateway → GatewayFault → Type 0
-IsUnstored out new was size old why = Refuses old (IsUntouched out new was size) (λ g w. WritesNot (IsStoreBytes g.store) out new was size w) why
+IsUnstored out new was size old why =
+    Refuses old (IsUntouched out new was size) (λ g w. WritesNot (IsStoreBytes g.store) out new was size w) why
 
 -- the changes are taken: the buffer begins with their bytes
 abbrev pub Tells : List ℕ → List ℕ → ℕ → TheGateway → TheGateway → Type 0
 Tells out new size g h =
-    ((bytes : List ℕ) × AreChanges g.changes bytes × IsCopied bytes out new size) × (h ≡ record g { changes = [] }) × Since h.store h × Acts g h
+    ((bytes : List ℕ) × AreChanges g.changes bytes × IsCopied bytes out new size) × (h ≡ record g { changes = [] }) × Since h.store h
+    × Acts g h
 
 abbrev pub IsTold : List ℕ → List ℕ → ℕ → Option TheGateway → Option TheGateway → Type 0
 IsTold out out' size old new = Calls old new (Tells out out' size)
 
 abbrev pub IsUntold : List ℕ → List ℕ → ℕ → ℕ → Option TheGateway → GatewayFault → Type 0
-IsUntold out new was size old why = Refuses old (IsUntouched out new was size) (λ g w. WritesNot (AreChanges g.changes) out new was size w) why
+IsUntold out new was size old why =
+    Refuses old (IsUntouched out new was size) (λ g w. WritesNot (AreChanges g.changes) out new was size w) why

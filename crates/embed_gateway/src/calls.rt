@@ -14,7 +14,12 @@ use packets::PacketError;
 use std::alloc::Global;
 
 /// Logs an input for a process, and writes its SSN.
-fn log(gateway: &mut Gateway, process: u8, payload: &[u8], ssn: &mut u64) -> Result<(), GatewayFault>
+fn log(
+    gateway: &mut Gateway,
+    process: u8,
+    payload: &[u8],
+    ssn: &mut u64,
+) -> Result<(), GatewayFault>
     ensures { Does result gateway.old gateway.new (Logs process payload.now ssn.new) (λ g why. LogsNot process payload.now g why × (ssn.new ≡ ssn.old)) }
 {
     if payload.len() > PAYLOAD_BYTES {
@@ -47,7 +52,12 @@ pub(crate) fn input(
 }
 
 /// Hands the bytes of a packet in. If they are refused, writes the number of their first fault.
-fn hear(alloc: Global, gateway: &mut Gateway, packet: &[u8], fault: &mut u32) -> Result<(), GatewayFault>
+fn hear(
+    alloc: Global,
+    gateway: &mut Gateway,
+    packet: &[u8],
+    fault: &mut u32,
+) -> Result<(), GatewayFault>
     ensures { Does result gateway.old gateway.new (λ g h. Receives packet.now g h × (fault.new ≡ fault.old)) (λ _. ReceivesNot packet.now fault.old fault.new) }
 {
     match gateway.receive_bytes(alloc, packet) {

@@ -9,7 +9,7 @@ ghost use Rattle.embed_gateway.specs.Results.{IsShown, IsStored, IsTaken, IsTold
 
 use crate::fault::code;
 use crate::handle::GatewayHandle;
-use crate::{calls, results, lifetime};
+use crate::{calls, lifetime, results};
 use std::alloc::Global;
 
 /// Opens the gateway of a new cluster of 1 to 15 processes. A packet has at most `page` bytes, 512

@@ -21,9 +21,9 @@
 mod calls;
 mod exports;
 mod fault;
-mod results;
 mod handle;
-mod loose;
 mod lifetime;
+mod loose;
 mod output;
 mod parts;
+mod results;

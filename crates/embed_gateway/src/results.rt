@@ -96,7 +96,12 @@ pub(crate) fn output(
 }
 
 /// Writes the bytes of a gateway's store, and their number.
-fn spell(alloc: Global, gateway: &Gateway, out: &mut [u8], size: &mut usize) -> Result<(), GatewayFault>
+fn spell(
+    alloc: Global,
+    gateway: &Gateway,
+    out: &mut [u8],
+    size: &mut usize,
+) -> Result<(), GatewayFault>
     ensures { MatchResult result (λ _. Spells out.old out.new size.new gateway.now) (WritesNot (IsStoreBytes gateway.now.store) out.old out.new size.old size.new) }
 {
     let bytes = gateway.store_bytes(alloc)?;
@@ -121,7 +126,12 @@ pub(crate) fn store(
 }
 
 /// Takes the changes of a gateway's store: writes their bytes, and their number.
-fn tell(alloc: Global, gateway: &mut Gateway, out: &mut [u8], size: &mut usize) -> Result<(), GatewayFault>
+fn tell(
+    alloc: Global,
+    gateway: &mut Gateway,
+    out: &mut [u8],
+    size: &mut usize,
+) -> Result<(), GatewayFault>
     ensures { Does result gateway.old gateway.new (Tells out.old out.new size.new) (λ g. WritesNot (AreChanges g.changes) out.old out.new size.old size.new) }
 {
     let bytes = gateway.changes_bytes(alloc)?;

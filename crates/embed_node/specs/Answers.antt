@@ -18,11 +18,13 @@ fault_number Limit = 23
 fault_number Left = 24
 
 -- the meaning of a code, with what the handle held before and holds now: 0 means that this was done, any other number says why it was not
-abbrev pub Answers : ℕ → Option TheProcess → Option TheProcess → (Option TheProcess → Option TheProcess → Type 0) → (Option TheProcess → Option TheProcess → NodeFault → Type 0) → Type 0
+abbrev pub Answers : ℕ → Option TheProcess → Option TheProcess → (Option TheProcess → Option TheProcess → Type 0)
+    → (Option TheProcess → Option TheProcess → NodeFault → Type 0) → Type 0
 Answers code old new done refused = ((code ≡ 0) × done old new) ⊎ ((why : NodeFault) × (code ≡ fault_number why) × refused old new why)
 
 -- the same of a result
-abbrev pub Results : Result (Unit {0}) NodeFault → Option TheProcess → Option TheProcess → (Option TheProcess → Option TheProcess → Type 0) → (Option TheProcess → Option TheProcess → NodeFault → Type 0)
+abbrev pub Results : Result (Unit {0}) NodeFault → Option TheProcess → Option TheProcess
+    → (Option TheProcess → Option TheProcess → Type 0) → (Option TheProcess → Option TheProcess → NodeFault → Type 0)
     → Type 0
 Results result old new done refused = MatchResult result (λ u. done old new) (refused old new)
 
@@ -36,7 +38,8 @@ written (Bytes f) was = f
 written other was = was
 
 -- the meaning of a code when bytes are handed in, with the number of their fault before and after
-abbrev pub AnswersOfBytes : ℕ → Option TheProcess → Option TheProcess → ℕ → ℕ → (Option TheProcess → Option TheProcess → Type 0) → (Option TheProcess → Option TheProcess → NodeFault → Type 0)
+abbrev pub AnswersOfBytes : ℕ → Option TheProcess → Option TheProcess → ℕ → ℕ → (Option TheProcess → Option TheProcess → Type 0)
+    → (Option TheProcess → Option TheProcess → NodeFault → Type 0)
     → Type 0
 AnswersOfBytes code old new was fault done refused =
     Answers code old new (λ o n. done o n × (fault ≡ was)) (λ o n why. refused o n why × (fault ≡ written why was))

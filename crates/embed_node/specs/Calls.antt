@@ -31,7 +31,8 @@ IsReceived bytes old new = OfBoth old new (λ p p'. (x : NodePacket) × IsPacket
 -- why they weren't: they are not those of a packet, memory ran out, or the handle is closed. Nothing has changed
 abbrev pub IsUnreceived : List ℕ → Option TheProcess → Option TheProcess → NodeFault → Type 0
 IsUnreceived bytes old new Memory = OfSame old new (λ p. Unit {0})
-IsUnreceived bytes old new (Bytes f) = OfSame old new (λ p. (why : PacketFault) × (f ≡ faults.fault_number why) × faults.IsReason (packet.Fault why) bytes)
+IsUnreceived bytes old new (Bytes f) =
+    OfSame old new (λ p. (why : PacketFault) × (f ≡ faults.fault_number why) × faults.IsReason (packet.Fault why) bytes)
 IsUnreceived bytes old new Handle = StaysClosed old new
 IsUnreceived bytes old new other = ⊥
 

@@ -26,7 +26,8 @@ pub record Holds (n : ℕ) (s : System) (p : ℕ) (w : Checkpoint) (old : ThePro
   pub runs : s.processes p ≡ Runs old w
 
 -- what `done` took from the array and the record is the host's call, if the handler answers exactly that
-pub record IsAnswered (images : ℕ → AnyImage) (n : ℕ) (s : System) (p : ℕ) (ticket : HandlerTicket) (array bytes : List ℕ) (old new : TheProcess) : Type 0 where
+pub record IsAnswered (images : ℕ
+    → AnyImage) (n : ℕ) (s : System) (p : ℕ) (ticket : HandlerTicket) (array bytes : List ℕ) (old new : TheProcess) : Type 0 where
   pub who : Who
   pub effects : Emitted
   pub left : IsLeftBy old.image who array bytes effects
@@ -51,17 +52,28 @@ pub record IsFrozen (images : ℕ → AnyImage) (n : ℕ) (s : System) (p : ℕ)
 pub record ExportsAreCalls : Type 0 where
   pub opened : (file : List ℕ) (me n : ℕ) (l : NodeLimits) (new : TheProcess) → Opens file me n l None (Some new)
       → IsImageIn file new.image × IsOpened new.image (limits_of l) me n new
-  pub revived : (images : ℕ → AnyImage) (n : ℕ) (s : System) (p : ℕ) (file : List ℕ) (life : ℕ) (l : NodeLimits) (new : TheProcess) → IsFirst n p → s.processes p ≡ Killed → s.lives p < life → IsImageIn file (images p)
+  pub revived : (images : ℕ → AnyImage) (n : ℕ) (s : System) (p : ℕ) (file : List ℕ) (life : ℕ) (l : NodeLimits) (new : TheProcess)
+      → IsFirst n p → s.processes p ≡ Killed → s.lives p < life → IsImageIn file (images p)
       → Revives file (s.stored p) life l None (Some new) → DoesIt images n s (Revived p (limits_of l) life new)
-  pub received : (images : ℕ → AnyImage) (n : ℕ) (s : System) (p : ℕ) (w : Checkpoint) (old new : TheProcess) (x : NodePacket) (bytes : List ℕ) → Holds n s p w old → IsOne x s.given → IsPacket x bytes
+  pub received : (images : ℕ
+      → AnyImage) (n : ℕ) (s : System) (p : ℕ) (w : Checkpoint) (old new : TheProcess) (x : NodePacket) (bytes : List ℕ)
+      → Holds n s p w old → IsOne x s.given → IsPacket x bytes
       → IsReceived bytes (Some old) (Some new) → DoesIt images n s (HandedBytes p x bytes new)
-  pub taken : (images : ℕ → AnyImage) (n : ℕ) (s : System) (p : ℕ) (w : Checkpoint) (old new : TheProcess) (out out' : List ℕ) (size to : ℕ) → Holds n s p w old
+  pub taken : (images : ℕ
+      → AnyImage) (n : ℕ) (s : System) (p : ℕ) (w : Checkpoint) (old new : TheProcess) (out out' : List ℕ) (size to : ℕ) → Holds n s p w old
       → IsTaken out out' size to (Some old) (Some new) → IsGiven images n s p out out' size to new
-  pub worked : (images : ℕ → AnyImage) (n : ℕ) (s : System) (p : ℕ) (w : Checkpoint) (old new : TheProcess) → Holds n s p w old → HasWorked (Some old) (Some new) → DoesIt images n s (Worked p new)
-  pub done : (images : ℕ → AnyImage) (n : ℕ) (s : System) (p : ℕ) (w : Checkpoint) (old new : TheProcess) (ticket : HandlerTicket) (array bytes : List ℕ) → Holds n s p w old
+  pub worked : (images : ℕ → AnyImage) (n : ℕ) (s : System) (p : ℕ) (w : Checkpoint) (old new : TheProcess) → Holds n s p w old
+      → HasWorked (Some old) (Some new) → DoesIt images n s (Worked p new)
+  pub done : (images : ℕ
+      → AnyImage) (n : ℕ) (s : System) (p : ℕ) (w : Checkpoint) (old new : TheProcess) (ticket : HandlerTicket) (array bytes : List ℕ)
+      → Holds n s p w old
       → IsDone ticket array bytes (Some old) (Some new) → IsAnswered images n s p ticket array bytes old new
-  pub ticked : (images : ℕ → AnyImage) (n : ℕ) (s : System) (p : ℕ) (w : Checkpoint) (old new : TheProcess) → Holds n s p w old → HasTicked (Some old) (Some new) → DoesIt images n s (Ticked p new)
-  pub held_back : (images : ℕ → AnyImage) (n : ℕ) (s : System) (p : ℕ) (w : Checkpoint) (old new : TheProcess) (why : NodeFault) → Holds n s p w old → IsHeldBack (Some old) (Some new) why → DoesIt images n s (Ticked p new)
-  pub made : (images : ℕ → AnyImage) (n : ℕ) (s : System) (p : ℕ) (w : Checkpoint) (old new : TheProcess) (out out' : List ℕ) (size : ℕ) → Holds n s p w old
+  pub ticked : (images : ℕ → AnyImage) (n : ℕ) (s : System) (p : ℕ) (w : Checkpoint) (old new : TheProcess) → Holds n s p w old
+      → HasTicked (Some old) (Some new) → DoesIt images n s (Ticked p new)
+  pub held_back : (images : ℕ → AnyImage) (n : ℕ) (s : System) (p : ℕ) (w : Checkpoint) (old new : TheProcess) (why : NodeFault)
+      → Holds n s p w old → IsHeldBack (Some old) (Some new) why → DoesIt images n s (Ticked p new)
+  pub made : (images : ℕ → AnyImage) (n : ℕ) (s : System) (p : ℕ) (w : Checkpoint) (old new : TheProcess) (out out' : List ℕ) (size : ℕ)
+      → Holds n s p w old
       → IsMade out out' size (Some old) (Some new) → IsFrozen images n s p out out' size new
-  pub saved : (images : ℕ → AnyImage) (n : ℕ) (s : System) (p : ℕ) (old new : TheProcess) → Holds n s p Durable old → HasSaved (Some old) (Some new) → DoesIt images n s (Saved p new)
+  pub saved : (images : ℕ → AnyImage) (n : ℕ) (s : System) (p : ℕ) (old new : TheProcess) → Holds n s p Durable old
+      → HasSaved (Some old) (Some new) → DoesIt images n s (Saved p new)

@@ -29,7 +29,8 @@ use Rattle.embed_node.specs.Answers.{Answers, AnswersOfBytes}
 pub record IsImageIn (file : List ℕ) (image : AnyImage) : Type 0 where
   pub file_is : IsFile (form_of image) (code_of image) (state_of image) file
   pub typable : IsTypable (form_of image) (code_of image) (state_of image)
-  pub only : (form : FileForm) (code : List Insn) (len : ℕ) → IsFile form code len file → IsTypable form code len → IsImageOf form code len image
+  pub only : (form : FileForm) (code : List Insn) (len : ℕ) → IsFile form code len file → IsTypable form code len
+      → IsImageOf form code len image
 
 -- the file is not that of an image, by its header, its code or the rules
 abbrev pub IsNoImage : List ℕ → Type 0
@@ -50,7 +51,8 @@ IsTold why.Incarnation fault = fault ≡ Limit
 
 -- limits, as C passes them
 abbrev pub limits_from : ℕ → ℕ → ℕ → ℕ → ℕ → NodeLimits
-limits_from page tick numbers receipts durable = record { page = page; tick = tick; numbers = numbers; receipts = receipts; durable = durable }
+limits_from page tick numbers receipts durable =
+    record { page = page; tick = tick; numbers = numbers; receipts = receipts; durable = durable }
 
 -- each limit is in range
 pub record AreLimits (l : NodeLimits) : Type 0 where
@@ -104,7 +106,9 @@ pub record Revives (file kept : List ℕ) (life : ℕ) (l : NodeLimits) (old new
 -- image's
 abbrev pub AreRefused : List ℕ → List ℕ → ℕ → ℕ → Type 0
 AreRefused file kept life f =
-    (image : AnyImage) × IsImageIn file image × ((((e : KeptFault) × (f ≡ kept_fault_number e) × IsUnrevived image kept life (why.Kept e))) ⊎ ((f ≡ 9) × IsUnrevived image kept life why.State))
+    (image : AnyImage) × IsImageIn file image
+    × ((((e : KeptFault) × (f ≡ kept_fault_number e) × IsUnrevived image kept life (why.Kept e)))
+    ⊎ ((f ≡ 9) × IsUnrevived image kept life why.State))
 
 -- why no process comes back: the first of these: the handle is open, a limit or the incarnation is out of range, the file is not that of an
 -- image, the bytes are refused, or memory ran out. The handle stays as it was
@@ -112,7 +116,8 @@ abbrev pub DoesNotRevive : List ℕ → List ℕ → ℕ → NodeLimits → Opti
 DoesNotRevive file kept life l old new Handle = ((p : TheProcess) × (old ≡ Some p)) × (new ≡ old)
 DoesNotRevive file kept life l old new Limit = (old ≡ None) × (new ≡ None) × ¬ (AreLimits l × IsPositive life)
 DoesNotRevive file kept life l old new Image = (old ≡ None) × (new ≡ None) × (AreLimits l × IsPositive life) × IsNoImage file
-DoesNotRevive file kept life l old new (Bytes f) = (old ≡ None) × (new ≡ None) × (AreLimits l × IsPositive life) × AreRefused file kept life f
+DoesNotRevive file kept life l old new (Bytes f) = (old ≡ None) × (new ≡ None) × (AreLimits l × IsPositive life)
+    × AreRefused file kept life f
 DoesNotRevive file kept life l old new Memory = (old ≡ None) × (new ≡ None) × (AreLimits l × IsPositive life)
 DoesNotRevive file kept life l old new other = ⊥
 
@@ -123,4 +128,5 @@ AnswersOpening file me n l code old new = Answers code old new (Opens file me n 
 -- the meaning of a code when a process comes back, by its image file, its kept state, its incarnation and its limits, with the number of
 -- the fault before and after
 abbrev pub AnswersRevival : List ℕ → List ℕ → ℕ → NodeLimits → ℕ → Option TheProcess → Option TheProcess → ℕ → ℕ → Type 0
-AnswersRevival file kept life l code old new was fault = AnswersOfBytes code old new was fault (Revives file kept life l) (DoesNotRevive file kept life l)
+AnswersRevival file kept life l code old new was fault =
+    AnswersOfBytes code old new was fault (Revives file kept life l) (DoesNotRevive file kept life l)

@@ -12,7 +12,8 @@ use Rattle.embed_node.specs.Answers.{OfBoth, OfSame, StaysClosed, IsCopied, IsUn
 
 -- the first packet that waits is taken: its bytes are in the buffer, and its receiver is written
 abbrev pub TakesOut : List ℕ → List ℕ → ℕ → ℕ → TheProcess → TheProcess → Type 0
-TakesOut out out' size to p p' = (x : NodePacket) × ((bytes : List ℕ) × IsPacket x bytes × IsCopied bytes out out' size × (to ≡ x.to) × Stays (Takes (Some x)) p p')
+TakesOut out out' size to p p' = (x : NodePacket)
+    × ((bytes : List ℕ) × IsPacket x bytes × IsCopied bytes out out' size × (to ≡ x.to) × Stays (Takes (Some x)) p p')
 
 abbrev pub IsTaken : List ℕ → List ℕ → ℕ → ℕ → Option TheProcess → Option TheProcess → Type 0
 IsTaken out out' size to old new = OfBoth old new (TakesOut out out' size to)
@@ -31,7 +32,8 @@ IsUntaken out out' was size old new why = OfBoth old new (λ p p'. LeavesIn out 
 
 -- a checkpoint is made, and its bytes are in the buffer
 abbrev pub Makes : List ℕ → List ℕ → ℕ → TheProcess → TheProcess → Type 0
-Makes out out' size p p' = IsSavable p.course × ((bytes : List ℕ) × Keeps p.course bytes × IsCopied bytes out out' size) × Stays Freezes p p'
+Makes out out' size p p' = IsSavable p.course × ((bytes : List ℕ) × Keeps p.course bytes × IsCopied bytes out out' size)
+    × Stays Freezes p p'
 
 abbrev pub IsMade : List ℕ → List ℕ → ℕ → Option TheProcess → Option TheProcess → Type 0
 IsMade out out' size old new = OfBoth old new (Makes out out' size)
@@ -39,7 +41,8 @@ IsMade out out' size old new = OfBoth old new (Makes out out' size)
 -- why none is made, if the handle is open: it can't be made now, the buffer is too short for it, or memory ran out
 abbrev pub DoesNotMake : List ℕ → List ℕ → ℕ → ℕ → TheProcess → TheProcess → NodeFault → Type 0
 DoesNotMake out out' was size p p' Unready = (p' ≡ p) × (¬ IsSavable p.course) × IsUntouched out out' was size
-DoesNotMake out out' was size p p' Room = (p' ≡ p) × IsSavable p.course × ((bytes : List ℕ) × Keeps p.course bytes × IsUncopied bytes out out' size)
+DoesNotMake out out' was size p p' Room = (p' ≡ p) × IsSavable p.course
+    × ((bytes : List ℕ) × Keeps p.course bytes × IsUncopied bytes out out' size)
 DoesNotMake out out' was size p p' Memory = (p' ≡ p) × IsSavable p.course × IsUntouched out out' was size
 DoesNotMake out out' was size p p' other = ⊥
 

@@ -20,7 +20,11 @@ pub(crate) fn close(alloc: Global, handle: &mut NodeHandle) -> Result<(), NodeFa
 }
 
 /// Hands the process a packet that arrived.
-pub(crate) fn receive(alloc: Global, handle: &mut NodeHandle, packet: &[u8]) -> Result<(), NodeFault>
+pub(crate) fn receive(
+    alloc: Global,
+    handle: &mut NodeHandle,
+    packet: &[u8],
+) -> Result<(), NodeFault>
     ensures { Results result handle.old.process.value handle.new.process.value (IsReceived packet.now) (IsUnreceived packet.now) }
 {
     let Some(mut process) = handle.take(alloc) else {

@@ -11,10 +11,10 @@ ghost use Rattle.embed_node.specs.Status.{IsStanding};
 
 use crate::fault::{code, code_of_bytes};
 use crate::handle::NodeHandle;
-use crate::node_job::NodeJob;
 use crate::lifetime::NodeLimits;
+use crate::node_job::NodeJob;
 use crate::status::NodeStanding;
-use crate::{calls, results, node_job, lifetime, status};
+use crate::{calls, lifetime, node_job, results, status};
 use process::HandlerTicket;
 use std::alloc::Global;
 

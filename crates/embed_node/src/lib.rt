@@ -23,13 +23,13 @@
 mod calls;
 mod exports;
 mod fault;
-mod results;
 mod handle;
 mod laws;
+mod lifetime;
 mod loose;
 mod node_job;
-mod lifetime;
 mod outcome;
 mod output;
 mod parts;
+mod results;
 mod status;

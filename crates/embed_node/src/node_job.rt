@@ -13,7 +13,7 @@ use crate::outcome::left_in;
 use crate::output::copy;
 use handlers::Handler;
 use limits::{STACK_BYTES, STATE_BYTES};
-use process::{HandlerJob, Member, HandlerTicket, Undone};
+use process::{HandlerJob, HandlerTicket, Member, Undone};
 use span_steps::ARRAY_BYTES;
 use std::alloc::Global;
 

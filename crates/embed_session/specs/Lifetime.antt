@@ -31,7 +31,8 @@ IsMisfit files (n ∷ ns) = (length files < n) ⊎ IsRefused (take n files) ⊎ 
 
 -- a closed handle is now open, with a session of the files' images, an empty journal and no seats
 abbrev pub IsOpened : List ℕ → List ℕ → Option TheSession → Option TheSession → Type 0
-IsOpened files lengths old new = (images : List TheImage) × AreFiles files lengths images × (old ≡ None) × (new ≡ Some (record { images = images; entries = []; seats = [] }))
+IsOpened files lengths old new = (images : List TheImage) × AreFiles files lengths images × (old ≡ None)
+    × (new ≡ Some (record { images = images; entries = []; seats = [] }))
 
 -- there are files for 1 to 15 processes
 abbrev pub AreCounted : List ℕ → Type 0

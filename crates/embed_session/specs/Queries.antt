@@ -55,7 +55,8 @@ IsReadOf p Is old new size handle = OfOpen (λ s. IsInside s p × ((bytes : List
 
 -- why the bytes weren't written: the buffer is too short for them, or nothing is told of the process
 abbrev pub IsUnreadOf : ℕ → (ℕ → TheSession → List ℕ → Type 0) → List ℕ → List ℕ → ℕ → ℕ → Option TheSession → SessionFault → Type 0
-IsUnreadOf p Is old new was size handle Room = OfOpen (λ s. IsInside s p × ((bytes : List ℕ) × Is p s bytes × IsUncopied bytes old new size)) handle
+IsUnreadOf p Is old new was size handle Room =
+    OfOpen (λ s. IsInside s p × ((bytes : List ℕ) × Is p s bytes × IsUncopied bytes old new size)) handle
 IsUnreadOf p Is old new was size handle why = IsUntold p handle why × (new ≡ old) × (size ≡ was)
 
 -- the state of a process, which is empty while the process is down
@@ -80,12 +81,14 @@ IsNotStanding p length length' phase phase' handle why = IsUntold p handle why �
 -- an output that was shown, by its place from 0: its sender, its SSN and its bytes
 abbrev pub IsShown : ℕ → ℕ → ℕ → List ℕ → List ℕ → ℕ → Option TheSession → Type 0
 IsShown k sender ssn old new size handle =
-    OfPromised (λ s. (m : Message) × (slice_get (world_at s).shown k ≡ Some m) × (sender ≡ m.sender) × (ssn ≡ m.ssn) × IsCopied m.payload old new size) handle
+    OfPromised (λ s. (m : Message) × (slice_get (world_at s).shown k ≡ Some m) × (sender ≡ m.sender) × (ssn ≡ m.ssn)
+    × IsCopied m.payload old new size) handle
 
 -- why no output is written: there is none at this place, the buffer is too short for it, or the handle is closed
 abbrev pub IsUnshown : ℕ → List ℕ → List ℕ → ℕ → ℕ → Option TheSession → SessionFault → Type 0
 IsUnshown k old new was size handle Absent = OfOpen (λ s. slice_get (world_at s).shown k ≡ None) handle × (new ≡ old) × (size ≡ was)
-IsUnshown k old new was size handle Room = OfOpen (λ s. (m : Message) × (slice_get (world_at s).shown k ≡ Some m) × IsUncopied m.payload old new size) handle
+IsUnshown k old new was size handle Room =
+    OfOpen (λ s. (m : Message) × (slice_get (world_at s).shown k ≡ Some m) × IsUncopied m.payload old new size) handle
 IsUnshown k old new was size handle Handle = (handle ≡ None) × (new ≡ old) × (size ≡ was)
 IsUnshown k old new was size handle other = ⊥
 

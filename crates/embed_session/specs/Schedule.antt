@@ -49,7 +49,8 @@ IsUnarrived key old new r = Owes old new (Arrive key) (Err r) ⊎ ((r ≡ Memory
 -- a packet arrived in the session of an open handle, which keeps its promises, and the record is that of the last entry
 abbrev pub IsReceived : ℕ → Record → Option TheSession → Option TheSession → Type 0
 IsReceived key record_is old new =
-    (s s' : TheSession) × (old ≡ Some s) × (new ≡ Some s') × ((e : Entry) × Arrives key s s' e × (record_is ≡ record_of e)) × KeepsPromises s'
+    (s s' : TheSession) × (old ≡ Some s) × (new ≡ Some s') × ((e : Entry) × Arrives key s s' e × (record_is ≡ record_of e))
+    × KeepsPromises s'
 
 -- why no packet arrived: the session refused it, memory ran out for its job, or the handle is closed. The record is as it was
 abbrev pub IsUnreceived : ℕ → Record → Record → Option TheSession → Option TheSession → SessionFault → Type 0

@@ -56,7 +56,8 @@ told_of p i k g = Told i 1 k (flags_of (told_all p k g) false true) (told_page p
 -- takes an Ask: hears its incarnation if that is newer, and answers it
 abbrev pub asked : ℕ → ℕ → ℕ → TheGateway → TheGateway
 asked p i k g =
-    if nat_lt i (peer_of p g).heard then g else posts p (told_of p i k g) (if i == (peer_of p g).heard then g else happens (Heard p i false) g)
+    if nat_lt i (peer_of p g).heard then g else posts p (told_of p i k g)
+    (if i == (peer_of p g).heard then g else happens (Heard p i false) g)
 
 -- obeys the Resume of a process that keeps k messages
 abbrev pub obeyed : ℕ → ℕ → ℕ → TheGateway → TheGateway

@@ -1,5 +1,6 @@
 -- The gateway as clauses see it, and what it sends
-use Rattle.std.specs.Prelude.{◌≡◌, ℕ, zero, suc, ◌+◌, ◌<◌, ◌≤◌, ◌^◌, List, [], ◌∷◌, ◌++◌, length, take, replicate, is_none, nat_lt, true, if◌then◌else◌}
+use Rattle.std.specs.Prelude.{◌≡◌, ℕ, zero, suc, ◌+◌, ◌<◌, ◌≤◌, ◌^◌, List, [], ◌∷◌, ◌++◌, length, take, replicate, is_none, nat_lt, true}
+use Rattle.std.specs.Prelude.{if◌then◌else◌}
 use Rattle.std.specs.List.{AllByRecursion}
 use Rattle.packets.specs.declared.packet.Body.{Body}
 use Rattle.packets.specs.declared.packet.Body.TheVariants.{Delivery}
@@ -31,7 +32,8 @@ pub record IsGateway (page tick : ℕ) (out : List NodePacket) : Type 0 where
 
 -- the gateway of a new cluster
 abbrev pub new_gateway : ℕ → ℕ → ℕ → TheGateway
-new_gateway count page tick = record { page = page; tick = tick; store = record { peers = replicate count no_peer; outputs = [] }; changes = []; out = [] }
+new_gateway count page tick =
+    record { page = page; tick = tick; store = record { peers = replicate count no_peer; outputs = [] }; changes = []; out = [] }
 
 -- what it keeps of the process p
 abbrev pub peer_of : ℕ → TheGateway → ThePeer

@@ -83,4 +83,5 @@ IsHanded x old new = Owes (λ c. WasSaid c.parcels x.from x) old new
 -- what `take` owes: it gives the first packet that waited, which was sent, and the gateway no longer has it
 abbrev pub Takes : Option NodePacket → TheGateway → TheGateway → Type 0
 Takes None old new = (old.out ≡ []) × (new ≡ old)
-Takes (Some x) old new = (old ≡ record new { out = x ∷ new.out }) × ((c : Cluster) → Stands old c → PutOut c.count c.parcels x × Stands new c)
+Takes (Some x) old new = (old ≡ record new { out = x ∷ new.out })
+    × ((c : Cluster) → Stands old c → PutOut c.count c.parcels x × Stands new c)

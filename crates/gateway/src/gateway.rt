@@ -11,9 +11,7 @@ ghost use Rattle.gateway.specs.Since.{Since, KeepsSince};
 
 use helpers::Payload;
 use limits::PROCESSES;
-use packets::PacketQueue;
-use packets::{Body, NUMBER_LIMIT, NodePacket};
-use packets::LEAST_PAGE;
+use packets::{Body, LEAST_PAGE, NUMBER_LIMIT, NodePacket, PacketQueue};
 use std::alloc::{AllocError, Global};
 use std::marker::Model;
 use stores::{Change, Output, Store};

@@ -28,11 +28,11 @@
 //! ```
 #![tactic(auto)]
 
+mod answers;
 mod bytes;
 mod gateway;
 mod reception;
 mod revival;
-mod answers;
 mod written;
 
 pub use gateway::Gateway;

@@ -5,8 +5,7 @@ ghost use Rattle.stores.specs.Store.{FitAll, applied_all, IsApplyReason};
 ghost use Rattle.gateway.specs.Since.{revived, StandsFor};
 
 use crate::gateway::Gateway;
-use packets::PacketQueue;
-use packets::LEAST_PAGE;
+use packets::{LEAST_PAGE, PacketQueue};
 use std::alloc::{AllocError, Global};
 use stores::{ApplyError, Change, Store};
 

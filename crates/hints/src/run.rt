@@ -5,10 +5,9 @@ ghost use Rattle.hints.specs.Told.{IsAdded};
 use crate::rest::Rest;
 use crate::why::{Act, Told, Why, named_in};
 use indexmap::IndexMap;
-use scenario::{Order, NamedProcess, Scenario, Step};
+use scenario::{NamedProcess, Order, Scenario, Step, name_at};
 use std::alloc::{AllocError, Global};
 use std::fmt;
-use scenario::name_at;
 use world::{Call, PhaseName, Refusal};
 
 const FULL: &str = "the journal is full: do messages go round and round? drive fewer calls";

@@ -17,7 +17,8 @@ IsPlainFault failed f = (f ≡ Memory) ⊎ ((f ≡ InputOutput) × (failed ≡ t
 -- the same, or the file at the path is refused as an image of any form
 abbrev pub HandlerFault : Content → Bool → List ℕ → Fault → Type 0
 HandlerFault content failed path f =
-    IsPlainFault failed f ⊎ ((e : ImageError) × (f ≡ fault_of_image e) × ((bytes : List ℕ) → content path ≡ Some bytes → any.IsRefusal bytes e))
+    IsPlainFault failed f
+    ⊎ ((e : ImageError) × (f ≡ fault_of_image e) × ((bytes : List ℕ) → content path ≡ Some bytes → any.IsRefusal bytes e))
 
 -- memory ran out, a file has failed, or the image of a process is refused
 abbrev pub ImagesFault : Content → Bool → List (String Global × NamedProcess) → Fault → Type 0

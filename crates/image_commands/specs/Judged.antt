@@ -11,7 +11,8 @@ pub record IsLastFeed (bytes : List ℕ) (place : ℕ) : Type 0 where
 -- the lines that end in the bytes, without the last one's line feed
 abbrev pub AreWholeLines : List ℕ → List ℕ → Type 0
 AreWholeLines bytes lines =
-    ((end : ℕ) × (lines ≡ take end bytes) × IsLastFeed bytes end) ⊎ ((lines ≡ []) × ((k : ℕ) → k < length bytes → slice_index_or bytes k 0 ≢ 10))
+    ((end : ℕ) × (lines ≡ take end bytes) × IsLastFeed bytes end)
+    ⊎ ((lines ≡ []) × ((k : ℕ) → k < length bytes → slice_index_or bytes k 0 ≢ 10))
 
 -- all of the source; of one with more bytes than a text may have, the lines that end within these
 abbrev pub IsJudged : List ℕ → List ℕ → Type 0

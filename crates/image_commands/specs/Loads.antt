@@ -21,7 +21,8 @@ AreLoaded content (e ∷ es) (image ∷ images) = HasImage content (string_bytes
 AreLoaded content processes images = ⊥
 
 -- the bytes are this scenario with such orders, and these are the images of its processes
-pub record IsScenarioWithImages (content : Content) (allowed : Allowed) (bytes : List ℕ) (s : Scenario) (images : List TheImage) : Type 0 where
+pub record IsScenarioWithImages (content : Content)
+    (allowed : Allowed) (bytes : List ℕ) (s : Scenario) (images : List TheImage) : Type 0 where
   pub written : scenario.IsScenario allowed bytes s
   pub loaded : AreLoaded content s.processes.entries images
 
@@ -46,7 +47,8 @@ IsUnloadable content allowed bytes f = (s : Scenario) × scenario.IsScenario all
 
 -- a process has the image at this path
 abbrev pub IsImagePath : List (String Global × NamedProcess) → List ℕ → Type 0
-IsImagePath processes path = (i : ℕ) × (e : String Global × NamedProcess) × (slice_get processes i ≡ Some e) × (path ≡ string_bytes e.1.path)
+IsImagePath processes path = (i : ℕ) × (e : String Global × NamedProcess) × (slice_get processes i ≡ Some e)
+    × (path ≡ string_bytes e.1.path)
 
 -- the scenario is that of the file at the path
 abbrev pub IsReadAs : Content → Allowed → List ℕ → Scenario → Type 0

@@ -7,7 +7,7 @@ ghost use Rattle.image_commands.specs.declared.fault.Fault.TheVariants.{Memory};
 use crate::files::Failure;
 use crate::stream::Stream;
 use assemble::AsmError;
-use cli::{UsageRefusal, Usage};
+use cli::{Usage, UsageRefusal};
 use decode::DecodeError;
 use std::alloc::{AllocError, AllocFailed};
 use std::fmt;
@@ -21,13 +21,24 @@ pub enum Fault {
     /// An image's header, or the length of its file.
     Header(HeaderFault),
     /// An image's code breaks a rule of its encoding at this slot.
-    Decode { rule: decode::EncodingRule, slot: usize },
+    Decode {
+        rule: decode::EncodingRule,
+        slot: usize,
+    },
     /// An image's code breaks a rule of the verifier at this slot.
-    Verify { rule: regtypes::Rule, slot: usize },
+    Verify {
+        rule: regtypes::Rule,
+        slot: usize,
+    },
     /// This line of an assembler text, counted from 1, breaks a rule.
-    Assemble { rule: assemble::TextRule, line: usize },
+    Assemble {
+        rule: assemble::TextRule,
+        line: usize,
+    },
     /// This line of a scenario, counted from 1, is the first faulty one; line 0 if there is no process.
-    Scenario { line: usize },
+    Scenario {
+        line: usize,
+    },
     Memory,
     /// A file or a stream could not be read or written.
     InputOutput,

@@ -11,10 +11,10 @@ use crate::fault::Fault;
 use crate::files::Files;
 use crate::own_input::spare;
 use crate::site::Site;
+use block_order::{Ordered, ordered_file};
 use decode::decode;
 use images::FileForm;
 use limits::{SLOTS, STATE_BYTES};
-use block_order::{Ordered, ordered_file};
 use std::alloc::Global;
 use verifier::HeaderFault;
 

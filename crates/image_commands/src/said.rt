@@ -40,7 +40,8 @@ fn code_words(rule: decode::EncodingRule) -> &'static str {
         decode::EncodingRule::Register => "there is no register above r10",
         decode::EncodingRule::Cut => "a wide instruction lacks its second slot",
         decode::EncodingRule::Width => "bytes are swapped in 16, 32 or 64 bits",
-        decode::EncodingRule::Profile => "a call of what is no helper, or a wide value that is no number",
+        decode::EncodingRule::Profile =>
+            "a call of what is no helper, or a wide value that is no number",
     }
 }
 

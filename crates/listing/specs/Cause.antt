@@ -33,7 +33,8 @@ about (Some r) text = reg_text r ++ text
 -- V1: the slot to which a jump leads
 abbrev pub jump_cause : ℕ → ℕ → ℤ → List ℕ
 jump_cause slots s d =
-    codes "the jump leads to slot " ++ signed_decimal (pos (s + 1) +ℤ d) ++ codes " of " ++ decimal slots ++ codes ", and has to lead to a later one at which an instruction begins"
+    codes "the jump leads to slot " ++ signed_decimal (pos (s + 1) +ℤ d) ++ codes " of " ++ decimal slots
+    ++ codes ", and has to lead to a later one at which an instruction begins"
 
 -- V1: the jump of an instruction. An instruction that doesn't jump breaks another rule
 abbrev pub flow_cause : ℕ → ℕ → Flow → List ℕ
@@ -45,7 +46,8 @@ flow_cause slots s (Falls n) = []
 -- V3: the first register that is read but not set
 abbrev pub unset_cause : List Kind → Attributes → List ℕ
 unset_cause f a =
-    about (first_with is_unset f (a.number ∷ a.operand ∷ a.copied ∷ base_of a.access ∷ moved_of a.moved ∷ [])) (codes " is read and isn't set")
+    about (first_with is_unset f (a.number ∷ a.operand ∷ a.copied ∷ base_of a.access ∷ moved_of a.moved ∷ []))
+    (codes " is read and isn't set")
 
 -- V5: the first register that is read as a number but holds a place, or the base of the access, which holds a number
 abbrev pub mixed_cause : Option Reg → Option Access → List ℕ
@@ -95,7 +97,8 @@ payload_cause r = codes "r" ++ decimal r ++ codes " is to be a place, with 64 by
 -- V9: arguments that have to be a place and a length
 abbrev pub sized_cause : ℕ → ℕ → List ℕ
 sized_cause r n =
-    codes "r" ++ decimal r ++ codes " is to be a place with 256 bytes from there on in its region, and r" ++ decimal n ++ codes " a number; or they the message and its length"
+    codes "r" ++ decimal r ++ codes " is to be a place with 256 bytes from there on in its region, and r" ++ decimal n
+    ++ codes " a number; or they the message and its length"
 
 -- V9: the first argument of a helper that has to be a number and isn't; or else its place
 abbrev pub argument_cause : Frame → List Argument → List ℕ

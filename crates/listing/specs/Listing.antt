@@ -1,5 +1,6 @@
 -- The listing of an image file (docs/FORMATS.md, "Listing").
-use Rattle.std.specs.Prelude.{◌≡◌, ℕ, zero, suc, ◌==◌, nat_lt, ◌++◌, ◌∷◌, [], List, Option, Some, None, codes, decimal, length, slice_index_or, if◌then◌else◌}
+use Rattle.std.specs.Prelude.{◌≡◌, ℕ, zero, suc, ◌==◌, nat_lt, ◌++◌, ◌∷◌, [], List, Option, Some, None, codes, decimal, length}
+use Rattle.std.specs.Prelude.{slice_index_or, if◌then◌else◌}
 use Rattle.limits.specs.declared.TheConstants.{REGISTERS}
 use Rattle.assemble.specs.Text.{text_of}
 use Rattle.decode.specs.declared.insn.Insn.{Insn}
@@ -32,7 +33,8 @@ abbrev pub why_text : UnsetCause → List ℕ
 why_text Unknown = []
 why_text Never = codes ": never set on a way that leads here"
 why_text (Lost p) = codes ": lost behind the helper at slot " ++ decimal p
-why_text (Differs p q t) = codes ": slots " ++ decimal p ++ codes " and " ++ decimal q ++ codes " leave different things in it where they meet, at slot " ++ decimal t
+why_text (Differs p q t) = codes ": slots " ++ decimal p ++ codes " and " ++ decimal q
+    ++ codes " leave different things in it where they meet, at slot " ++ decimal t
 
 -- the reason after a register that is unset. Any other has none
 abbrev pub reason_text : Kind → UnsetCause → List ℕ
@@ -44,7 +46,8 @@ reason_text (Place r z) why = []
 -- a register with what is known of it, if the instruction reads it
 abbrev pub register_text : Study → List UnsetCause → Insn → Frame → ℕ → List ℕ
 register_text s whys i f r =
-    if is_read s.form i r then codes "    r" ++ decimal r ++ codes " " ++ kind_text f.low s.state_len (kind_at f.kinds r) ++ reason_text (kind_at f.kinds r) (slice_index_or whys r Unknown) ++ codes "\n" else []
+    if is_read s.form i r then codes "    r" ++ decimal r ++ codes " " ++ kind_text f.low s.state_len (kind_at f.kinds r)
+    ++ reason_text (kind_at f.kinds r) (slice_index_or whys r Unknown) ++ codes "\n" else []
 
 -- what is known of the registers that an instruction reads, in ascending order; or that no path reaches it
 abbrev pub known_text : Study → List UnsetCause → Insn → Option Frame → List ℕ

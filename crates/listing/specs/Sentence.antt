@@ -7,7 +7,9 @@ use Rattle.regtypes.specs.declared.frame.Region.{Region}
 use Rattle.regtypes.specs.declared.frame.Region.TheVariants.{Message, State, Stack}
 use Rattle.spans.specs.declared.span.Span.{Span}
 use Rattle.listing.specs.declared.span_cause.SpanCause.{SpanCause}
-use Rattle.listing.specs.declared.span_cause.SpanCause.TheVariants.{Nothing, Jump, NothingFollows, FramePointer, NoAnswer, OfRegister, OfWord, SumOfPlaces, Outside, MovedBy, ShiftedBy, NoHelper, NoCount, NoPayload}
+use Rattle.listing.specs.declared.span_cause.SpanCause.TheVariants.{Nothing, Jump, NothingFollows, FramePointer, NoAnswer, OfRegister}
+use Rattle.listing.specs.declared.span_cause.SpanCause.TheVariants.{OfWord, SumOfPlaces, Outside, MovedBy, ShiftedBy, NoHelper, NoCount}
+use Rattle.listing.specs.declared.span_cause.SpanCause.TheVariants.{NoPayload}
 use Rattle.listing.specs.declared.span_cause.RegisterFault.{RegisterFault}
 use Rattle.listing.specs.declared.span_cause.RegisterFault.TheVariants as register
 use Rattle.listing.specs.declared.span_cause.WordFault.{WordFault}
@@ -39,12 +41,15 @@ cause_text state slots s NoAnswer = codes "r0 is to be a number at the end"
 cause_text state slots s (OfRegister r fault) = reg_text r ++ register_words fault
 cause_text state slots s (OfWord c fault) = codes "the word at " ++ word_text c ++ word_words fault
 cause_text state slots s (SumOfPlaces r q) = reg_text r ++ codes " and " ++ reg_text q ++ codes " are added, and both hold places"
-cause_text state slots s (Outside n r lo hi) = codes "not all of the " ++ decimal n ++ codes " bytes at " ++ places_text state r lo hi ++ codes " lie there"
-cause_text state slots s (MovedBy r t) = reg_text r ++ codes " is moved by " ++ range_text t ++ codes ", out of the places from -32768 to 32767"
+cause_text state slots s (Outside n r lo hi) = codes "not all of the " ++ decimal n ++ codes " bytes at " ++ places_text state r lo hi
+    ++ codes " lie there"
+cause_text state slots s (MovedBy r t) = reg_text r ++ codes " is moved by " ++ range_text t
+    ++ codes ", out of the places from -32768 to 32767"
 cause_text state slots s (ShiftedBy r z) = distance_cause r z
 cause_text state slots s (NoHelper z) = codes "form 3 has no helper " ++ signed_decimal z
 cause_text state slots s (NoCount r) = count_cause r
-cause_text state slots s (NoPayload r n) = codes "r" ++ decimal r ++ codes " is to be a place, with " ++ decimal n ++ codes " bytes from there on in its region"
+cause_text state slots s (NoPayload r n) = codes "r" ++ decimal r ++ codes " is to be a place, with " ++ decimal n
+    ++ codes " bytes from there on in its region"
 
 -- what to do about a register
 abbrev pub register_advice : RegisterFault → List ℕ
@@ -54,14 +59,16 @@ register_advice register.PlaceAsNumber = codes "compare and compute with indices
 register_advice register.NumberAsBase =
     codes "load and store at an index of the message, the state or a local array: a pointer that was kept in the state comes back as a number"
 register_advice register.PlaceStored = codes "keep an index in its place; a pointer is kept by a local variable alone"
-register_advice register.Message = codes "copy it to a local array, and change the copy; where the state is meant, the message is the first argument, the state the second"
+register_advice register.Message =
+    codes "copy it to a local array, and change the copy; where the state is meant, the message is the first argument, the state the second"
 
 -- what to do about a word of the stack
 abbrev pub word_advice : WordFault → List ℕ
 word_advice word.Unset = codes "set the local variable on each way that leads here, alike: a pointer on all, or a number on all"
 word_advice word.NoNumber = codes "send or output a local array of numbers, each of which is set on each way that leads here"
 word_advice (word.Read n) = codes "compare the index of the local array with a number, or mask it, so that no pointer lies within its reach"
-word_advice (word.Written n) = codes "compare the index of the local array with a number, or mask it, so that no pointer lies within its reach"
+word_advice (word.Written n) =
+    codes "compare the index of the local array with a number, or mask it, so that no pointer lies within its reach"
 
 -- what to do about an index
 abbrev pub index_advice : List ℕ

@@ -21,7 +21,9 @@ use Rattle.spans.specs.declared.kind.SpanKind.TheVariants.{Unset, Num, Place}
 use Rattle.spans.specs.Access.{is_inside}
 use Rattle.spans.specs.Frame.{Frame, is_num}
 use Rattle.listing.specs.declared.span_cause.SpanCause.{SpanCause}
-use Rattle.listing.specs.declared.span_cause.SpanCause.TheVariants.{Nothing, Jump, NothingFollows, FramePointer, NoAnswer, OfRegister, OfWord, SumOfPlaces, Outside, MovedBy, ShiftedBy, NoHelper, NoCount, NoPayload}
+use Rattle.listing.specs.declared.span_cause.SpanCause.TheVariants.{Nothing, Jump, NothingFollows, FramePointer, NoAnswer, OfRegister}
+use Rattle.listing.specs.declared.span_cause.SpanCause.TheVariants.{OfWord, SumOfPlaces, Outside, MovedBy, ShiftedBy, NoHelper, NoCount}
+use Rattle.listing.specs.declared.span_cause.SpanCause.TheVariants.{NoPayload}
 use Rattle.listing.specs.declared.span_cause.RegisterFault.TheVariants as register
 use Rattle.listing.specs.declared.span_cause.WordFault.TheVariants as word
 use Rattle.listing.specs.declared.flaw.Flaw.TheVariants.{Missing, Pointing, NotNumber}
@@ -42,7 +44,8 @@ by_missing None None = Nothing
 
 abbrev pub unset_cause : Frame → Attributes → SpanCause
 unset_cause f a =
-    by_missing (first_flawed Missing f (a.number ∷ a.operand ∷ a.copied ∷ base_of a.access ∷ moved_of a.moved ∷ [])) (reached_word Missing f a.access)
+    by_missing (first_flawed Missing f (a.number ∷ a.operand ∷ a.copied ∷ base_of a.access ∷ moved_of a.moved ∷ []))
+    (reached_word Missing f a.access)
 
 -- V5: a word of the stack that holds a place, of which this many bytes are read or written
 abbrev pub part_cause : Access → Option ℕ → SpanCause

@@ -98,7 +98,8 @@ ways_known i (Some f) = dead_text i f
 -- the broken rule, what breaks it, and what to do about that
 abbrev pub broken_text : SpanStudy → Rule → ℕ → SpanCause → List ℕ
 broken_text s rule slot cause =
-    codes "    refused by V" ++ decimal (rule_number rule) ++ codes ": " ++ cause_text s.state_len (length s.frames.slots.items) slot cause ++ codes "\n    to do: " ++ cause_advice cause ++ codes "\n"
+    codes "    refused by V" ++ decimal (rule_number rule) ++ codes ": "
+    ++ cause_text s.state_len (length s.frames.slots.items) slot cause ++ codes "\n    to do: " ++ cause_advice cause ++ codes "\n"
 
 -- the refusal, under the slot that is refused
 abbrev pub refusal_text : SpanStudy → Rule → ℕ → Insn → Option Frame → List ℕ
@@ -109,7 +110,8 @@ refusal_text s rule slot i (Some f) = broken_text s rule slot (cause_of i f rule
 abbrev pub notes_text : SpanStudy → ℕ → Insn → Option Frame → Option (Rule × ℕ) → List ℕ
 notes_text s slot i f None = known_text s.state_len i f ++ ways_known i f
 notes_text s slot i f (Some (rule, at)) =
-    if nat_lt slot at then known_text s.state_len i f ++ ways_known i f else if slot == at then known_text s.state_len i f ++ refusal_text s rule slot i f else []
+    if nat_lt slot at then known_text s.state_len i f ++ ways_known i f else if slot == at then known_text s.state_len i f
+    ++ refusal_text s rule slot i f else []
 
 -- the number of a slot, its instruction, and the lines under it. The second slot of an instruction of two slots has none
 abbrev pub insn_text : SpanStudy → ℕ → Option Insn → List ℕ
@@ -125,7 +127,8 @@ slot_text s slot = insn_text s slot (insn_at s.frames.slots.items slot)
 -- the first line, the slots in ascending order, and the verdict as check prints it
 abbrev pub listing : SpanStudy → List ℕ
 listing s =
-    codes "form 3, " ++ decimal s.state_len ++ codes " bytes of state\n" ++ texts_below (slot_text s) (length s.frames.slots.items) ++ verdict_text s.count s.frames.refusal
+    codes "form 3, " ++ decimal s.state_len ++ codes " bytes of state\n" ++ texts_below (slot_text s) (length s.frames.slots.items)
+    ++ verdict_text s.count s.frames.refusal
 
 -- the text is the listing of this code, with a state of this many bytes
 pub record IsListed (code : List Insn) (state : ℕ) (text : List ℕ) : Type 0 where

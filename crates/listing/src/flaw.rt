@@ -7,7 +7,7 @@ ghost use Rattle.listing.specs.Flaw.{first_word, flawed_cell, flawed_word, has_f
 
 use decode::Reg;
 use regtypes::{Access, Region};
-use spans::{Cells, SpanKind, Reach};
+use spans::{Cells, Reach, SpanKind};
 
 /// What can be wrong with a register or a word of the stack.
 #[derive(Clone, Copy)]
@@ -101,7 +101,13 @@ fn first_word(flaw: Flaw, frame: &Cells, reach: Reach, offset: i16, bytes: u16) 
 }
 
 /// The first such cell for an access through a base of this kind.
-pub fn flawed_word(flaw: Flaw, frame: &Cells, base: SpanKind, offset: i16, bytes: u16) -> Option<usize>
+pub fn flawed_word(
+    flaw: Flaw,
+    frame: &Cells,
+    base: SpanKind,
+    offset: i16,
+    bytes: u16,
+) -> Option<usize>
     ensures { result ≡ flawed_word flaw (kind_at frame.now.kinds) base offset bytes }
 {
     match base {

@@ -14,7 +14,7 @@ use decode::{Insn, Reg};
 use limits::REGISTERS;
 use regtypes::{ImageForm, Region, bytes_in};
 use span_verifier::{is_inside, operand_kind, opposite, shown, whole_word};
-use spans::{Cells, SpanKind, Span};
+use spans::{Cells, Span, SpanKind};
 use std::alloc::AllocError;
 
 /// Writes a register and what is known of it, if the instruction reads it.

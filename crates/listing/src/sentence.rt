@@ -7,7 +7,7 @@ ghost use Rattle.listing.specs.Sentence.{cause_advice, cause_text, moved_advice,
 
 use crate::cause::{push_count_cause, push_distance_cause, push_jump_cause};
 use crate::kinds::{push_with, push_with_signed};
-use crate::span_cause::{SpanCause, RegisterFault, WordFault};
+use crate::span_cause::{RegisterFault, SpanCause, WordFault};
 use crate::span_kinds::{distance_of, push_places, push_range};
 use decode::Reg;
 use limits::SLOTS;

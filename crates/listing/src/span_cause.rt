@@ -13,7 +13,7 @@ use crate::flaw::{Flaw, distance_at, flawed_word, is_flawed, reached_word};
 use crate::reads::{base, shifted};
 use decode::{AluOp, Insn, Operand, Reg, Width};
 use regtypes::{Access, Attributes, Flow, Region, Rule, attributes_from, flow_from};
-use spans::{Cells, SpanKind, Span};
+use spans::{Cells, Span, SpanKind};
 
 /// What is wrong with a register.
 #[derive(Clone, Copy)]
@@ -160,7 +160,10 @@ fn access_cause(frame: &Cells, access: Access, stored: Option<Reg>, kind: SpanKi
     match (kind, stored) {
         (SpanKind::Unset, _) => SpanCause::Nothing,
         (SpanKind::Num(_), _) => SpanCause::OfRegister(access.base, RegisterFault::NumberAsBase),
-        (SpanKind::Place(_, _), Some(reg)) => SpanCause::OfRegister(reg, RegisterFault::PlaceStored),
+        (SpanKind::Place(_, _), Some(reg)) => SpanCause::OfRegister(
+            reg,
+            RegisterFault::PlaceStored,
+        ),
         (SpanKind::Place(_, _), None) => {
             let bytes = access.bytes.into();
             let word = flawed_word(Flaw::Pointing, frame, kind, access.offset, bytes);

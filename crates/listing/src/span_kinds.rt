@@ -7,7 +7,7 @@ ghost use Rattle.listing.specs.SpanKinds.{distances_text, is_whole, kind_text, p
 use crate::kinds::{push_signed, push_with, push_with_signed, region_word};
 use limits::STACK_BYTES;
 use regtypes::Region;
-use spans::{SpanKind, Span};
+use spans::{Span, SpanKind};
 use std::alloc::AllocError;
 
 /// The size of a region in bytes.

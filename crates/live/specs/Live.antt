@@ -30,7 +30,8 @@ answers_of ended = sum_by (λ e. e.answered) ended
 
 -- so many workers, numbered from 1, were given this budget each and ended so. The text has the trace and the report of a legal journal of
 -- these images more, which has as many entries as their calls that were accepted, and each is a call that a worker may make
-pub record IsLive (names : List (List ℕ)) (images : List TheImage) (workers budget : ℕ) (ended : List Ended) (before after : List ℕ) : Type 0 where
+pub record IsLive (names : List (List ℕ))
+    (images : List TheImage) (workers budget : ℕ) (ended : List Ended) (before after : List ℕ) : Type 0 where
   pub all : length ended ≡ workers
   pub each : EndFrom budget 1 ended
   pub entries : List Entry

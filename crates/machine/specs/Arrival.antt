@@ -17,7 +17,8 @@ use Rattle.world.specs.World.{World, is_inside}
 use Rattle.world.specs.Logs.{length_of, state_of, open_message}
 use Rattle.machine.specs.Simulation.{TheMachine, Stands, Steps}
 use Rattle.machine.specs.declared.arrival.Arrival.{Arrival}
-use Rattle.machine.specs.declared.arrival.Arrival.TheVariants.{Started, Duplicate, Early, Shown, ShownBefore, Numbered, Acknowledged, Unreachable, Stale}
+use Rattle.machine.specs.declared.arrival.Arrival.TheVariants.{Started, Duplicate, Early, Shown, ShownBefore, Numbered, Acknowledged}
+use Rattle.machine.specs.declared.arrival.Arrival.TheVariants.{Unreachable, Stale}
 use Rattle.machine.specs.declared.arrival.Finished.{Finished}
 use Rattle.machine.specs.declared.arrival.Finished.TheVariants.{Committed, Replayed}
 
@@ -82,5 +83,6 @@ Told other P = ⊥
 
 -- what a finish guarantees. With a refusal the result comes back
 abbrev pub Finishes : TheMachine → TheMachine → TheTask → Result Finished (Refusal × TheTask) → Type 0
-Finishes old new task (Ok c) = (w : World) → Stands old w → IsOpen old.images task w × Steps old new 0 (Finish task.who.me) (finished_of c) w
+Finishes old new task (Ok c) = (w : World) → Stands old w → IsOpen old.images task w
+    × Steps old new 0 (Finish task.who.me) (finished_of c) w
 Finishes old new task (Err r) = (r.1 ≡ task) × (new ≡ old) × ((w : World) → Stands old w → Told r.0 (IsOpen old.images task w))

@@ -17,7 +17,8 @@ pub record IsSavedOf (w : World) (p : ℕ) (bytes : List ℕ) : Type 0 where
   pub bytes_are : IsCheckpoint Second saved bytes
   pub own : saved.me ≡ p
   pub count : saved.count ≡ w.count
-  pub saves : Saves w.count p saved (w.handlers.state p (take (w.saved p) (w.history p))) (take (w.saved p) (w.history p)) (w.saved_trims p) (w.handlers.sends p (take (w.saved p) (w.history p)))
+  pub saves : Saves w.count p saved (w.handlers.state p (take (w.saved p) (w.history p)))
+      (take (w.saved p) (w.history p)) (w.saved_trims p) (w.handlers.sends p (take (w.saved p) (w.history p)))
 
 -- how many messages of s the destination d has for good
 abbrev pub covered_at : TheMachine → ℕ → ℕ → ℕ

@@ -16,7 +16,14 @@ use Rattle.machine.specs.declared.machine.Machine.TheInside.{Inside}
 
 -- a machine as clauses see it: without capacities, and with images by value, whether or not processes share them
 abbrev pub view_of : Inside → TheMachine
-view_of m = record { images = map image_in m.images.items; processes = m.processes.items; outside = m.outside; slots = m.wire; started = m.started; calls = m.calls }
+view_of m = record {
+  images = map image_in m.images.items;
+  processes = m.processes.items;
+  outside = m.outside;
+  slots = m.wire;
+  started = m.started;
+  calls = m.calls;
+}
 
 -- a packet that n processes may have on the wire: a message from one, or the outside, to another; an RSN that a process gave to a
 -- message of another, or of the outside; or the acknowledgement of such an RSN
@@ -58,7 +65,9 @@ pub record IsSound (m : Inside) : Type 0 where
   pub some : 0 < length m.processes.items
   pub few : length m.processes.items ≤ PROCESSES
   pub images : length m.images.items ≡ length m.processes.items
-  pub processes : (p : ℕ) (d : TheProcess) (e : TheImage) → p < length m.processes.items → IsSoundAt (length m.processes.items) (suc p) (slice_index_or (map image_in m.images.items) p e).len m.calls (slice_index_or m.processes.items p d)
+  pub processes : (p : ℕ) (d : TheProcess) (e : TheImage) → p < length m.processes.items
+      → IsSoundAt (length m.processes.items)
+      (suc p) (slice_index_or (map image_in m.images.items) p e).len m.calls (slice_index_or m.processes.items p d)
   pub outside : IsLogOf (length m.processes.items) 0 m.outside.log
   pub calls : m.calls ≤ ENTRIES + 1
   pub started : m.started ≤ m.calls

@@ -20,7 +20,11 @@ pub record MayBegin (m : TheMachine) (me : ℕ) (message : Message) : Type 0 whe
 
 -- the process works on the message, and the job has all that its handler takes
 pub record Begins (old new : TheMachine) (me : ℕ) (message : Message) (task : TheTask) : Type 0 where
-  pub becomes : new ≡ record old { processes = slice_set old.processes (me - 1) (record (process_at old me) { working = Some message }); started = old.started + 1; calls = old.calls + 1 }
+  pub becomes : new ≡ record old {
+    processes = slice_set old.processes (me - 1) (record (process_at old me) { working = Some message });
+    started = old.started + 1;
+    calls = old.calls + 1;
+  }
   pub serial : task.serial ≡ old.started + 1
   pub incarnation : task.incarnation ≡ (process_at old me).incarnation
   pub rsn : task.rsn ≡ received (process_at old me) + 1

@@ -1,5 +1,6 @@
 -- What a process does, as the fields show it
-use Rattle.std.specs.Prelude.{◌≡◌, ℕ, ◌+◌, ◌<◌, suc, List, ◌++◌, length, take, slice_get, slice_index_or, Option, Some, None, is_some, Bool, true, false, not, nat_lt, if◌then◌else◌}
+use Rattle.std.specs.Prelude.{◌≡◌, ℕ, ◌+◌, ◌<◌, suc, List, ◌++◌, length, take, slice_get, slice_index_or, Option, Some, None, is_some}
+use Rattle.std.specs.Prelude.{Bool, true, false, not, nat_lt, if◌then◌else◌}
 use Rattle.std.specs.List.{list_all}
 use Rattle.replay.specs.Plan.{ThePlan}
 use Rattle.world.specs.declared.message.Message.{Message}

@@ -14,7 +14,8 @@ use Rattle.machine.specs.Simulation.{TheMachine, Stands}
 pub record AreIdle (n : ℕ) (images : List TheImage) (processes : List TheProcess) : Type 0 where
   pub count : length processes ≡ length images
   pub short : All (λ (i : TheImage). i.len ≤ STATE_BYTES) images
-  pub idle : (p : ℕ) (d : TheProcess) (e : TheImage) → p < length images → slice_index_or processes p d ≡ idle_process (suc p) n (slice_index_or images p e).len
+  pub idle : (p : ℕ) (d : TheProcess) (e : TheImage) → p < length images
+      → slice_index_or processes p d ≡ idle_process (suc p) n (slice_index_or images p e).len
 
 -- there are 1 to 15 images, one for each process of a session
 abbrev pub AreFew : List TheImage → Type 0

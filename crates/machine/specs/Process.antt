@@ -34,7 +34,15 @@ nothing_received = record { senders = []; acknowledged = [] }
 -- a process that received nothing: its number, that of the last process, and the length of its state
 abbrev pub idle_process : ℕ → ℕ → ℕ → TheProcess
 idle_process me n len =
-    record { state = replicate len 0; incarnation = 1; receipts = nothing_received; outbox = empty_outbox me n; working = None; saved = idle_saved me n len; mode = Live }
+    record {
+      state = replicate len 0;
+      incarnation = 1;
+      receipts = nothing_received;
+      outbox = empty_outbox me n;
+      working = None;
+      saved = idle_saved me n len;
+      mode = Live;
+    }
 
 -- how many messages it received
 abbrev pub received : TheProcess → ℕ
@@ -68,15 +76,35 @@ all_acknowledged x = record { senders = x.senders; acknowledged = replicate (len
 -- it has this checkpoint, which acknowledges all that it received, and what waited is released
 pub record IsSaved (s : TheSaved) (old new : TheProcess) : Type 0 where
   pub releases : Releases (received old) old.outbox.gate new.outbox.gate
-  pub others : new ≡ record old { receipts = all_acknowledged old.receipts; outbox = record old.outbox { gate = new.outbox.gate }; saved = s }
+  pub others : new ≡ record old {
+    receipts = all_acknowledged old.receipts;
+    outbox = record old.outbox { gate = new.outbox.gate };
+    saved = s;
+  }
 
 -- a crash takes all but the checkpoint and the incarnation
 abbrev pub crashed : TheOutbox → TheProcess → TheProcess
-crashed outbox x = record { state = []; incarnation = x.incarnation + 1; receipts = nothing_received; outbox = outbox; working = None; saved = x.saved; mode = Down }
+crashed outbox x = record {
+  state = [];
+  incarnation = x.incarnation + 1;
+  receipts = nothing_received;
+  outbox = outbox;
+  working = None;
+  saved = x.saved;
+  mode = Down;
+}
 
 -- it is restored from its checkpoint, and begins to replay the plan
 abbrev pub restored : ThePlan → Bool → TheProcess → TheProcess
-restored plan alone x = record { state = x.saved.state; incarnation = x.incarnation; receipts = receipts_again x.saved; outbox = outbox_again x.saved; working = None; saved = x.saved; mode = Replaying plan alone }
+restored plan alone x = record {
+  state = x.saved.state;
+  incarnation = x.incarnation;
+  receipts = receipts_again x.saved;
+  outbox = outbox_again x.saved;
+  working = None;
+  saved = x.saved;
+  mode = Replaying plan alone;
+}
 
 -- one more message of the plan is replayed
 abbrev pub advanced : Mode → Mode
@@ -113,4 +141,5 @@ unnumbered_at d k x = record x { outbox = with_messages d (unnumbered k (queue_o
 
 -- its messages to a destination up to this SSN are dropped
 abbrev pub trimmed_at : ℕ → ℕ → TheProcess → TheProcess
-trimmed_at d i x = record x { outbox = with_messages d (trimmed (count_up_to i (queue_of d x.outbox.log)) (queue_of d x.outbox.log)) x.outbox }
+trimmed_at d i x =
+    record x { outbox = with_messages d (trimmed (count_up_to i (queue_of d x.outbox.log)) (queue_of d x.outbox.log)) x.outbox }

@@ -52,7 +52,10 @@ Records old new sender receiver ssn rsn =
     new
     ≡ (if sender == 0
     then record old { outside = record old.outside { log = l } }
-    else record old { processes = slice_set old.processes (sender - 1) (record (process_at old sender) { outbox = record (process_at old sender).outbox { log = l } }) })
+    else record old {
+      processes = slice_set old.processes (sender - 1)
+          (record (process_at old sender) { outbox = record (process_at old sender).outbox { log = l } });
+    })
 
 abbrev pub IsNumber : Packet → Type 0
 IsNumber (Number r s i k incarnation) = Unit {0}

@@ -1,5 +1,6 @@
 -- Crashed processes, and how they recover
-use Rattle.std.specs.Prelude.{◌≡◌, ℕ, ◌-◌, ◌<◌, ◌≤◌, List, ◌∷◌, length, map, Option, Some, None, Bool, true, false, not, ◌&&◌, ◌||◌, ◌==◌, nat_lt, nat_le, if◌then◌else◌, slice_index_or, slice_set}
+use Rattle.std.specs.Prelude.{◌≡◌, ℕ, ◌-◌, ◌<◌, ◌≤◌, List, ◌∷◌, length, map, Option, Some, None, Bool, true, false, not, ◌&&◌, ◌||◌, ◌==◌}
+use Rattle.std.specs.Prelude.{nat_lt, nat_le, if◌then◌else◌, slice_index_or, slice_set}
 use Rattle.limits.specs.declared.TheConstants.{ENTRIES, PARTIES}
 use Rattle.sender_log.specs.Queue.{unnumbered}
 use Rattle.sender_log.specs.Log.{TheLog, queue_of, with_queue}

@@ -1,5 +1,6 @@
 -- Replayed jobs and restored RSNs
-use Rattle.std.specs.Prelude.{◌≡◌, ◌≢◌, ℕ, ◌-◌, ◌<◌, ◌≤◌, ◌==◌, ◌&&◌, length, IsSome, None, Bool, true, false, not, nat_lt, nat_le, slice_index_or, slice_set}
+use Rattle.std.specs.Prelude.{◌≡◌, ◌≢◌, ℕ, ◌-◌, ◌<◌, ◌≤◌, ◌==◌, ◌&&◌, length, IsSome, None, Bool, true, false, not, nat_lt, nat_le}
+use Rattle.std.specs.Prelude.{slice_index_or, slice_set}
 use Rattle.limits.specs.declared.TheConstants.{PARTIES}
 use Rattle.rsn.specs.Receipts.{numbers_of}
 use Rattle.sender_log.specs.Queue.{renumbered}
@@ -31,7 +32,10 @@ pub record MayResync (m : TheMachine) (p r : ℕ) : Type 0 where
 abbrev pub renumbered_at : ℕ → ℕ → TheMachine → TheMachine
 renumbered_at p r m =
     let x : TheProcess = process_at m p in
-    record m { processes = slice_set m.processes (p - 1) (record x { outbox = with_messages r (renumbered (numbers_of p (process_at m r).receipts) (queue_of r x.outbox.log)) x.outbox }) }
+    record m {
+      processes = slice_set m.processes (p - 1)
+          (record x { outbox = with_messages r (renumbered (numbers_of p (process_at m r).receipts) (queue_of r x.outbox.log)) x.outbox });
+    }
 
 -- whether q is left to p, after r is done
 abbrev pub is_left : TheMachine → ℕ → ℕ → ℕ → Bool

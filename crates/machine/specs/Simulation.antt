@@ -1,5 +1,6 @@
 -- Which worlds a machine stands for, and what a call guarantees
-use Rattle.std.specs.Prelude.{◌≡◌, ◌≢◌, ℕ, suc, ◌+◌, ◌-◌, ◌<◌, ◌≤◌, List, [], length, map, take, Option, Some, None, Result, Ok, Err, Bool, true, false, ◌==◌, ◌||◌, nat_le, if◌then◌else◌, slice_index_or}
+use Rattle.std.specs.Prelude.{◌≡◌, ◌≢◌, ℕ, suc, ◌+◌, ◌-◌, ◌<◌, ◌≤◌, List, [], length, map, take, Option, Some, None, Result, Ok, Err}
+use Rattle.std.specs.Prelude.{Bool, true, false, ◌==◌, ◌||◌, nat_le, if◌then◌else◌, slice_index_or}
 use Rattle.std.specs.List.{filter}
 use Rattle.handlers.specs.Image.{TheImage}
 use Rattle.sender_log.specs.Queue.{TheQueue}
@@ -57,12 +58,15 @@ is_up_at m p = (p == 0) || is_live (process_at m p).mode
 
 -- what the machine keeps of the process me of n agrees with what it received, what it does, and what its checkpoint covers. While
 -- it is down, its state and its logs are gone
-pub record StandsAt (n me : ℕ) (kept : TheProcess) (state : List Message → List ℕ) (sends : List Message → ℕ → List Payload) (history : List Message) (phase : Phase) (incarnation : ℕ) (acknowledged : ℕ → Bool) (saved : ℕ) (saved_trims : ℕ → ℕ) : Type 0 where
+pub record StandsAt (n me : ℕ) (kept : TheProcess) (state : List Message → List ℕ) (sends : List Message → ℕ
+    → List Payload) (history : List Message) (phase : Phase) (incarnation : ℕ) (acknowledged : ℕ → Bool) (saved : ℕ) (saved_trims : ℕ
+    → ℕ) : Type 0 where
   pub state_is : is_lost kept.mode ≡ false → kept.state ≡ state (held_by kept.mode saved history)
   pub gone : is_lost kept.mode ≡ true → (kept.state ≡ []) × (kept.outbox ≡ empty_outbox me n)
   pub senders : kept.receipts.senders ≡ map (λ (m : Message). m.sender) (held_by kept.mode saved history)
   pub flags : length kept.receipts.acknowledged ≡ length kept.receipts.senders
-  pub acknowledged_is : (k : ℕ) → k < length kept.receipts.senders → slice_index_or kept.receipts.acknowledged k false ≡ acknowledged (suc k)
+  pub acknowledged_is : (k : ℕ) → k < length kept.receipts.senders
+      → slice_index_or kept.receipts.acknowledged k false ≡ acknowledged (suc k)
   pub in_order : InOrder history
   pub phase_is : phase ≡ phase_of n kept.mode kept.working
   pub works : MayWork kept.mode kept.working saved history
@@ -90,9 +94,17 @@ sent_by w p d k = length (w.handlers.sends p (take k (w.history p)) d)
 pub record Shows (m : TheMachine) (w : World) : Type 0 where
   pub count : w.count ≡ length m.processes
   pub handlers : w.handlers ≡ handlers_of m.images
-  pub process : (p : ℕ) (d : TheProcess) → p < length m.processes → StandsAt (length m.processes) (suc p) (slice_index_or m.processes p d) (w.handlers.state (suc p)) (w.handlers.sends (suc p)) (w.history (suc p)) (w.phase (suc p)) (w.incarnation (suc p)) (w.acknowledged (suc p)) (w.saved (suc p)) (w.saved_trims (suc p))
-  pub logs : (p d : ℕ) → p ≤ length m.processes → d ≤ length m.processes → p ≢ d → is_down (w.phase p) ≡ false → Keeps (queue_of d (log_at m p)) (w.trims p d) (sent w p d) (w.numbers p d)
-  pub gates : (p d : ℕ) → 0 < p → p ≤ length m.processes → d ≤ length m.processes → p ≢ d → is_up (w.phase p) ≡ true → Holds d (gate_at m p) (run_of w p) (length (w.history p)) (w.released p d) (sent_by w p d)
+  pub process : (p : ℕ) (d : TheProcess) → p < length m.processes
+      → StandsAt (length m.processes)
+      (suc p) (slice_index_or m.processes p d)
+      (w.handlers.state (suc p))
+      (w.handlers.sends (suc p))
+      (w.history (suc p)) (w.phase (suc p))
+      (w.incarnation (suc p)) (w.acknowledged (suc p)) (w.saved (suc p)) (w.saved_trims (suc p))
+  pub logs : (p d : ℕ) → p ≤ length m.processes → d ≤ length m.processes → p ≢ d → is_down (w.phase p) ≡ false
+      → Keeps (queue_of d (log_at m p)) (w.trims p d) (sent w p d) (w.numbers p d)
+  pub gates : (p d : ℕ) → 0 < p → p ≤ length m.processes → d ≤ length m.processes → p ≢ d → is_up (w.phase p) ≡ true
+      → Holds d (gate_at m p) (run_of w p) (length (w.history p)) (w.released p d) (sent_by w p d)
   pub shut : (p d : ℕ) → 0 < p → p ≤ length m.processes → is_up (w.phase p) ≡ false → slice_index_or (gate_at m p).released d 0 ≡ 0
   pub feeds : (k : ℕ) → w.feeds k ≡ is_taken k m.outside
   pub shown : w.shown ≡ m.outside.shown

@@ -16,7 +16,8 @@ abbrev pub idle_saved : ℕ → ℕ → ℕ → TheSaved
 idle_saved me n len = record { me = me; count = n; state = replicate len 0; senders = []; queues = replicate (n + 1) nothing_kept }
 
 -- for each destination the first sent messages are dropped, as many as trims says, and the others are saved
-pub record Saves (n me : ℕ) (s : TheSaved) (state : List ℕ) (history : List Message) (trims : ℕ → ℕ) (sent : ℕ → List Payload) : Type 0 where
+pub record Saves (n me : ℕ) (s : TheSaved) (state : List ℕ) (history : List Message) (trims : ℕ → ℕ) (sent : ℕ
+    → List Payload) : Type 0 where
   pub state_is : s.state ≡ state
   pub senders_are : s.senders ≡ map (λ (m : Message). m.sender) history
   pub first : (d : ℕ) → d ≤ n → d ≢ me → (slice_index_or s.queues d nothing_kept).first ≡ suc (trims d)

@@ -1,5 +1,6 @@
 -- What may leave a machine's logs, and what finds no place on its wire
-use Rattle.std.specs.Prelude.{◌≡◌, ◌≢◌, ℕ, ◌+◌, ◌-◌, ◌<◌, ◌≤◌, length, Option, Some, None, is_some, true, count_by, nat_le, ◌==◌, ◌&&◌, if◌then◌else◌, slice_index_or}
+use Rattle.std.specs.Prelude.{◌≡◌, ◌≢◌, ℕ, ◌+◌, ◌-◌, ◌<◌, ◌≤◌, length, Option, Some, None, is_some, true, count_by, nat_le, ◌==◌, ◌&&◌}
+use Rattle.std.specs.Prelude.{if◌then◌else◌, slice_index_or}
 use Rattle.limits.specs.declared.TheConstants.{PACKETS}
 use Rattle.sender_log.specs.Queue.{is_logged}
 use Rattle.sender_log.specs.Log.{queue_of}
@@ -20,7 +21,8 @@ live m = count_by (λ (x : TheProcess). is_live x.mode && is_some x.working) m.p
 -- why one more packet has no place in the journal or on the wire
 abbrev pub placing : TheMachine → ℕ → Option Refusal
 placing m room =
-    if nat_le room (busy m) then Some JournalFull else (if nat_le (PACKETS - live m) (count_by is_some m.slots) then Some WireFull else None)
+    if nat_le room (busy m) then Some JournalFull else (if nat_le (PACKETS - live m)
+    (count_by is_some m.slots) then Some WireFull else None)
 
 -- how many messages are released. The outside releases all its inputs
 abbrev pub released_at : TheMachine → ℕ → ℕ → ℕ

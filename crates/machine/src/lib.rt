@@ -29,24 +29,24 @@
 #![tactic(auto)]
 
 mod arrival;
-mod reception;
+mod checkpoints;
+mod choice;
+mod dispatch;
 mod jobs;
 mod machine;
 mod mail;
 mod mode;
 mod outbox;
 mod outside;
-mod choice;
 mod process;
+mod reception;
 mod recoveries;
 mod replays;
-mod checkpoints;
-mod transmission;
 mod stable;
-mod dispatch;
+mod transmission;
 mod wire;
 
 pub use arrival::{Arrival, Finished};
+pub use dispatch::Reply;
 pub use machine::Machine;
 pub use replay::{Done, Job};
-pub use dispatch::Reply;

@@ -1,5 +1,6 @@
 -- Two tasks that one instruction does: a register is copied, and a number is added to the copy.
-use Rattle.std.specs.Prelude.{ℕ, zero, suc, ◌+◌, ◌-◌, ◌==◌, ℤ, Bool, true, false, ◌&&◌, nat_lt, is_some, List, Option, Some, None, length, replicate, slice_index_or, slice_set, if◌then◌else◌}
+use Rattle.std.specs.Prelude.{ℕ, zero, suc, ◌+◌, ◌-◌, ◌==◌, ℤ, Bool, true, false, ◌&&◌, nat_lt, is_some, List, Option, Some, None, length}
+use Rattle.std.specs.Prelude.{replicate, slice_index_or, slice_set, if◌then◌else◌}
 use Rattle.decode.specs.declared.insn.AluOp.TheVariants as op
 use Rattle.decode.specs.declared.insn.Width.TheVariants.{W64}
 use Rattle.decode.specs.declared.insn.Operand.TheVariants as operand

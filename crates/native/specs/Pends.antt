@@ -1,5 +1,6 @@
 -- How many steps are pending at each slot: executed, but not yet added to the count in r11.
-use Rattle.std.specs.Prelude.{ℕ, zero, suc, ◌+◌, Bool, false, ◌&&◌, ◌||◌, nat_lt, min, List, [], ◌∷◌, length, replicate, slice_index, slice_set, if◌then◌else◌}
+use Rattle.std.specs.Prelude.{ℕ, zero, suc, ◌+◌, Bool, false, ◌&&◌, ◌||◌, nat_lt, min, List, [], ◌∷◌, length, replicate, slice_index}
+use Rattle.std.specs.Prelude.{slice_set, if◌then◌else◌}
 use Rattle.native.specs.declared.task.SlotTask.{SlotTask}
 use Rattle.native.specs.declared.task.SlotTask.TheVariants as task
 use Rattle.native.specs.SlotTasks.{task_at}

@@ -1,7 +1,8 @@
 -- The task of each slot.
 use Rattle.std.specs.Prelude.{◌≡◌, ◌<◌, ℕ, zero, suc, List, [], ◌∷◌, ◌++◌, Option, Some, ℤ, pos, slice_get, slice_index_or}
 use Rattle.decode.specs.declared.insn.Insn.{Insn}
-use Rattle.decode.specs.declared.insn.Insn.TheVariants.{Alu, MovSx, Neg, End, Jump, JumpLong, JumpIf, Call, Exit, Load, LoadSx, StoreReg, StoreImm, Wide}
+use Rattle.decode.specs.declared.insn.Insn.TheVariants.{Alu, MovSx, Neg, End, Jump, JumpLong, JumpIf, Call, Exit, Load, LoadSx, StoreReg}
+use Rattle.decode.specs.declared.insn.Insn.TheVariants.{StoreImm, Wide}
 use Rattle.decode.specs.Slots.{insn_at}
 use Rattle.dense.specs.declared.op.Op.{Op}
 use Rattle.regtypes.specs.declared.frame.Frame.{Frame}

@@ -14,8 +14,8 @@ ghost use Rattle.native.specs.Written.{IsCodeOf, IsLaidFrom, IsServed};
 use crate::apt::is_apt;
 use crate::body::clear;
 use crate::fusion::{is_covered, targets_of, task_at};
-use crate::prologue::Opening;
 use crate::pends::pends_of;
+use crate::prologue::Opening;
 use crate::saved::{SavedRegisters, saved_for};
 use crate::sequence::write_all;
 use crate::slot_code::{emit, emit_entry};
@@ -108,7 +108,11 @@ fn lay_slot(
 }
 
 // The code's beginning.
-fn write_entry(code: &mut Vec<u8>, opening: Opening, saved: SavedRegisters) -> Result<(), AllocError>
+fn write_entry(
+    code: &mut Vec<u8>,
+    opening: Opening,
+    saved: SavedRegisters,
+) -> Result<(), AllocError>
     ensures { OnOk result (code.new.items ≡ code.old.items ++ codes (entering_by opening saved)) }
 {
     emit_entry(code, saved)?;
@@ -122,7 +126,11 @@ fn write_entry(code: &mut Vec<u8>, opening: Opening, saved: SavedRegisters) -> R
 }
 
 /// The machine code of tasks, one for each slot, with this opening. It fails only if memory runs out.
-pub fn write_tasks(alloc: Global, opening: Opening, tasks: &[SlotTask]) -> Result<Vec<u8>, AllocError>
+pub fn write_tasks(
+    alloc: Global,
+    opening: Opening,
+    tasks: &[SlotTask],
+) -> Result<Vec<u8>, AllocError>
     requires { length tasks.now ≤ SLOTS }
     ensures { IfOk result (λ code. IsServed opening tasks.now code.items) }
 {

@@ -405,7 +405,12 @@ fn emit_leap(
 }
 
 /// The end of a call.
-fn emit_exit(code: &mut Vec<u8>, pends: &[u64], saved: SavedRegisters, slot: usize) -> Result<(), AllocError>
+fn emit_exit(
+    code: &mut Vec<u8>,
+    pends: &[u64],
+    saved: SavedRegisters,
+    slot: usize,
+) -> Result<(), AllocError>
     requires { slice_index pends.now slot < 2 ^ 31 - 1 }
     ensures { OnOk result (Emits (Ends pends.now saved slot) code.old.items code.new.items) }
 {

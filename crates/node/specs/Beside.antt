@@ -8,7 +8,8 @@ use Rattle.node.specs.Stands.{Each, Stands, Goes, actor}
 
 -- a node still agrees with the cluster after the acts of another
 abbrev pub OthersStand : Type 0
-OthersStand = (n : TheNode) (p q : ℕ) (acts : List Act) (c : Cluster) → q ≢ p → Each (λ (a : Act). actor a ≡ q) acts → Stands n c p → Stands n (after_run c acts) p
+OthersStand = (n : TheNode) (p q : ℕ) (acts : List Act) (c : Cluster) → q ≢ p → Each (λ (a : Act). actor a ≡ q) acts → Stands n c p
+    → Stands n (after_run c acts) p
 
 -- the nodes of a cluster, by number: each agrees with it
 abbrev pub AllStand : (ℕ → TheNode) → Cluster → Type 0

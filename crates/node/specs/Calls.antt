@@ -1,5 +1,6 @@
 -- A node after each of its calls
-use Rattle.std.specs.Prelude.{ℕ, ◌+◌, ◌-◌, List, length, Option, Some, None, is_some, Bool, false, not, ◌&&◌, ◌||◌, ◌==◌, nat_lt, nat_le, if◌then◌else◌, slice_index_or, slice_set}
+use Rattle.std.specs.Prelude.{ℕ, ◌+◌, ◌-◌, List, length, Option, Some, None, is_some, Bool, false, not, ◌&&◌, ◌||◌, ◌==◌, nat_lt, nat_le}
+use Rattle.std.specs.Prelude.{if◌then◌else◌, slice_index_or, slice_set}
 use Rattle.rsn.specs.Receipts.{numbers_of}
 use Rattle.packets.specs.declared.packet.Body.{Body}
 use Rattle.packets.specs.declared.packet.Body.TheVariants.{Delivery, Number, Acknowledgement, Ask, Resume, Saved}
@@ -15,7 +16,8 @@ use Rattle.node.specs.Answers.{asked_by, resumed_by}
 
 -- whether the limits allow one message more
 abbrev pub takes_more : TheNode → Bool
-takes_more n = nat_lt n.waiting n.limits.numbers && nat_lt (length n.receipts.senders) n.limits.receipts && nat_lt (n.base + length n.receipts.senders) MOST_RECEIVED
+takes_more n = nat_lt n.waiting n.limits.numbers && nat_lt (length n.receipts.senders) n.limits.receipts
+    && nat_lt (n.base + length n.receipts.senders) MOST_RECEIVED
 
 -- takes a message of a sender: drops it, answers it if it was received before, or opens a job
 abbrev pub delivered : ℕ → ℕ → ℕ → List ℕ → TheNode → TheNode
@@ -31,12 +33,14 @@ delivered from life ssn x n =
 -- takes an RSN: if it is of an entry and of the incarnation that was heard, records and acknowledges it
 abbrev pub recorded_by : ℕ → ℕ → ℕ → ℕ → TheNode → TheNode
 recorded_by from life ssn k n =
-    if (life == slice_index_or n.heard from 0) && is_kept ssn (log_at n.logs from) then posts from (Acknowledgement life k) (numbered from ssn k n) else n
+    if (life == slice_index_or n.heard from 0)
+    && is_kept ssn (log_at n.logs from) then posts from (Acknowledgement life k) (numbered from ssn k n) else n
 
 -- takes an acknowledgement: if it is of this incarnation and of an RSN after the checkpoint, counts it, and releases what waited for it
 abbrev pub acknowledged_by : ℕ → ℕ → TheNode → TheNode
 acknowledged_by life k n =
-    if (life == n.life) && nat_lt n.base k && nat_le k (n.base + length n.receipts.senders) && not (slice_index_or n.receipts.acknowledged (k - n.base - 1) false)
+    if (life == n.life) && nat_lt n.base k && nat_le k (n.base + length n.receipts.senders)
+    && not (slice_index_or n.receipts.acknowledged (k - n.base - 1) false)
     then released (counted (k - n.base) n)
     else n
 

@@ -1,5 +1,6 @@
 -- The kept state of a process: what a node gives, what a process can come back from, and what it is in a cluster
-use Rattle.std.specs.Prelude.{◌≡◌, ◌≢◌, ℕ, suc, ◌+◌, ◌*◌, ◌≤◌, List, [], ◌∷◌, ◌++◌, length, map, take, drop, slice_index_or, None, Bool, true, ◌&&◌, ◌==◌, nat_lt, nat_le}
+use Rattle.std.specs.Prelude.{◌≡◌, ◌≢◌, ℕ, suc, ◌+◌, ◌*◌, ◌≤◌, List, [], ◌∷◌, ◌++◌, length, map, take, drop, slice_index_or, None, Bool}
+use Rattle.std.specs.Prelude.{true, ◌&&◌, ◌==◌, nat_lt, nat_le}
 use Rattle.std.specs.List.{list_all}
 use Rattle.world.specs.History.{count_of}
 use Rattle.cluster.specs.Cluster.{Cluster}
@@ -69,7 +70,9 @@ pub record IsKeptOf (k : Kept) (c : Cluster) (p : ℕ) : Type 0 where
   pub many : k.length ≤ length (c.history p)
   pub state : c.handlers.state p (take k.length (c.history p)) ≡ k.state
   pub counts : (q : ℕ) → q ≤ c.count → slice_index_or (with_own 0 k.me k.counts) q 0 ≡ count_of q (take k.length (c.history p))
-  pub logs : (d : ℕ) → d ≤ c.count → d ≢ p → KeepsOf (log_at (with_own no_queue k.me (map queue_of k.logs)) d) (c.saved_trims p d) (c.handlers.sends p (take k.length (c.history p)) d) (λ _. None)
+  pub logs : (d : ℕ) → d ≤ c.count → d ≢ p
+      → KeepsOf (log_at (with_own no_queue k.me (map queue_of k.logs)) d)
+      (c.saved_trims p d) (c.handlers.sends p (take k.length (c.history p)) d) (λ _. None)
 
 -- the node while it waits for its checkpoint, whatever it has still to send
 abbrev pub resting : TheNode → TheNode
@@ -83,4 +86,5 @@ Covers k n = (c : Cluster) → Stands (resting n) c n.me → May c (Keeps n.me) 
 -- what is kept of p stays what it is, whatever happens except that a newer checkpoint of p becomes durable: also what happens at p, and if
 -- p dies
 abbrev pub KeptStays : Type 0
-KeptStays = (k : Kept) (p : ℕ) (acts : List Act) (c : Cluster) → Each (λ (a : Act). a ≢ Keeps p) acts → IsKeptOf k c p → IsKeptOf k (after_run c acts) p
+KeptStays = (k : Kept) (p : ℕ) (acts : List Act) (c : Cluster) → Each (λ (a : Act). a ≢ Keeps p) acts → IsKeptOf k c p
+    → IsKeptOf k (after_run c acts) p

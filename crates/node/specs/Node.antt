@@ -1,5 +1,6 @@
 -- A node as clauses see it
-use Rattle.std.specs.Prelude.{◌≡◌, ◌≢◌, ℕ, suc, ◌+◌, ◌-◌, ◌*◌, ◌^◌, ◌<◌, ◌≤◌, List, [], ◌∷◌, length, Option, Some, None, is_some, Bool, true, false, slice_get, slice_index_or, slice_set, replicate, sum}
+use Rattle.std.specs.Prelude.{◌≡◌, ◌≢◌, ℕ, suc, ◌+◌, ◌-◌, ◌*◌, ◌^◌, ◌<◌, ◌≤◌, List, [], ◌∷◌, length, Option, Some, None, is_some, Bool}
+use Rattle.std.specs.Prelude.{true, false, slice_get, slice_index_or, slice_set, replicate, sum}
 use Rattle.std.specs.List.{AllByRecursion}
 use Rattle.rsn.specs.Receipts.{Received, accepted, acknowledged, numbers_of}
 use Rattle.rsn.specs.declared.receipts.TheConstants.{LIMIT}
@@ -68,7 +69,11 @@ log_at logs d = slice_index_or logs d no_queue
 
 -- what always holds of a node's own numbers, whatever the cluster is: for each received message at most sixteen were sent to each
 -- destination; and no job is open while it is frozen
-pub record IsWithin (limits : Limits) (me count base : ℕ) (covered heard : List ℕ) (resumed : List Bool) (receipts : Received) (logs : List TheQueue) (working : Option OpenJob) (frozen : Bool) (waiting life : ℕ) (out : List NodePacket) : Type 0 where
+pub record IsWithin (limits : Limits)
+    (me count base : ℕ) (covered heard : List ℕ)
+    (resumed : List Bool)
+    (receipts : Received)
+    (logs : List TheQueue) (working : Option OpenJob) (frozen : Bool) (waiting life : ℕ) (out : List NodePacket) : Type 0 where
   pub allowed : AreAllowed limits
   pub inside : 1 ≤ me
   pub within : me ≤ count
@@ -133,7 +138,13 @@ next_number n = n.base + (length n.receipts.senders + 1)
 
 -- the handler ran on the message of this job
 abbrev pub worked : OpenJob → List ℕ → List Given → TheNode → TheNode
-worked j state given n = record n { state = state; receipts = accepted j.sender n.receipts; logs = given_to (next_number n) given n.logs; waiting = n.waiting + 1; working = None }
+worked j state given n = record n {
+  state = state;
+  receipts = accepted j.sender n.receipts;
+  logs = given_to (next_number n) given n.logs;
+  waiting = n.waiting + 1;
+  working = None;
+}
 
 -- what the sender is told then
 abbrev pub number_of : OpenJob → TheNode → Body

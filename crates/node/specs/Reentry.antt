@@ -6,7 +6,8 @@ use Rattle.node.specs.Node.{TheNode, IsWithin}
 
 -- the numbers of the process are in range
 abbrev pub AreWithin : Returned → Type 0
-AreWithin r = IsWithin r.limits r.me r.count r.base r.covered.items r.heard.items r.resumed.items r.receipts r.logs.items None false 0 r.life r.out
+AreWithin r =
+    IsWithin r.limits r.me r.count r.base r.covered.items r.heard.items r.resumed.items r.receipts r.logs.items None false 0 r.life r.out
 
 -- its node: what it sent is released, unless it is durable and its checkpoint doesn't cover it; and no RSN waits for an acknowledgement
 abbrev pub node_of : Returned → TheNode

@@ -38,7 +38,8 @@ sends_from f p s (m ∷ h) d = payloads_to d (f p s m).given ++ sends_from f p (
 
 -- the handlers that answer so, from states of zeros
 abbrev pub handlers_of : Answering → (ℕ → ℕ) → Handlers
-handlers_of f len = record { state = λ p h. state_from f p (replicate (len p) 0) h; sends = λ p h d. sends_from f p (replicate (len p) 0) h d }
+handlers_of f len =
+    record { state = λ p h. state_from f p (replicate (len p) 0) h; sends = λ p h d. sends_from f p (replicate (len p) 0) h d }
 
 -- the nodes by number; a cluster as the gateway sees it: all of itself, and of the nodes what they gave to it or to each other; and the
 -- packets that they gave
@@ -98,7 +99,8 @@ CameFrom s x = IsOne x s.given ⊎ PutOut s.outside.count s.outside.parcels x.fr
 abbrev pub DoesIt : Answering → System → Call → Type 0
 DoesIt f s (Gave p x new) = (0 < p) × (p ≤ s.outside.count) × Takes (Some x) (s.nodes p) new
 DoesIt f s (Handed p x new) = (0 < p) × (p ≤ s.outside.count) × CameFrom s x × IsHanded x (s.nodes p) new
-DoesIt f s (Worked p a new) = (0 < p) × (p ≤ s.outside.count) × IsAnswer f p (s.nodes p) a × Owes (Handles a.state a.given (s.nodes p)) (s.nodes p) new
+DoesIt f s (Worked p a new) = (0 < p) × (p ≤ s.outside.count) × IsAnswer f p (s.nodes p) a
+    × Owes (Handles a.state a.given (s.nodes p)) (s.nodes p) new
 DoesIt f s (Ticked p new) = (0 < p) × (p ≤ s.outside.count) × Acts (s.nodes p) new
 DoesIt f s (Froze p new) = (0 < p) × (p ≤ s.outside.count) × Acts (s.nodes p) new
 DoesIt f s (Thawed p new) = (0 < p) × (p ≤ s.outside.count) × Saves (s.nodes p) new
@@ -110,7 +112,11 @@ with_said x None ps = ps
 with_said x (Some b) ps = parcel x.from x.to b ∷ ps
 
 abbrev pub after_call : System → Call → System
-after_call s (Gave p x new) = record { nodes = put s.nodes p new; outside = record s.outside { parcels = with_said x (body_of x.body) s.outside.parcels }; given = x ∷ s.given }
+after_call s (Gave p x new) = record {
+  nodes = put s.nodes p new;
+  outside = record s.outside { parcels = with_said x (body_of x.body) s.outside.parcels };
+  given = x ∷ s.given;
+}
 after_call s (Handed p x new) = record s { nodes = put s.nodes p new }
 after_call s (Worked p a new) = record s { nodes = put s.nodes p new }
 after_call s (Ticked p new) = record s { nodes = put s.nodes p new }
@@ -141,5 +147,6 @@ pub record IsRunOf (n : ℕ) (f : Handlers) (s : System) : Type 0 where
 
 -- calls of nodes in any order, durable or not, with packets that come late, twice or never, are a run of a cluster
 abbrev pub CallsRun : Type 0
-CallsRun = (f : Answering) (n : ℕ) (limits : ℕ → Limits) (len : ℕ → ℕ) (calls : List Call) → n ≤ 15 → Calls f (new_system n limits len (handlers_of f len)) calls
+CallsRun = (f : Answering) (n : ℕ) (limits : ℕ → Limits) (len : ℕ → ℕ) (calls : List Call) → n ≤ 15
+    → Calls f (new_system n limits len (handlers_of f len)) calls
     → IsRunOf n (handlers_of f len) (after_calls (new_system n limits len (handlers_of f len)) calls)

@@ -1,5 +1,6 @@
 -- When a node agrees with a cluster, and what a call owes
-use Rattle.std.specs.Prelude.{◌≡◌, ◌≢◌, ℕ, suc, ◌+◌, ◌<◌, ◌≤◌, max, List, [], ◌∷◌, ◌++◌, length, map, take, Option, Some, None, Bool, true, false, slice_index_or, replicate, ◌==◌, if◌then◌else◌}
+use Rattle.std.specs.Prelude.{◌≡◌, ◌≢◌, ℕ, suc, ◌+◌, ◌<◌, ◌≤◌, max, List, [], ◌∷◌, ◌++◌, length, map, take, Option, Some, None, Bool}
+use Rattle.std.specs.Prelude.{true, false, slice_index_or, replicate, ◌==◌, if◌then◌else◌}
 use Rattle.rsn.specs.Receipts.{Received}
 use Rattle.world.specs.declared.message.Message.{Message}
 use Rattle.world.specs.History.{Payload, count_of}
@@ -9,7 +10,8 @@ use Rattle.world.specs.World.{put}
 use Rattle.world.specs.Logs.{run_to}
 use Rattle.cluster.specs.Parcels.{Body, Parcel, parcel, In}
 use Rattle.cluster.specs.Cluster.{Cluster, Stage, Live, Frozen, waiting}
-use Rattle.cluster.specs.Rules.{Act, Input, Puts, Starts, Shows, Works, Replays, Records, Counts, Drops, Hears, Collects, Recovers, Obeys, Enters, Restores, Greets, Freezes, Keeps, Thaws, Dies, Opens, May, does, Run, after_run, IsNode, message}
+use Rattle.cluster.specs.Rules.{Act, Input, Puts, Starts, Shows, Works, Replays, Records, Counts, Drops, Hears, Collects, Recovers, Obeys}
+use Rattle.cluster.specs.Rules.{Enters, Restores, Greets, Freezes, Keeps, Thaws, Dies, Opens, May, does, Run, after_run, IsNode, message}
 use Rattle.packets.specs.declared.packet.NodePacket.{NodePacket}
 use Rattle.node.specs.declared.job.OpenJob.{OpenJob}
 use Rattle.node.specs.declared.job.Given.{Given}
@@ -54,7 +56,8 @@ IsNextAfter h (Some j) = j.ssn ≡ suc (count_of j.sender h)
 
 -- in the history each message is the next of its sender; of the first `base` messages the count by sender is known, and of those after them
 -- the sender of each
-pub record HasReceived (count base : ℕ) (covered : List ℕ) (receipts : Received) (history : List Message) (acknowledged : ℕ → Bool) : Type 0 where
+pub record HasReceived (count base : ℕ) (covered : List ℕ) (receipts : Received) (history : List Message) (acknowledged : ℕ
+    → Bool) : Type 0 where
   pub before : List Message
   pub behind : List Message
   pub joined : before ++ behind ≡ history
@@ -112,7 +115,8 @@ pub record Stands (n : TheNode) (c : Cluster) (p : ℕ) : Type 0 where
   pub received : HasReceived n.count n.base n.covered n.receipts (c.history p) (c.acknowledged p)
   pub waits : waiting c p ≡ n.waiting
   pub logs : (d : ℕ) → d ≤ c.count → d ≢ p → KeepsOf (log_at n.logs d) (c.trims p d) (c.handlers.sends p (c.history p) d) (c.numbers p d)
-  pub gates : (d : ℕ) → d ≤ c.count → d ≢ p → IsShut (log_at n.logs d) (length (c.history p)) (most_released n.limits.durable c p d) (sent_by c.handlers p (c.history p) d)
+  pub gates : (d : ℕ) → d ≤ c.count → d ≢ p
+      → IsShut (log_at n.logs d) (length (c.history p)) (most_released n.limits.durable c p d) (sent_by c.handlers p (c.history p) d)
   -- what the node may release is released in the cluster
   pub free : (d : ℕ) → sent_by c.handlers p (c.history p) d (freed_in n.limits.durable c p) ≤ c.released p d
   pub heard : (q : ℕ) → q ≤ c.count → c.heard p q ≡ slice_index_or n.heard q 0
@@ -183,7 +187,8 @@ Acts old new = Owes (λ c. Unit {0}) old new
 -- what a call owes that is told that its checkpoint is durable: if the node waits for it, it may become durable, and the node goes on from
 -- there
 abbrev pub Saves : TheNode → TheNode → Type 0
-Saves old new = (old.frozen ≡ false → new ≡ old) × (old.frozen ≡ true → (c : Cluster) → Stands old c old.me → May c (Keeps old.me) × GoesOn old.me new (does c (Keeps old.me)))
+Saves old new = (old.frozen ≡ false → new ≡ old)
+    × (old.frozen ≡ true → (c : Cluster) → Stands old c old.me → May c (Keeps old.me) × GoesOn old.me new (does c (Keeps old.me)))
 
 -- the payloads that a handler sends to d
 abbrev pub payloads_to : ℕ → List Given → List Payload
@@ -211,4 +216,5 @@ IsHanded x old new = Owes (λ c. WasSaid c.parcels x.from x.to x.body) old new
 -- what `take` owes: it gives the first packet that waited, which was sent, and the node no longer has it
 abbrev pub Takes : Option NodePacket → TheNode → TheNode → Type 0
 Takes None old new = (old.out ≡ []) × (new ≡ old)
-Takes (Some x) old new = (old ≡ record new { out = x ∷ new.out }) × ((c : Cluster) → Stands old c old.me → PutOut c.count c.parcels old.me x × Stands new c old.me)
+Takes (Some x) old new = (old ≡ record new { out = x ∷ new.out })
+    × ((c : Cluster) → Stands old c old.me → PutOut c.count c.parcels old.me x × Stands new c old.me)

@@ -1,5 +1,6 @@
 -- What a node sends, and sends again
-use Rattle.std.specs.Prelude.{ℕ, zero, suc, ◌+◌, ◌-◌, length, is_none, max, min, Bool, false, ◌==◌, if◌then◌else◌, slice_index_or, slice_set}
+use Rattle.std.specs.Prelude.{ℕ, zero, suc, ◌+◌, ◌-◌, length, is_none, max, min, Bool, false, ◌==◌, if◌then◌else◌, slice_index_or}
+use Rattle.std.specs.Prelude.{slice_set}
 use Rattle.rsn.specs.Receipts.{numbers_of, acknowledged_of, run_of}
 use Rattle.packets.specs.declared.packet.Body.TheVariants.{Delivery}
 use Rattle.node.specs.Queue.{TheQueue, payload_of, number_of, released_by}
@@ -55,7 +56,8 @@ abbrev pub resends : ℕ → ℕ → ℕ → ℕ → TheNode → TheNode
 resends to s zero left n = n
 resends to s (suc k) zero n = n
 resends to s (suc k) (suc left) n =
-    if is_none (number_of (s + 1) (log_at n.logs to)) then resends to (s + 1) k left (delivers to (s + 1) n) else resends to (s + 1) k (suc left) n
+    if is_none (number_of (s + 1)
+    (log_at n.logs to)) then resends to (s + 1) k left (delivers to (s + 1) n) else resends to (s + 1) k (suc left) n
 
 -- sends those that are released again
 abbrev pub resent : ℕ → TheNode → TheNode
@@ -74,7 +76,8 @@ renumbers to place (suc k) (suc left) n =
 
 -- tells a peer's RSNs again
 abbrev pub renumbered : ℕ → TheNode → TheNode
-renumbered to n = renumbers to (run_of (acknowledged_of to n.receipts)) (length (numbers_of to n.receipts) - run_of (acknowledged_of to n.receipts)) n.limits.tick n
+renumbered to n = renumbers to (run_of (acknowledged_of to n.receipts))
+    (length (numbers_of to n.receipts) - run_of (acknowledged_of to n.receipts)) n.limits.tick n
 
 -- sends again what isn't answered, to each peer below d
 abbrev pub ticked_below : ℕ → ℕ → TheNode → TheNode

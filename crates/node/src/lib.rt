@@ -29,29 +29,29 @@
 
 mod answers;
 mod bytes;
+mod checkpoints;
+mod commit;
 mod job;
 mod kept;
 mod laws;
 mod limit;
 mod node;
 mod page;
-mod queue;
 mod queries;
+mod queue;
 mod reception;
 mod reentry;
-mod checkpoints;
-mod transmission;
 mod status;
-mod commit;
+mod transmission;
 
+pub use commit::log;
 pub use job::{Given, OpenJob};
 pub use kept::MOST_KEPT;
 pub use laws::{calls_run, kept_stays, nodes_run, others_stand};
 pub use limit::{Limits, PAGE, TICK};
 pub use node::{MOST_GIVEN, MOST_RECEIVED, Node, WINDOW};
 pub use page::{PAIR_BYTES, RESTORED_BYTES};
-pub use queue::KeptQueue;
 pub use queries::entries;
+pub use queue::KeptQueue;
 pub use reentry::Returned;
 pub use status::{Stage, Standing};
-pub use commit::log;

@@ -19,7 +19,8 @@ use Rattle.recovery.specs.Restoration as restoring
 use Rattle.gateway.specs.Gateway.{TheGateway, new_gateway}
 use Rattle.gateway.specs.Calls as gateways
 use Rattle.node_laws.specs.Process.{Up, Collects, Replays, Replayed, Restores}
-use Rattle.node_laws.specs.System.{new_system, AreStored, Call, Gave, Handed, Did, Died, Revived, GaveOut, HandedOut, StoredOut, Calls, after_calls}
+use Rattle.node_laws.specs.System.{new_system, AreStored, Call, Gave, Handed, Did, Died, Revived, GaveOut, HandedOut, StoredOut, Calls}
+use Rattle.node_laws.specs.System.{after_calls}
 use Rattle.node_laws.specs.Alone.{OneAtATime}
 use Rattle.node_laws.specs.Worked.{sent}
 
@@ -130,7 +131,8 @@ pub record IsWorked (f : Answering) (len page tick : ℕ) (bytes : ℕ → List 
   pub is_up : (after_calls (new_system 2 (λ _. usual) (λ _. len) bytes page tick) (worked len page tick)).processes 1 ≡ Up node
   pub life : node.life ≡ 2
   pub exact : node.exact ≡ true
-  pub other : (after_calls (new_system 2 (λ _. usual) (λ _. len) bytes page tick) (worked len page tick)).processes 2 ≡ Up (without (other_resumed len))
+  pub other : (after_calls (new_system 2 (λ _. usual) (λ _. len) bytes page tick)
+      (worked len page tick)).processes 2 ≡ Up (without (other_resumed len))
 
 abbrev pub ComesBackBeside : Type 0
 ComesBackBeside = (f : Answering) (len page tick : ℕ) (bytes : ℕ → List ℕ) → AreStored 2 (λ _. len) bytes → IsWorked f len page tick bytes

@@ -56,21 +56,33 @@ pub record HasRecovered (n : ℕ) (f : Handlers) (s t : System) (p : ℕ) (now :
   pub after : AllStand n (as_lives t) (after_run (opening n f) (acts ++ more))
   pub had : HadReceived (after_run (opening n f) acts) p collected.own.base (plan_of now)
   pub kept : keeps now ≡ collected.own.base + length (plan_of now)
-  pub stays : take (keeps now) ((after_run (opening n f) (acts ++ more)).history p) ≡ take (keeps now) ((after_run (opening n f) acts).history p)
-  pub back : (m : TheNode) → as_process (t.processes p) ≡ stages.Up m → length_of m ≡ keeps now → f.state p (take (keeps now) ((after_run (opening n f) acts).history p)) ≡ m.state
+  pub stays : take (keeps now)
+      ((after_run (opening n f) (acts ++ more)).history p) ≡ take (keeps now) ((after_run (opening n f) acts).history p)
+  pub back : (m : TheNode) → as_process (t.processes p) ≡ stages.Up m → length_of m ≡ keeps now
+      → f.state p (take (keeps now) ((after_run (opening n f) acts).history p)) ≡ m.state
 
 -- a call before which p collects, and after which it doesn't
 abbrev pub HostedRecovers : Type 0
-HostedRecovers = (images : ℕ → AnyImage) (n page tick : ℕ) (limits : ℕ → Limits) (processes : ℕ → TheProcess) (bytes : ℕ → List ℕ) (calls more : List HostCall) (k : HostCall) (p : ℕ) (from : TheCollecting) (now : TheProcess) (w : Checkpoint)
-    → n ≤ 15 → Opens n images limits processes bytes → IsFirst n p → AreCalls images n (new_system n processes bytes page tick) (calls ++ k ∷ more) → StayExact n (new_system n processes bytes page tick) (calls ++ k ∷ more)
+HostedRecovers = (images : ℕ → AnyImage) (n page tick : ℕ) (limits : ℕ → Limits) (processes : ℕ → TheProcess) (bytes : ℕ
+    → List ℕ) (calls more : List HostCall) (k : HostCall) (p : ℕ) (from : TheCollecting) (now : TheProcess) (w : Checkpoint)
+    → n ≤ 15 → Opens n images limits processes bytes → IsFirst n p
+    → AreCalls images n (new_system n processes bytes page tick) (calls ++ k ∷ more)
+    → StayExact n (new_system n processes bytes page tick) (calls ++ k ∷ more)
     → as_process ((after_calls (new_system n processes bytes page tick) calls).processes p) ≡ stages.Collects from
     → (after_call (after_calls (new_system n processes bytes page tick) calls) k).processes p ≡ Runs now w → has_recovered now.course ≡ true
-    → HasRecovered n (handlers n images) (after_call (after_calls (new_system n processes bytes page tick) calls) k) (after_calls (new_system n processes bytes page tick) (calls ++ k ∷ more)) p now.course
+    → HasRecovered n (handlers n images)
+    (after_call (after_calls (new_system n processes bytes page tick) calls) k)
+    (after_calls (new_system n processes bytes page tick) (calls ++ k ∷ more)) p now.course
 
 -- the same if processes fail one at a time
 abbrev pub HostedRecoversAlone : Type 0
-HostedRecoversAlone = (images : ℕ → AnyImage) (n page tick : ℕ) (limits : ℕ → Limits) (processes : ℕ → TheProcess) (bytes : ℕ → List ℕ) (calls more : List HostCall) (k : HostCall) (p : ℕ) (from : TheCollecting) (now : TheProcess) (w : Checkpoint)
-    → n ≤ 15 → Opens n images limits processes bytes → IsFirst n p → AreCalls images n (new_system n processes bytes page tick) (calls ++ k ∷ more) → OneAtATime n (new_system n processes bytes page tick) (calls ++ k ∷ more)
+HostedRecoversAlone = (images : ℕ → AnyImage) (n page tick : ℕ) (limits : ℕ → Limits) (processes : ℕ → TheProcess) (bytes : ℕ
+    → List ℕ) (calls more : List HostCall) (k : HostCall) (p : ℕ) (from : TheCollecting) (now : TheProcess) (w : Checkpoint)
+    → n ≤ 15 → Opens n images limits processes bytes → IsFirst n p
+    → AreCalls images n (new_system n processes bytes page tick) (calls ++ k ∷ more)
+    → OneAtATime n (new_system n processes bytes page tick) (calls ++ k ∷ more)
     → as_process ((after_calls (new_system n processes bytes page tick) calls).processes p) ≡ stages.Collects from
     → (after_call (after_calls (new_system n processes bytes page tick) calls) k).processes p ≡ Runs now w → has_recovered now.course ≡ true
-    → HasRecovered n (handlers n images) (after_call (after_calls (new_system n processes bytes page tick) calls) k) (after_calls (new_system n processes bytes page tick) (calls ++ k ∷ more)) p now.course
+    → HasRecovered n (handlers n images)
+    (after_call (after_calls (new_system n processes bytes page tick) calls) k)
+    (after_calls (new_system n processes bytes page tick) (calls ++ k ∷ more)) p now.course

@@ -19,4 +19,5 @@ answer_of who state (Some h) = record { state = h.state; given = given_of who h.
 
 -- the answers of processes whose handlers have these images
 abbrev pub answering : ℕ → (ℕ → AnyImage) → Answering
-answering count images = λ p state m. answer_of (who_of count p m.sender) state (answer_by (images p) (who_of count p m.sender) state m.payload)
+answering count images =
+    λ p state m. answer_of (who_of count p m.sender) state (answer_by (images p) (who_of count p m.sender) state m.payload)

@@ -98,12 +98,21 @@ IsOutside call = ⊥
 
 -- the system of `lives` that it is
 abbrev pub as_lives : System → called.System
-as_lives s = record { processes = λ p. as_process (s.processes p); stored = s.stored; lives = s.lives; gateway = s.gateway; durable = s.durable; taken = s.taken; given = s.given }
+as_lives s = record {
+  processes = λ p. as_process (s.processes p);
+  stored = s.stored;
+  lives = s.lives;
+  gateway = s.gateway;
+  durable = s.durable;
+  taken = s.taken;
+  given = s.given;
+}
 
 -- on the next message the handler leaves exactly this state and sends exactly this: the host knows it of machine code
 abbrev pub AnswersSo : List ℕ → Emitted → TheProcess → Type 0
 AnswersSo state e p =
-    (message : OpenJob) (who : Who) → job_at p.course ≡ Some (message, who) → (h : Handled) × ((answer_to p.image who (state_of p.course) message ≡ Some h) × ((h.state ≡ state) × (h.effects ≡ e)))
+    (message : OpenJob) (who : Who) → job_at p.course ≡ Some (message, who) → (h : Handled)
+    × ((answer_to p.image who (state_of p.course) message ≡ Some h) × ((h.state ≡ state) × (h.effects ≡ e)))
 
 -- it comes back with an image of this form, with these instructions and this length of state
 abbrev pub RevivesAs : AnyImage → Limits → List ℕ → ℕ → TheProcess → Type 0
@@ -117,7 +126,8 @@ DoesIt images n s (Gave p x new) = IsFirst n p × Alive (λ old. Stays (Takes (S
 DoesIt images n s (GaveBytes p x bytes new) = IsFirst n p × (IsPacket x bytes × Alive (λ old. GivesBytes bytes old new) (s.processes p))
 DoesIt images n s (Handed p x new) = IsFirst n p × (IsOne x s.given × Alive (λ old. Calls (IsHanded x) old new) (s.processes p))
 DoesIt images n s (HandedBytes p x bytes new) =
-    IsFirst n p × (IsOne x s.given × (IsPacket x bytes × Alive (λ old. (y : NodePacket) → IsPacket y bytes → Calls (IsHanded y) old new) (s.processes p)))
+    IsFirst n p × (IsOne x s.given
+    × (IsPacket x bytes × Alive (λ old. (y : NodePacket) → IsPacket y bytes → Calls (IsHanded y) old new) (s.processes p)))
 DoesIt images n s (Worked p new) = IsFirst n p × Alive (λ old. Works old new) (s.processes p)
 DoesIt images n s (Answered p ticket state e new) =
     IsFirst n p × Alive (λ old. AnswersSo state e old × (IsAnswered ticket state e old new × WorksAs state e old new)) (s.processes p)
@@ -126,9 +136,11 @@ DoesIt images n s (Froze p bytes new) =
     IsFirst n p × Alive (λ old. IsSavable old.course × (Keeps old.course bytes × Stays Freezes old new)) (s.processes p)
 DoesIt images n s (Paused p new) = IsFirst n p × Alive (λ old. Stays Freezes old new) (s.processes p)
 DoesIt images n s (Stored p bytes) = IsFirst n p × Has (λ checkpoint. checkpoint ≡ Pending bytes) (s.processes p)
-DoesIt images n s (Saved p new) = IsFirst n p × (Has (λ checkpoint. checkpoint ≡ Durable) (s.processes p) × Alive (λ old. Stays Thaws old new) (s.processes p))
+DoesIt images n s (Saved p new) = IsFirst n p
+    × (Has (λ checkpoint. checkpoint ≡ Durable) (s.processes p) × Alive (λ old. Stays Thaws old new) (s.processes p))
 DoesIt images n s (Died p) = IsFirst n p
-DoesIt images n s (Revived p limits life new) = IsFirst n p × ((s.processes p ≡ Killed) × ((s.lives p < life) × RevivesAs (images p) limits (s.stored p) life new))
+DoesIt images n s (Revived p limits life new) = IsFirst n p
+    × ((s.processes p ≡ Killed) × ((s.lives p < life) × RevivesAs (images p) limits (s.stored p) life new))
 DoesIt images n s (Outside call) = IsOutside call × called.DoesIt (answering n images) n (as_lives s) call
 
 -- the system after a call of the gateway

@@ -19,12 +19,15 @@ use Rattle.recovery.specs.Restoration.{up}
 use Rattle.node_laws.specs.System.{GaveOut, HandedOut, DidOut, StoredOut}
 use Rattle.node_laws.specs.Back.{length_of}
 use Rattle.node_laws.specs.Worked.{sent}
-use Rattle.node_laws.specs.Messages.{input, delivery, number, acknowledgement, covers, ask, told, resume, restored, gave, g1, g2, g3, g4, g5, g6, g7, g8, quiet, n0, n1, n2, n3, n4, n5, n6, n7, n8, n9, n10, comes, asks, replays, replays_more, begins, resumes, has_answer}
+use Rattle.node_laws.specs.Messages.{input, delivery, number, acknowledgement, covers, ask, told, resume, restored, gave, g1, g2, g3, g4}
+use Rattle.node_laws.specs.Messages.{g5, g6, g7, g8, quiet, n0, n1, n2, n3, n4, n5, n6, n7, n8, n9, n10, comes, asks, replays}
+use Rattle.node_laws.specs.Messages.{replays_more, begins, resumes, has_answer}
 use Rattle.process.specs.declared.course.Course.{Course}
 use Rattle.process.specs.declared.course.Course.TheVariants.{Up, Collecting, Replaying, Restoring}
 use Rattle.process.specs.Process.{TheProcess}
 use Rattle.node_laws.specs.HostProcess.{Absent, Runs}
-use Rattle.node_laws.specs.HostSystem.{System, Opens, new_system, HostCall, Gave, Handed, Worked, Froze, Stored, Saved, Died, Revived, Outside, AreCalls, after_calls}
+use Rattle.node_laws.specs.HostSystem.{System, Opens, new_system, HostCall, Gave, Handed, Worked, Froze, Stored, Saved, Died, Revived}
+use Rattle.node_laws.specs.HostSystem.{Outside, AreCalls, after_calls}
 use Rattle.node_laws.specs.HostLives.{StayExact, OneAtATime}
 
 -- ---- its handler

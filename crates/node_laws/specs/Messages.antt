@@ -24,7 +24,8 @@ use Rattle.recovery.specs.Restoration as restoring
 use Rattle.gateway.specs.Gateway.{TheGateway, new_gateway, puts_in}
 use Rattle.gateway.specs.Calls as gateways
 use Rattle.node_laws.specs.Process.{Up, Collects, Replays, Replayed, Restores}
-use Rattle.node_laws.specs.System.{System, new_system, AreStored, Call, Gave, Handed, Worked, Did, Stored, Saved as WasSaved, Died, Revived, GaveOut, HandedOut, DidOut, StoredOut, Calls, after_calls, StayExact}
+use Rattle.node_laws.specs.System.{System, new_system, AreStored, Call, Gave, Handed, Worked, Did, Stored, Saved as WasSaved, Died}
+use Rattle.node_laws.specs.System.{Revived, GaveOut, HandedOut, DidOut, StoredOut, Calls, after_calls, StayExact}
 use Rattle.node_laws.specs.Alone.{OneAtATime}
 use Rattle.node_laws.specs.Back.{length_of}
 use Rattle.node_laws.specs.Durable.{ReplayWhole}

@@ -80,7 +80,8 @@ Gives x (Up n) new = Becomes Up new (λ m. nodes.Takes (Some x) n m)
 Gives x (Covered n) new = Becomes Covered new (λ m. nodes.Takes (Some x) n m)
 Gives x (Collects n) new = Becomes Collects new (λ m. collecting.Takes (Some x) n m)
 Gives x (Replays n) new = Becomes Replays new (λ m. replaying.Takes (Some x) n m)
-Gives x (Replayed n) new = Becomes Replayed new (λ m. Pops (Some x) n.own.out m.own.out × (m ≡ record n { own = record n.own { out = m.own.out } }))
+Gives x (Replayed n) new =
+    Becomes Replayed new (λ m. Pops (Some x) n.own.out m.own.out × (m ≡ record n { own = record n.own { out = m.own.out } }))
 Gives x (Restores n) new = Becomes Restores new (λ m. restoring.Takes (Some x) n m)
 Gives x Killed new = ⊥
 
@@ -100,9 +101,11 @@ IsAnswerAgain f p n a = (j : OpenJob) → next_job n ≡ Some j → a ≡ f p n.
 
 -- its handler answered this
 abbrev pub Works : Answering → ℕ → Answer → Process → Process → Type 0
-Works f p a (Up n) new = IsAnswer f p n a × Becomes Up new (λ m. (m ≡ did_work a.state a.given n.working n) × nodes.Owes (nodes.Handles a.state a.given n) n m)
+Works f p a (Up n) new = IsAnswer f p n a
+    × Becomes Up new (λ m. (m ≡ did_work a.state a.given n.working n) × nodes.Owes (nodes.Handles a.state a.given n) n m)
 Works f p a (Covered n) new = Becomes Covered new (λ m. m ≡ did_work a.state a.given n.working n)
-Works f p a (Replays n) new = IsAnswerAgain f p n a × Becomes Replays new (λ m. (m ≡ did_replay a.state a.given (next_job n) n) × replaying.Owes (replaying.Handles a.state a.given n) n m)
+Works f p a (Replays n) new = IsAnswerAgain f p n a
+    × Becomes Replays new (λ m. (m ≡ did_replay a.state a.given (next_job n) n) × replaying.Owes (replaying.Handles a.state a.given n) n m)
 Works f p a process new = ⊥
 
 -- all peers have told a process that collects, and it recovers
@@ -118,7 +121,8 @@ Acts (Covered n) new = Becomes Covered new (λ m. (m ≡ ticked n) ⊎ (m ≡ fr
 Acts (Collects n) new = Becomes Collects new (λ m. (m ≡ collects.asked n) × collecting.Acts n m) ⊎ Becomes Replays new (λ m. Recovers n m)
 Acts (Replays n) new = Becomes Replayed new (λ m. (m ≡ replayed_of n) × replaying.Ends n m)
 Acts (Replayed n) new = Becomes Restores new (λ m. (m ≡ begun n) × restoring.Begins n m)
-Acts (Restores n) new = Becomes Restores new (λ m. (m ≡ restores.asked n) × restoring.Acts n m) ⊎ Becomes Up new (λ m. (m ≡ up n) × restoring.IsUp n m)
+Acts (Restores n) new = Becomes Restores new (λ m. (m ≡ restores.asked n) × restoring.Acts n m)
+    ⊎ Becomes Up new (λ m. (m ≡ up n) × restoring.IsUp n m)
 Acts Killed new = ⊥
 
 -- these bytes are a node's kept state
@@ -148,4 +152,5 @@ IsKilled process = ⊥
 
 -- a process came back from these bytes in this incarnation, with some limits
 abbrev pub ComesFrom : List ℕ → ℕ → TheCollecting → Type 0
-ComesFrom bytes life n = (k : Kept) × (IsKept k bytes × (((limits : Limits) × (n ≡ collects.revived limits k life)) × collecting.Revives k life n))
+ComesFrom bytes life n = (k : Kept)
+    × (IsKept k bytes × (((limits : Limits) × (n ≡ collects.revived limits k life)) × collecting.Revives k life n))

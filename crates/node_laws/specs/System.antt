@@ -24,7 +24,8 @@ use Rattle.gateway.specs.Calls as outside
 use Rattle.gateway.specs.Stands as gateways
 use Rattle.gateway.specs.Since.{revived, StandsFor}
 use Rattle.node_laws.specs.Together.{IsFirst}
-use Rattle.node_laws.specs.Process.{Process, Up, Collects, Killed, StandsAs, IsStoredOf, is_exact, Gives, Hears, Works, Acts, WaitsFor, covered, IsTold, IsKilled, ComesFrom}
+use Rattle.node_laws.specs.Process.{Process, Up, Collects, Killed, StandsAs, IsStoredOf, is_exact, Gives, Hears, Works, Acts, WaitsFor}
+use Rattle.node_laws.specs.Process.{covered, IsTold, IsKilled, ComesFrom}
 
 -- the processes by number; for each the bytes that are stored, and the greatest incarnation; the gateway, and the gateway that its store
 -- gives; the outputs that it gave without having stored so; and the packets that were given
@@ -138,7 +139,8 @@ after_call s (RevivedOut new) = record s { gateway = new; durable = new; taken =
 
 -- as their functions say, nodes that are up and the gateway drop a packet that says that all is lost
 abbrev pub LossIsDropped : Type 0
-LossIsDropped = ((x : NodePacket) (n : TheNode) → is_loss x.body ≡ true → nodes.handed x n ≡ n) × ((x : NodePacket) (g : TheGateway) → is_loss x.body ≡ true → outside.handed x g ≡ g)
+LossIsDropped = ((x : NodePacket) (n : TheNode) → is_loss x.body ≡ true → nodes.handed x n ≡ n)
+    × ((x : NodePacket) (g : TheGateway) → is_loss x.body ≡ true → outside.handed x g ≡ g)
 
 -- calls, one after another
 abbrev pub Calls : Answering → ℕ → System → List Call → Type 0
@@ -184,5 +186,7 @@ pub record IsRunOf (n : ℕ) (f : Handlers) (s : System) : Type 0 where
 -- calls of processes and the gateway in any order, with packets that come late, twice or never, and processes killed and brought back at
 -- any moment, are a run of a cluster, if each that is alive stays exact
 abbrev pub LivesRun : Type 0
-LivesRun = (f : Answering) (n page tick : ℕ) (limits : ℕ → Limits) (len : ℕ → ℕ) (bytes : ℕ → List ℕ) (calls : List Call) → n ≤ 15 → AreStored n len bytes → Calls f n (new_system n limits len bytes page tick) calls
-    → StayExact n (new_system n limits len bytes page tick) calls → IsRunOf n (handlers_of f len) (after_calls (new_system n limits len bytes page tick) calls)
+LivesRun = (f : Answering) (n page tick : ℕ) (limits : ℕ → Limits) (len : ℕ → ℕ) (bytes : ℕ → List ℕ) (calls : List Call) → n ≤ 15
+    → AreStored n len bytes → Calls f n (new_system n limits len bytes page tick) calls
+    → StayExact n (new_system n limits len bytes page tick) calls
+    → IsRunOf n (handlers_of f len) (after_calls (new_system n limits len bytes page tick) calls)

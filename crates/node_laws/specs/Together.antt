@@ -52,7 +52,8 @@ IsFirst n p = (0 < p) × (p ≤ n)
 abbrev pub DoesIt : Answering → ℕ → System → Call → Type 0
 DoesIt f n s (Gave p x new) = IsFirst n p × nodes.Takes (Some x) (s.nodes p) new
 DoesIt f n s (Handed p x new) = IsFirst n p × (IsOne x s.given × nodes.IsHanded x (s.nodes p) new)
-DoesIt f n s (Worked p a new) = IsFirst n p × (IsAnswer f p (s.nodes p) a × nodes.Owes (nodes.Handles a.state a.given (s.nodes p)) (s.nodes p) new)
+DoesIt f n s (Worked p a new) = IsFirst n p
+    × (IsAnswer f p (s.nodes p) a × nodes.Owes (nodes.Handles a.state a.given (s.nodes p)) (s.nodes p) new)
 DoesIt f n s (Did p new) = IsFirst n p × nodes.Acts (s.nodes p) new
 DoesIt f n s (Saved p new) = IsFirst n p × nodes.Saves (s.nodes p) new
 DoesIt f n s (GaveOut x new) = gateways.Takes (Some x) s.gateway new
@@ -92,5 +93,6 @@ pub record IsRunOf (n : ℕ) (f : Handlers) (s : System) : Type 0 where
 
 -- calls of nodes and the gateway in any order, durable or not, with packets that come late, twice or never, are a run of a cluster
 abbrev pub CallsRun : Type 0
-CallsRun = (f : Answering) (n page tick : ℕ) (limits : ℕ → Limits) (len : ℕ → ℕ) (calls : List Call) → n ≤ 15 → Calls f n (new_system n limits len page tick) calls
+CallsRun = (f : Answering) (n page tick : ℕ) (limits : ℕ → Limits) (len : ℕ → ℕ) (calls : List Call) → n ≤ 15
+    → Calls f n (new_system n limits len page tick) calls
     → IsRunOf n (handlers_of f len) (after_calls (new_system n limits len page tick) calls)

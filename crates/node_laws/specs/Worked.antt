@@ -17,7 +17,8 @@ use Rattle.recovery.specs.Restoration as restoring
 use Rattle.gateway.specs.Gateway.{TheGateway, new_gateway}
 use Rattle.gateway.specs.Calls as gateways
 use Rattle.node_laws.specs.Process.{Up, Collects, Replays, Replayed, Restores}
-use Rattle.node_laws.specs.System.{new_system, AreStored, Call, Gave, Handed, Did, Died, Revived, GaveOut, HandedOut, StoredOut, Calls, after_calls, StayExact}
+use Rattle.node_laws.specs.System.{new_system, AreStored, Call, Gave, Handed, Did, Died, Revived, GaveOut, HandedOut, StoredOut, Calls}
+use Rattle.node_laws.specs.System.{after_calls, StayExact}
 use Rattle.node_laws.specs.Alone.{OneAtATime}
 use Rattle.node_laws.specs.Durable.{ReplayWhole}
 

@@ -1,44 +1,27 @@
-//! What holds of calls of nodes and the gateway together, while no node comes back.
+//! What holds of nodes and the gateway as hosts call them: their calls are a run of a cluster.
 //!
 //! Each call of a [`node::Node`] owes acts of its process, and each call of a [`gateway::Gateway`]
-//! acts of the gateway, in any cluster with which it agrees. Together, calls of nodes and of the
-//! gateway from their opening on, in any order, with packets that they gave coming late, twice or
-//! never, are a run of a cluster. So the promises of clusters hold of this code.
+//! acts of the gateway, in any cluster in which it stands. Calls of nodes and of the gateway from their
+//! opening on, in any order, with packets handed over late, twice or never, are a run of a cluster
+//! ([`calls_run`]). So its promises are promises of this code.
 //!
-//! What holds of processes and the gateway through crashes and recoveries.
+//! A process may be killed at any moment. It comes back from the bytes that are stored of it, stage by
+//! stage: [`recovery::Collecting`], [`recovery::Replaying`], [`recovery::Restoring`], until it is a node
+//! again. Calls of processes in any stage and of the gateway, with kills at any moment, are a run of a
+//! cluster as long as each process that is alive tells that it is exact ([`lives_run`]); if one at a
+//! time fails, all tell that they are ([`lone_failures_stay_exact`]). What comes back is the process
+//! that was lost ([`nothing_is_lost`], [`recovers_exactly`]). Whatever fails, what is stored of a process
+//! only grows ([`stored_stays`]), and nobody has anything of a durable one but what is stored of it to
+//! be sent ([`durable_keep`]). Outputs come in order and without a gap, also if the gateway is killed
+//! ([`outputs_in_order`], [`outputs_without_gap`]).
 //!
-//! A process is a [`node::Node`] while it is up. It may be killed at any moment. It comes back from
-//! its stored bytes, stage by stage, as [`recovery::Collecting`], [`recovery::Replaying`] and
-//! [`recovery::Restoring`], until it is a node again. Each call of a stage owes acts of that
-//! process, in any cluster with which it agrees.
-//!
-//! Together, calls of processes in any stage and of a [`gateway::Gateway`] are a run of a cluster
-//! ([`lives_run`]), as long as each process that is alive says that it is exact. The calls may be
-//! in any order, packets may come late, twice or never, and each process may be killed and brought
-//! back at any moment. So the promises of clusters hold of this code, and the process that comes
-//! back is the one that was lost ([`nothing_is_lost`], [`recovers_exactly`]). If processes fail one
-//! at a time, all are exact ([`lone_failures_stay_exact`]).
-//!
-//! Whatever fails, exact or not, what is stored of a process only grows ([`stored_stays`]), and all
-//! that anyone has from a durable process is sent by what is stored of it ([`durable_keep`]). The
-//! gateway gives outputs in order and leaves none out, also if it is killed ([`outputs_in_order`],
-//! [`outputs_without_gap`]).
-//!
-//! What holds of processes and the gateway by the calls that their hosts make, through crashes and
-//! recoveries.
-//!
-//! A host has each process as a [`process::Member`], one value through all its stages. The host
-//! takes its packets and hands it others, has its handler run, has it send again what isn't
-//! answered, stores the bytes of its checkpoints, and tells it so. A process may be killed at any
-//! moment, and is revived from its stored bytes. The contract of each function says what a call
-//! does.
-//!
-//! Such calls, in any order, are calls of crate `lives` ([`hosted_live`]): each is at most one call
-//! there, and one more for each stage that the process goes through. So the promises of `lives`
-//! hold of these values ([`hosted_run`], [`hosted_alone`], [`hosted_back`], [`hosted_recovers`],
-//! [`hosted_stays`], [`hosted_last`], [`hosted_keep`], [`hosted_in_order`], [`hosted_without_gap`],
-//! [`hosted_stay_out`], [`hosted_agree`]). [`hosts_can_call`] is a worked list of such calls with
-//! messages.
+//! A host has each process as a [`process::Process`], one value through all its stages, and the contract
+//! of each of its functions says what it leaves. Such calls, in any order, are those above
+//! ([`hosted_live`]): each is at most one of them, and one more for each stage to which the process
+//! passes on. So what is promised there is promised of these values ([`hosted_run`], [`hosted_alone`],
+//! [`hosted_back`], [`hosted_recovers`], [`hosted_stays`], [`hosted_last`], [`hosted_keep`],
+//! [`hosted_in_order`], [`hosted_without_gap`], [`hosted_stay_out`], [`hosted_agree`]).
+//! [`hosts_can_call`] works out a list of such calls with messages in them.
 #![tactic(auto)]
 
 mod host_laws;

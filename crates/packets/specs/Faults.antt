@@ -41,7 +41,8 @@ HasFault Magic bytes = take 4 bytes ≢ magic
 HasFault Checksum bytes = little_number 4 (drop (length bytes - 4) bytes) ≢ crc32c (take (length bytes - 4) bytes)
 HasFault Kind bytes = (k : the_kind.PacketKind) → kind_number k ≢ slice_index bytes 4
 HasFault Count bytes = ¬ ((1 ≤ slice_index bytes 5) × (slice_index bytes 5 ≤ PROCESSES))
-HasFault Ends bytes = ¬ ((slice_index bytes 6 ≤ slice_index bytes 5) × (slice_index bytes 7 ≤ slice_index bytes 5) × (slice_index bytes 6 ≢ slice_index bytes 7))
+HasFault Ends bytes = ¬ ((slice_index bytes 6 ≤ slice_index bytes 5) × (slice_index bytes 7 ≤ slice_index bytes 5)
+    × (slice_index bytes 6 ≢ slice_index bytes 7))
 HasFault Fields bytes = (b : Body) → ¬ Spells b bytes
 HasFault Range bytes = (b : Body) → Spells b bytes → in_range b ≢ true
 

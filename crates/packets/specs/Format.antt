@@ -47,9 +47,11 @@ body_bytes (Delivery i ssn payload) = long_bytes i ++ (long_bytes ssn ++ payload
 body_bytes (Number i ssn k) = long_bytes i ++ (long_bytes ssn ++ long_bytes k)
 body_bytes (Acknowledgement i k) = long_bytes i ++ long_bytes k
 body_bytes (Ask i k) = long_bytes i ++ long_bytes k
-body_bytes (Told i j k flags entries) = long_bytes i ++ (long_bytes j ++ (long_bytes k ++ (flags.bits ∷ [] ++ page_bytes entry_bytes entries)))
+body_bytes (Told i j k flags entries) = long_bytes i
+    ++ (long_bytes j ++ (long_bytes k ++ (flags.bits ∷ [] ++ page_bytes entry_bytes entries)))
 body_bytes (Resume i kept s) = long_bytes i ++ (long_bytes kept ++ long_bytes s)
-body_bytes (Restored i j c s flags pairs) = long_bytes i ++ (long_bytes j ++ (long_bytes c ++ (long_bytes s ++ (flags.bits ∷ [] ++ page_bytes pair_bytes pairs))))
+body_bytes (Restored i j c s flags pairs) = long_bytes i
+    ++ (long_bytes j ++ (long_bytes c ++ (long_bytes s ++ (flags.bits ∷ [] ++ page_bytes pair_bytes pairs))))
 body_bytes (Saved c) = long_bytes c
 
 -- magic, kind, the number of processes, from, to and the fields

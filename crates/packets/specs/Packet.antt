@@ -1,5 +1,6 @@
 -- The kinds of packets, and the ranges of their fields
-use Rattle.std.specs.Prelude.{ℕ, ◌+◌, ◌/◌, ◌%◌, ◌^◌, List, length, drop, Bool, not, ◌&&◌, ◌||◌, ◌==◌, nat_lt, Option, Some, None, if◌then◌else◌}
+use Rattle.std.specs.Prelude.{ℕ, ◌+◌, ◌/◌, ◌%◌, ◌^◌, List, length, drop, Bool, not, ◌&&◌, ◌||◌, ◌==◌, nat_lt, Option, Some, None}
+use Rattle.std.specs.Prelude.{if◌then◌else◌}
 use Rattle.std.specs.List.{list_all, zip}
 use Rattle.packets.specs.declared.kind.PacketKind.{PacketKind}
 use Rattle.packets.specs.declared.kind.PacketKind.TheVariants as kinds

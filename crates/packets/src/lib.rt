@@ -1,13 +1,12 @@
-//! The packets of nodes and the state that a node keeps in stable storage, as values and as bytes.
+//! What nodes tell each other and what they keep: eight packets, kept state and logs, and their bytes.
 //!
-//! A [`NodePacket`] goes from one node of a cluster to another: a process, 1 to `count`, or the
-//! gateway, 0. Its [`Body`] is one of eight kinds. [`encode`] writes it as `SBP1`: magic, kind,
-//! number of processes, both ends, fields, and a CRC-32C of all that. [`decode`] reads it.
+//! A [`Packet`] is from one node of a cluster to another one: process 1 to `count`, or 0, the
+//! gateway. Its [`Body`] is one of eight. [`encode`] writes it as `SBP1`: magic, kind, ends, the
+//! fields, and a CRC-32C of all that. [`decode`] reads it.
 //!
-//! `decode` accepts exactly the bytes of packets whose fields are in range, and bytes are those of
-//! one packet at most. It refuses any other bytes by the first of their faults, of which there are
-//! eight. So a packet that `encode` wrote is read back, and one that was read is written as the
-//! same bytes.
+//! The promise: `decode` reads bytes exactly if they are those of a packet whose fields are in
+//! their ranges, and of one only. Any other bytes are refused by the first of eight faults that
+//! they have. So what `encode` wrote is read back, and what was read is written as the same bytes.
 //!
 //! ```
 //! let body = Body::Saved { covered: 3 };
@@ -16,32 +15,17 @@
 //! let again = decode(alloc, &bytes)?;
 //! ```
 //!
-//! A process keeps a [`Kept`] in stable storage: its state, how many messages it received from each
-//! peer, and those that it sent and still keeps. [`encode_kept`] writes it as `SBN1`,
-//! [`decode_kept`] reads it, and the same holds of these bytes.
+//! What a process keeps durably is a [`Kept`]: its state, how many messages it received of each peer,
+//! and those that it sent and still keeps. [`encode_kept`] writes it as `SBN1`, [`decode_kept`] reads
+//! it, and the same holds of these bytes. Crate `stores` uses the fields and the checksum for its own.
 //!
-//! Crate `stores` uses the fields and the checksum too.
+//! An [`Outbox`] holds packets until they are sent, in the order in which they came. A packet that
+//! finds no room is lost, as any packet may be.
 //!
-//! The outbox of a node or the gateway: packets that wait to be sent.
-//!
-//! An [`PacketQueue`] takes packets while it has room, and gives them back in the order in which they
-//! came. A packet that finds no room is lost, as any packet may be.
-//!
-//! ```text
-//! let mut out = Outbox::new(alloc)?;
-//! out.push(packet);
-//! while let Some(packet) = out.pop() {
-//!     send(packet);
-//! }
-//! ```
-//!
-//! The pages of a log that a node or the gateway tells to a recovering node, and the meaning of
-//! packets.
-//!
-//! A log's entries above an RSN are told in the order of their RSNs, and of their SSNs if these are
-//! the same. [`insert`] puts an entry in its place, and [`page_of`] takes as many of the first
-//! entries as fit a packet. `specs/Says` gives the meaning of a packet in the words of crate
-//! `cluster`: a page says every answer that agrees with it as far as the page goes.
+//! A node that comes back is told in pages what a log holds for it. A page has entries in the order of
+//! their numbers, and of one number in the order of their SSN: [`insert`] puts an entry in its place,
+//! and [`page_of`] takes as many of the first ones as fit a packet. `specs/Says` says what a packet says
+//! in the words of crate `cluster`: a page says each answer that agrees with it as far as it goes.
 #![tactic(auto)]
 
 mod checksum;
@@ -78,6 +62,6 @@ pub use laws::{
 pub use log_pages::{ENTRY_BYTES, LEAST_PAGE, TOLD_BYTES, insert, page_of};
 pub use outbox::{OUTBOX, PacketQueue};
 pub use packet::{Body, NUMBER_LIMIT, NodePacket};
-pub use page::{LoggedMessage, Flags, Page, Pair};
+pub use page::{Flags, LoggedMessage, Page, Pair};
 pub use reader::decode;
 pub use writer::{encode, put_checksum, put_payload, put_u64};

@@ -5,7 +5,7 @@ ghost use Rattle.std.specs.List.{list_all};
 ghost use Rattle.packets.specs.Packet.{kind_of, is_number, is_positive, in_range, is_entry_above, is_pair_above, entry_before, pair_before, ascends, entries_in_range, pairs_in_range};
 
 use crate::kind::PacketKind;
-use crate::page::{LoggedMessage, Flags, Page, Pair};
+use crate::page::{Flags, LoggedMessage, Page, Pair};
 use helpers::Payload;
 
 /// Each number is less than this.

@@ -12,7 +12,7 @@ use crate::fields::{byte_of, entries_of, pairs_of, payload_of, three_of, two_of,
 use crate::head::{fields_of, head_of};
 use crate::kind::PacketKind;
 use crate::packet::{Body, NodePacket};
-use crate::page::{LoggedMessage, Flags, Page, Pair};
+use crate::page::{Flags, LoggedMessage, Page, Pair};
 use byteorder::{ByteOrder, LittleEndian};
 use helpers::Payload;
 use std::alloc::Global;
@@ -50,7 +50,12 @@ fn packet_of(alloc: Global, bytes: &[u8]) -> Result<NodePacket, PacketError>
 }
 
 /// Reads the fields of a kind into a body, in place, since a body can take 280 bytes.
-fn read_body(alloc: Global, kind: PacketKind, bytes: &[u8], body: &mut Body) -> Result<(), PacketError>
+fn read_body(
+    alloc: Global,
+    kind: PacketKind,
+    bytes: &[u8],
+    body: &mut Body,
+) -> Result<(), PacketError>
     ensures { Gives (λ _. body.new) result (body_at kind bytes.now) }
 {
     match kind {

@@ -7,7 +7,7 @@ ghost use Rattle.packets.specs.Format.{short_bytes, long_bytes, payload_bytes, e
 use crate::checksum::crc32c;
 use crate::head::MAGIC;
 use crate::packet::{Body, NodePacket};
-use crate::page::{LoggedMessage, Flags, Pair};
+use crate::page::{Flags, LoggedMessage, Pair};
 use byteorder::{ByteOrder, LittleEndian};
 use limits::PAYLOAD_BYTES;
 use std::alloc::{AllocError, Global};

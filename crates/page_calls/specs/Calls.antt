@@ -34,7 +34,8 @@ whole_of a = string_bytes a.printed ++ string_bytes a.told ++ written_bytes a.wr
 
 -- the length of each
 abbrev pub sizes_of : PageAnswer → Sizes
-sizes_of a = record { printed = length (string_bytes a.printed); told = length (string_bytes a.told); written = length (written_bytes a.written) }
+sizes_of a =
+    record { printed = length (string_bytes a.printed); told = length (string_bytes a.told); written = length (written_bytes a.written) }
 
 -- what a call gives: words, names and files as bytes, and the length of each
 pub record Call : Type 0 where

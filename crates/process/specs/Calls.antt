@@ -104,4 +104,15 @@ standing_at (Collecting n) = collecting_standing n
 standing_at (Replaying n) = replaying_standing n
 standing_at (Replayed n) = replayed_standing n
 standing_at (Restoring n) = restoring_standing n
-standing_at Passing = record { length = 0; base = 0; incarnation = 0; stage = stage.Up; exact = true; receipts = 0; entries = 0; packets = 0; replays = 0; waited_for = 0 }
+standing_at Passing = record {
+  length = 0;
+  base = 0;
+  incarnation = 0;
+  stage = stage.Up;
+  exact = true;
+  receipts = 0;
+  entries = 0;
+  packets = 0;
+  replays = 0;
+  waited_for = 0;
+}

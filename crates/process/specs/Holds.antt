@@ -28,7 +28,8 @@ pub record EntriesAreGiven : Type 0 where
   pub taken : (o : Option NodePacket) (old new : TheProcess) → Stays (Takes o) old new → KeepsNoMore old new
   pub frozen : (old new : TheProcess) → Stays Freezes old new → KeepsNoMore old new
   pub saved : (old new : TheProcess) → Stays Thaws old new → KeepsNoMore old new
-  pub worked : (state : List ℕ) (given : List Given) (old new : TheProcess) → TakesBack state given old new → entries_of new ≤ entries_of old + length given
+  pub worked : (state : List ℕ) (given : List Given) (old new : TheProcess) → TakesBack state given old new
+      → entries_of new ≤ entries_of old + length given
 
 -- how many messages a log has, with those that it dropped
 abbrev pub sent_in : TheQueue → ℕ
@@ -36,10 +37,12 @@ sent_in q = q.dropped + length q.payloads
 
 -- a node that is up is told that the first messages to a receiver are covered for good: its log for that one keeps none of these
 pub record CoveredAreDropped : Type 0 where
-  pub dropped : (x : NodePacket) (k : ℕ) (n : TheNode) (old new : TheProcess) → old.course ≡ Up n → x.body ≡ Saved k → is_for n x ≡ true → Calls (IsHanded x) old new
+  pub dropped : (x : NodePacket) (k : ℕ) (n : TheNode) (old new : TheProcess) → old.course ≡ Up n → x.body ≡ Saved k → is_for n x ≡ true
+      → Calls (IsHanded x) old new
       → (m : TheNode) × (new.course ≡ Up m) × (length (log_at m.logs x.from).payloads ≤ sent_in (log_at n.logs x.from) - k)
 
 -- the checkpoint for which a process waits is durable: it covers all that the process received, so it keeps no receipt, and no RSN waits
 pub record SavedDrops : Type 0 where
   pub none : (old new : TheProcess) → is_frozen old.course ≡ true → Stays Thaws old new
-      → ((standing_at new.course).receipts ≡ 0) × (((standing_at new.course).base ≡ (standing_at old.course).length) × (waiting_of new.course ≡ 0))
+      → ((standing_at new.course).receipts ≡ 0)
+      × (((standing_at new.course).base ≡ (standing_at old.course).length) × (waiting_of new.course ≡ 0))

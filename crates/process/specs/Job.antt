@@ -120,7 +120,8 @@ pub record IsAnswered (ticket : HandlerTicket) (state : List ℕ) (e : Emitted) 
 -- if the handler answers the same, the process has worked
 abbrev pub WorksAs : List ℕ → Emitted → TheProcess → TheProcess → Type 0
 WorksAs state e old new =
-    (message : OpenJob) (who : Who) (h : Handled) → job_at old.course ≡ Some (message, who) → answer_to old.image who (state_of old.course) message ≡ Some h
+    (message : OpenJob) (who : Who) (h : Handled) → job_at old.course ≡ Some (message, who)
+    → answer_to old.image who (state_of old.course) message ≡ Some h
     → h.state ≡ state → h.effects ≡ e → Works old new
 
 -- ---- refusals

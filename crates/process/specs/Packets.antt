@@ -26,7 +26,8 @@ is_brief other = false
 -- such a packet that can be written
 abbrev pub is_written : NodePacket → Bool
 is_written x =
-    nat_le 1 x.count && nat_le x.count PROCESSES && nat_le x.from x.count && nat_le x.to x.count && not (x.from == x.to) && is_brief x.body && in_range x.body
+    nat_le 1 x.count && nat_le x.count PROCESSES && nat_le x.from x.count && nat_le x.to x.count && not (x.from == x.to)
+    && is_brief x.body && in_range x.body
 
 -- the numbers of a recovering process are in range, and each packet that waits can be written
 pub record OwnWrites (o : TheOwn) : Type 0 where

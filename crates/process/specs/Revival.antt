@@ -54,5 +54,6 @@ IsUnread bytes other = ⊥
 abbrev pub IsUnrevived : AnyImage → List ℕ → ℕ → Unrevived → Type 0
 IsUnrevived image bytes life why.Memory = ⊤
 IsUnrevived image bytes life (why.Kept f) = IsPositive life × IsUnread bytes (why.Kept f)
-IsUnrevived image bytes life why.State = IsPositive life × ((k : Kept) × IsKept k bytes × (comes_back k ≡ true) × (length k.state ≢ state_of image))
+IsUnrevived image bytes life why.State = IsPositive life
+    × ((k : Kept) × IsKept k bytes × (comes_back k ≡ true) × (length k.state ≢ state_of image))
 IsUnrevived image bytes life why.Incarnation = ¬ IsPositive life

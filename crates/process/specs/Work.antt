@@ -1,5 +1,6 @@
 -- The next message of a process's handler, and its answer
-use Rattle.std.specs.Prelude.{◌≡◌, ◌≢◌, ◌⊎◌, ℕ, List, [], ◌∷◌, ◌++◌, length, map, Option, Some, None, Bool, not, nat_lt, nat_le, ◌&&◌, ◌==◌, if◌then◌else◌}
+use Rattle.std.specs.Prelude.{◌≡◌, ◌≢◌, ◌⊎◌, ℕ, List, [], ◌∷◌, ◌++◌, length, map, Option, Some, None, Bool, not, nat_lt, nat_le, ◌&&◌}
+use Rattle.std.specs.Prelude.{◌==◌, if◌then◌else◌}
 use Rattle.helpers.specs.declared.effects.Who.{Who}
 use Rattle.helpers.specs.declared.effects.Sent.{Sent}
 use Rattle.helpers.specs.Effects.{Emitted}
@@ -55,7 +56,8 @@ given_of who e = sent_by who e.sends ++ shown_by who e.outputs
 
 -- the handler left this state, and sent this
 abbrev pub TakesIn : List ℕ → List Given → Course → Course → Type 0
-TakesIn state given (Up old) (Up new) = (new ≡ did_work state given old.working old) × up_owes.Owes (up_owes.Handles state given old) old new
+TakesIn state given (Up old) (Up new) = (new ≡ did_work state given old.working old)
+    × up_owes.Owes (up_owes.Handles state given old) old new
 TakesIn state given (Replaying old) (Replaying new) =
     (new ≡ did_replay state given (next_job old) old) × replaying_owes.Owes (replaying_owes.Handles state given old) old new
 TakesIn state given (Up old) new = ⊥

@@ -47,7 +47,13 @@ impl HandlerCall {
     ghost use Rattle.process.specs.Job.{IsSame};
 
     /// Whether it is this job, with this message and state, and a handler with the same code.
-    pub(crate) fn is(&self, ticket: HandlerTicket, who: Who, payload: &Payload, state: &[u8]) -> bool
+    pub(crate) fn is(
+        &self,
+        ticket: HandlerTicket,
+        who: Who,
+        payload: &Payload,
+        state: &[u8],
+    ) -> bool
         ensures { IsTrue result ↔ IsSame self.now ticket who payload.now state.now }
     {
         self.ticket == ticket

@@ -5,8 +5,7 @@ ghost use Rattle.process.specs.Process.{is_node};
 ghost use Rattle.process.specs.Transitions.{Recovers, Finishes, Begun, Returns, Passes, has_heard, has_run, is_held, IsHeld};
 
 use node::Node;
-use recovery::{Cause, Collecting, Replayed, Replaying};
-use recovery::Restoring;
+use recovery::{Cause, Collecting, Replayed, Replaying, Restoring};
 use std::alloc::Global;
 
 /// A process in its stage.

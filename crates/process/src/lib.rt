@@ -26,18 +26,18 @@
 //! ```
 #![tactic(auto)]
 
-mod exchange;
 mod call;
+mod checkpoints;
 mod course;
 mod done;
+mod exchange;
 mod fault;
-mod traffic;
 mod job;
 mod laws;
 mod layout;
 mod process;
 mod queries;
-mod checkpoints;
+mod traffic;
 mod work;
 
 pub use call::{HandlerCall, HandlerTicket};

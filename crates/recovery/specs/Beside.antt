@@ -11,13 +11,16 @@ use Rattle.recovery.specs.StandsAtReplay.{StandsReplaying}
 
 -- a process that collects still agrees with the cluster after the acts of another
 abbrev pub OthersStand : Type 0
-OthersStand = (n : TheCollecting) (p q : ℕ) (acts : List Act) (c : Cluster) → q ≢ p → Each (λ (a : Act). actor a ≡ q) acts → StandsCollecting n c p → StandsCollecting n (after_run c acts) p
+OthersStand = (n : TheCollecting) (p q : ℕ) (acts : List Act) (c : Cluster) → q ≢ p → Each (λ (a : Act). actor a ≡ q) acts
+    → StandsCollecting n c p → StandsCollecting n (after_run c acts) p
 
 -- so does one that replays
 abbrev pub ReplayingStands : Type 0
-ReplayingStands = (n : TheReplaying) (p q : ℕ) (acts : List Act) (c : Cluster) → q ≢ p → Each (λ (a : Act). actor a ≡ q) acts → StandsReplaying n c p → StandsReplaying n (after_run c acts) p
+ReplayingStands = (n : TheReplaying) (p q : ℕ) (acts : List Act) (c : Cluster) → q ≢ p → Each (λ (a : Act). actor a ≡ q) acts
+    → StandsReplaying n c p → StandsReplaying n (after_run c acts) p
 
 -- a process with kept state k may die and be opened from k, in an incarnation that wasn't stored yet: k is still its kept state
 abbrev pub ComesBackAgain : Type 0
-ComesBackAgain = (k : Kept) (life : ℕ) (n : TheCollecting) (c : Cluster) → Revives k life n → IsNode c k.me → c.stage k.me ≢ Dead → c.stored k.me < life → IsKeptOf k c k.me
+ComesBackAgain = (k : Kept) (life : ℕ) (n : TheCollecting) (c : Cluster) → Revives k life n → IsNode c k.me → c.stage k.me ≢ Dead
+    → c.stored k.me < life → IsKeptOf k c k.me
     → May c (Dies k.me) × Reopens k.me life (λ d. StandsCollecting n d k.me × IsKeptOf k d k.me) (does c (Dies k.me))

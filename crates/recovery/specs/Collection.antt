@@ -1,5 +1,6 @@
 -- A process that collects as clauses see it, and after each of its calls
-use Rattle.std.specs.Prelude.{◌≡◌, ℕ, zero, suc, ◌+◌, List, [], length, replicate, Bool, false, not, ◌&&◌, ◌==◌, nat_lt, nat_le, if◌then◌else◌, slice_index_or, slice_set}
+use Rattle.std.specs.Prelude.{◌≡◌, ℕ, zero, suc, ◌+◌, List, [], length, replicate, Bool, false, not, ◌&&◌, ◌==◌, nat_lt, nat_le}
+use Rattle.std.specs.Prelude.{if◌then◌else◌, slice_index_or, slice_set}
 use Rattle.packets.specs.Packet.{is_done, in_range}
 use Rattle.packets.specs.declared.page.LoggedMessage.{LoggedMessage}
 use Rattle.packets.specs.declared.page.Flags.{Flags}
@@ -56,12 +57,18 @@ answers from i j k n =
 -- adds the page, and asks the peer for the next one
 abbrev pub took_page : ℕ → ℕ → Flags → List LoggedMessage → TheCollecting → TheCollecting
 took_page from j flags page n =
-    asks from (record { own = learns from j flags n.own; told = slice_set n.told from (with_page (is_done flags) page (told_of n.told from)) })
+    asks from (record {
+      own = learns from j flags n.own;
+      told = slice_set n.told from (with_page (is_done flags) page (told_of n.told from));
+    })
 
 -- hears a newer incarnation of a peer, and asks it anew: that one has told nothing, and not that it lost anything
 abbrev pub asks_anew : ℕ → ℕ → TheCollecting → TheCollecting
 asks_anew q i n =
-    asks q (record { own = record (hears q i n.own) { lost = slice_set n.own.lost q false }; told = slice_set n.told q (none_told n.own.base) })
+    asks q (record {
+      own = record (hears q i n.own) { lost = slice_set n.own.lost q false };
+      told = slice_set n.told q (none_told n.own.base);
+    })
 
 -- takes the Ask of a peer that is recovering too: drops one of an earlier incarnation, and answers any other that all is lost
 abbrev pub asked_by : ℕ → ℕ → ℕ → TheCollecting → TheCollecting
@@ -71,7 +78,8 @@ asked_by q i k n =
 
 -- takes what another node says: drops all except answers and Asks
 abbrev pub heard : ℕ → Body → TheCollecting → TheCollecting
-heard from (Told i j k flags entries) n = if in_range (Told i j k flags entries) && answers from i j k n then took_page from j flags entries n else n
+heard from (Told i j k flags entries) n = if in_range (Told i j k flags entries)
+    && answers from i j k n then took_page from j flags entries n else n
 heard from (Ask i k) n = if in_range (Ask i k) then asked_by from i k n else n
 heard from body n = n
 

@@ -28,5 +28,7 @@ pub record HadReceived (c : Cluster) (p base : ℕ) (jobs : List OpenJob) : Type
 
 -- in each run a process that recovers keeps what it had received
 abbrev pub KeepsWhatItHad : Type 0
-KeepsWhatItHad = (count : ℕ) (f : Handlers) (acts : List Act) (n : TheCollecting) (r : TheReplaying) → count ≤ 15 → Grows f → Run (opening count f) acts
-    → StandsCollecting n (after_run (opening count f) acts) n.own.me → has_all n ≡ true → Recovered n r → HadReceived (after_run (opening count f) acts) n.own.me n.own.base r.plan
+KeepsWhatItHad = (count : ℕ) (f : Handlers) (acts : List Act) (n : TheCollecting) (r : TheReplaying) → count ≤ 15 → Grows f
+    → Run (opening count f) acts
+    → StandsCollecting n (after_run (opening count f) acts) n.own.me → has_all n ≡ true → Recovered n r
+    → HadReceived (after_run (opening count f) acts) n.own.me n.own.base r.plan

@@ -1,5 +1,6 @@
 -- The part of a recovering process that all its stages share, as clauses see it
-use Rattle.std.specs.Prelude.{◌≡◌, ◌≢◌, ℕ, suc, ◌+◌, ◌*◌, ◌≤◌, List, [], length, map, replicate, slice_get, slice_index_or, slice_set, Some, Bool, true, false, not, ◌&&◌, ◌==◌, nat_le}
+use Rattle.std.specs.Prelude.{◌≡◌, ◌≢◌, ℕ, suc, ◌+◌, ◌*◌, ◌≤◌, List, [], length, map, replicate, slice_get, slice_index_or, slice_set}
+use Rattle.std.specs.Prelude.{Some, Bool, true, false, not, ◌&&◌, ◌==◌, nat_le}
 use Rattle.packets.specs.declared.packet.Body.{Body}
 use Rattle.packets.specs.declared.packet.NodePacket.{NodePacket}
 use Rattle.packets.specs.Packet.{is_lost, is_exact}
@@ -32,7 +33,8 @@ pub record TheOwn : Type 0 where
   pub out : List NodePacket
 
 -- what always holds of its numbers
-pub record IsOwn (limits : Limits) (me count life base : ℕ) (covered heard : List ℕ) (lost : List Bool) (logs : List TheQueue) : Type 0 where
+pub record IsOwn (limits : Limits)
+    (me count life base : ℕ) (covered heard : List ℕ) (lost : List Bool) (logs : List TheQueue) : Type 0 where
   pub allowed : AreAllowed limits
   pub inside : 1 ≤ me
   pub within : me ≤ count
@@ -64,7 +66,8 @@ hears q i o = record o { heard = slice_set o.heard q i }
 
 -- takes the flags of a Told from this incarnation of a peer: whether its teller is exact, and whether it lost what it had
 abbrev pub learns : ℕ → ℕ → Flags → TheOwn → TheOwn
-learns q j flags o = record (hears q j o) { exact = o.exact && (not (is_lost flags) && is_exact flags); lost = slice_set o.lost q (is_lost flags) }
+learns q j flags o =
+    record (hears q j o) { exact = o.exact && (not (is_lost flags) && is_exact flags); lost = slice_set o.lost q (is_lost flags) }
 
 -- a packet is from another node of this cluster to this one
 abbrev pub is_for : TheOwn → NodePacket → Bool

@@ -1,5 +1,6 @@
 -- The messages that a process keeps once all peers have told all
-use Rattle.std.specs.Prelude.{◌≡◌, ℕ, zero, suc, ◌+◌, ◌-◌, ◌≤◌, min, List, [], ◌∷◌, ◌++◌, length, map, take, Option, Some, None, Bool, true, ◌&&◌, ◌||◌, ◌==◌, if◌then◌else◌, slice_index_or}
+use Rattle.std.specs.Prelude.{◌≡◌, ℕ, zero, suc, ◌+◌, ◌-◌, ◌≤◌, min, List, [], ◌∷◌, ◌++◌, length, map, take, Option, Some, None, Bool}
+use Rattle.std.specs.Prelude.{true, ◌&&◌, ◌||◌, ◌==◌, if◌then◌else◌, slice_index_or}
 use Rattle.world.specs.declared.message.Message.{Message}
 use Rattle.world.specs.History.{count_of}
 use Rattle.world.specs.Plan.{first_below, if_next}
@@ -48,7 +49,8 @@ pub record IsPlan (f : ℕ → Option Message) (h ms : List Message) : Type 0 wh
   pub most : if_next (h ++ ms) (f (suc (length (h ++ ms)))) ≡ None
 
 abbrev pub Plans : TheCollecting → List OpenJob → Type 0
-Plans n jobs = (h : List Message) → IsCovered n.own.base n.own.count n.own.covered h → IsPlan (told_under n.told n.own.count) h (map job_of jobs)
+Plans n jobs = (h : List Message) → IsCovered n.own.base n.own.count n.own.covered h
+    → IsPlan (told_under n.told n.own.count) h (map job_of jobs)
 
 -- how many messages it takes at most after its checkpoint
 abbrev pub room_of : TheCollecting → ℕ
@@ -63,7 +65,8 @@ pub record Fits (n : TheCollecting) (jobs : List OpenJob) : Type 0 where
 pub record Overruns (n : TheCollecting) : Type 0 where
   pub jobs : List OpenJob
   pub many : length jobs ≡ room_of n + 1
-  pub follows : (h : List Message) → IsCovered n.own.base n.own.count n.own.covered h → Follows (told_under n.told n.own.count) h (map job_of jobs)
+  pub follows : (h : List Message) → IsCovered n.own.base n.own.count n.own.covered h
+      → Follows (told_under n.told n.own.count) h (map job_of jobs)
 
 -- if all peers have told all, the process may recover with what its checkpoint covers and then these messages
 pub record MayRecover (n : TheCollecting) (jobs : List OpenJob) (c : Cluster) : Type 0 where

@@ -1,5 +1,6 @@
 -- A process that restores its RSNs as clauses see it, and after each of its calls
-use Rattle.std.specs.Prelude.{◌≡◌, ℕ, zero, suc, ◌+◌, List, [], length, map, replicate, Bool, true, false, not, ◌&&◌, ◌==◌, nat_lt, nat_le, if◌then◌else◌, slice_index_or, slice_set}
+use Rattle.std.specs.Prelude.{◌≡◌, ℕ, zero, suc, ◌+◌, List, [], length, map, replicate, Bool, true, false, not, ◌&&◌, ◌==◌, nat_lt}
+use Rattle.std.specs.Prelude.{nat_le, if◌then◌else◌, slice_index_or, slice_set}
 use Rattle.std.specs.List.{list_all}
 use Rattle.rsn.specs.Receipts.{Received}
 use Rattle.world.specs.Phases.{those}
@@ -77,18 +78,23 @@ last_ssn s pairs = last_behind s (map (λ (x : Pair). x.ssn) pairs)
 
 -- a page answers the last question: it is to this incarnation, and from an incarnation of the peer that isn't older than the one heard
 abbrev pub is_reply : ℕ → ℕ → ℕ → ℕ → TheRestoring → Bool
-is_reply from i j s n = (i == n.own.life) && nat_le (slice_index_or n.own.heard from 0) j && not (has_answered from n) && (s == above_of from n)
+is_reply from i j s n = (i == n.own.life) && nat_le (slice_index_or n.own.heard from 0) j && not (has_answered from n)
+    && (s == above_of from n)
 
 -- and it tells of no more messages than were sent to that peer
 abbrev pub answers : ℕ → ℕ → ℕ → ℕ → ℕ → List Pair → TheRestoring → Bool
-answers from i j covered s pairs n = is_reply from i j s n && nat_le covered (sent_to from n.own) && nat_le (last_ssn 0 pairs) (sent_to from n.own)
+answers from i j covered s pairs n = is_reply from i j s n && nat_le covered (sent_to from n.own)
+    && nat_le (last_ssn 0 pairs) (sent_to from n.own)
 
 -- takes a page of a process: it is the last one, or asks for the next
 abbrev pub told : ℕ → ℕ → ℕ → ℕ → Flags → List Pair → TheRestoring → TheRestoring
 told from j covered s flags pairs n =
     if is_done flags
     then record n { own = trusts flags (hears from j (takes_in from covered pairs n.own)); answered = slice_set n.answered from true }
-    else asks from (record n { own = trusts flags (hears from j (takes_in from covered pairs n.own)); above = slice_set n.above from (last_ssn s pairs) })
+    else asks from (record n {
+      own = trusts flags (hears from j (takes_in from covered pairs n.own));
+      above = slice_set n.above from (last_ssn s pairs);
+    })
 
 -- takes the answer of the gateway: how many outputs it has, and no RSNs
 abbrev pub greeted : ℕ → Flags → TheRestoring → TheRestoring

@@ -9,8 +9,10 @@ use Rattle.recovery.specs.RestorationStands.{StandsRestoring}
 
 -- one that has finished its replay still agrees with the cluster after the acts of another
 abbrev pub ReplayedStands : Type 0
-ReplayedStands = (n : TheReplayed) (p q : ℕ) (acts : List Act) (c : Cluster) → q ≢ p → Each (λ (a : Act). actor a ≡ q) acts → StandsReplayed n c p → StandsReplayed n (after_run c acts) p
+ReplayedStands = (n : TheReplayed) (p q : ℕ) (acts : List Act) (c : Cluster) → q ≢ p → Each (λ (a : Act). actor a ≡ q) acts
+    → StandsReplayed n c p → StandsReplayed n (after_run c acts) p
 
 -- so does one that restores its RSNs
 abbrev pub RestoringStands : Type 0
-RestoringStands = (n : TheRestoring) (p q : ℕ) (acts : List Act) (c : Cluster) → q ≢ p → Each (λ (a : Act). actor a ≡ q) acts → StandsRestoring n c p → StandsRestoring n (after_run c acts) p
+RestoringStands = (n : TheRestoring) (p q : ℕ) (acts : List Act) (c : Cluster) → q ≢ p → Each (λ (a : Act). actor a ≡ q) acts
+    → StandsRestoring n c p → StandsRestoring n (after_run c acts) p

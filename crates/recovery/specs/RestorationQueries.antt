@@ -11,4 +11,5 @@ is_asked n q = not (has_answered q n)
 
 -- the status: it waits for these peers
 abbrev pub restoring_standing : TheRestoring → Standing
-restoring_standing n = record (replayed_standing (replayed_of n)) { stage = stage.Resuming; waited_for = bits_of (is_asked n) (n.own.count + 1) }
+restoring_standing n =
+    record (replayed_standing (replayed_of n)) { stage = stage.Resuming; waited_for = bits_of (is_asked n) (n.own.count + 1) }

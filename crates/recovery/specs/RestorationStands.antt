@@ -31,7 +31,8 @@ Begins r n = (c : Cluster) → StandsReplayed r c r.own.me → GoesTo r.own.me (
 
 -- what a call owes: from each cluster with which it agreed, and for which `given` holds, to one with which it agrees
 abbrev pub Owes : (Cluster → Type 0) → TheRestoring → TheRestoring → Type 0
-Owes given old new = (c : Cluster) → StandsRestoring old c old.own.me → given c → GoesTo old.own.me (λ d. StandsRestoring new d old.own.me) c
+Owes given old new = (c : Cluster) → StandsRestoring old c old.own.me → given c
+    → GoesTo old.own.me (λ d. StandsRestoring new d old.own.me) c
 
 -- what a call owes that is handed nothing
 abbrev pub Acts : TheRestoring → TheRestoring → Type 0
@@ -44,7 +45,8 @@ IsHanded x old new = new.own.exact ≡ true → Owes (λ c. IsSaid c.parcels x.f
 -- what `take` owes: it gives the first packet that waited, which was sent, and the process no longer has it
 abbrev pub Takes : Option NodePacket → TheRestoring → TheRestoring → Type 0
 Takes None old new = (old.own.out ≡ []) × (new ≡ old)
-Takes (Some x) old new = (old ≡ record new { own = record new.own { out = x ∷ new.own.out } }) × ((c : Cluster) → StandsRestoring old c old.own.me → IsSent c.count c.parcels old.own.me x × StandsRestoring new c old.own.me)
+Takes (Some x) old new = (old ≡ record new { own = record new.own { out = x ∷ new.own.out } })
+    × ((c : Cluster) → StandsRestoring old c old.own.me → IsSent c.count c.parcels old.own.me x × StandsRestoring new c old.own.me)
 
 -- its node agrees with the same clusters
 abbrev pub IsUp : TheRestoring → TheNode → Type 0

@@ -1,5 +1,6 @@
 -- When a recovering process agrees with a cluster, and what a call owes
-use Rattle.std.specs.Prelude.{◌≡◌, ◌≢◌, ℕ, suc, ◌+◌, ◌<◌, ◌≤◌, List, [], ◌∷◌, length, take, Option, Some, None, Bool, true, false, slice_index_or}
+use Rattle.std.specs.Prelude.{◌≡◌, ◌≢◌, ℕ, suc, ◌+◌, ◌<◌, ◌≤◌, List, [], ◌∷◌, length, take, Option, Some, None, Bool, true, false}
+use Rattle.std.specs.Prelude.{slice_index_or}
 use Rattle.world.specs.declared.message.Message.{Message}
 use Rattle.world.specs.History.{count_of}
 use Rattle.cluster.specs.Parcels.{reaches}
@@ -89,12 +90,14 @@ pub record Reopens (p life : ℕ) (P : Cluster → Type 0) (c : Cluster) : Type 
 -- what a process owes that comes back: if p is dead, the kept state is what its checkpoint covers, and no incarnation from this one on was
 -- stored, then it is opened in this one, and goes on to a cluster with which it agrees
 abbrev pub Revives : Kept → ℕ → TheCollecting → Type 0
-Revives k life n = (c : Cluster) → c.stage k.me ≡ Dead → c.stored k.me < life → IsKeptOf k c k.me → IsNode c k.me → Reopens k.me life (λ d. StandsCollecting n d k.me) c
+Revives k life n = (c : Cluster) → c.stage k.me ≡ Dead → c.stored k.me < life → IsKeptOf k c k.me → IsNode c k.me
+    → Reopens k.me life (λ d. StandsCollecting n d k.me) c
 
 -- what a call owes of a process that collects: from each cluster with which it agreed, and for which `given` holds, to one with which it
 -- agrees
 abbrev pub Owes : (Cluster → Type 0) → TheCollecting → TheCollecting → Type 0
-Owes given old new = (c : Cluster) → StandsCollecting old c old.own.me → given c → GoesTo old.own.me (λ d. StandsCollecting new d old.own.me) c
+Owes given old new = (c : Cluster) → StandsCollecting old c old.own.me → given c
+    → GoesTo old.own.me (λ d. StandsCollecting new d old.own.me) c
 
 -- what a call owes that is handed nothing
 abbrev pub Acts : TheCollecting → TheCollecting → Type 0
@@ -107,4 +110,5 @@ IsHanded x old new = new.own.exact ≡ true → Owes (λ c. IsSaid c.parcels x.f
 -- what `take` owes: it gives the first packet that waited, which was sent, and the process no longer has it
 abbrev pub Takes : Option NodePacket → TheCollecting → TheCollecting → Type 0
 Takes None old new = (old.own.out ≡ []) × (new ≡ old)
-Takes (Some x) old new = (old ≡ record new { own = record new.own { out = x ∷ new.own.out } }) × ((c : Cluster) → StandsCollecting old c old.own.me → IsSent c.count c.parcels old.own.me x × StandsCollecting new c old.own.me)
+Takes (Some x) old new = (old ≡ record new { own = record new.own { out = x ∷ new.own.out } })
+    × ((c : Cluster) → StandsCollecting old c old.own.me → IsSent c.count c.parcels old.own.me x × StandsCollecting new c old.own.me)

@@ -1,5 +1,6 @@
 -- When a process that replays agrees with a cluster, and what its calls owe
-use Rattle.std.specs.Prelude.{◌≡◌, ℕ, suc, ◌+◌, ◌≤◌, List, [], ◌∷◌, ◌++◌, length, map, take, drop, Option, Some, None, true, false, if◌then◌else◌, slice_get}
+use Rattle.std.specs.Prelude.{◌≡◌, ℕ, suc, ◌+◌, ◌≤◌, List, [], ◌∷◌, ◌++◌, length, map, take, drop, Option, Some, None, true, false}
+use Rattle.std.specs.Prelude.{if◌then◌else◌, slice_get}
 use Rattle.world.specs.declared.message.Message.{Message}
 use Rattle.world.specs.History.{count_of}
 use Rattle.world.specs.Handlers.{Handlers}
@@ -50,7 +51,8 @@ ComesBack n r = (c : Cluster) → StandsCollecting n c n.own.me → IsInOrder c 
 -- what a call owes of a process that replays: from each cluster with which it agreed, and for which `given` holds, to one with which it
 -- agrees
 abbrev pub Owes : (Cluster → Type 0) → TheReplaying → TheReplaying → Type 0
-Owes given old new = (c : Cluster) → StandsReplaying old c old.own.me → given c → GoesTo old.own.me (λ d. StandsReplaying new d old.own.me) c
+Owes given old new = (c : Cluster) → StandsReplaying old c old.own.me → given c
+    → GoesTo old.own.me (λ d. StandsReplaying new d old.own.me) c
 
 -- after the messages h, on the message m the handler of p leaves this state, and sends these messages
 pub record AnswersAfter (f : Handlers) (p : ℕ) (h : List Message) (m : Message) (state : List ℕ) (given : List Given) : Type 0 where
@@ -59,12 +61,14 @@ pub record AnswersAfter (f : Handlers) (p : ℕ) (h : List Message) (m : Message
 
 -- so does it on the next message
 abbrev pub Handles : List ℕ → List Given → TheReplaying → Cluster → Type 0
-Handles state given n c = (j : OpenJob) → next_job n ≡ Some j → AnswersAfter c.handlers n.own.me (take (n.own.base + n.done) (c.history n.own.me)) (job_of j) state given
+Handles state given n c = (j : OpenJob) → next_job n ≡ Some j
+    → AnswersAfter c.handlers n.own.me (take (n.own.base + n.done) (c.history n.own.me)) (job_of j) state given
 
 -- what `take` owes: it gives the first packet that waited, which was sent, and the process no longer has it
 abbrev pub Takes : Option NodePacket → TheReplaying → TheReplaying → Type 0
 Takes None old new = (old.own.out ≡ []) × (new ≡ old)
-Takes (Some x) old new = (old ≡ record new { own = record new.own { out = x ∷ new.own.out } }) × ((c : Cluster) → StandsReplaying old c old.own.me → IsSent c.count c.parcels old.own.me x × StandsReplaying new c old.own.me)
+Takes (Some x) old new = (old ≡ record new { own = record new.own { out = x ∷ new.own.out } })
+    × ((c : Cluster) → StandsReplaying old c old.own.me → IsSent c.count c.parcels old.own.me x × StandsReplaying new c old.own.me)
 
 -- what a call owes that is handed a packet: the process still agrees, or is no longer exact
 abbrev pub Stays : TheReplaying → TheReplaying → Type 0
@@ -87,4 +91,5 @@ IsReplay n act = ⊥
 
 -- while messages are left the rules allow nothing else: it may take no packet
 abbrev pub OnlyReplays : Type 0
-OnlyReplays = (n : TheReplaying) (c : Cluster) (p : ℕ) (a : Act) → StandsReplaying n c p → is_over n ≡ false → May c a → actor a ≡ p → IsReplay n a
+OnlyReplays = (n : TheReplaying) (c : Cluster) (p : ℕ) (a : Act) → StandsReplaying n c p → is_over n ≡ false → May c a → actor a ≡ p
+    → IsReplay n a

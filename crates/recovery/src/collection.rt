@@ -11,7 +11,7 @@ ghost use Rattle.recovery.specs.Stands.{Revives, Acts, IsHanded, Takes};
 use crate::collected::Collected;
 use crate::own::Own;
 use node::{Limits, MOST_GIVEN, MOST_RECEIVED};
-use packets::{Body, LoggedMessage, Flags, Kept, KeptLog, NodePacket};
+use packets::{Body, Flags, Kept, KeptLog, LoggedMessage, NodePacket};
 use std::alloc::{AllocError, Global};
 use std::marker::Model;
 
@@ -202,7 +202,13 @@ impl Collecting {
     }
 
     /// Adds a page, and asks the peer for the next one.
-    fn add(&mut self, from: u8, teller: u64, flags: Flags, page: &[LoggedMessage]) -> Result<(), AllocError>
+    fn add(
+        &mut self,
+        from: u8,
+        teller: u64,
+        flags: Flags,
+        page: &[LoggedMessage],
+    ) -> Result<(), AllocError>
         requires { IsPeer self.old.own.me self.old.own.count from }
         ensures ok { OnOk result (self.new ≡ took_page from teller flags page.now self.old) }
         ensures err { OnErr result (self.new ≡ self.old) }

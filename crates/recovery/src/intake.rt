@@ -9,7 +9,7 @@ ghost use Rattle.std.specs.List.{AllByRecursion};
 
 use crate::own::Own;
 use crate::replayed::Replayed;
-use node::{Node, KeptQueue, Returned};
+use node::{KeptQueue, Node, Returned};
 use packets::{Body, Flags, NodePacket, Pair};
 use std::alloc::Global;
 

@@ -1,21 +1,30 @@
-//! The recovery of a process: it collects what its peers' logs hold for it, and replays that.
+//! A process of a cluster that comes back, from what is kept of it to a node that is up.
 //!
-//! It begins from the decoded bytes of its checkpoint and a new incarnation
-//! ([`Collecting::revive`]). It asks each peer what that one's log holds for it, and takes the
-//! answers page by page. Its host sends the packets that it gives, hands it those that arrive, and
-//! has it ask again now and then. When all peers have told all, it recovers
-//! ([`Collecting::recover`]): the handler runs again on the messages that it keeps
-//! ([`Replaying::job`], [`Replaying::work`]), until the replay is over ([`Replaying::finish`]).
-//! Crate `restoring` goes on from there.
+//! It begins from the decoded bytes of its checkpoint and a new incarnation ([`Collecting::revive`]):
+//! it asks each peer what that one's log holds for it, and takes in what comes, page by page. Its
+//! host sends the packets that it gives, hands it those that came, and lets it ask again now and then.
+//! When all have told, it recovers ([`Collecting::recover`]): the handler runs again on the messages
+//! that it keeps ([`Replaying::job`], [`Replaying::work`]), and after the last of them it has replayed
+//! all ([`Replaying::finish`]).
 //!
-//! Each call is zero or more acts of the process that the rules of crate `cluster` allow, and the
-//! process then holds what the cluster has of it. A call that is refused for lack of memory changes
-//! nothing.
+//! Then it asks its peers and the gateway under which numbers they have its messages
+//! ([`Restoring::begin`]): their answers come by pages ([`Restoring::receive`]), and what isn't answered
+//! is asked again ([`Restoring::tick`]). When all have told all ([`Restoring::is_up`]), it is a node
+//! ([`Restoring::into_node`]), and all that it sent may go out.
 //!
-//! Two recoveries can meet. A recovering process that hears the Ask of another answers that all
-//! that its log held for it is lost, and the other doesn't wait for it. A process that was told so
-//! is no longer exact, and neither is one that had already recovered when it heard the other's Ask.
-//! From then on it owes no acts; its calls still do what the definitions say.
+//! The promise: each call is none, one or more acts of the process that the rules of crate `cluster`
+//! allow, and what it then holds is what the cluster has of it. A call that is refused memory changes
+//! nothing; of a restoring process only the first needs memory, and gives back what was handed in.
+//!
+//! Two that come back at the same time meet: one that hears the Ask of another answers that all that
+//! its log held for it is lost, and the other doesn't wait for it. One that was told so isn't exact any
+//! more, nor is one that had recovered already when it heard of the other: it owes no acts then. Its
+//! calls stay what the definitions say. A restoring process that hears such an Ask of a peer which it
+//! didn't know to come back waits for it anew, and isn't exact any more.
+//!
+//! A packet that isn't the answer to what was asked last is dropped. A page that tells a restoring
+//! process of more messages than it sent is taken, and it isn't exact any more; while failures come one
+//! at a time no page of a peer does ([`pages_fit`]).
 //!
 //! ```text
 //! let mut node = Collecting::revive(alloc, &kept, incarnation)?;
@@ -29,36 +38,11 @@
 //!         let (state, given) = handle(node.state(), job);
 //!         node.work(state, &given)?;
 //!     }
-//!     let node = node.finish();
-//! }
-//! ```
-//!
-//! The end of a recovery: after its replay a process asks its peers for the RSNs of its messages,
-//! until it is a node again.
-//!
-//! It begins after the replay ([`Restoring::begin`]), and sends its Resume to each peer and to the
-//! gateway. They answer by pages ([`Restoring::receive`]), and it asks again for what isn't
-//! answered ([`Restoring::tick`]). When all have told all ([`Restoring::is_up`]), it becomes a node
-//! ([`Restoring::into_node`]), and all that it sent is released.
-//!
-//! Each call is zero or more acts of the process that the rules of crate `cluster` allow, and the
-//! process then holds what the cluster has of it. Only the first call needs memory; if that is
-//! refused, the process is given back.
-//!
-//! It drops any packet that isn't the answer to its last question, except an Ask. It takes a page
-//! that tells of more messages than were sent, but is no longer exact then; while failures come one
-//! at a time no page of a peer does that ([`pages_fit`]). It answers the Ask of a peer that is
-//! recovering too: what the log held for it is lost. If it didn't know yet that the peer is
-//! recovering, it waits for it anew and is no longer exact. From then on it owes no acts.
-//!
-//! ```text
-//! let mut node = Restoring::begin(alloc, replayed)?;
-//! while let Some(packet) = node.take() {
-//!     send(packet);
-//! }
-//! node.receive(alloc, &packet);
-//! if node.is_up() {
-//!     let node = node.into_node();
+//!     let mut node = Restoring::begin(alloc, node.finish())?;
+//!     node.receive(alloc, &packet);
+//!     if node.is_up() {
+//!         let node = node.into_node();
+//!     }
 //! }
 //! ```
 #![tactic(auto)]

@@ -7,9 +7,8 @@ ghost use Rattle.node.specs.Queue.{no_queue};
 ghost use Rattle.node.specs.Node.{IsPositive};
 ghost use Rattle.recovery.specs.Own.{posts, with_own, queue_of, comes_back, own_of, is_for, hears, learns, IsShort, MayGive, ran};
 
-use node::{Given, Limits, MOST_RECEIVED, KeptQueue, log};
-use packets::PacketQueue;
-use packets::{Body, Flags, Kept, KeptLog, NodePacket};
+use node::{Given, KeptQueue, Limits, MOST_RECEIVED, log};
+use packets::{Body, Flags, Kept, KeptLog, NodePacket, PacketQueue};
 use std::alloc::{AllocError, Global};
 use std::marker::Model;
 

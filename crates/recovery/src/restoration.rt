@@ -6,9 +6,9 @@ ghost use Rattle.recovery.specs.Intake.{AscendFrom, IsSmallPair, sent_to};
 ghost use Rattle.recovery.specs.Restoration.{asks, asked, begins, begun, answers, is_reply, page_of, unless_doubted, told, greeted, last_ssn, waits_anew, asked_by, handed, is_up, up};
 ghost use Rattle.recovery.specs.RestorationStands.{Begins, Acts, IsHanded, Takes, IsUp};
 
+use crate::replayed::Replayed;
 use node::Node;
 use packets::{Body, Flags, NodePacket, Pair};
-use crate::replayed::Replayed;
 use std::alloc::{AllocError, Global};
 use std::marker::Model;
 

@@ -1,5 +1,6 @@
 -- The rules V3 to V10, each by an instruction's attributes.
-use Rattle.std.specs.Prelude.{ℕ, zero, suc, ◌+◌, ◌==◌, ◌||◌, ◌&&◌, not, Bool, true, false, List, [], ◌∷◌, Option, Some, None, is_none, ℤ, pos, negsuc, ◌+ℤ◌, nat_le, nat_lt, if◌then◌else◌, ◌^◌}
+use Rattle.std.specs.Prelude.{ℕ, zero, suc, ◌+◌, ◌==◌, ◌||◌, ◌&&◌, not, Bool, true, false, List, [], ◌∷◌, Option, Some, None, is_none, ℤ}
+use Rattle.std.specs.Prelude.{pos, negsuc, ◌+ℤ◌, nat_le, nat_lt, if◌then◌else◌, ◌^◌}
 use Rattle.std.specs.Option.{option_map, option_map_or, option_and_then}
 use Rattle.std.specs.List.{list_any, list_all}
 use Rattle.limits.specs.declared.TheConstants.{FORM_1_BYTES, PAYLOAD_BYTES, STACK_BYTES}

@@ -1,5 +1,6 @@
 -- When code is typable.
-use Rattle.std.specs.Prelude.{◌≡◌, ℕ, ◌+◌, ◌<◌, ◌≤◌, List, [], ◌∷◌, ◌++◌, Option, Some, None, ℤ, pos, negsuc, ◌+ℤ◌, Bool, false, nat_lt, ◌&&◌, not, slice_get, length, unwrap_or, is_some}
+use Rattle.std.specs.Prelude.{◌≡◌, ℕ, ◌+◌, ◌<◌, ◌≤◌, List, [], ◌∷◌, ◌++◌, Option, Some, None, ℤ, pos, negsuc, ◌+ℤ◌, Bool, false, nat_lt}
+use Rattle.std.specs.Prelude.{◌&&◌, not, slice_get, length, unwrap_or, is_some}
 use Rattle.std.specs.List.{AllByRecursion}
 use Rattle.limits.specs.declared.TheConstants.{PAYLOAD_BYTES, REGISTERS}
 use Rattle.decode.specs.declared.insn.Insn.{Insn}

@@ -1,5 +1,6 @@
 -- What is known after an instruction, on each of its two ways.
-use Rattle.std.specs.Prelude.{◌≡◌, length, ℕ, Bool, true, false, ◌&&◌, List, ◌∷◌, Option, Some, None, Result, Ok, Err, ℤ, pos, ◌+ℤ◌, nat_le, slice_set, drop, if◌then◌else◌}
+use Rattle.std.specs.Prelude.{◌≡◌, length, ℕ, Bool, true, false, ◌&&◌, List, ◌∷◌, Option, Some, None, Result, Ok, Err, ℤ, pos, ◌+ℤ◌}
+use Rattle.std.specs.Prelude.{nat_le, slice_set, drop, if◌then◌else◌}
 use Rattle.std.specs.Option.{option_map_or}
 use Rattle.limits.specs.declared.TheConstants.{PAYLOAD_BYTES}
 use Rattle.decode.specs.declared.insn.Reg.{Reg}

@@ -24,14 +24,14 @@ mod frame;
 mod image_form;
 mod kinds;
 mod laws;
-mod ways;
 mod local;
 mod rule;
+mod ways;
 
 pub use attributes::{Access, Attributes, attributes_from, bytes_in, signed_bytes_in};
 pub use flow::{Flow, flow_from};
 pub use frame::{Frame, Kind, Region, join, leq};
 pub use image_form::ImageForm;
 pub use laws::rules_are_monotone;
-pub use ways::{Leaving, transfer};
 pub use rule::Rule;
+pub use ways::{Leaving, transfer};

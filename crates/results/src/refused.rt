@@ -2,10 +2,9 @@
 
 use helpers::Refused;
 use indexmap::IndexMap;
-use scenario::NamedProcess;
+use scenario::{NamedProcess, name_at};
 use sessions::Service;
 use std::alloc::{AllocError, Global};
-use scenario::name_at;
 
 /// Writes a line for each cause of which helpers refused sends or outputs of a process.
 fn push_causes(

@@ -6,10 +6,9 @@ ghost use Rattle.sessions.specs.Journal.{world_at};
 ghost use Rattle.results.specs.Results.{outputs_text, process_text_of, processes_text, results_text};
 
 use indexmap::IndexMap;
-use scenario::NamedProcess;
+use scenario::{NamedProcess, name_at, push_exact, push_output, push_process, trace_text};
 use sessions::{Service, copied};
 use std::alloc::{AllocError, Global};
-use scenario::{name_at, push_exact, push_output, push_process, trace_text};
 use world::Message;
 
 /// Writes the line of a process.

@@ -12,7 +12,8 @@ use Rattle.runner.specs.Run.{Passage, RunsThrough, moments_of, passage, refused_
 
 -- where a player stands
 abbrev pub position_of : Player → Position
-position_of player = record { images = player.session.images; entries = player.session.entries; held = player.held.items; inputs = player.inputs }
+position_of player =
+    record { images = player.session.images; entries = player.session.entries; held = player.held.items; inputs = player.inputs }
 
 -- what is noted of the orders so far: their moments, and what their calls put on the wire
 pub record TheNotes : Type 0 where
@@ -38,7 +39,8 @@ NoNumber does = (n : ℕ) (next : Position) → ¬ does next (Some n)
 
 -- the order of a step is carried out, and its line written if it was refused
 abbrev pub IsPlayed : Step → Position → Position → List ℕ → List ℕ → Type 0
-IsPlayed step here next old new = (refused : Option ℕ) × CarriesOut here step.order next refused × (new ≡ old ++ refused_text step.line refused)
+IsPlayed step here next old new = (refused : Option ℕ) × CarriesOut here step.order next refused
+    × (new ≡ old ++ refused_text step.line refused)
 
 -- the same of all these steps, one after the other
 abbrev pub ArePlayed : List Step → Position → Position → List ℕ → List ℕ → Type 0
@@ -47,7 +49,8 @@ ArePlayed steps here end old new = (passages : List Passage) × RunsThrough here
 -- the order of a step is carried out, and its moments noted, with what was put on the wire
 abbrev pub IsNoted : Step → Position → Position → TheNotes → TheNotes → Type 0
 IsNoted step here next old new =
-    (refused : Option ℕ) × CarriesOut here step.order next refused × (new.moments ≡ old.moments ++ moments_of (passage here step next refused))
+    (refused : Option ℕ) × CarriesOut here step.order next refused
+    × (new.moments ≡ old.moments ++ moments_of (passage here step next refused))
     × (new.sent ≡ old.sent ++ (passage here step next refused).sent)
 
 -- the same of all these steps, one after the other

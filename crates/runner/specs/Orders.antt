@@ -1,5 +1,6 @@
 -- What it is to carry out an order of a scenario (docs/FORMATS.md, "Carrying out").
-use Rattle.std.specs.Prelude.{◌≡◌, ◌≤◌, ◌+◌, ◌-◌, ◌^◌, ◌⊎◌, ℕ, List, [], ◌∷◌, ◌++◌, length, replicate, Option, Some, None, slice_index_or, slice_set}
+use Rattle.std.specs.Prelude.{◌≡◌, ◌≤◌, ◌+◌, ◌-◌, ◌^◌, ◌⊎◌, ℕ, List, [], ◌∷◌, ◌++◌, length, replicate, Option, Some, None, slice_index_or}
+use Rattle.std.specs.Prelude.{slice_set}
 use Rattle.limits.specs.declared.TheConstants.{ENTRIES, PARTIES}
 use Rattle.handlers.specs.Image.{TheImage}
 use Rattle.machine.specs.Task.{TheTask}
@@ -56,7 +57,8 @@ AcceptsCall old c a = WStep (room_at old) (world_at old) c a (world_at (with_ent
 abbrev pub HoldsJob : Position → Option ℕ → Position → Type 0
 HoldsJob old None new = new ≡ old
 HoldsJob old (Some p) new =
-    (task : TheTask) × (task.who.me ≡ p) × IsOpen old.images task (world_at old) × (new ≡ record old { held = slice_set old.held p (Some task) })
+    (task : TheTask) × (task.who.me ≡ p) × IsOpen old.images task (world_at old)
+    × (new ≡ record old { held = slice_set old.held p (Some task) })
 
 -- a call is made: it is accepted, and the job that it starts is held; or it is refused with the least number whose cause holds, and
 -- changes nothing
@@ -83,7 +85,8 @@ without_job old p = record old { held = slice_set old.held p None }
 abbrev pub BringsBack : Position → Option TheTask → Position → Option ℕ → Type 0
 BringsBack old None new refused = (new ≡ old) × (refused ≡ Some (number_of StaleJob))
 BringsBack old (Some task) new None =
-    IsOpen old.images task (world_at old) × ((a : Answer) × AcceptsCall old (call.Finish task.who.me) a × (new ≡ with_entry old (call.Finish task.who.me) a))
+    IsOpen old.images task (world_at old)
+    × ((a : Answer) × AcceptsCall old (call.Finish task.who.me) a × (new ≡ with_entry old (call.Finish task.who.me) a))
 BringsBack old (Some task) new (Some n) = (new ≡ old) × (n ≡ number_of StaleJob) × ¬ IsOpen old.images task (world_at old)
 
 -- useful calls are made, and the jobs that they start are finished at once, until so many were accepted or no call can be picked

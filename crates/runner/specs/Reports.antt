@@ -30,7 +30,8 @@ outputs_told style names shown = flat_map (λ m. lines.output_text style (proces
 
 -- the report of a world
 abbrev pub report_told : TheStyle → List (List ℕ) → World → Bool → List ℕ
-report_told style names w exact = numbered (process_told style w) 1 names ++ (outputs_told style names w.shown ++ lines.exact_text style exact)
+report_told style names w exact = numbered (process_told style w) 1 names
+    ++ (outputs_told style names w.shown ++ lines.exact_text style exact)
 
 -- the refused lines of these moments, the lines of these entries, and the report of the world where they lead
 abbrev pub told_text : TheStyle → List (List ℕ) → List TheImage → List (ℕ × Option ℕ) → List Entry → List ℕ

@@ -1,5 +1,6 @@
 -- What a run of a scenario writes (docs/FORMATS.md, "Carrying out"), and what its pictures show.
-use Rattle.std.specs.Prelude.{◌≡◌, ◌⊎◌, ◌-◌, ℕ, List, [], ◌∷◌, ◌++◌, codes, decimal, drop, flat_map, length, map, replicate, slice_get, take, Option, Some, None}
+use Rattle.std.specs.Prelude.{◌≡◌, ◌⊎◌, ◌-◌, ℕ, List, [], ◌∷◌, ◌++◌, codes, decimal, drop, flat_map, length, map, replicate, slice_get}
+use Rattle.std.specs.Prelude.{take, Option, Some, None}
 use Rattle.handlers.specs.Image.{TheImage}
 use Rattle.world.specs.declared.call.Call.{Call}
 use Rattle.world.specs.declared.call.Call.TheVariants as call
@@ -84,7 +85,9 @@ moments_of p = replicate p.added (p.line, None) ++ refused_moment p.line p.refus
 
 -- the orders lead to this journal, and to these moments, one after the other; of each entry it is told what it put on the wire, and
 -- these outputs were shown
-pub record IsChronicle (images : List TheImage) (steps : List Step) (entries : List Entry) (moments : List (ℕ × Option ℕ)) (sent : List (Option Payload)) (shown : List Message) : Type 0 where
+pub record IsChronicle (images : List TheImage)
+    (steps : List Step) (entries : List Entry)
+    (moments : List (ℕ × Option ℕ)) (sent : List (Option Payload)) (shown : List Message) : Type 0 where
   pub passages : List Passage
   pub carried : AreCarriedOut images steps passages entries
   pub moments_are : moments ≡ flat_map moments_of passages

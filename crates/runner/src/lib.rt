@@ -15,13 +15,13 @@
 //! ```
 #![tactic(auto)]
 
-mod orders;
 mod chronicle;
 mod held;
-mod setup;
+mod orders;
 mod player;
 mod rest;
 mod runs;
+mod setup;
 mod styled_runs;
 mod why;
 

@@ -13,12 +13,11 @@ use crate::chronicle::{Moment, Notes};
 use crate::player::Player;
 use handlers::Handler;
 use indexmap::IndexMap;
-use scenario::{NamedProcess, Scenario};
+use scenario::{NamedProcess, Scenario, name_at};
 use sessions::{Service, copied};
 use std::alloc::{AllocError, Global};
 use std::sync::Arc;
 use styles::Style;
-use scenario::name_at;
 use world::Message;
 
 /// Writes the line of each refused order.

@@ -1,5 +1,6 @@
 -- Which texts are scenarios, and which line of any other is the first faulty one (docs/FORMATS.md, "Scenario").
-use Rattle.std.specs.Prelude.{◌≡◌, ◌≢◌, ◌≤◌, ◌+◌, ◌==◌, ℕ, zero, suc, Bool, true, false, List, [], ◌∷◌, ◌++◌, map, length, nat_lt, if◌then◌else◌, String}
+use Rattle.std.specs.Prelude.{◌≡◌, ◌≢◌, ◌≤◌, ◌+◌, ◌==◌, ℕ, zero, suc, Bool, true, false, List, [], ◌∷◌, ◌++◌, map, length, nat_lt}
+use Rattle.std.specs.Prelude.{if◌then◌else◌, String}
 use Rattle.std.specs.List.{AllByRecursion, slice_split}
 use Rattle.std.specs.declared.alloc.Global.{Global}
 use Rattle.std.specs.String.{string_bytes}
@@ -38,7 +39,8 @@ step_row names x = (x.line, order_text names x.order)
 
 -- the lines declare at most 15 processes with different names. Then come orders that may be there, and that name only these
 -- processes
-pub record AreLines (allowed : Allowed) (lines : List (List ℕ)) (entries : List (String Global × NamedProcess)) (steps : List Step) : Type 0 where
+pub record AreLines (allowed : Allowed)
+    (lines : List (List ℕ)) (entries : List (String Global × NamedProcess)) (steps : List Step) : Type 0 where
   pub few : length entries ≤ PROCESSES
   pub declared : AllByRecursion IsDeclared entries
   pub different : AreDifferent (names_in entries)

@@ -1,21 +1,18 @@
-//! Scenarios: runs as text.
+//! Runs as text: scenarios, and the trace and report that a run prints.
 //!
-//! [`parse`] reads a scenario: processes by their names, and then what to do with them, one order a
-//! line. The lines of the text are exactly those of the scenario that is read. If a text is
-//! refused, the error names its first faulty line, or 0 if no line is faulty and there is no
-//! process.
+//! [`parse`] reads a scenario: processes by their names, and then what is to be done with them, a line each. Its promise:
+//! what is read is written so, line by line, and if a text is refused the line that is named is the first faulty one,
+//! or 0 if no line is faulty and there is no process.
 //!
 //! ```text
 //! let text = "process a adder.sbi\ninput a 5\ndrive 10\n";
 //! let scenario = parse(alloc, text, Allowed::All)?; // one process, two steps: `Order::Input` and `Order::Drive`
 //! ```
 //!
-//! What a run prints: the trace of its journal, and the lines of its report.
-//!
-//! [`trace_text`] writes one line for each accepted call, with its worker and its answer. The text
-//! is that of `specs/Trace.antt`, to the last byte. The only error is lack of memory.
-//! [`push_process`], [`push_output`] and [`push_exact`] write the lines of a report, those of
-//! `specs/Report.antt`. [`Hex`] prints bytes, and [`name_at`] finds names.
+//! [`trace_text`] writes each accepted call with its worker and its answer, a line an entry. Its promise: the text is the
+//! printer of `specs/Trace` over the whole list, to the last byte; only memory can run out. [`push_process`],
+//! [`push_output`] and [`push_exact`] write the lines of a report, those of `specs/Report`, with bytes as [`Hex`] spells
+//! them and names by [`name_at`].
 //!
 //! ```text
 //! let entries = copied(alloc, session.journal())?; // (`sessions::copied`)

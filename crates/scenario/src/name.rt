@@ -4,8 +4,8 @@ ghost use Rattle.std.specs.Prelude.{◌≡◌};
 ghost use Rattle.scenario.specs.Order.{process_text};
 ghost use Rattle.scenario.specs.Process.{names_of};
 
-use indexmap::IndexMap;
 use crate::process::NamedProcess;
+use indexmap::IndexMap;
 
 /// The name of the process with this number, from 1. It is empty if there is no such process.
 pub fn name_at(processes: &IndexMap<String, NamedProcess>, number: u8) -> &str

@@ -69,7 +69,11 @@ pub fn order_of(processes: &IndexMap<String, NamedProcess>, line: &str) -> Optio
 }
 
 /// The order of a kind with these operands.
-fn with_operands(processes: &IndexMap<String, NamedProcess>, verb: Verb, text: &str) -> Option<Order>
+fn with_operands(
+    processes: &IndexMap<String, NamedProcess>,
+    verb: Verb,
+    text: &str,
+) -> Option<Order>
     requires { AreNamed processes.now }
     ensures { ReadsOperands (names_of processes.now) verb text.now result }
 {

@@ -11,7 +11,10 @@ use helpers::Payload;
 use indexmap::IndexMap;
 
 /// A process and a word.
-pub fn receiver_and_word(processes: &IndexMap<String, NamedProcess>, text: &str) -> Option<(u8, u64)>
+pub fn receiver_and_word(
+    processes: &IndexMap<String, NamedProcess>,
+    text: &str,
+) -> Option<(u8, u64)>
     requires { AreNamed processes.now }
     ensures { ReadsWord (names_of processes.now) text.now result }
 {

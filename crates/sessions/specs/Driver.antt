@@ -22,7 +22,8 @@ use Rattle.sessions.specs.Journal.{TheSession, world_at, room_at, Adds}
 abbrev pub Drives : ℕ → ℕ → ℕ → Option ℕ → World → List Entry → Option ℕ → Type 0
 Drives worker budget room job w [] left = job ≡ left
 Drives worker budget room None w (e ∷ es) left =
-    (0 < budget) × (e.worker ≡ worker) × IsPick w room e.call × Drives worker (budget - 1) (room - 1) (job_of w e.call e.answer) (after w e.call e.answer) es left
+    (0 < budget) × (e.worker ≡ worker) × IsPick w room e.call
+    × Drives worker (budget - 1) (room - 1) (job_of w e.call e.answer) (after w e.call e.answer) es left
 Drives worker budget room (Some p) w (e ∷ es) left =
     (e.worker ≡ worker) × (e.call ≡ Finish p) × Drives worker (budget - 1) (room - 1) None (after w e.call e.answer) es left
 
@@ -53,7 +54,8 @@ StartsJob old new call reply = Starts new (job_of (world_at old) call reply.answ
 
 -- what a picked call guarantees: it is accepted, and hands out the job that it starts; or memory ran out, and nothing has changed
 abbrev pub Makes : TheSession → TheSession → TheSeat → TheSeat → Call → Result (Option TheTask) Refusal → Type 0
-Makes old new by by' call (Ok job) = (answer : Answer) × Adds old new by by' call (Ok answer) × Starts new (job_of (world_at old) call answer) job
+Makes old new by by' call (Ok job) = (answer : Answer) × Adds old new by by' call (Ok answer)
+    × Starts new (job_of (world_at old) call answer) job
 Makes old new by by' call (Err r) = (r ≡ Memory) × (new ≡ old) × (by' ≡ by)
 
 -- what a drive guarantees: it ends with no job of its own open, when the budget is reached or no call can be picked; or memory ran

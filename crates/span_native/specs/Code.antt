@@ -31,4 +31,5 @@ pub record IsCode (image : TheImage) (bytes : List ℕ) : Type 0 where
 -- in one form, instructions have one machine code with a state of one length
 abbrev pub IsOneInAnyForm : Type 0
 IsOneInAnyForm =
-    (form : FileForm) (insns : List Insn) (len : ℕ) (bytes bytes' : List ℕ) → IsCodeIn form insns len bytes → IsCodeIn form insns len bytes' → bytes ≡ bytes'
+    (form : FileForm) (insns : List Insn) (len : ℕ) (bytes bytes' : List ℕ) → IsCodeIn form insns len bytes
+    → IsCodeIn form insns len bytes' → bytes ≡ bytes'

@@ -6,7 +6,8 @@ use Rattle.decode.specs.declared.insn.Width.{Width}
 use Rattle.decode.specs.declared.insn.Width.TheVariants.{W32, W64}
 use Rattle.decode.specs.declared.insn.Operand.TheVariants as operand
 use Rattle.decode.specs.declared.insn.Insn.{Insn}
-use Rattle.decode.specs.declared.insn.Insn.TheVariants.{Alu, MovSx, Neg, End, Jump, JumpLong, JumpIf, Call, Exit, Load, LoadSx, StoreReg, StoreImm, Wide}
+use Rattle.decode.specs.declared.insn.Insn.TheVariants.{Alu, MovSx, Neg, End, Jump, JumpLong, JumpIf, Call, Exit, Load, LoadSx, StoreReg}
+use Rattle.decode.specs.declared.insn.Insn.TheVariants.{StoreImm, Wide}
 use Rattle.decode.specs.Encoding.{bytes_in, loaded}
 use Rattle.regtypes.specs.declared.frame.Region.TheVariants.{Message, State, Stack}
 use Rattle.regtypes.specs.declared.rule.Rule.{Rule}

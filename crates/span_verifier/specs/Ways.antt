@@ -7,7 +7,8 @@ use Rattle.decode.specs.declared.insn.Condition.{Condition}
 use Rattle.decode.specs.declared.insn.Operand.{Operand}
 use Rattle.decode.specs.declared.insn.Operand.TheVariants as operand
 use Rattle.decode.specs.declared.insn.Insn.{Insn}
-use Rattle.decode.specs.declared.insn.Insn.TheVariants.{Alu, MovSx, Neg, End, Jump, JumpLong, JumpIf, Call, Exit, Load, LoadSx, StoreReg, StoreImm, Wide}
+use Rattle.decode.specs.declared.insn.Insn.TheVariants.{Alu, MovSx, Neg, End, Jump, JumpLong, JumpIf, Call, Exit, Load, LoadSx, StoreReg}
+use Rattle.decode.specs.declared.insn.Insn.TheVariants.{StoreImm, Wide}
 use Rattle.decode.specs.Encoding.{bytes_in, extension_offset, extension_width}
 use Rattle.operations.specs.Words.{bits_of}
 use Rattle.regtypes.specs.declared.frame.Region.TheVariants.{Stack}

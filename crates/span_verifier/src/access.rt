@@ -10,7 +10,7 @@ use crate::results::whole;
 use crate::rules::{lesser, number_rule};
 use decode::Width;
 use regtypes::Rule;
-use spans::{Cells, SpanKind, Reach};
+use spans::{Cells, Reach, SpanKind};
 
 /// Whether the bytes of an access are in a region of this size, from each of its places.
 pub fn is_inside(size: u16, reach: Reach, offset: i16, bytes: u16) -> bool

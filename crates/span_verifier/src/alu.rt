@@ -14,7 +14,7 @@ use crate::sums::{low_span, move_rule, moved, sum_rule, summed};
 use decode::{AluOp, Extension, Operand, Width};
 use operations::word_of_imm;
 use regtypes::Rule;
-use spans::{Cells, SpanKind, Span};
+use spans::{Cells, Span, SpanKind};
 
 /// The kind of an operand; of an immediate it is the one word.
 pub fn operand_kind(width: Width, operand: Operand, frame: &Cells) -> SpanKind
@@ -74,7 +74,12 @@ fn computed(op: AluOp, width: Width, a: SpanKind, b: SpanKind) -> SpanKind
 {
     match a {
         SpanKind::Num(s) => match b {
-            SpanKind::Num(t) => SpanKind::Num(result(op, width, low_span(width, s), low_span(width, t))),
+            SpanKind::Num(t) => SpanKind::Num(result(
+                op,
+                width,
+                low_span(width, s),
+                low_span(width, t),
+            )),
             SpanKind::Unset | SpanKind::Place(_, _) => SpanKind::Unset,
         },
         SpanKind::Unset | SpanKind::Place(_, _) => SpanKind::Unset,

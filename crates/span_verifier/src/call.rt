@@ -9,7 +9,7 @@ ghost use Rattle.spans.specs.Span.{span};
 use crate::access::{is_inside, words_rule};
 use crate::rules::{argument_rule, lesser, number_rule, unless};
 use regtypes::{Region, Rule};
-use spans::{Cells, SpanKind, Span};
+use spans::{Cells, Span, SpanKind};
 
 /// The rule that a helper's argument of this many bytes at a place breaks.
 fn payload_rule(state_len: u16, frame: &Cells, place: SpanKind, bytes: u16) -> Option<Rule>

@@ -5,7 +5,7 @@ ghost use Rattle.spans.specs.Frame.{entry_frame, joined, kind_at};
 
 use crate::kind::join_kinds;
 use regtypes::Region;
-use spans::{Cells, SpanKind, Reach, Span};
+use spans::{Cells, Reach, Span, SpanKind};
 
 /// The kind of a cell at the entry.
 fn entry_kind(cell: usize) -> SpanKind

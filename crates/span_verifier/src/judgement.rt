@@ -8,9 +8,9 @@ ghost use Rattle.span_verifier.specs.Typing.{span_form, table_of};
 ghost use Rattle.span_verifier.specs.Layout.{Follows};
 ghost use Rattle.span_verifier.specs.Least.{IsLeast};
 
+use crate::propagation::spread;
 use crate::targets::leads;
 use crate::ways::{SpanLeaving, transfer};
-use crate::propagation::spread;
 use decode::Insn;
 use limits::SLOTS;
 use regtypes::Rule;

@@ -4,7 +4,7 @@ ghost use Rattle.std.specs.Prelude.{◌≡◌};
 ghost use Rattle.spans.specs.Span.{joined_span};
 ghost use Rattle.spans.specs.Frame.{joined_kind, joined_reach};
 
-use spans::{SpanKind, Reach, Span};
+use spans::{Reach, Span, SpanKind};
 
 /// The least span that has the numbers of both.
 fn join_spans(a: Span, b: Span) -> Span

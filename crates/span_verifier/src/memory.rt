@@ -11,7 +11,7 @@ use crate::access::{is_inside, whole_word, wiped, words_rule};
 use crate::results::power;
 use crate::rules::{lesser, number_rule, unless, value_rule};
 use regtypes::{Region, Rule};
-use spans::{Cells, SpanKind, Reach, Span};
+use spans::{Cells, Reach, Span, SpanKind};
 
 /// The kind of a cell; after the last cell nothing is known.
 fn kind_in(frame: &Cells, cell: usize) -> SpanKind
@@ -45,7 +45,13 @@ fn write_rule(frame: &Cells, kind: SpanKind, reach: Reach, offset: i16, bytes: u
 }
 
 /// The rule that a load through a base of this kind breaks.
-pub fn load_rule(state_len: u16, frame: &Cells, base: SpanKind, offset: i16, bytes: u16) -> Option<Rule>
+pub fn load_rule(
+    state_len: u16,
+    frame: &Cells,
+    base: SpanKind,
+    offset: i16,
+    bytes: u16,
+) -> Option<Rule>
     ensures { result ≡ load_rule state_len (kind_at frame.now.kinds) base offset bytes }
 {
     match base {

@@ -12,7 +12,7 @@ use crate::results::{bounded, result, whole};
 use crate::rules::unless;
 use decode::{AluOp, Width};
 use regtypes::{Region, Rule};
-use spans::{SpanKind, Reach, Span};
+use spans::{Reach, Span, SpanKind};
 
 /// The low bits of a register that an operation of this width uses.
 pub fn low_span(width: Width, span: Span) -> Span

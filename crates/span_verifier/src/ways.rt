@@ -18,7 +18,7 @@ use crate::results::whole;
 use crate::rules::{exit_rule, lesser, number_rule};
 use decode::{Condition, Insn, Operand, Reg, Width};
 use regtypes::{Rule, attributes_from, bytes_in, signed_bytes_in};
-use spans::{Cells, SpanKind, Span};
+use spans::{Cells, Span, SpanKind};
 
 /// What is known after an instruction; no step takes a way without a frame.
 #[derive(Clone, Copy)]
@@ -59,7 +59,9 @@ fn narrowed(frame: &Cells, dst: Reg, operand: Operand, a: Span, b: Span) -> Cell
             if dst.number == src.number {
                 *frame
             } else {
-                frame.with(dst, SpanKind::Num(a)).with(src, SpanKind::Num(b))
+                frame
+                    .with(dst, SpanKind::Num(a))
+                    .with(src, SpanKind::Num(b))
             }
         }
     }
@@ -111,7 +113,14 @@ const NOWHERE: SpanLeaving = SpanLeaving {
 };
 
 /// The frame that a store leaves if it breaks no rule.
-fn store(frame: &Cells, state_len: u16, kind: SpanKind, base: SpanKind, offset: i16, bytes: u16) -> SpanLeaving
+fn store(
+    frame: &Cells,
+    state_len: u16,
+    kind: SpanKind,
+    base: SpanKind,
+    offset: i16,
+    bytes: u16,
+) -> SpanLeaving
     requires base { IsKind base }
     requires unbroken { store_rule state_len (kind_at frame.now.kinds) kind base offset bytes ≡ None }
     ensures { frames_of result ≡ (Some (stored_frame (kind_at frame.now.kinds) kind base offset bytes), None) }

@@ -2,7 +2,8 @@
 use Rattle.std.specs.Prelude.{ℕ, suc, ◌+◌, ◌-◌, ◌^◌, ◌==◌, min, max, nat_lt, nat_le, ◌&&◌, Bool, Option, Some, None, if◌then◌else◌}
 use Rattle.std.specs.Option.{option_map}
 use Rattle.decode.specs.declared.insn.Condition.{Condition}
-use Rattle.decode.specs.declared.insn.Condition.TheVariants.{Equal, Greater, GreaterEqual, Set, NotEqual, SignedGreater, SignedGreaterEqual, Less, LessEqual, SignedLess, SignedLessEqual}
+use Rattle.decode.specs.declared.insn.Condition.TheVariants.{Equal, Greater, GreaterEqual, Set, NotEqual, SignedGreater}
+use Rattle.decode.specs.declared.insn.Condition.TheVariants.{SignedGreaterEqual, Less, LessEqual, SignedLess, SignedLessEqual}
 use Rattle.spans.specs.Span.{Span, span}
 
 -- what is known of dst, and of the operand

@@ -1,6 +1,7 @@
 -- What an instruction needs of a frame, and the frames that leave it. The rules V1, V2 and V4 (docs/FORMATS.md) need no
 -- frame, and are not here.
-use Rattle.std.specs.Prelude.{◌≡◌, ℕ, zero, suc, ◌+◌, ◌-◌, ◌%◌, ◌^◌, ◌==◌, ◌&&◌, nat_lt, nat_le, int_le, ℤ, pos, negsuc, neg_ℤ, ◌+ℤ◌, true, Option, Some, None, if◌then◌else◌, min}
+use Rattle.std.specs.Prelude.{◌≡◌, ℕ, zero, suc, ◌+◌, ◌-◌, ◌%◌, ◌^◌, ◌==◌, ◌&&◌, nat_lt, nat_le, int_le, ℤ, pos, negsuc, neg_ℤ, ◌+ℤ◌}
+use Rattle.std.specs.Prelude.{true, Option, Some, None, if◌then◌else◌, min}
 use Rattle.std.specs.Option.{option_map}
 use Rattle.decode.specs.declared.insn.Reg.{Reg}
 use Rattle.decode.specs.declared.insn.AluOp.{AluOp}
@@ -11,7 +12,8 @@ use Rattle.decode.specs.declared.insn.Condition.{Condition}
 use Rattle.decode.specs.declared.insn.Operand.{Operand}
 use Rattle.decode.specs.declared.insn.Operand.TheVariants as operand
 use Rattle.decode.specs.declared.insn.Insn.{Insn}
-use Rattle.decode.specs.declared.insn.Insn.TheVariants.{Alu, MovSx, Neg, End, Jump, JumpLong, JumpIf, Call, Exit, Load, LoadSx, StoreReg, StoreImm, Wide}
+use Rattle.decode.specs.declared.insn.Insn.TheVariants.{Alu, MovSx, Neg, End, Jump, JumpLong, JumpIf, Call, Exit, Load, LoadSx, StoreReg}
+use Rattle.decode.specs.declared.insn.Insn.TheVariants.{StoreImm, Wide}
 use Rattle.decode.specs.Encoding.{bytes_in, loaded, extension_offset, extension_width}
 use Rattle.operations.specs.Words.{bits_of, word_of}
 use Rattle.regtypes.specs.declared.frame.Region.{Region}
@@ -167,7 +169,8 @@ Gives k f dst w = (h : SpanKind) × (k ≡ Some h) × (w ≡ (Some (with_kind f 
 -- bytes
 abbrev pub Leaves : ℕ → Insn → Frame → Ways → Type 0
 Leaves state (Alu op width dst o) f w = Gives (result_kind (alu_form op width o) (f dst.number) (operand_kind width o f)) f dst w
-Leaves state (MovSx x dst src) f w = Gives (from_span (extended_span (extension_offset x) (bits_of (extension_width x))) (f src.number)) f dst w
+Leaves state (MovSx x dst src) f w =
+    Gives (from_span (extended_span (extension_offset x) (bits_of (extension_width x))) (f src.number)) f dst w
 Leaves state (Neg width dst) f w = Gives (from_span (λ s. whole 64) (f dst.number)) f dst w
 Leaves state (End order bits dst) f w = Gives (from_span (λ s. whole 64) (f dst.number)) f dst w
 Leaves state (Wide dst value) f w = Gives (Some (Num (one value))) f dst w

@@ -7,4 +7,5 @@ use Rattle.stores.specs.Changes.{AreChanges}
 
 -- these bytes are those of the store after these changes
 abbrev pub AreLater : List ℕ → List ℕ → List ℕ → Type 0
-AreLater store changes later = (s : TheStore) (ks : List Change) → IsStoreBytes s store → AreChanges ks changes → FitAll ks s × IsStoreBytes (applied_all ks s) later
+AreLater store changes later = (s : TheStore) (ks : List Change) → IsStoreBytes s store → AreChanges ks changes → FitAll ks s
+    × IsStoreBytes (applied_all ks s) later

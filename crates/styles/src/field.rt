@@ -9,9 +9,8 @@ ghost use Rattle.styles.specs.declared.field.Value.TheVariants.{Number, Party};
 
 use crate::style::Style;
 use indexmap::IndexMap;
-use scenario::NamedProcess;
+use scenario::{NamedProcess, name_at};
 use std::alloc::AllocError;
-use scenario::name_at;
 
 /// The value of a field.
 #[derive(Clone, Copy, Debug)]

@@ -7,8 +7,8 @@ ghost use Rattle.styles.specs.Lines.{exact_text, output_text, process_text, quot
 ghost use Rattle.styles.specs.Style.{style_of};
 
 use crate::style::Style;
-use std::alloc::AllocError;
 use scenario::Hex;
+use std::alloc::AllocError;
 use world::PhaseName;
 
 /// The word of a phase.

@@ -1,8 +1,10 @@
 -- Why failures have to come one at a time: a worked journal in which they overlap, and the promises fail
 use Rattle.std.specs.Prelude.{◌≡◌, ℕ, List, [], ◌∷◌, ◌++◌, true, false, take, if◌then◌else◌, ◌==◌}
 use Rattle.world.specs.declared.message.Message.{Message}
-use Rattle.world.specs.declared.call.Call.TheVariants.{Input, Transmit, Arrive, Finish, Checkpoint, Crash, Recover, RecoverAlone, ReplayBegin, Resync as ResyncWith}
-use Rattle.world.specs.declared.answer.Answer.TheVariants.{Logged, Placed, Started, Shown, Committed, Replayed, Saved, Crashed, Kept, Restored}
+use Rattle.world.specs.declared.call.Call.TheVariants.{Input, Transmit, Arrive, Finish, Checkpoint, Crash, Recover, RecoverAlone}
+use Rattle.world.specs.declared.call.Call.TheVariants.{ReplayBegin, Resync as ResyncWith}
+use Rattle.world.specs.declared.answer.Answer.TheVariants.{Logged, Placed, Started, Shown, Committed, Replayed, Saved, Crashed, Kept}
+use Rattle.world.specs.declared.answer.Answer.TheVariants.{Restored}
 use Rattle.world.specs.declared.entry.Entry.{Entry}
 use Rattle.world.specs.Handlers.{Handlers}
 use Rattle.world.specs.World.{opening}
@@ -13,7 +15,10 @@ use Rattle.theorems.specs.Orphans.{NoOrphan}
 
 -- process 1 passes on to process 2 what it receives, and process 2 puts it out
 abbrev pub passing : (ℕ → List Message → List ℕ) → Handlers
-passing g = record { state = g; sends = λ p h d. if p == 1 then (if d == 2 then texts h else []) else (if p == 2 then (if d == 0 then texts h else []) else []) }
+passing g = record {
+  state = g;
+  sends = λ p h d. if p == 1 then (if d == 2 then texts h else []) else (if p == 2 then (if d == 0 then texts h else []) else []);
+}
 
 -- a message is passed on, after a checkpoint. Process 1 crashes, and gets the number of process 2 again. Process 2 crashes and
 -- replays its message, and its output is shown

@@ -31,7 +31,8 @@ RunIsKept v w = (p run k : ℕ) → is_down (v.phase p) ≡ false → run ≤ le
 -- in v, p was down and k messages were kept. If its length is k in the later w, its state is the one that it had after its first k
 -- messages
 abbrev pub StateIsKept : World → World → Type 0
-StateIsKept v w = (p k : ℕ) → is_down (v.phase p) ≡ true → IsKept v p k → length_of w p ≡ k → state_of w p ≡ v.handlers.state p (take k (v.history p))
+StateIsKept v w = (p k : ℕ) → is_down (v.phase p) ≡ true → IsKept v p k → length_of w p ≡ k
+    → state_of w p ≡ v.handlers.state p (take k (v.history p))
 
 -- the entry of a recovery of p that keeps k messages
 abbrev pub recovery : ℕ → ℕ → ℕ → Entry
@@ -65,7 +66,8 @@ abbrev pub ReplaysBack : World → World → ℕ → ℕ → List Entry → Type
 ReplaysBack v w p k more =
     IsReturning p more → record {
       most : v.saved p + replayed p more ≤ k;
-      each : (length_of w p ≡ v.saved p + replayed p more) × (state_of w p ≡ v.handlers.state p (take (v.saved p + replayed p more) (v.history p)));
+      each : (length_of w p ≡ v.saved p + replayed p more)
+          × (state_of w p ≡ v.handlers.state p (take (v.saved p + replayed p more) (v.history p)));
       all : replayed p more ≡ k - v.saved p → (length_of w p ≡ k) × (state_of w p ≡ v.handlers.state p (take k (v.history p)));
     }
 

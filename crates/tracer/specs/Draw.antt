@@ -9,7 +9,8 @@ use Rattle.scenario.specs.declared.scenario.Scenario.{Scenario}
 use Rattle.image_commands.specs.Files.{Content}
 use Rattle.image_commands.specs.Loads.{IsScenarioWithImages}
 
--- the bytes are a scenario, and its orders lead with the images of its processes to a run with a picture of this text: of all packets, or of
+-- the bytes are a scenario, and its orders lead with the images of its processes to a run with a picture of this text: of all packets,
+-- or of
 -- messages alone
 pub record IsDrawn (content : Content) (bytes : List ℕ) (only : Bool) (text : List ℕ) : Type 0 where
   pub scenario : Scenario

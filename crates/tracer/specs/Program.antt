@@ -35,10 +35,13 @@ SparesImages content scenario place = (bytes : List ℕ) → content scenario �
 -- the files after an order: `asm` and `pack` write the image file of their source, `native` the machine code of its image, `draw`
 -- the picture of its scenario, the others leave all as it was
 abbrev pub Leaves : Order → Content → Content → Type 0
-Leaves (Asm source image state form) content content' = IsWritten source image (λ bytes file. IsAssembled bytes state form file) content content'
-Leaves (Pack code image state form) content content' = IsWritten code image (λ bytes file. (blocks : Blocks) × IsPacked bytes state form file blocks) content content'
+Leaves (Asm source image state form) content content' =
+    IsWritten source image (λ bytes file. IsAssembled bytes state form file) content content'
+Leaves (Pack code image state form) content content' =
+    IsWritten code image (λ bytes file. (blocks : Blocks) × IsPacked bytes state form file blocks) content content'
 Leaves (Native image code) content content' = IsWritten image code (λ bytes file. IsMachineCode bytes file) content content'
-Leaves (Draw scenario picture only) content content' = IsWritten scenario picture (λ bytes file. IsDrawn content bytes only file) content content'
+Leaves (Draw scenario picture only) content content' =
+    IsWritten scenario picture (λ bytes file. IsDrawn content bytes only file) content content'
     × SparesImages content scenario picture
 Leaves order content content' = content' ≡ content
 
@@ -117,7 +120,8 @@ IsHalfPrinted words content failed deaf out out' status =
 
 -- the words come to a fault, which was told; `failed` says whether a file or the stream for reports has failed, `deaf` whether
 -- that for faults has
-pub record IsTold (words : List (List ℕ)) (content : Content) (one : Sameness) (failed deaf : Bool) (err err' : Option (List ℕ)) (status : ℕ)
+pub record IsTold (words : List (List ℕ))
+    (content : Content) (one : Sameness) (failed deaf : Bool) (err err' : Option (List ℕ)) (status : ℕ)
     : Type 0 where
   pub fault : Fault
   pub cause : IsCause (command_in words) content one failed fault

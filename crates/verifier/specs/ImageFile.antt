@@ -37,7 +37,8 @@ pub record IsFile (form : ImageForm) (code : List Insn) (len : ℕ) (bytes : Lis
 
 -- a file of typable code is loaded, unless memory runs out
 abbrev pub LoadsTypable : List ℕ → Result Typed ImageError → Type 0
-LoadsTypable bytes result = (form : ImageForm) (code : List Insn) (len : ℕ) (t : Table) → IsFile form code len bytes → IsTyping form (slots_of code) len t
+LoadsTypable bytes result = (form : ImageForm) (code : List Insn) (len : ℕ) (t : Table) → IsFile form code len bytes
+    → IsTyping form (slots_of code) len t
     → IfOk result (verdict.IsImageOf form code len) × IfErr result (λ e. e ≡ Memory)
 
 -- ---- refusals

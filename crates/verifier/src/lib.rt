@@ -18,22 +18,22 @@
 
 mod compilation;
 mod fault;
-mod pass;
 mod header;
 mod image;
 mod judgement;
 mod laws;
 mod layout;
 mod loader;
-mod writer;
+mod pass;
 mod translation;
 mod verification;
+mod writer;
 
 pub use fault::{HeaderFault, ImageError, VerifyError};
-pub use pass::{Frames, frames_of};
 pub use header::{FileHeader, header_at};
 pub use image::Image;
 pub use laws::{file_refusals_are_one, refusals_are_one};
 pub use loader::{load, parts};
-pub use writer::file;
+pub use pass::{Frames, frames_of};
 pub use verification::{verify, verify_form};
+pub use writer::file;

@@ -9,8 +9,8 @@ ghost use Rattle.verifier.specs.Verdict.{IsImageOf, IsWhy};
 
 use crate::compilation::compile;
 use crate::fault::VerifyError;
-use crate::pass::{Frames, frames_of};
 use crate::image::Image;
+use crate::pass::{Frames, frames_of};
 use decode::{Insn, encode};
 use limits::{SLOTS, STATE_BYTES};
 use regtypes::{ImageForm, Rule};

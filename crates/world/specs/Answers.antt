@@ -1,12 +1,16 @@
 -- Which answers an accepted call may get. An answer tells each choice that was made, as the key of a new packet
-use Rattle.std.specs.Prelude.{◌≡◌, ℕ, suc, zero, ◌+◌, ◌-◌, ◌<◌, ◌≤◌, List, length, Option, Some, None, Bool, true, false, ◌&&◌, ◌==◌, nat_lt, nat_le, if◌then◌else◌, take}
+use Rattle.std.specs.Prelude.{◌≡◌, ℕ, suc, zero, ◌+◌, ◌-◌, ◌<◌, ◌≤◌, List, length, Option, Some, None, Bool, true, false, ◌&&◌, ◌==◌}
+use Rattle.std.specs.Prelude.{nat_lt, nat_le, if◌then◌else◌, take}
 use Rattle.world.specs.declared.message.Message.{Message}
 use Rattle.world.specs.declared.packet.Packet.{Packet}
 use Rattle.world.specs.declared.packet.Packet.TheVariants.{Delivery, Number, Acknowledgement}
 use Rattle.world.specs.declared.call.Call.{Call}
-use Rattle.world.specs.declared.call.Call.TheVariants.{Input, Transmit, Copy, Lose, Arrive, Finish, Checkpoint, Trim, Crash, Recover, RecoverAlone, ReplayBegin, Resync as ResyncWith}
+use Rattle.world.specs.declared.call.Call.TheVariants.{Input, Transmit, Copy, Lose, Arrive, Finish, Checkpoint, Trim, Crash, Recover}
+use Rattle.world.specs.declared.call.Call.TheVariants.{RecoverAlone, ReplayBegin, Resync as ResyncWith}
 use Rattle.world.specs.declared.answer.Answer.{Answer}
-use Rattle.world.specs.declared.answer.Answer.TheVariants.{Logged, Placed, Lost, Started, Numbered, Acknowledged, Shown, Duplicate, ShownBefore, Early, Stale, Unreachable, Committed, Replayed, Saved, Trimmed, Crashed, Kept, Restored}
+use Rattle.world.specs.declared.answer.Answer.TheVariants.{Logged, Placed, Lost, Started, Numbered, Acknowledged, Shown, Duplicate}
+use Rattle.world.specs.declared.answer.Answer.TheVariants.{ShownBefore, Early, Stale, Unreachable, Committed, Replayed, Saved, Trimmed}
+use Rattle.world.specs.declared.answer.Answer.TheVariants.{Crashed, Kept, Restored}
 use Rattle.world.specs.History.{count_of}
 use Rattle.world.specs.Phases.{Phase, Busy, Replaying, is_up}
 use Rattle.world.specs.World.{World, put}

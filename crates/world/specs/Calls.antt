@@ -1,12 +1,15 @@
 -- The world after an accepted call, one case a call. A field that isn't named stays as it was
-use Rattle.std.specs.Prelude.{ℕ, suc, zero, ◌+◌, ◌-◌, min, max, List, [], ◌∷◌, ◌++◌, length, Option, Some, None, Bool, true, false, not, ◌&&◌, ◌||◌, ◌==◌, nat_lt, nat_le, if◌then◌else◌, take}
+use Rattle.std.specs.Prelude.{ℕ, suc, zero, ◌+◌, ◌-◌, min, max, List, [], ◌∷◌, ◌++◌, length, Option, Some, None, Bool, true, false, not}
+use Rattle.std.specs.Prelude.{◌&&◌, ◌||◌, ◌==◌, nat_lt, nat_le, if◌then◌else◌, take}
 use Rattle.world.specs.declared.message.Message.{Message}
 use Rattle.world.specs.declared.packet.Packet.{Packet}
 use Rattle.world.specs.declared.packet.Packet.TheVariants.{Delivery, Number, Acknowledgement}
 use Rattle.world.specs.declared.call.Call.{Call}
-use Rattle.world.specs.declared.call.Call.TheVariants.{Input, Transmit, Copy, Lose, Arrive, Finish, Checkpoint, Trim, Crash, Recover, RecoverAlone, ReplayBegin, Resync as ResyncWith}
+use Rattle.world.specs.declared.call.Call.TheVariants.{Input, Transmit, Copy, Lose, Arrive, Finish, Checkpoint, Trim, Crash, Recover}
+use Rattle.world.specs.declared.call.Call.TheVariants.{RecoverAlone, ReplayBegin, Resync as ResyncWith}
 use Rattle.world.specs.declared.answer.Answer.{Answer}
-use Rattle.world.specs.declared.answer.Answer.TheVariants.{Placed, Started, Numbered, Acknowledged, Shown, Duplicate, Committed, Replayed, Kept}
+use Rattle.world.specs.declared.answer.Answer.TheVariants.{Placed, Started, Numbered, Acknowledged, Shown, Duplicate, Committed, Replayed}
+use Rattle.world.specs.declared.answer.Answer.TheVariants.{Kept}
 use Rattle.world.specs.History.{Payload, nth, rsn_of}
 use Rattle.world.specs.Phases.{Phase, Up, Busy, Down, Replaying, Resync, is_up, todo_of, without, those}
 use Rattle.world.specs.World.{World, put}
@@ -61,7 +64,8 @@ recorded w s r i k = put w.numbers s (put (w.numbers s) r (put (w.numbers s r) i
 
 -- a number arrives at the sender
 abbrev pub note : World → ℕ → ℕ → ℕ → ℕ → ℕ → ℕ → ℕ → World
-note w key r s i k incarnation new = record w { numbers = recorded w s r i k; wire = put (put w.wire key None) new (Some (Acknowledgement s r k incarnation)) }
+note w key r s i k incarnation new =
+    record w { numbers = recorded w s r i k; wire = put (put w.wire key None) new (Some (Acknowledgement s r k incarnation)) }
 
 -- an acknowledgement arrives at the receiver. All that it sent up to the end of the acknowledged run is released, and what is
 -- released stays released

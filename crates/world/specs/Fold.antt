@@ -21,7 +21,10 @@ unfolded n = record { state = replicate n 0; effects = record { sends = []; outp
 -- one more handler call: its state, and its effects after the earlier ones
 abbrev pub joined : Folded → Option Handled → Folded
 joined f None = f
-joined f (Some h) = record { state = h.state; effects = record { sends = f.effects.sends ++ h.effects.sends; outputs = f.effects.outputs ++ h.effects.outputs } }
+joined f (Some h) = record {
+  state = h.state;
+  effects = record { sends = f.effects.sends ++ h.effects.sends; outputs = f.effects.outputs ++ h.effects.outputs };
+}
 
 -- process p of n, with this image, handles one more message
 abbrev pub taken_in : ℕ → TheImage → ℕ → Folded → Message → Folded

@@ -26,7 +26,8 @@ world_after w (e ∷ es) = world_after (after w e.call e.answer) es
 -- the entries are steps from this world, in a journal that has k entries before them
 abbrev pub LegalFrom : ℕ → World → List Entry → Type 0
 LegalFrom k w [] = Unit {0}
-LegalFrom k w (e ∷ es) = (may_call w e.worker e.call ≡ true) × WStep (ENTRIES - k) w e.call e.answer (after w e.call e.answer) × LegalFrom (suc k) (after w e.call e.answer) es
+LegalFrom k w (e ∷ es) = (may_call w e.worker e.call ≡ true) × WStep (ENTRIES - k) w e.call e.answer (after w e.call e.answer)
+    × LegalFrom (suc k) (after w e.call e.answer) es
 
 -- a legal journal of n processes with these handlers
 abbrev pub Legal : ℕ → Handlers → List Entry → Type 0

@@ -1,11 +1,15 @@
 -- Why a call is refused. If several causes hold, the least number is told
-use Rattle.std.specs.Prelude.{ℕ, suc, ◌+◌, ◌-◌, List, [], ◌∷◌, Option, Some, None, Bool, true, false, not, ◌&&◌, ◌||◌, ◌==◌, nat_lt, if◌then◌else◌}
+use Rattle.std.specs.Prelude.{ℕ, suc, ◌+◌, ◌-◌, List, [], ◌∷◌, Option, Some, None, Bool, true, false, not, ◌&&◌, ◌||◌, ◌==◌, nat_lt}
+use Rattle.std.specs.Prelude.{if◌then◌else◌}
 use Rattle.world.specs.declared.packet.Packet.{Packet}
 use Rattle.world.specs.declared.packet.Packet.TheVariants.{Delivery}
 use Rattle.world.specs.declared.call.Call.{Call}
-use Rattle.world.specs.declared.call.Call.TheVariants.{Input, Transmit, Copy, Lose, Arrive, Finish, Checkpoint, Trim, Crash, Recover, RecoverAlone, ReplayBegin, Resync as ResyncWith}
+use Rattle.world.specs.declared.call.Call.TheVariants.{Input, Transmit, Copy, Lose, Arrive, Finish, Checkpoint, Trim, Crash, Recover}
+use Rattle.world.specs.declared.call.Call.TheVariants.{RecoverAlone, ReplayBegin, Resync as ResyncWith}
 use Rattle.world.specs.declared.refusal.Refusal.{Refusal}
-use Rattle.world.specs.declared.refusal.Refusal.TheVariants.{NoSuchProcess, NotUp, Busy, NoPacket, SameProcess, NotReleased, NotLogged, PeerNotUp, StaleJob, NotDown, WrongPhase, JournalFull, WireFull, FeedTaken, Memory}
+use Rattle.world.specs.declared.refusal.Refusal.TheVariants.{NoSuchProcess, NotUp, Busy, NoPacket, SameProcess, NotReleased, NotLogged}
+use Rattle.world.specs.declared.refusal.Refusal.TheVariants.{PeerNotUp, StaleJob, NotDown, WrongPhase, JournalFull, WireFull, FeedTaken}
+use Rattle.world.specs.declared.refusal.Refusal.TheVariants.{Memory}
 use Rattle.world.specs.Phases.{is_up, is_down, is_busy, is_working, is_replaying, todo_of, has}
 use Rattle.world.specs.World.{World, is_inside}
 use Rattle.world.specs.Logs.{released_to, is_entry}

@@ -27,7 +27,8 @@ abbrev pub belongs : World → ℕ → ℕ → ℕ → Option Packet → Bool
 belongs w p d i None = false
 belongs w p d i (Some (Delivery to m)) = (to == d) && (m.sender == p) && (m.ssn == i)
 belongs w p d i (Some (Number r s j k incarnation)) = (r == d) && (s == p) && (j == i) && (incarnation == w.incarnation d)
-belongs w p d i (Some (Acknowledgement s r k incarnation)) = (r == d) && (s == p) && (incarnation == w.incarnation d) && is_at (rsn_of (w.history d) p i) k
+belongs w p d i (Some (Acknowledgement s r k incarnation)) = (r == d) && (s == p) && (incarnation == w.incarnation d)
+    && is_at (rsn_of (w.history d) p i) k
 
 -- whether a process in this phase works on this message
 abbrev pub works_on : Phase → ℕ → ℕ → Bool

@@ -4,9 +4,12 @@ use Rattle.limits.specs.declared.TheConstants.{ENTRIES}
 use Rattle.world.specs.declared.message.Message.{Message}
 use Rattle.world.specs.declared.packet.Packet.TheVariants.{Number}
 use Rattle.world.specs.declared.call.Call.{Call}
-use Rattle.world.specs.declared.call.Call.TheVariants.{Input, Transmit, Copy, Lose, Arrive, Finish, Checkpoint, Trim, Crash, Recover, RecoverAlone, ReplayBegin, Resync as ResyncWith}
+use Rattle.world.specs.declared.call.Call.TheVariants.{Input, Transmit, Copy, Lose, Arrive, Finish, Checkpoint, Trim, Crash, Recover}
+use Rattle.world.specs.declared.call.Call.TheVariants.{RecoverAlone, ReplayBegin, Resync as ResyncWith}
 use Rattle.world.specs.declared.answer.Answer.{Answer}
-use Rattle.world.specs.declared.answer.Answer.TheVariants.{Logged, Placed, Lost, Started, Numbered, Acknowledged, Shown, Duplicate, ShownBefore, Early, Stale, Committed, Replayed, Saved, Trimmed, Crashed, Kept, Restored}
+use Rattle.world.specs.declared.answer.Answer.TheVariants.{Logged, Placed, Lost, Started, Numbered, Acknowledged, Shown, Duplicate}
+use Rattle.world.specs.declared.answer.Answer.TheVariants.{ShownBefore, Early, Stale, Committed, Replayed, Saved, Trimmed, Crashed, Kept}
+use Rattle.world.specs.declared.answer.Answer.TheVariants.{Restored}
 use Rattle.world.specs.declared.entry.Entry.{Entry}
 use Rattle.world.specs.Handlers.{Handlers}
 use Rattle.world.specs.Phases.{Up}
@@ -69,7 +72,8 @@ TwoCrashesAreLegal =
     Legal 2 (silent g) two_crashes
     × (refusal_of (world_of 2 (silent g) (take 1 two_crashes)) (ENTRIES - 1) (Recover 2) ≡ Some 8)
     × (refusal_of (world_of 2 (silent g) (take 2 two_crashes)) (ENTRIES - 2) (Recover 1) ≡ Some 8)
-    × (refusal_of (world_of 2 (silent g) (take 4 two_crashes ++ by_nobody (Crash 1) (Crashed 3) ∷ [])) (ENTRIES - 5) (ResyncWith 2 1) ≡ Some 8)
+    × (refusal_of (world_of 2 (silent g) (take 4 two_crashes ++ by_nobody (Crash 1) (Crashed 3) ∷ []))
+    (ENTRIES - 5) (ResyncWith 2 1) ≡ Some 8)
     × ((world_of 2 (silent g) two_crashes).phase 1 ≡ Up)
     × ((world_of 2 (silent g) two_crashes).phase 2 ≡ Up)
     × (all_single (opening 2 (silent g)) (take 1 two_crashes) ≡ true)

@@ -1,5 +1,6 @@
 -- A reader of the bytes that `bytes_of` writes (Intel SDM volume 2, chapter 2).
-use Rattle.std.specs.Prelude.{◌≡◌, ◌≢◌, Bool, ℕ, ◌+◌, ◌-◌, ◌*◌, ◌/◌, ◌%◌, ◌^◌, ◌<◌, ◌==◌, nat_lt, List, [], ◌∷◌, ◌++◌, Option, Some, None, if◌then◌else◌}
+use Rattle.std.specs.Prelude.{◌≡◌, ◌≢◌, Bool, ℕ, ◌+◌, ◌-◌, ◌*◌, ◌/◌, ◌%◌, ◌^◌, ◌<◌, ◌==◌, nat_lt, List, [], ◌∷◌, ◌++◌, Option, Some, None}
+use Rattle.std.specs.Prelude.{if◌then◌else◌}
 use Rattle.decode.specs.declared.insn.Width.{Width}
 use Rattle.decode.specs.declared.insn.Width.TheVariants.{W32, W64}
 use Rattle.decode.specs.declared.insn.Extension.TheVariants as extension
@@ -205,7 +206,11 @@ by_place_66 op n (MemoryBy base index d) bs = None
 
 -- a number into a register, of 32 bits or 64
 abbrev pub move_number : ℕ → ℕ → List ℕ → Reading Instr
-move_number p r bs = elim (width_of p) as (λ w. Reading Instr) [ W32 ↦ behind (four_bytes bs) (λ imm. whole (instr.MovImm r imm)) | W64 ↦ behind (eight_bytes bs) (λ imm. whole (instr.MovWide r imm)) ]
+move_number p r bs = elim (width_of p) as (λ w. Reading Instr) [
+  | W32 ↦ behind (four_bytes bs)
+      (λ imm. whole (instr.MovImm r imm))
+  | W64 ↦ behind (eight_bytes bs) (λ imm. whole (instr.MovWide r imm))
+]
 
 -- an opcode of one byte, with its REX; the low three bits of 50, 58 and B8 are a register
 abbrev pub by_opcode : ℕ → ℕ → List ℕ → Reading Instr
@@ -241,7 +246,8 @@ behind_66 bs =
 -- after 0F without a REX, which jumps have too
 abbrev pub behind_0f : ℕ → List ℕ → Reading Instr
 behind_0f b bs =
-    if b / 16 == 8 then with_op (condition_of (b - 128)) (λ x. behind (four_bytes bs) (λ distance. whole (instr.JumpIf x distance)))  -- 0F 80+cc cd
+    if b / 16 == 8 then with_op (condition_of (b - 128))
+    (λ x. behind (four_bytes bs) (λ distance. whole (instr.JumpIf x distance)))  -- 0F 80+cc cd
     else by_opcode_0f no_rex b bs
 
 -- instructions without a REX
@@ -250,7 +256,8 @@ without_rex b bs =
     if b == 102 then behind_66 bs
     else if b == 233 then behind (four_bytes bs) (λ distance. whole (instr.Jump distance))  -- E9 cd
     else if b == 235 then behind (one bs) (λ distance. whole (instr.JumpShort distance))  -- EB cb
-    else if b / 16 == 7 then with_op (condition_of (b - 112)) (λ x. behind (one bs) (λ distance. whole (instr.JumpIfShort x distance)))  -- 70+cc cb
+    else if b / 16 == 7 then with_op (condition_of (b - 112))
+    (λ x. behind (one bs) (λ distance. whole (instr.JumpIfShort x distance)))  -- 70+cc cb
     else if b == 15 then behind (one bs) behind_0f
     else if b == 243 then behind (one bs) (λ op bs. if op == 164 then whole instr.CopyBytes bs else None)  -- F3 A4
     else if b == 195 then whole instr.Return bs  -- C3

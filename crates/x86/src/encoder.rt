@@ -493,7 +493,11 @@ fn put_lea_by(code: &mut Vec<u8>, to: u8, base: u8, index: u8, disp: u64) -> Res
     memory_by(code, to, base, index, disp)
 }
 
-fn put_jump_if(code: &mut Vec<u8>, condition: ConditionCode, distance: u64) -> Result<(), AllocError>
+fn put_jump_if(
+    code: &mut Vec<u8>,
+    condition: ConditionCode,
+    distance: u64,
+) -> Result<(), AllocError>
     ensures { OnOk result (code.new.items ≡ code.old.items ++ encoding.bytes_of (Instr.JumpIf condition distance)) }
 {
     put_pair(code, 0x0f, 0x80 + code_of(condition))?;

@@ -4,7 +4,8 @@ use Rattle.std.specs.Borrow.{Bor}
 use Rattle.decode.specs.declared.insn.Insn.{Insn}
 use Rattle.decode.specs.declared.insn.Insn.TheVariants as insn
 use Rattle.assemble.specs.declared.mnemonic.Mnemonic.{Mnemonic}
-use Rattle.assemble.specs.declared.mnemonic.Mnemonic.TheVariants.{Alu, MovSx, Neg, End, Jump, JumpLong, JumpIf, Call, Exit, Load, LoadSx, StoreReg, StoreImm, Wide}
+use Rattle.assemble.specs.declared.mnemonic.Mnemonic.TheVariants.{Alu, MovSx, Neg, End, Jump, JumpLong, JumpIf, Call, Exit, Load, LoadSx}
+use Rattle.assemble.specs.declared.mnemonic.Mnemonic.TheVariants.{StoreReg, StoreImm, Wide}
 use Rattle.decode.specs.Encoding.{loaded}
 use Rattle.assemble.specs.Inside.Words.{bits, extension_name, operands_of, tail}
 use Rattle.assemble.specs.Text.{alu_word, condition_word, order_word, size_letters, suffix}

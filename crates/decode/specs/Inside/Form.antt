@@ -24,7 +24,8 @@ use Rattle.decode.specs.declared.word.Word.{Word}
 use Rattle.decode.specs.declared.form.Source.{Source}
 use Rattle.decode.specs.declared.form.Source.TheVariants.{Imm, Register}
 use Rattle.decode.specs.declared.form.OpcodeForm.{OpcodeForm}
-use Rattle.decode.specs.declared.form.OpcodeForm.TheVariants.{Alu, Neg, End, Jump, JumpLong, JumpIf, Call, Exit, Load, LoadSx, StoreReg, StoreImm, Wide}
+use Rattle.decode.specs.declared.form.OpcodeForm.TheVariants.{Alu, Neg, End, Jump, JumpLong, JumpIf, Call, Exit, Load, LoadSx, StoreReg}
+use Rattle.decode.specs.declared.form.OpcodeForm.TheVariants.{StoreImm, Wide}
 
 -- the operation of a code; of two divisions the unsigned one
 abbrev pub alu_at : ℕ → Option AluOp
@@ -119,7 +120,8 @@ signed_at op offset = op
 -- a move between registers with an offset extends a sign
 abbrev pub extension_at : AluOp → Width → ℕ → Option Extension
 extension_at alu.Mov W32 offset = if offset == 8 then Some W32From8 else if offset == 16 then Some W32From16 else None
-extension_at alu.Mov W64 offset = if offset == 8 then Some W64From8 else if offset == 16 then Some W64From16 else if offset == 32 then Some W64From32 else None
+extension_at alu.Mov W64 offset =
+    if offset == 8 then Some W64From8 else if offset == 16 then Some W64From16 else if offset == 32 then Some W64From32 else None
 extension_at op width offset = None
 
 -- the width that the immediate value of a byte swap names
@@ -139,12 +141,14 @@ high_of (Some s) = s.imm
 -- the instruction of a form, from the fields that it uses
 abbrev pub insn_from : OpcodeForm → Reg → Reg → Word → Option Word → Insn
 insn_from (Alu op width Imm) dst src w next = insn.Alu (signed_at op w.offset) width dst (operand.Imm (cast_signed w32 w.imm))
-insn_from (Alu op width Register) dst src w next = option_map_or (λ x. insn.MovSx x dst src) (extension_at op width w.offset) (insn.Alu (signed_at op w.offset) width dst (operand.Reg src))
+insn_from (Alu op width Register) dst src w next = option_map_or (λ x. insn.MovSx x dst src)
+    (extension_at op width w.offset) (insn.Alu (signed_at op w.offset) width dst (operand.Reg src))
 insn_from (Neg width) dst src w next = insn.Neg width dst
 insn_from (End order) dst src w next = insn.End order (bits_at w.imm) dst
 insn_from Jump dst src w next = insn.Jump (cast_signed w16 w.offset)
 insn_from JumpLong dst src w next = insn.JumpLong (cast_signed w32 w.imm)
-insn_from (JumpIf c width source) dst src w next = insn.JumpIf c width dst (operand_at source src (cast_signed w32 w.imm)) (cast_signed w16 w.offset)
+insn_from (JumpIf c width source) dst src w next =
+    insn.JumpIf c width dst (operand_at source src (cast_signed w32 w.imm)) (cast_signed w16 w.offset)
 insn_from Call dst src w next = insn.Call (cast_signed w32 w.imm)
 insn_from Exit dst src w next = insn.Exit
 insn_from (Load size) dst src w next = insn.Load size dst src (cast_signed w16 w.offset)

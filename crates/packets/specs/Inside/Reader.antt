@@ -1,5 +1,6 @@
 -- Reading a packet from left to right, up to the first fault. A reader gives a value and the bytes after it.
-use Rattle.std.specs.Prelude.{◌≡◌, ℕ, zero, suc, ◌-◌, List, [], ◌∷◌, length, take, drop, slice_index, Option, Some, None, Result, Ok, Err, not, nat_lt, nat_eq, ◌==◌, ◌||◌, if◌then◌else◌}
+use Rattle.std.specs.Prelude.{◌≡◌, ℕ, zero, suc, ◌-◌, List, [], ◌∷◌, length, take, drop, slice_index, Option, Some, None, Result, Ok, Err}
+use Rattle.std.specs.Prelude.{not, nat_lt, nat_eq, ◌==◌, ◌||◌, if◌then◌else◌}
 use Rattle.std.specs.Cmp.Lexicographic.{pointwise}
 use Rattle.limits.specs.declared.TheConstants.{PAYLOAD_BYTES, PROCESSES}
 use Rattle.byteorder.specs.Endian.{little_number}
@@ -71,7 +72,8 @@ unfoldable pub page_at : {A : Type 0} → Reader A → Reader (List A)
 page_at field bytes = number_at 2 bytes >>= λ count. times field count.0 count.1
 
 unfoldable pub entry_at : Reader LoggedMessage
-entry_at bytes = both (number_at 8) (both (number_at 8) payload_at) bytes >>= λ x. Ok (record { number = x.0.0; ssn = x.0.1.0; payload = x.0.1.1 }, x.1)
+entry_at bytes =
+    both (number_at 8) (both (number_at 8) payload_at) bytes >>= λ x. Ok (record { number = x.0.0; ssn = x.0.1.0; payload = x.0.1.1 }, x.1)
 
 unfoldable pub pair_at : Reader Pair
 pair_at bytes = both (number_at 8) (number_at 8) bytes >>= λ x. Ok (record { ssn = x.0.0; number = x.0.1 }, x.1)
@@ -89,10 +91,13 @@ body_at kinds.Number bytes = whole (both (number_at 8) (both (number_at 8) (numb
 body_at kinds.Acknowledgement bytes = whole (both (number_at 8) (number_at 8)) bytes >>= λ x. Ok (Acknowledgement x.0 x.1)
 body_at kinds.Ask bytes = whole (both (number_at 8) (number_at 8)) bytes >>= λ x. Ok (Ask x.0 x.1)
 body_at kinds.Told bytes =
-    whole (both (number_at 8) (both (number_at 8) (both (number_at 8) (both byte_at (page_at entry_at))))) bytes >>= λ x. Ok (Told x.0 x.1.0 x.1.1.0 (record { bits = x.1.1.1.0 }) x.1.1.1.1)
+    whole (both (number_at 8)
+    (both (number_at 8) (both (number_at 8)
+    (both byte_at (page_at entry_at))))) bytes >>= λ x. Ok (Told x.0 x.1.0 x.1.1.0 (record { bits = x.1.1.1.0 }) x.1.1.1.1)
 body_at kinds.Resume bytes = whole (both (number_at 8) (both (number_at 8) (number_at 8))) bytes >>= λ x. Ok (Resume x.0 x.1.0 x.1.1)
 body_at kinds.Restored bytes =
-    whole (both (number_at 8) (both (number_at 8) (both (number_at 8) (both (number_at 8) (both byte_at (page_at pair_at)))))) bytes >>= λ x.
+    whole (both (number_at 8)
+    (both (number_at 8) (both (number_at 8) (both (number_at 8) (both byte_at (page_at pair_at)))))) bytes >>= λ x.
     Ok (Restored x.0 x.1.0 x.1.1.0 x.1.1.1.0 (record { bits = x.1.1.1.1.0 }) x.1.1.1.1.1)
 body_at kinds.Saved bytes = whole (number_at 8) bytes >>= λ c. Ok (Saved c)
 
@@ -112,7 +117,8 @@ head_in_range kind n from to =
     if nat_lt n 1 || nat_lt PROCESSES n then Err faults.Count else if nat_lt n from || (nat_lt n to || from == to) then Err faults.Ends else Ok (record { kind = kind; count = n; from = from; to = to })
 
 unfoldable pub head_at : List ℕ → Result PacketHead PacketFault
-head_at bytes = known (kind_at (slice_index bytes 4)) >>= λ kind. head_in_range kind (slice_index bytes 5) (slice_index bytes 6) (slice_index bytes 7)
+head_at bytes =
+    known (kind_at (slice_index bytes 4)) >>= λ kind. head_in_range kind (slice_index bytes 5) (slice_index bytes 6) (slice_index bytes 7)
 
 abbrev pub packet_of : PacketHead → Body → NodePacket
 packet_of head body = record { count = head.count; from = head.from; to = head.to; body = body }

@@ -31,7 +31,8 @@ ReadsDeclaration names begun text None = (name path : List ℕ) → MayDeclare n
 -- what a line says
 abbrev pub ReadsLine : List (List ℕ) → Bool → List ℕ → Option Line → Type 0
 ReadsLine names begun text (Some line_kind.Silent) = is_silent text ≡ true
-ReadsLine names begun text (Some (line_kind.Process name path)) = (is_silent text ≡ false) × (text ≡ declaration_text name.now path.now) × MayDeclare names begun name.now path.now
+ReadsLine names begun text (Some (line_kind.Process name path)) = (is_silent text ≡ false) × (text ≡ declaration_text name.now path.now)
+    × MayDeclare names begun name.now path.now
 ReadsLine names begun text (Some (line_kind.Order o)) = (is_silent text ≡ false) × (text ≡ order_text names o) × IsInRange (length names) o
 ReadsLine names begun text None =
     (is_silent text ≡ false) × ReadsDeclaration names begun text None × Reads (order_text names) (IsInRange (length names)) text None
@@ -50,7 +51,9 @@ TellsFree name names true = IsFresh name names
 TellsFree name names false = IsFresh name names → ⊥
 
 -- the lines that were read
-pub record HaveRead (allowed : Allowed) (text : List ℕ) (rest : Option (Bor (List ℕ))) (number : ℕ) (entries : List (String Global × NamedProcess)) (steps : List Step) : Type 0 where
+pub record HaveRead (allowed : Allowed)
+    (text : List ℕ) (rest : Option (Bor (List ℕ)))
+    (number : ℕ) (entries : List (String Global × NamedProcess)) (steps : List Step) : Type 0 where
   pub before : List (List ℕ)
   pub whole : lines_of text ≡ before ++ lines_left rest
   pub number_is : number ≡ length before

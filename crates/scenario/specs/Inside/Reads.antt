@@ -1,5 +1,6 @@
 -- The results of reading a part of a line.
-use Rattle.std.specs.Prelude.{◌≡◌, ◌≢◌, ◌≤◌, ◌<◌, ◌^◌, ◌==◌, ◌&&◌, Bool, false, not, nat_lt, ℕ, List, [], ◌∷◌, ◌++◌, decimal, length, Option, Some, None}
+use Rattle.std.specs.Prelude.{◌≡◌, ◌≢◌, ◌≤◌, ◌<◌, ◌^◌, ◌==◌, ◌&&◌, Bool, false, not, nat_lt, ℕ, List, [], ◌∷◌, ◌++◌, decimal, length}
+use Rattle.std.specs.Prelude.{Option, Some, None}
 use Rattle.std.specs.Char.{digit_char, is_ascii_digit}
 use Rattle.std.specs.List.{list_all}
 use Rattle.std.specs.Borrow.{Bor}
@@ -50,7 +51,8 @@ ReadsBytes names text result = Reads (spaced (process_text names) hex_text) (Bot
 
 -- two processes
 abbrev pub ReadsPeers : List (List ℕ) → List ℕ → Option (ℕ × ℕ) → Type 0
-ReadsPeers names text result = Reads (spaced (process_text names) (process_text names)) (Both (IsProcess (length names)) (IsProcess (length names))) text result
+ReadsPeers names text result =
+    Reads (spaced (process_text names) (process_text names)) (Both (IsProcess (length names)) (IsProcess (length names))) text result
 
 -- a receiver and an SSN
 abbrev pub ReadsReceiver : List (List ℕ) → List ℕ → Option (ℕ × ℕ) → Type 0
@@ -59,7 +61,8 @@ ReadsReceiver names text result = Reads (spaced (party_text names) decimal) (Bot
 -- a sender, a receiver and an SSN
 abbrev pub ReadsMessage : List (List ℕ) → List ℕ → Option (ℕ × (ℕ × ℕ)) → Type 0
 ReadsMessage names text result =
-    Reads (spaced (party_text names) (spaced (party_text names) decimal)) (Both (IsParty (length names)) (Both (IsParty (length names)) (HasBits 32))) text result
+    Reads (spaced (party_text names) (spaced (party_text names) decimal))
+    (Both (IsParty (length names)) (Both (IsParty (length names)) (HasBits 32))) text result
 
 -- no operands of this kind spell the text
 abbrev pub NoOperands : List (List ℕ) → Verb → List ℕ → Type 0
