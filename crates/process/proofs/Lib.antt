@@ -1,4 +1,4 @@
-mod Giving
+mod Results
 mod Passings
 mod Openings
 pub mod Fronts
@@ -10,5 +10,5 @@ pub mod Bounds
 mod Bounded
 mod Ranges
 mod Questions
-mod Writing
+mod Writes
 mod Within

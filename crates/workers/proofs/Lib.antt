@@ -1,3 +1,3 @@
 mod SeatsFrom
 mod Served
-mod Continuing
+mod Continuation
