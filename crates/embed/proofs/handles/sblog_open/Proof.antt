@@ -60,7 +60,7 @@ sblog_open_spec 𝓤 𝓛 𝓜 𝓡 wired =
     -- [the allocator; the file; its token; the pointer's place; its token]
     enter ! _ _ _ _ _ $ alloc_all ! (λ l. pass_all ! refl (((heap_laws.the_row_laws.lawful 𝓛).typed a.0 _ are.0).0, ((tt, (tt, (record { fits = are.1.0.0.1.0 }, tt))), ((tt, tt), tt))) $
     move ! (1 ∷ []) $ nothing ! $ move ! (1 ∷ 0 ∷ []) $ fjoin ! $ move ! (1 ∷ 0 ∷ []) $ fjoin ! $ nothing ! $ move ! (2 ∷ 0 ∷ []) $ join ! $ join ! $ nothing ! $ move ! (1 ∷ 0 ∷ []) $ use2 𝓛 (raw (G.pre z)) (id⊢ 𝓤 _) $
-    calls_at ! (framed 𝓤 𝓛.H 𝓜 𝓣) G (met 𝓤 𝓛 𝓜 𝓡 (code.calls-embed::opening::open 𝓡.env wired)) z (and_then ! (get ! refl) (and_then ! (get ! refl) (no_more !))) (λ u.
+    calls_at ! (framed 𝓤 𝓛.H 𝓜 𝓣) G (met 𝓤 𝓛 𝓜 𝓡 (code.calls-embed::lifetime::open 𝓡.env wired)) z (and_then ! (get ! refl) (and_then ! (get ! refl) (no_more !))) (λ u.
     use1 𝓛 (later (some (λ (r : (opened.the_row).Denot). ((t₁ ⊛ ‵ ftrue) ⊛ ‵ ((opened.the_row).own_val r (u ∷ []))) ⊛
     some (λ (ws : Lasts callee.ended z.0.0 z.0.3). ‵ (lasts callee.ended z.0.0 z.0.3 ws) ⊛ raw (fact 𝓤 (Opens r.code file.now r.held)))))) (id⊢ 𝓤 (G.post z u)) $
     await ! tt $ pick ! (λ r. split ! $ split ! $ split ! $ move ! (3 ∷ []) $ pick ! (λ ws. split ! $ drop ! $ heard ! (Opens r.code file.now r.held) (λ is. move ! (2 ∷ []) $ opened_out ! r (u ∷ []) (λ e low.

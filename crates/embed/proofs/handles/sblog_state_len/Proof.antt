@@ -135,4 +135,4 @@ sblog_state_len_spec 𝓤 𝓛 𝓜 𝓡 wired =
     entered 𝓤 𝓛.H (triple_of 𝓛 f.signature (f.spec 𝓛 𝓜.mem 𝓡.returns))
     (tables 𝓤 𝓛.H 𝓜 𝓡 𝓡.env).C (tables 𝓤 𝓛.H 𝓜 𝓡 𝓡.env).Λ key code.function (code.unfolded 𝓤 𝓛.H 𝓜 𝓡 wired)
     (meets 𝓛 𝓜.mem 𝓡.returns (tables_of 𝓤 𝓛.H 𝓜 (tables 𝓤 𝓛.H 𝓜 𝓡 𝓡.env))
-    (of_thm.met 𝓤 𝓛 𝓜 𝓡 (code.calls-embed::handler::Handler::state_len 𝓡.env wired)))
+    (of_thm.met 𝓤 𝓛 𝓜 𝓡 (code.calls-embed::handler::OpenHandler::state_len 𝓡.env wired)))
