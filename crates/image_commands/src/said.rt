@@ -118,19 +118,22 @@ fn refused_line(alloc: Global, image: &[u8]) -> Result<String, AllocError> {
     Ok(String::new(alloc))
 }
 
+/// An image that the verifier refuses and the reason, as lines of text.
+fn refused_lines(alloc: Global, rule: regtypes::Rule, site: &Site) -> Result<String, AllocError> {
+    let words = rule_words(site.kind, rule);
+    let why = refused_line(alloc, site.image.as_slice())?;
+    format!(in alloc; "{site}: {words}\n{why}")
+}
+
 /// The file and what is wrong with it, as lines of text; or empty.
 fn lines_of(alloc: Global, fault: &Fault, site: &Site) -> Result<String, AllocError> {
-    let why = match fault {
-        Fault::Verify { .. } => refused_line(alloc, site.image.as_slice())?,
-        _ => String::new(alloc),
-    };
     let below = site.words.as_str();
     let (words, below) = match fault {
         Fault::Memory => return Ok(String::new(alloc)),
         Fault::Usage(_) | Fault::Scenario { .. } => return String::from_str(alloc, below),
         Fault::Header(header) => (header_words(site.kind, *header), below),
         Fault::Decode { rule, .. } => (code_words(*rule), ""),
-        Fault::Verify { rule, .. } => (rule_words(site.kind, *rule), why.as_str()),
+        Fault::Verify { rule, .. } => return refused_lines(alloc, *rule, site),
         Fault::Assemble { rule, .. } => (line_words(*rule), below),
         Fault::InputOutput => (reason_words(site.kind, site.reason), below),
     };

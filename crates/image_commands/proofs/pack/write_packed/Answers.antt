@@ -15,8 +15,7 @@ pub returns-clause-made : goal.returns-clause-made
 returns-clause-made g c = λ known there.
     let packed = c.in_ok-packed.packed in (
       packed.bytes.items,
-      packed.blocks,
-      c.in_ok-packed.ensures.written known (c.as_slice.ensures.value ∙ c.in_ok-words.ensures.bytes known there),
+      (packed.blocks, c.in_ok-packed.ensures.written known (c.as_slice.ensures.value ∙ c.in_ok-words.ensures.bytes known there)),
     )
 
 pub returns-clause-left : goal.returns-clause-left
