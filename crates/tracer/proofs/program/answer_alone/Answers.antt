@@ -45,7 +45,7 @@ returns-in-Draw-clause-fault g c =
 pub returns-in-Pack-clause-report : goal.returns-in-Pack-clause-report
 returns-in-Pack-clause-report g c =
     on_ok_weaker c.write_packed.result
-    (λ made. subst (λ o. IsAnswer (g.F.Files.content c.args.files.now) o (string_bytes c.args.text.now)) (sym (ap order_of c.in-Pack.is)) (λ known there. (let m = made known there in (m.0, m.1.0, m.1.1), c.requires.empty)))
+    (λ made. subst (λ o. IsAnswer (g.F.Files.content c.args.files.now) o (string_bytes c.args.text.now)) (sym (ap order_of c.in-Pack.is)) (λ known there. (((made known there).0, (made known there).1.0, (made known there).1.1), c.requires.empty)))
     c.write_packed.ensures.made
 
 pub returns-in-Pack-clause-left : goal.returns-in-Pack-clause-left
