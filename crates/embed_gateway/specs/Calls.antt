@@ -28,9 +28,11 @@ LogsNot p payload g Range = (length payload ≤ PAYLOAD_BYTES) × (¬ IsOf p g.s
 LogsNot p payload g Memory = (length payload ≤ PAYLOAD_BYTES) × IsOf p g.store
 LogsNot p payload g other = ⊥
 
+-- the input of a handle's gateway is logged
 abbrev pub IsLogged : ℕ → List ℕ → ℕ → Option TheGateway → Option TheGateway → Type 0
 IsLogged p payload ssn old new = Calls old new (Logs p payload ssn)
 
+-- why it isn't
 abbrev pub IsUnlogged : ℕ → List ℕ → ℕ → ℕ → Option TheGateway → GatewayFault → Type 0
 IsUnlogged p payload was ssn old why = Refuses old (ssn ≡ was) (λ g w. LogsNot p payload g w × (ssn ≡ was)) why
 
@@ -44,9 +46,11 @@ ReceivesNot bytes was fault Bytes = (f : PacketFault) × packets.IsFirst f bytes
 ReceivesNot bytes was fault Memory = fault ≡ was
 ReceivesNot bytes was fault other = ⊥
 
+-- the packet is handed to a handle's gateway
 abbrev pub IsReceived : List ℕ → ℕ → ℕ → Option TheGateway → Option TheGateway → Type 0
 IsReceived bytes was fault old new = Calls old new (λ g h. Receives bytes g h × (fault ≡ was))
 
+-- why it isn't
 abbrev pub IsUnreceived : List ℕ → ℕ → ℕ → Option TheGateway → GatewayFault → Type 0
 IsUnreceived bytes was fault old why = Refuses old (fault ≡ was) (λ g w. ReceivesNot bytes was fault w) why
 
@@ -54,5 +58,6 @@ IsUnreceived bytes was fault old why = Refuses old (fault ≡ was) (λ g w. Rece
 abbrev pub Ticks : TheGateway → TheGateway → Type 0
 Ticks g h = (h ≡ ticked g) × KeepsSince g h × Acts g h
 
+-- what a handle's gateway hasn't heard an answer to is sent again
 abbrev pub IsTicked : Option TheGateway → Option TheGateway → Type 0
 IsTicked old new = Calls old new Ticks

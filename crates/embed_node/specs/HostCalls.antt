@@ -1,4 +1,4 @@
--- The exports are calls of hosts in crate `hosted`
+-- The exports are calls of hosts in crate `node_laws`
 use Rattle.std.specs.Prelude.{◌≡◌, ◌<◌, ℕ, List, Some, None}
 use Rattle.helpers.specs.declared.effects.Who.{Who}
 use Rattle.helpers.specs.Effects.{Emitted}

@@ -2,7 +2,7 @@
 
 ghost use Rattle.embed_node.specs.HostCalls.{ExportsAreCalls};
 
-/// Each export that made a call made the call of a host in crate `hosted`. A process that comes
+/// Each export that made a call made the call of a host in crate `node_laws`. A process that comes
 /// back with the image file with which it was opened has the handler that it had, whatever the
 /// image's form.
 pub fn exports_are_calls()

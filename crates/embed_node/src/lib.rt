@@ -9,7 +9,7 @@
 //! Each function that makes a call of the process owes exactly what that call owes, and each that
 //! reads gives what the process's contract says. Any code except 0 leaves the process as it was,
 //! with one exception: the code of `sblog_node_tick` that says why the process doesn't go on to its
-//! next stage. So what crate `hosted` promises of hosts' calls holds of these ([`laws`]).
+//! next stage. So what crate `node_laws` promises of hosts' calls holds of these ([`laws`]).
 //!
 //! ```c
 //! sblog_node node = {0};

@@ -24,6 +24,7 @@ pub record TheGateway : Type 0 where
   pub changes : List Change
   pub out : List NodePacket
 
+-- what a gateway's type keeps: its limits, and that each packet that waits can be written
 pub record IsGateway (page tick : ℕ) (out : List NodePacket) : Type 0 where
   pub room : LEAST_PAGE ≤ page
   pub some : 1 ≤ tick
@@ -92,5 +93,6 @@ abbrev pub ticked_to : ℕ → TheGateway → TheGateway
 ticked_to zero g = g
 ticked_to (suc k) g = resent (suc k) (ticked_to k g)
 
+-- what `tick` leaves
 abbrev pub ticked : TheGateway → TheGateway
 ticked g = ticked_to (length g.store.peers) g

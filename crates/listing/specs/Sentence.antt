@@ -86,6 +86,7 @@ region_advice = codes "stay inside the region: the message has 512 bytes with th
 abbrev pub state_index_advice : List ℕ
 state_index_advice = codes "compare the index with a number (if (i >= N) return 1;), or mask it (i & (N - 1), N a power of two), on each way that leads here, before it is added; % bounds nothing where its divisor may be 0, or where clang makes div, mul and sub of it; where the C does so already, within(index, most); right above the access does so anew; or --state is too small"
 
+-- what to do about an access that leaves the state
 abbrev pub state_advice : List ℕ
 state_advice = codes "stay inside the state, which has as many bytes as --state says, or pack it with a greater one"
 

@@ -42,6 +42,7 @@ by_missing (Some r) w = OfRegister r register.Unset
 by_missing None (Some c) = OfWord c word.Unset
 by_missing None None = Nothing
 
+-- V3: the first register or word that is read and isn't set
 abbrev pub unset_cause : Frame → Attributes → SpanCause
 unset_cause f a =
     by_missing (first_flawed Missing f (a.number ∷ a.operand ∷ a.copied ∷ base_of a.access ∷ moved_of a.moved ∷ []))
@@ -147,6 +148,7 @@ given_cause f (pos (suc (suc (suc (suc (suc zero)))))) = send_cause f (sized_cau
 given_cause f (pos (suc (suc (suc (suc (suc (suc zero))))))) = sized_cause f 1 2 (f 2)
 given_cause f z = Nothing
 
+-- what breaks a rule of a helper's argument
 abbrev pub argument_cause : Insn → Frame → SpanCause
 argument_cause (Call helper) f = given_cause f helper
 argument_cause i f = Nothing

@@ -84,11 +84,13 @@ dead_by (JumpIf condition width dst o offset) f (Num a) (Num b) =
     ways_text (shown (opposite condition) (bits_of width) a b) (shown (Some condition) (bits_of width) a b)
 dead_by i f a b = []
 
+-- the line of a jump with a way that nothing goes
 abbrev pub dead_text : Insn → Frame → List ℕ
 dead_text (JumpIf condition width dst o offset) f =
     dead_by (JumpIf condition width dst o offset) f (f dst.number) (operand_kind width o f)
 dead_text i f = []
 
+-- the same, if a frame is known
 abbrev pub ways_known : Insn → Option Frame → List ℕ
 ways_known i None = []
 ways_known i (Some f) = dead_text i f
@@ -119,6 +121,7 @@ insn_text s slot None = []
 insn_text s slot (Some i) =
     decimal slot ++ codes ": " ++ text_of (i ∷ []) ++ notes_text s slot i (frame_at s slot) s.frames.refusal
 
+-- the lines of a slot
 abbrev pub slot_text : SpanStudy → ℕ → List ℕ
 slot_text s slot = insn_text s slot (insn_at s.frames.slots.items slot)
 

@@ -146,7 +146,7 @@ impl Machine {
             return Err((Refusal::Memory, done));
         }
         if let Some(alone) = process.mode().is_replayed() {
-            // See recovering.rt.
+            // See recoveries.rt.
             self.settle(me, alone);
         }
         self.calls += 1;

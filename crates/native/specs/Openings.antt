@@ -14,6 +14,7 @@ use Rattle.native.specs.Saved.{and_register}
 abbrev pub placing : List Instr
 placing = clear 8 ∷ instr.MovImm 12 512 ∷ []
 
+-- how code begins: in form 3 r1 and r2 get the positions of message and state
 abbrev pub entering_by : Opening → SavedRegisters → List Instr
 entering_by opening.Bare saved = entering saved
 entering_by opening.Placed saved = entering saved ++ placing

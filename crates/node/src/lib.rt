@@ -16,7 +16,7 @@
 //! checkpoint covers: [`Node::saved`] releases it, and acknowledgements don't.
 //!
 //! A node answers recovering peers by pages of its log and of what it received. Its own recovery is
-//! in the crates `recovery` and `restoring`.
+//! in crate `recovery`.
 //!
 //! ```text
 //! let mut node = Node::open(alloc, Limits::usual(), 1, 2, 8)?;

@@ -43,7 +43,7 @@ stand-still n p first s u m c b here a =
       shown = λ q l. subst (λ (z : TheGateway). (peer_of q z).shown ≡ count_of q c.shown) b.durable (a.shown q l);
     }
 
--- what holds at the moment among the calls of `lives` holds of the call of the host
+-- what holds at the moment among the calls in all lives holds of the call of the host
 recovered : (n p : ℕ) → IsFirst n p → (f : Handlers) (s s2 : System) (t t2 u : Lived) (ks : List Call) (c : Course) (m : Moment n p s t ks c) → u ≡ called.after_calls t m.before → IsAs n s2 t2 → IsBack n f u t2 p m.collected m.replays → HasRecovered n f s s2 p c
 recovered n p first f s s2 t t2 u ks c m is st b =
     let beside : Beside n p s u = subst (Beside n p s) (sym is) m.beside in

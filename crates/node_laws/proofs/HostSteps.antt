@@ -1,4 +1,4 @@
--- What each call of a host is of `lives`
+-- What each call of a host is among calls in all lives
 use Rattle.std.proofs.Common.{◌≡◌, ◌≢◌, inl, inr, ℕ, ◌<◌, List, [], ◌∷◌, ◌++◌, drop, Bool, true, false, refl, sym, ap, ◌∙◌, subst, append-nil, arith}
 use Rattle.std.specs.Prelude.{◌⊎◌, Some, ◌==◌, if◌then◌else◌}
 use Rattle.std.proofs.lemmas.Bool.Decides.{nat_tests}
@@ -55,7 +55,7 @@ IsGood image Killed = Unit {0}
 abbrev pub AreGood : (ℕ → AnyImage) → ℕ → System → Type 0
 AreGood images n s = (p : ℕ) → IsFirst n p → IsGood (images p) (s.processes p)
 
--- the call is these calls of `lives`
+-- the call is these calls in all lives
 pub record Steps (images : ℕ → AnyImage) (n : ℕ) (s : System) (t : Lived) (k : HostCall) : Type 0 where
   pub calls : List Call
   pub are : called.Calls (answering n images) n t calls
@@ -144,7 +144,7 @@ module _ (images : ℕ → AnyImage) (n : ℕ) (s : System) (t : Lived) (st : Is
   abbrev Lands : ℕ → Process → Type 0
   Lands p first = (from : TheCollecting) → t.processes p ≡ stages.Collects from → ((mid : TheCollecting) × (first ≡ stages.Collects mid)) ⊎ (first ≡ stages.Killed)
 
-  -- one call of `lives`, and acts behind it
+  -- one call in all lives, and acts behind it
   by-call : (k : HostCall) (p : ℕ) (h : Hosted) (one : Call) (first : Process) (ps : List Process) → IsFirst n p → called.DoesIt f n t one → ReplaysWhole t one → (called.after_call t one).processes p ≡ first → Chain first ps (as_process h)
       → Beside n p (after_call s k) (called.after_call t one) → (after_call s k).processes ≡ put s.processes p h → IsGood (images p) h → (FailsAlone n s k → lone.FailsAlone n t one) → ((q : ℕ) → KeepsDurable q k → durables.KeepsDurable q t one)
       → durables.outputs_of t (one ∷ dids p ps) ≡ durables.outputs_of (called.after_call t one) (dids p ps) → shown_by s k ≡ [] → ((q : ℕ) → durables.given_by q (one ∷ dids p ps) ≡ gave_by q k) → outs.LivesOn one → Lands p first → Steps images n s t k
@@ -173,7 +173,7 @@ module _ (images : ℕ → AnyImage) (n : ℕ) (s : System) (t : Lived) (st : Is
           (of-acts f n p l (after_call s k) u m.0 ps w now.course (is ∙ m.1) b rec (subst (λ z. Chain z ps (seen w now.course)) m.1 (subst (λ z. Chain first ps (as_process z)) was c)))
       landed now w was rec (inr m) = dead-end ps w now.course (subst (λ z. Chain z ps (seen w now.course)) m (subst (λ z. Chain first ps (as_process z)) was c)) rec
 
-  -- where it runs so, the process of `lives` is this
+  -- where it runs so, the process in all lives is this
   here : (p : ℕ) (old : TheProcess) (w : Checkpoint) → IsFirst n p → s.processes p ≡ Runs old w → t.processes p ≡ seen w old.course
   here p old w l e = st.processes p l ∙ ap as_process e
 

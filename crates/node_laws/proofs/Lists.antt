@@ -21,7 +21,7 @@ use Rattle.node_laws.specs.HostLives as laws
 use Rattle.node_laws.proofs.Calls.{IsHere}
 use Rattle.node_laws.proofs.HostSteps.{AreGood, Steps, steps}
 
--- ---- calls of `lives` behind others
+-- ---- calls in all lives behind others
 
 pub calls-append : (f : Answering) (n : ℕ) (t : Lived) (xs ys : List Call) → Calls f n t xs → Calls f n (after_calls t xs) ys → Calls f n t (xs ++ ys)
 calls-append f n t [] ys g h = h

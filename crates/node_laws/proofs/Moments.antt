@@ -31,7 +31,7 @@ use Rattle.node_laws.specs.HostBack.{has_recovered, plan_of, keeps}
 use Rattle.node_laws.proofs.Chains.{Chain}
 use Rattle.node_laws.proofs.Acts.{dids, dids-append, Ran, ran, Beside, beside-on}
 
--- ---- what a host reads, of the process of `lives`
+-- ---- what a host reads, of the process in all lives
 
 abbrev recovered_in : Process → Bool
 recovered_in (Collects n) = false
@@ -221,7 +221,7 @@ cut from (next ∷ ps) w c r chain = by-act (λ m rest. cut m ps w c r rest) cha
           kept = read.kept ∙ end.kept ∙ ap (λ o. o.base + length new.plan) is.own;
         }
 
--- ---- and among calls of `lives`: all is then as in this system of hosts, but that p collects
+-- ---- and among calls in all lives: all is then as in this system of hosts, but that p collects
 
 pub record Moment (n p : ℕ) (s : System) (t : Lived) (ks : List Call) (c : Course) : Type 0 where
   pub before : List Call

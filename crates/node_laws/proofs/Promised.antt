@@ -56,7 +56,7 @@ opened images n page tick limits processes bytes o =
       now = λ p l. ([], begins-now (answering n images) (len_of images) n p page tick false false (λ q. false) nothing l.1 limits bytes (are-stored images n limits processes bytes o) l (λ e. absurd (cc (e))));
     }
 
--- ---- what holds of a system of `lives` holds of that of hosts
+-- ---- what holds of a system in all lives holds of that of hosts
 
 pub all-stand : (n : ℕ) (s : System) (t : Lived) (c : Cluster) → IsAs n s t → AllStand n t c → AllStand n (as_lives s) c
 all-stand n s t c st a =

@@ -107,7 +107,7 @@ fits-4 =
       range = refl;
     }
 
--- ---- what calls of `lives` say of the process
+-- ---- what calls in all lives say of the process
 
 abbrev Does : Answering → ℕ → called.System → List Call → ℕ → Type 0
 Does f n s [] i = Unit {0}

@@ -1,4 +1,4 @@
--- The calls of hosts are calls of `lives`, and what is promised of them
+-- The calls of hosts are calls in all lives, and what is promised of them
 use Rattle.std.specs.Prelude.{◌≡◌, ◌≢◌, ℕ, ◌≤◌, List, [], ◌∷◌, ◌++◌, Bool, true, ◌==◌, if◌then◌else◌}
 use Rattle.world.specs.Handlers.{Handlers}
 use Rattle.images.specs.declared.any_image.AnyImage.{AnyImage}
@@ -34,7 +34,7 @@ pub record IsAs (n : ℕ) (s : System) (t : called.System) : Type 0 where
   pub taken : t.taken ≡ s.taken
   pub given : t.given ≡ s.given
 
--- the calls of hosts that lead to s2 are calls of `lives` from t on; in these each process that replays does so to the end
+-- the calls of hosts that lead to s2 are calls in all lives from t on; in these each process that replays does so to the end
 pub record AreLives (images : ℕ → AnyImage) (n : ℕ) (t : called.System) (s2 : System) : Type 0 where
   pub calls : List Call
   pub are : called.Calls (answering n images) n t calls
@@ -50,7 +50,7 @@ abbrev pub handlers : ℕ → (ℕ → AnyImage) → Handlers
 handlers n images = handlers_of (answering n images) (len_of images)
 
 -- calls of hosts and of the gateway from their opening on, in any order, with packets that come late, twice or never, and processes killed
--- and brought back at any moment, are calls of `lives`
+-- and brought back at any moment, are calls in all lives
 abbrev pub HostedLive : Type 0
 HostedLive = (images : ℕ → AnyImage) (n page tick : ℕ) (limits : ℕ → Limits) (processes : ℕ → TheProcess) (bytes : ℕ
     → List ℕ) (calls : List HostCall) → Opens n images limits processes bytes

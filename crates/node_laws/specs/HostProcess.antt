@@ -40,7 +40,7 @@ abbrev pub keeps : Hosted → Hosted
 keeps (Runs process checkpoint) = Runs process Durable
 keeps Killed = Killed
 
--- ---- which process of `lives` it is
+-- ---- which process in all lives it is
 
 -- by its stage. It is between two stages only inside a call
 abbrev pub stage_of : Course → Process

@@ -96,7 +96,7 @@ IsOutside (StoredBut k) = Unit {0}
 IsOutside (RevivedOut new) = Unit {0}
 IsOutside call = ⊥
 
--- the system of `lives` that it is
+-- the system in all lives that it is
 abbrev pub as_lives : System → called.System
 as_lives s = record {
   processes = λ p. as_process (s.processes p);

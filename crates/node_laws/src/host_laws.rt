@@ -5,9 +5,9 @@ ghost use Rattle.node_laws.specs.HostBack.{HostedRecovers, HostedRecoversAlone};
 ghost use Rattle.node_laws.specs.HostWorked.{HostsCanCall};
 
 /// Calls of hosts on their processes, as the contracts of the functions say, and of the gateway,
-/// from their opening on, are calls of `lives`. The calls may be in any order, packets may come
+/// from their opening on, are calls in all lives. The calls may be in any order, packets may come
 /// late, twice or never, and each process may be killed at any moment and revived from its stored
-/// bytes. After the calls of `lives` each process is the one of its stage, and what is stored, the
+/// bytes. After the calls in all lives each process is the one of its stage, and what is stored, the
 /// gateway and the packets are the same.
 pub fn hosted_live()
     ensures { HostedLive }

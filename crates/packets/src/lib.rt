@@ -1,6 +1,6 @@
 //! What nodes tell each other and what they keep: eight packets, kept state and logs, and their bytes.
 //!
-//! A [`Packet`] is from one node of a cluster to another one: process 1 to `count`, or 0, the
+//! A [`NodePacket`] is from one node of a cluster to another one: process 1 to `count`, or 0, the
 //! gateway. Its [`Body`] is one of eight. [`encode`] writes it as `SBP1`: magic, kind, ends, the
 //! fields, and a CRC-32C of all that. [`decode`] reads it.
 //!
@@ -10,7 +10,7 @@
 //!
 //! ```
 //! let body = Body::Saved { covered: 3 };
-//! let packet = Packet { count: 2, from: 1, to: 2, body };
+//! let packet = NodePacket { count: 2, from: 1, to: 2, body };
 //! let bytes = encode(alloc, &packet)?;
 //! let again = decode(alloc, &bytes)?;
 //! ```
@@ -19,7 +19,7 @@
 //! and those that it sent and still keeps. [`encode_kept`] writes it as `SBN1`, [`decode_kept`] reads
 //! it, and the same holds of these bytes. Crate `stores` uses the fields and the checksum for its own.
 //!
-//! An [`Outbox`] holds packets until they are sent, in the order in which they came. A packet that
+//! A [`PacketQueue`] holds packets until they are sent, in the order in which they came. A packet that
 //! finds no room is lost, as any packet may be.
 //!
 //! A node that comes back is told in pages what a log holds for it. A page has entries in the order of

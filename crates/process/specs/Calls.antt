@@ -86,6 +86,7 @@ abbrev pub FreezesAs : Bool → TheNode → TheNode → Type 0
 FreezesAs true old new = (new ≡ saving.froze old) × up_owes.Acts old new
 FreezesAs false old new = new ≡ old
 
+-- what `freeze` leaves: a process that is up waits for its checkpoint, any other stays as it is
 abbrev pub Freezes : Course → Course → Type 0
 Freezes (Up old) (Up new) = FreezesAs (is_storable old) old new
 Freezes (Up old) new = ⊥

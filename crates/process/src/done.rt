@@ -8,7 +8,7 @@ use helpers::Effects;
 use interp::CallEnd;
 use std::marker::Model;
 
-/// The answer of a handler call. Only `Job::run` makes one.
+/// The answer of a handler call. Only `HandlerJob::run` makes one.
 #[derive(Drop)]
 pub struct FinishedCall {
     pub(crate) call: HandlerCall,

@@ -21,6 +21,7 @@ abbrev pub told_below : List TheCollected → ℕ → ℕ → Bool
 told_below told me zero = true
 told_below told me (suc d) = told_below told me d && ((d == me) || (told_of told d).done)
 
+-- all peers have told all
 abbrev pub has_all : TheCollecting → Bool
 has_all n = told_below n.told n.own.me (n.own.count + 1)
 
@@ -48,6 +49,7 @@ pub record IsPlan (f : ℕ → Option Message) (h ms : List Message) : Type 0 wh
   pub follows : Follows f h ms
   pub most : if_next (h ++ ms) (f (suc (length (h ++ ms)))) ≡ None
 
+-- the messages that were told under the next numbers, each its sender's next, and no more
 abbrev pub Plans : TheCollecting → List OpenJob → Type 0
 Plans n jobs = (h : List Message) → IsCovered n.own.base n.own.count n.own.covered h
     → IsPlan (told_under n.told n.own.count) h (map job_of jobs)
@@ -73,5 +75,6 @@ pub record MayRecover (n : TheCollecting) (jobs : List OpenJob) (c : Cluster) : 
   pub may : May c (Recovers n.own.me (n.own.base + length jobs))
   pub kept : kept_by c n.own.me (n.own.base + length jobs) ≡ take n.own.base (c.history n.own.me) ++ map job_of jobs
 
+-- by the plan the rules let it recover, and it keeps its checkpoint's messages and those of the plan
 abbrev pub Recovering : TheCollecting → List OpenJob → Type 0
 Recovering n jobs = has_all n ≡ true → (c : Cluster) → StandsCollecting n c n.own.me → MayRecover n jobs c

@@ -28,18 +28,23 @@ stack_at len d = position_by (array_size len) d % 2 ^ 16
 abbrev pub slot_of : ℕ → Insn → ℕ
 slot_of slot i = target slot i % 2 ^ 16
 
+-- the task of a load, at a constant position if the base is r10
 abbrev pub load_task : ℕ → Size → Reg → Reg → ℤ → SlotTask
 load_task len size dst src d = if src.number == 10 then task.Load size dst (stack_at len d) else task.LoadBy size dst src d
 
+-- the same of a load that extends a sign
 abbrev pub load_sx_task : ℕ → SignedSize → Reg → Reg → ℤ → SlotTask
 load_sx_task len size dst src d = if src.number == 10 then task.LoadSx size dst (stack_at len d) else task.LoadSxBy size dst src d
 
+-- the same of a store of an immediate
 abbrev pub store_imm_task : ℕ → Size → Reg → ℤ → ℤ → SlotTask
 store_imm_task len size base d imm = if base.number == 10 then task.StoreImm size (stack_at len d) imm else task.StoreImmBy size base d imm
 
+-- the task of a store, at a constant position if the base is r10
 abbrev pub store_task : ℕ → Size → Reg → Reg → ℤ → SlotTask
 store_task len size base src d = if base.number == 10 then task.Store size src (stack_at len d) else task.StoreBy size src base d
 
+-- the same of a store of a register
 abbrev pub store_reg_task : ℕ → Size → Reg → Reg → ℤ → SlotTask
 store_reg_task len size base src d =
     if src.number == 10 then store_imm_task len size base d (pos (array_size len)) else store_task len size base src d

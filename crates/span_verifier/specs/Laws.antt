@@ -17,7 +17,7 @@ use Rattle.span_verifier.specs.Verdict.{IsRefused}
 abbrev pub KeepsLaws : Type 0
 KeepsLaws = (state : ℕ) (slots : List (Option Insn)) → IsForm (span_form state slots)
 
--- a typing of form 3 is one that `span_calls` requires, and under its frames V1, V2 and V4 are kept
+-- a typing of form 3 is one that `spans` requires, and under its frames V1, V2 and V4 are kept
 abbrev pub AreTypings : Type 0
 AreTypings =
     (state : ℕ) (slots : List (Option Insn)) (table : Table)

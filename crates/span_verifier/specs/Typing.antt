@@ -33,7 +33,7 @@ broken_at state slots s None f = None
 broken_at state slots s (Some i) f = option_or (first_broken (flow_tests slots s (flow_of i))) (broken_rule state i f)
 
 -- form 3, for code slot by slot with a state of `state` bytes: a frame is allowed if it is so in a typing of
--- `span_calls`, and V1, V2 and V4 are kept
+-- `spans`, and V1, V2 and V4 are kept
 abbrev pub span_form : ℕ → List (Option Insn) → Form
 span_form state slots = record {
   Frame = Frame;

@@ -8,7 +8,7 @@ pub fn form_3_keeps_laws()
     ensures { KeepsLaws }
 {}
 
-/// A typing of form 3 is one that `span_calls` requires, and under its frames V1, V2 and V4 are kept.
+/// A typing of form 3 is one that `spans` requires, and under its frames V1, V2 and V4 are kept.
 pub fn typings_are_typings()
     ensures { AreTypings }
 {}

@@ -12,7 +12,7 @@
 //!
 //! [`transfer`] applies the rules to one instruction: it answers the frames that leave on its two ways, none on a way
 //! that no number takes, or the least of the rules V3 to V10 that is broken. `specs/Rules` defines that rule and
-//! `specs/SpanLeaving` the frames that leave. [`rules_are_exact`] says that both agree with the definition of form 3, which
+//! `specs/Ways` the frames that leave. [`rules_are_exact`] says that both agree with the definition of form 3, which
 //! defines only whether frames leave, and which. Each part of [`transfer`] promises the equation that is its
 //! definition: [`alu_rule`] and [`alu_kind`] for arithmetic, [`shown`] for conditions, [`load_rule`], [`loaded`],
 //! [`store_rule`] and [`stored`] for memory, [`call_rule`] and [`answered`] for helpers.

@@ -1,6 +1,6 @@
 //! The lines of a run in another style: with the names of processes, or as JSON.
 //!
-//! The methods of a [`Style`] write the lines that `trace` and `runner` write, in that style. The
+//! The methods of a [`Style`] write the lines that `scenario` and `runner` write, in that style. The
 //! text is that of `specs/Lines.antt`, to the last byte. The only error is lack of memory.
 //!
 //! ```text

@@ -59,6 +59,7 @@ AreDone begin rows =
 abbrev pub long_jump : ConditionCode → Instr
 long_jump x = JumpIf x 7
 
+-- a conditional jump over 7 bytes in its short form
 abbrev pub short_jump : ConditionCode → Instr
 short_jump x = JumpIfShort x 7
 
@@ -70,6 +71,7 @@ Asked = ConditionCode × List ℕ × ℕ
 abbrev pub answers : ConditionCode → ℕ
 answers x = word_of_bits (λ k. if asks x (bit_at k 0 == 1) (bit_at k 1 == 1) (bit_at k 2 == 1) (bit_at k 3 == 1) then 1 else 0) 16
 
+-- the answers of a conditional jump, long or short, for all flags
 abbrev pub AreAsked : (ConditionCode → Instr) → List Asked → Type 0
 AreAsked jump rows =
     map {B = List ℕ × ℕ} (λ (x, bs, n). (bytes_of (jump x), answers x)) rows ≡ map {B = List ℕ × ℕ} (λ (x, bs, n). (bs, n)) rows
@@ -124,5 +126,6 @@ unsaid =
     (instr.CopyBytes, Reg 1 (Word 9) ∷ Reg 6 (At Record 0) ∷ Reg 7 (At Array 0) ∷ []) ∷
     []
 
+-- rows that are stuck
 abbrev pub AreUnsaid : State → List (Instr × List Change) → Type 0
 AreUnsaid begin rows = map (λ (i, before). act i (changed_by begin before)) rows ≡ map (λ row. Stuck) rows
