@@ -42,19 +42,19 @@ def text_of(crates):
     return "".join(f"{' '.join([f'{crate}:', *below])}\n" for crate, below in crates.items())
 
 
-def copy_sources(root, crates):
-    """Copies crates to a root of their own, without what was built of them."""
+def copy_sources(root, crates, *without):
+    """Copies crates to a root of their own, without what was built of them and without folders of these names."""
     (root / "crates.txt").write_text(text_of(crates))
     for crate in crates:
-        shutil.copytree(TOP / "crates" / crate, root / "crates" / crate, ignore=shutil.ignore_patterns("out"))
+        shutil.copytree(TOP / "crates" / crate, root / "crates" / crate, ignore=shutil.ignore_patterns("out", *without))
 
 
-def copy_proved(root, crates, copy=shutil.copy2):
+def copy_proved(root, crates):
     """Copies what was proved of crates to where a root has none of it."""
     for crate in crates:
         proved, there = (top / "crates" / crate / "out/rlib" for top in (TOP, root))
         if proved.is_dir() and not there.is_dir():
-            shutil.copytree(proved, there, copy_function=copy)
+            shutil.copytree(proved, there)
 
 
 @functools.cache
@@ -69,3 +69,17 @@ def commands():
     sys.modules["rtlib"] = found = importlib.util.module_from_spec(spec)
     spec.loader.exec_module(found)
     return found
+
+
+def mark_as_built(names):
+    """Has the kit's other commands take the libraries of these crates, which `rt ci` has proved, instead of proving them again: writes
+    beside each the sum of all that it was made of, which some kits' `rt ci` doesn't. Answers all crates."""
+    rtlib = commands()
+    # a crate's sum has those of all that it stands on
+    rtlib.Crate.stamp = functools.cache(rtlib.Crate.stamp)
+    crates = rtlib.crates_below(str(TOP))
+    for crate in crates:
+        library = Path(crate.rlib)
+        if crate.name in names and library.is_dir() and not crate.is_built():
+            (library.parent / "stamp").write_text(crate.stamp(), encoding="utf-8")
+    return crates
