@@ -64,6 +64,7 @@ both_fall s =
 abbrev pub none_durable : ℕ → Bool
 none_durable p = false
 
+-- every node is durable
 abbrev pub all_durable : ℕ → Bool
 all_durable p = true
 
@@ -90,10 +91,11 @@ as_steps (Meets q p i k ∷ es) = Meeting q p i k ∷ as_steps es
 as_steps (Loses q p i j k ∷ es) = Losing q p i j k ∷ as_steps es
 as_steps (Leaves p q ∷ es) = Leaving p q ∷ as_steps es
 
--- the run of nodes that aren't durable, until node 1 has told node 2 that what it had is lost; node 2 takes that, and recovers
+-- the run of nodes that aren't durable, until node 1 has told node 2 that what it had is lost
 abbrev pub until_told : Payload → List Step
 until_told x = as_steps (passed_on x ++ acknowledged x ++ take 11 (both_fall 0))
 
+-- and then node 2 takes that, and recovers
 abbrev pub told_of_loss : Payload → List Step
 told_of_loss x = until_told x ++ Takes false true (Collects 1 2 2 2 0 None (λ _. None)) ∷ Takes true false (Recovers 2 0) ∷ []
 

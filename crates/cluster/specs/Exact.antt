@@ -16,6 +16,7 @@ pub record Flagged : Type 0 where
   pub exact : Bool
   pub lost : Bool
 
+-- a packet with what its sender says of itself
 abbrev pub flagged : Parcel → Bool → Bool → Flagged
 flagged x exact lost = record { packet = x; exact = exact; lost = lost }
 
@@ -35,6 +36,7 @@ pub record Telling : Type 0 where
   -- what all packets said that were ever sent
   pub said : List Flagged
 
+-- a cluster at its opening, where each process is exact and nothing was said
 abbrev pub starts : ℕ → Handlers → (ℕ → Bool) → Telling
 starts n f durable = record { durable = durable; cluster = opening n f; exact = λ _. true; lost = λ _ _. false; said = [] }
 
@@ -87,6 +89,7 @@ also_said s p d (Told i j k u f) = flagged (parcel p d (Told i j k u f)) (s.exac
 also_said s p d (Restored i j n r u f) = flagged (parcel p d (Restored i j n r u f)) (s.exact p) false ∷ s.said
 also_said s p d x = s.said
 
+-- the packets that were said, after an act
 abbrev pub said_after : Telling → Act → List Flagged
 said_after s (Puts p d x) = also_said s p d x
 said_after s a = s.said
@@ -112,6 +115,7 @@ abbrev pub Steps : Telling → List Step → Type 0
 Steps s [] = Unit {0}
 Steps s (x ∷ xs) = MayStep s x × Steps (step s x) xs
 
+-- the cluster after these steps
 abbrev pub after_steps : Telling → List Step → Telling
 after_steps s [] = s
 after_steps s (x ∷ xs) = after_steps (step s x) xs

@@ -7,6 +7,7 @@ use Rattle.cluster.specs.Cluster.{Cluster, opening, is_well}
 use Rattle.cluster.specs.Rules.{Act, Input, Dies, IsNode, Run, after_run}
 use Rattle.cluster.specs.Exact.{Telling, starts, Step, Takes, Steps, after_steps}
 
+-- whether a process dies
 abbrev pub is_death : Act → Bool
 is_death (Dies p) = true
 is_death a = false
@@ -20,6 +21,7 @@ NobodyDies (a ∷ acts) = (is_death a ≡ false) × NobodyDies acts
 abbrev pub CanReach : Cluster → (Cluster → Type 0) → Type 0
 CanReach c P = (acts : List Act) × Run c acts × NobodyDies acts × P (after_run c acts)
 
+-- every process is up, and so is the gateway
 abbrev pub AllUp : Cluster → Type 0
 AllUp c = (q : ℕ) → q ≤ c.count → is_well c q ≡ true
 
@@ -37,6 +39,7 @@ is_quiet (Takes exact lost (Dies p)) = false
 is_quiet (Takes exact lost (Input d x)) = false
 is_quiet x = true
 
+-- in none of these steps a process dies or is doubted
 abbrev pub AllQuiet : List Step → Type 0
 AllQuiet [] = Unit {0}
 AllQuiet (x ∷ xs) = (is_quiet x ≡ true) × AllQuiet xs

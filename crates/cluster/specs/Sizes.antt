@@ -56,6 +56,7 @@ told_and_dies x =
     ∷ Greets 1 2 1 1 0 no_numbers
     ∷ []
 
+-- an entry that was dropped comes back when the process is told again, and is dropped anew
 abbrev pub ToldAgain : Type 0
 ToldAgain =
     (g : ℕ → List Message → List ℕ) (x : List ℕ) →

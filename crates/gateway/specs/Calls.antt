@@ -42,10 +42,11 @@ dropped_by p k g = let s = min k (last_of (peer_of p g)) in if nat_le s (peer_of
 abbrev pub entries_in : ℕ → ThePeer → List LoggedMessage
 entries_in k p = entries_above k p.dropped (map (λ (e : Logged). e.payload) p.entries) (map (λ (e : Logged). e.number) p.entries)
 
--- the first page of them, and whether that has all
+-- the first page of them
 abbrev pub told_page : ℕ → ℕ → TheGateway → List LoggedMessage
 told_page p k g = page_of g.page (entries_in k (peer_of p g))
 
+-- whether that page has all of them
 abbrev pub told_all : ℕ → ℕ → TheGateway → Bool
 told_all p k g = length (told_page p k g) == length (entries_in k (peer_of p g))
 
@@ -67,6 +68,7 @@ obeyed p i k g = happens (Heard p i true) (happens (Forgotten p k) g)
 abbrev pub restored_of : ℕ → ℕ → ℕ → TheGateway → Body
 restored_of p i s g = Restored i 1 (peer_of p g).shown s (flags_of true false true) []
 
+-- answers a Resume of p
 abbrev pub restores : ℕ → ℕ → ℕ → TheGateway → TheGateway
 restores p i s g = posts p (restored_of p i s g) g
 
