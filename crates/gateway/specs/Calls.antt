@@ -27,7 +27,8 @@ is_next o g = o.ssn == (peer_of o.process g).shown + 1
 -- takes a message: shows the next one; drops one that is early or of another incarnation
 abbrev pub arrived : ℕ → Output → TheGateway → TheGateway
 arrived i o g =
-    if not (i == (peer_of o.process g).heard) || nat_lt ((peer_of o.process g).shown + 1) o.ssn then g else says_shown o.process (if is_next o g then happens (Shown o) g else g)
+    if not (i == (peer_of o.process g).heard) || nat_lt ((peer_of o.process g).shown + 1) o.ssn then g
+    else says_shown o.process (if is_next o g then happens (Shown o) g else g)
 
 -- takes an RSN: if it is of an entry and of the incarnation that was heard, records and acknowledges it
 abbrev pub recorded_by : ℕ → ℕ → ℕ → ℕ → TheGateway → TheGateway

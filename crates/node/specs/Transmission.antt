@@ -74,7 +74,8 @@ abbrev pub renumbers : ℕ → ℕ → ℕ → ℕ → TheNode → TheNode
 renumbers to place zero left n = n
 renumbers to place (suc k) zero n = n
 renumbers to place (suc k) (suc left) n =
-    if is_told_at to place n then renumbers to (place + 1) k (suc left) n else renumbers to (place + 1) k left (tells to (covered_of to n + place + 1) n)
+    if is_told_at to place n then renumbers to (place + 1) k (suc left) n
+    else renumbers to (place + 1) k left (tells to (covered_of to n + place + 1) n)
 
 -- tells a peer's RSNs again
 abbrev pub renumbered : ℕ → TheNode → TheNode

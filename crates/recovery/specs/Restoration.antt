@@ -131,7 +131,8 @@ asked_by q i k n =
 abbrev pub heard : ℕ → Body → TheRestoring → TheRestoring
 heard from (Restored i j covered s flags pairs) n =
     if in_range (Restored i j covered s flags pairs) && is_reply from i j s n
-    then (if answers from i j covered s pairs n then page_of from j covered s flags pairs n else doubted (page_of from j covered s flags pairs n)) else n
+    then (if answers from i j covered s pairs n then page_of from j covered s flags pairs n
+    else doubted (page_of from j covered s flags pairs n)) else n
 heard from (Ask i k) n = if in_range (Ask i k) then asked_by from i k n else n
 heard from body n = n
 

@@ -108,7 +108,8 @@ body_at kinds.Saved bytes = whole (number_at 8) bytes >>= λ c. Ok (Saved c)
 unfoldable pub fields_at : List ℕ → Result (List ℕ) PacketFault
 fields_at bytes =
     if nat_lt (length bytes) 12 then Err faults.Short else if not (pointwise nat_eq (take 4 bytes) magic) then Err faults.Magic
-    else if not (little_number 4 (drop (length bytes - 4) bytes) == crc32c (take (length bytes - 4) bytes)) then Err faults.Checksum else Ok (fields_of bytes)
+    else if not (little_number 4 (drop (length bytes - 4) bytes) == crc32c (take (length bytes - 4) bytes)) then Err faults.Checksum
+    else Ok (fields_of bytes)
 
 -- a kind that there is
 abbrev pub known : Option PacketKind → Result PacketKind PacketFault
@@ -118,7 +119,9 @@ known (Some kind) = Ok kind
 -- kind, the number of processes, from and to
 abbrev pub head_in_range : PacketKind → ℕ → ℕ → ℕ → Result PacketHead PacketFault
 head_in_range kind n from to =
-    if nat_lt n 1 || nat_lt PROCESSES n then Err faults.Count else if nat_lt n from || (nat_lt n to || from == to) then Err faults.Ends else Ok (record { kind = kind; count = n; from = from; to = to })
+    if nat_lt n 1 || nat_lt PROCESSES n then Err faults.Count
+    else if nat_lt n from || (nat_lt n to || from == to) then Err faults.Ends
+    else Ok (record { kind = kind; count = n; from = from; to = to })
 
 -- the head of a packet
 unfoldable pub head_at : List ℕ → Result PacketHead PacketFault
@@ -131,4 +134,6 @@ packet_of head body = record { count = head.count; from = head.from; to = head.t
 
 -- a packet, or the first fault of its bytes
 unfoldable pub reading : List ℕ → Result NodePacket PacketFault
-reading bytes = fields_at bytes >>= λ fields. head_at bytes >>= λ head. body_at head.kind fields >>= λ body. if in_range body then Ok (packet_of head body) else Err faults.Range
+reading bytes =
+    fields_at bytes >>= λ fields. head_at bytes >>= λ head. body_at head.kind fields >>= λ body.
+    if in_range body then Ok (packet_of head body) else Err faults.Range
