@@ -26,7 +26,7 @@ use Rattle.cluster.specs.Inside.Agrees.{Beside, world, restored_so_far, is_back,
 use Rattle.cluster.proofs.Worlds.{Lawful}
 use Rattle.cluster.proofs.Facts.{choose2, takes-is, is-well, well-back, back-answered, true-not-false, not-well-collecting}
 use Rattle.cluster.proofs.Growth.{either-way}
-use Rattle.cluster.proofs.Moment.{kept-is}
+use Rattle.cluster.proofs.RecoveryPoint.{kept-is}
 use Rattle.cluster.proofs.Records.{names}
 use Rattle.cluster.proofs.MemoryLemmas.{many-take, receipts-step}
 use Rattle.cluster.proofs.Settings.{does-count}

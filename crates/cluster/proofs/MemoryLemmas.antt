@@ -19,7 +19,7 @@ use Rattle.cluster.specs.Inside.Agrees.{Beside, world, Agrees}
 use Rattle.cluster.proofs.Worlds.{Lawful}
 use Rattle.cluster.proofs.Facts.{well-is}
 use Rattle.cluster.proofs.Growth.{either-way}
-use Rattle.cluster.proofs.Moment.{kept-is}
+use Rattle.cluster.proofs.RecoveryPoint.{kept-is}
 use Rattle.cluster.proofs.Promised.{output-once-node, received-once-node}
 use Rattle.cluster.proofs.Runs.{Holds, run-holds, step-holds, opens-holds}
 

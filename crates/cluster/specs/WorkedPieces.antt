@@ -2,7 +2,7 @@
 use Rattle.std.specs.Prelude.{ℕ, List, [], ◌∷◌, ◌++◌, Option, Some, None, ◌==◌, if◌then◌else◌}
 use Rattle.world.specs.declared.message.Message.{Message}
 use Rattle.world.specs.Worked.{relaying}
-use Rattle.theorems.specs.Overlap.{passing}
+use Rattle.theorems.specs.WorkedOverlap.{passing}
 use Rattle.cluster.specs.Parcels.{Delivery, Number, Ask, Told, Resume, Restored}
 use Rattle.cluster.specs.Cluster.{Cluster, opening}
 use Rattle.cluster.specs.Rules.{Act, Input, Puts, Starts, Works, Records, Hears, Collects, Obeys, Restores, Greets, Dies, Opens}

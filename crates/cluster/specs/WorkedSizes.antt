@@ -6,7 +6,7 @@ use Rattle.cluster.specs.Parcels.{Delivery, Restored, Saved}
 use Rattle.cluster.specs.Cluster.{opening, is_well, waiting}
 use Rattle.cluster.specs.Rules.{Act, Puts, Shows, Replays, Counts, Drops, Recovers, Greets, Freezes, Keeps, Thaws, Run}
 use Rattle.cluster.specs.Memory.{receipts, taken_since, entries, untold, unsaved, untaken}
-use Rattle.cluster.specs.Pieces.{receives, number_recorded, falls, asks, tells, resumes, no_numbers, first_entry, one_after}
+use Rattle.cluster.specs.WorkedPieces.{receives, number_recorded, falls, asks, tells, resumes, no_numbers, first_entry, one_after}
 use Rattle.cluster.specs.Worked.{comes_back}
 
 -- any message counts
