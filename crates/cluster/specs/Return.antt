@@ -2,9 +2,8 @@
 use Rattle.std.specs.Prelude.{◌≡◌, ℕ, ◌≤◌, List, [], ◌∷◌, Bool, true, false}
 use Rattle.std.proofs.Common.{◌≢◌}
 use Rattle.world.specs.Handlers.{Handlers}
-use Rattle.theorems.specs.Growth.{Grows}
 use Rattle.cluster.specs.Cluster.{Cluster, opening, is_well}
-use Rattle.cluster.specs.Rules.{Act, Input, Dies, IsNode, Run, after_run}
+use Rattle.cluster.specs.Rules.{Act, Input, Dies, IsNode, Run, after_run, FromOpening}
 use Rattle.cluster.specs.Exact.{Telling, starts, Step, Takes, Steps, after_steps}
 
 -- whether a process dies
@@ -28,7 +27,7 @@ AllUp c = (q : ℕ) → q ≤ c.count → is_well c q ≡ true
 -- after any run: if all nodes except p are up, p comes back, whether it is dead, collects, replays or restores RSNs: the nodes can go on,
 -- without a death, until all are up
 abbrev pub LoneComesBack : Type 0
-LoneComesBack = (n : ℕ) (f : Handlers) (acts : List Act) (p : ℕ) → n ≤ 15 → Grows f → Run (opening n f) acts
+LoneComesBack = (n : ℕ) (f : Handlers) (acts : List Act) (p : ℕ) → FromOpening n f acts
     → IsNode (after_run (opening n f) acts) p
     → ((q : ℕ) → IsNode (after_run (opening n f) acts) q → q ≢ p → is_well (after_run (opening n f) acts) q ≡ true)
     → CanReach (after_run (opening n f) acts) AllUp
