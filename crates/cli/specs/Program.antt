@@ -77,5 +77,6 @@ top_app = on_top (λ s. record s { no_binary_name = true; subcommand_required = 
 -- the whole command line
 abbrev pub sblog_app : App
 sblog_app =
-    with_subcommand (with_subcommand (with_subcommand (with_subcommand (with_subcommand (with_subcommand (with_subcommand (with_subcommand (with_subcommand top_app
+    with_subcommand (with_subcommand (with_subcommand (with_subcommand (with_subcommand (with_subcommand (with_subcommand
+    (with_subcommand (with_subcommand top_app
     run_app.top) live_app.top) draw_app.top) check_app.top) explain_app.top) asm_app.top) pack_app.top) dis_app.top) native_app.top

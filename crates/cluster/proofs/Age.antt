@@ -16,7 +16,7 @@ use Rattle.cluster.proofs.Growth.{either-way}
 use Rattle.cluster.specs.Overlap.{Acts, Meets, Loses, Leaves}
 use Rattle.cluster.specs.Exact.{Flagged, flagged, Said, Telling, Takes, Meeting, Losing, Leaving, MayStep, lost_after, also_said, said_after, step}
 use Rattle.cluster.proofs.Ages.{On, is_some, at_stage, has_told, Knows, Later, Fine, Real, Aged, known-on, later-on, aged-on}
-use Rattle.cluster.proofs.DurableTurns.{put2-same, is_opening, on-deed, plain-deed}
+use Rattle.cluster.proofs.DurableTurns.{put2-same, is_opening, on-event, plain-event}
 
 -- a log has no entry behind some number
 pub log-ends : (w : World) (p q n : ℕ) → (b : ℕ) × ((m : ℕ) → b < m → first_below (logged_as w p m q) n ≡ None)
@@ -242,8 +242,8 @@ module _ (born : ℕ → ℕ) (now : ℕ) (s : Telling) (h : Aged born now s) wh
 
   pub takes-aged : (exact lost : Bool) (a : Act) → is_opening a ≡ false → MayStep s (Takes exact lost a) → Aged born now (step s (Takes exact lost a))
   takes-aged exact lost a n may =
-      let o : On s.cluster (does s.cluster a) = on-deed born s.cluster h.plain h.parcels (Acts a) n may.0 in
-      aged-on born now s (step s (Takes exact lost a)) h o (plain-deed born s.cluster h.plain h.parcels (Acts a) n may.0) (under-act a may.0) (said-act a may.0)
+      let o : On s.cluster (does s.cluster a) = on-event born s.cluster h.plain h.parcels (Acts a) n may.0 in
+      aged-on born now s (step s (Takes exact lost a)) h o (plain-event born s.cluster h.plain h.parcels (Acts a) n may.0) (under-act a may.0) (said-act a may.0)
       (λ p q l m e. elim (was-act a may.0 p q l m e) [ inl f ↦ inl f | inr g ↦ inr (page-knows a may.0 o p q g) ])
       (λ p q l m e w f. elim (lost-act lost a n may.0 p q e w f) [
         | inl v ↦ elim (was-act a may.0 p q l m e) [ inl u ↦ inl (u, v) | inr g ↦ inr (page-later exact lost a may o p q g f) ]
@@ -252,7 +252,7 @@ module _ (born : ℕ → ℕ) (now : ℕ) (s : Telling) (h : Aged born now s) wh
 
   pub meets-aged : (q p i k : ℕ) → MayStep s (Meeting q p i k) → Aged born now (step s (Meeting q p i k))
   meets-aged q p i k may =
-      aged-on born now s (step s (Meeting q p i k)) h (on-deed born s.cluster h.plain h.parcels (Meets q p i k) refl may) (plain-deed born s.cluster h.plain h.parcels (Meets q p i k) refl may)
+      aged-on born now s (step s (Meeting q p i k)) h (on-event born s.cluster h.plain h.parcels (Meets q p i k) refl may) (plain-event born s.cluster h.plain h.parcels (Meets q p i k) refl may)
       (λ a b y i. inl i) (λ y i e. inl i) (λ a b l m e. inl e) (λ a b l m e w f. inl (e, f))
 
   pub loses-aged : (q p i j k : ℕ) → MayStep s (Losing q p i j k) → Aged born now (step s (Losing q p i j k))
@@ -261,13 +261,13 @@ module _ (born : ℕ → ℕ) (now : ℕ) (s : Telling) (h : Aged born now s) wh
       let a : s.cluster.heard q p ≤ s.cluster.stored p = h.plain.low q p in
       let b : i ≡ s.cluster.heard q p = may.1 in
       let e : j ≡ s.cluster.stored q = elim may.2 [ inl r ↦ r.1 ∙ h.plain.settled q (ap runs r.0.0) | inr r ↦ r.1 ] in
-      aged-on born now s (step s (Losing q p i j k)) h (on-deed born s.cluster h.plain h.parcels (Loses q p i j k) refl may) (plain-deed born s.cluster h.plain h.parcels (Loses q p i j k) refl may)
+      aged-on born now s (step s (Losing q p i j k)) h (on-event born s.cluster h.plain h.parcels (Loses q p i j k) refl may) (plain-event born s.cluster h.plain h.parcels (Loses q p i j k) refl may)
       (one-more s.cluster q p (Told i j k None (λ _. None)) (λ f. n (sym f)) ((omega arith), (omega arith), (0, λ m l g r. refl), λ g. inl (sym b ∙ g, e)))
       (one-said s.cluster (flagged (parcel q p (Told i j k None (λ _. None))) false true) (λ f. absurd (let z : true ≡ false = f in cc)))
       (λ a b l m e. inl e) (λ a b l m e w f. inl (e, f))
 
   pub leaves-aged : (p q : ℕ) → MayStep s (Leaving p q) → Aged born now (step s (Leaving p q))
   leaves-aged p q may =
-      aged-on born now s (step s (Leaving p q)) h (on-deed born s.cluster h.plain h.parcels (Leaves p q) refl may.0) (plain-deed born s.cluster h.plain h.parcels (Leaves p q) refl may.0)
+      aged-on born now s (step s (Leaving p q)) h (on-event born s.cluster h.plain h.parcels (Leaves p q) refl may.0) (plain-event born s.cluster h.plain h.parcels (Leaves p q) refl may.0)
       (λ a b y i. inl i) (λ y i e. inl i) (λ a b l m e. inl e)
       (λ a b l m e w f. inl (e, f))

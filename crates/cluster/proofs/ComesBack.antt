@@ -122,5 +122,5 @@ module _ (p : ℕ) where
               (x.0 ∙ y.0, x.1 ∙ y.1, x.2 ∙ y.2)
 
 pub lone-comes-back : LoneComesBack
-lone-comes-back n f acts p l g r node up =
-    wait p (after_run (opening n f) acts).count (after_run (opening n f) acts) (always-sane n f acts l g r) node (omega arith) up (λ q a b _. absurd (omega arith))
+lone-comes-back n f acts p s node up =
+    wait p (after_run (opening n f) acts).count (after_run (opening n f) acts) (always-sane n f acts s.few s.grows s.run) node (omega arith) up (λ q a b _. absurd (omega arith))

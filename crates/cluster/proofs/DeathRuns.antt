@@ -4,8 +4,8 @@ use Rattle.world.specs.declared.message.Message.{Message}
 use Rattle.world.specs.Worked.{relaying}
 use Rattle.cluster.specs.Cluster.{opening}
 use Rattle.cluster.specs.Rules.{IsAll, Run, after_run}
-use Rattle.cluster.specs.Pieces.{resumes, restores, no_numbers}
-use Rattle.cluster.specs.Deaths.{gap_closed, told_again, not_durable, durable, two_answer, NumberIsLost, DiesWhileCollecting, DiesAtCheckpoint, AllHaveToAnswer}
+use Rattle.cluster.specs.WorkedPieces.{resumes, restores, no_numbers}
+use Rattle.cluster.specs.WorkedDeaths.{gap_closed, told_again, not_durable, durable, two_answer, NumberIsLost, DiesWhileCollecting, DiesAtCheckpoint, AllHaveToAnswer}
 use Rattle.cluster.proofs.Chains.{◌▸◌, few, apart, of-one, one-of-three}
 
 closes : (g : ℕ → List Message → List ℕ) (x y : List ℕ) → Run (opening 1 (relaying 0 g)) (gap_closed x y)

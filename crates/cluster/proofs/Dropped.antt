@@ -277,10 +277,11 @@ starts-dropped c b p d k agrees lawful other may =
     record { inside = x.0; covers = fine; gone = λ _ _. now; told = λ i j n s u f _ _ _. inl (takes-runs c p may.1, now) }
 
 pub told-is-dropped : ToldIsDropped
-told-is-dropped n f acts more p d k l g r well =
-    let t = run-append (opening n f) acts (Drops d p k ∷ more) r in
+told-is-dropped n f acts more p d k from well =
+    let l : n ≤ 15 = from.few in
+    let t = run-append (opening n f) acts (Drops d p k ∷ more) from.run in
     let c : Cluster = after_run (opening n f) acts in
-    let h : Holds c = run-holds n f acts l g t.0 in
+    let h : Holds c = run-holds n f acts l from.grows t.0 in
     let e : c.count ≡ n = run-count (opening n f) acts in
     let other : d ≢ p = (h.agrees.parcels d p (Saved k) t.1.0.0).2 in
     let s = step-holds c (Drops d p k) (omega arith) h t.1.0 in

@@ -1,4 +1,4 @@
--- No deed takes back what checkpoints cover, and so what that sends
+-- No event takes back what checkpoints cover, and so what that sends
 use Rattle.std.proofs.Common.{◌≡◌, ℕ, ◌≤◌, List, [], ◌∷◌, ◌++◌, length, take, Bool, true, false, refl, sym, ap, subst, append_assoc}
 use Rattle.std.specs.Prelude.{◌==◌, if◌then◌else◌}
 use Rattle.world.specs.declared.message.Message.{Message}
@@ -8,17 +8,17 @@ use Rattle.theorems.proofs.ListLemmas.{begins-trans}
 use Rattle.cluster.specs.Cluster.{Cluster}
 use Rattle.cluster.proofs.Settings.{does-handlers}
 use Rattle.cluster.proofs.Growth.{Continues, still, same-begins, does-continue}
-use Rattle.cluster.specs.Overlap.{Deed, Acts, Meets, Loses, Leaves, goes, kept_sends}
+use Rattle.cluster.specs.Overlap.{Event, Acts, Meets, Loses, Leaves, goes, kept_sends}
 use Rattle.cluster.proofs.Firsts.{append_nil}
 
--- an act takes back no input, and nothing that was shown or that a checkpoint covers; nor does a deed
-pub goes-continue : (c : Cluster) (e : Deed) → ((p : ℕ) → c.saved p ≤ length (c.history p)) → Continues c (goes c e)
+-- an act takes back no input, and nothing that was shown or that a checkpoint covers; nor does an event
+pub goes-continue : (c : Cluster) (e : Event) → ((p : ℕ) → c.saved p ≤ length (c.history p)) → Continues c (goes c e)
 goes-continue c (Acts a) within = does-continue c a within
 goes-continue c (Meets q p i k) within = still c
 goes-continue c (Loses q p i j k) within = still c
 goes-continue c (Leaves p q) within = still c
 
-pub goes-handlers : (c : Cluster) (e : Deed) → (goes c e).handlers ≡ c.handlers
+pub goes-handlers : (c : Cluster) (e : Event) → (goes c e).handlers ≡ c.handlers
 goes-handlers c (Acts a) = does-handlers c a
 goes-handlers c (Meets q p i k) = refl
 goes-handlers c (Loses q p i j k) = refl
@@ -44,6 +44,6 @@ sends-continue c v grows same k p d =
         let Q : List Message → Type 0 = λ h. Begins (c.handlers.sends p (take (c.saved p) (c.history p)) d) (c.handlers.sends p h d) in
         subst Q m.1 (sends-more c.handlers grows p d (take (c.saved p) (c.history p)) m.0)
 
--- and no deed takes back what is sent so
-pub goes-sends : (c : Cluster) (e : Deed) → Grows c.handlers → ((p : ℕ) → c.saved p ≤ length (c.history p)) → (p d : ℕ) → Begins (kept_sends c p d) (kept_sends (goes c e) p d)
+-- and no event takes back what is sent so
+pub goes-sends : (c : Cluster) (e : Event) → Grows c.handlers → ((p : ℕ) → c.saved p ≤ length (c.history p)) → (p d : ℕ) → Begins (kept_sends c p d) (kept_sends (goes c e) p d)
 goes-sends c e grows within = sends-continue c (goes c e) grows (goes-handlers c e) (goes-continue c e within)

@@ -9,14 +9,14 @@ use Rattle.theorems.specs.Growth.{Begins, Grows}
 use Rattle.theorems.proofs.ListLemmas.{take-all, nth-prefix, begins-self, begins-trans, begins-length}
 use Rattle.theorems.proofs.LogLemmas.{payloads-prefix}
 use Rattle.cluster.specs.Cluster.{Cluster, opening, seen}
-use Rattle.cluster.specs.Overlap.{Deed, Might, renews, goes, steps, kept_sends, Deeds, after_deeds}
+use Rattle.cluster.specs.Overlap.{Event, Might, renews, goes, steps, kept_sends, Events, after_events}
 use Rattle.cluster.specs.DurablePromises.{lasts, Stays, DurableKeep, CheckpointsStay, AllDurableKeep}
 use Rattle.cluster.proofs.Firm.{Firm, Held}
 use Rattle.cluster.proofs.Growth.{Continues}
 use Rattle.cluster.proofs.DurableGrowth.{goes-continue, goes-sends}
 use Rattle.cluster.proofs.Progress.{goes-firm}
 
--- what holds at the opening and after each deed
+-- what holds at the opening and after each event
 pub record Durable (durable : ℕ → Bool) (c : Cluster) : Type 0 where
   pub firm : Firm (lasts durable) c
   pub held : Held durable c
@@ -46,7 +46,7 @@ released-kept durable c h p d = split (p == 0) refl
     split true f e = omega arith
     split false f e = let P : Bool → Type 0 = λ b. c.released p d ≤ length (if b then c.inputs d else c.handlers.sends p (take (c.saved p) (c.history p)) d) in subst P f (h p d e)
 
-pub step-durable : (durable : ℕ → Bool) (c : Cluster) (e : Deed) → Durable durable c → Might c e → Durable durable (steps durable c e)
+pub step-durable : (durable : ℕ → Bool) (c : Cluster) (e : Event) → Durable durable c → Might c e → Durable durable (steps durable c e)
 step-durable durable c e h may =
     record {
       firm = goes-firm (lasts durable) c h.firm (released-kept durable c h.held) e may;
@@ -57,31 +57,31 @@ step-durable durable c e h may =
     split p d true l = omega arith
     split p d false l = let n : length (kept_sends c p d) ≤ length (kept_sends (goes c e) p d) = begins-length _ _ (goes-sends c e h.firm.grows h.firm.within p d) in omega arith
 
-pub deeds-durable : (durable : ℕ → Bool) (c : Cluster) (es : List Deed) → Durable durable c → Deeds durable c es → Durable durable (after_deeds durable c es)
-deeds-durable durable c [] h r = h
-deeds-durable durable c (e ∷ es) h r = deeds-durable durable (steps durable c e) es (step-durable durable c e h r.0) r.1
+pub events-durable : (durable : ℕ → Bool) (c : Cluster) (es : List Event) → Durable durable c → Events durable c es → Durable durable (after_events durable c es)
+events-durable durable c [] h r = h
+events-durable durable c (e ∷ es) h r = events-durable durable (steps durable c e) es (step-durable durable c e h r.0) r.1
 
 pub durable-keep : DurableKeep
-durable-keep n f durable es p g r l = let h = (deeds-durable durable (opening n f) es (opens-durable n f durable g) r).firm in record { received = λ d. h.received p d l; shown = h.shown p l }
+durable-keep n f durable es p g r l = let h = (events-durable durable (opening n f) es (opens-durable n f durable g) r).firm in record { received = λ d. h.received p d l; shown = h.shown p l }
 
-deeds-stay : (durable : ℕ → Bool) (c : Cluster) (es : List Deed) (p : ℕ) → Durable durable c → Deeds durable c es → Stays c (after_deeds durable c es) p
-deeds-stay durable c [] p h r = record { messages = begins-self _; sends = λ d. begins-self _ }
-deeds-stay durable c (e ∷ es) p h r =
-    let t : Stays (steps durable c e) (after_deeds durable (steps durable c e) es) p = deeds-stay durable (steps durable c e) es p (step-durable durable c e h r.0) r.1 in
+events-stay : (durable : ℕ → Bool) (c : Cluster) (es : List Event) (p : ℕ) → Durable durable c → Events durable c es → Stays c (after_events durable c es) p
+events-stay durable c [] p h r = record { messages = begins-self _; sends = λ d. begins-self _ }
+events-stay durable c (e ∷ es) p h r =
+    let t : Stays (steps durable c e) (after_events durable (steps durable c e) es) p = events-stay durable (steps durable c e) es p (step-durable durable c e h r.0) r.1 in
     let k : Continues c (goes c e) = goes-continue c e h.firm.within in
     record { messages = begins-trans _ _ _ (k.messages p) t.messages; sends = λ d. begins-trans _ _ _ (goes-sends c e h.firm.grows h.firm.within p d) (t.sends d) }
 
 -- a run of two parts, taken apart
-pub deeds-append : (durable : ℕ → Bool) (c : Cluster) (es more : List Deed) → Deeds durable c (es ++ more)
-    → Deeds durable c es × Deeds durable (after_deeds durable c es) more × (after_deeds durable c (es ++ more) ≡ after_deeds durable (after_deeds durable c es) more)
-deeds-append durable c [] more r = (tt, r, refl)
-deeds-append durable c (e ∷ es) more r = let t = deeds-append durable (steps durable c e) es more r.1 in ((r.0, t.0), t.1, t.2)
+pub events-append : (durable : ℕ → Bool) (c : Cluster) (es more : List Event) → Events durable c (es ++ more)
+    → Events durable c es × Events durable (after_events durable c es) more × (after_events durable c (es ++ more) ≡ after_events durable (after_events durable c es) more)
+events-append durable c [] more r = (tt, r, refl)
+events-append durable c (e ∷ es) more r = let t = events-append durable (steps durable c e) es more r.1 in ((r.0, t.0), t.1, t.2)
 
 pub checkpoints-stay : CheckpointsStay
 checkpoints-stay n f durable es more p g r =
-    let t = deeds-append durable (opening n f) es more r in
-    let P : Cluster → Type 0 = λ v. Stays (after_deeds durable (opening n f) es) v p in
-    subst P (sym t.2) (deeds-stay durable (after_deeds durable (opening n f) es) more p (deeds-durable durable (opening n f) es (opens-durable n f durable g) t.0) t.1)
+    let t = events-append durable (opening n f) es more r in
+    let P : Cluster → Type 0 = λ v. Stays (after_events durable (opening n f) es) v p in
+    subst P (sym t.2) (events-stay durable (after_events durable (opening n f) es) more p (events-durable durable (opening n f) es (opens-durable n f durable g) t.0) t.1)
 
 -- a checkpoint covers a beginning of what was received
 pub kept-whole : (c : Cluster) → Grows c.handlers → (p d : ℕ) → c.saved p ≤ length (c.history p) → Begins (kept_sends c p d) (payloads (seen c) p (c.history p) d)
@@ -91,8 +91,8 @@ kept-whole c g p d within =
 
 pub all-durable-keep : AllDurableKeep
 all-durable-keep n f es g r =
-    let c : Cluster = after_deeds (λ _. true) (opening n f) es in
-    let h : Firm (lasts (λ _. true)) c = (deeds-durable (λ _. true) (opening n f) es (opens-durable n f (λ _. true) g) r).firm in
+    let c : Cluster = after_events (λ _. true) (opening n f) es in
+    let h : Firm (lasts (λ _. true)) c = (events-durable (λ _. true) (opening n f) es (opens-durable n f (λ _. true) g) r).firm in
     let all : (p : ℕ) → lasts (λ _. true) p ≡ true = λ p. every (p == 0) in
     let whole : (p d : ℕ) → Begins (kept_sends c p d) (payloads (seen c) p (c.history p) d) = λ p d. kept-whole c h.grows p d (h.within p) in (
       record {

@@ -1,4 +1,4 @@
--- Each deed but that a node is opened goes on so
+-- Each event but that a node is opened goes on so
 use Rattle.std.proofs.Common.{◌≡◌, ◌≢◌, inl, inr, ℕ, suc, ◌+◌, ◌<◌, ◌≤◌, List, [], ◌∷◌, ◌++◌, length, Bool, true, false, refl, sym, ap, ◌∙◌, subst, arith, length-append}
 use Rattle.std.specs.Prelude.{◌⊎◌, Option, Some, None, ◌==◌, ◌&&◌, ◌||◌, nat_lt, nat_le, if◌then◌else◌}
 use Rattle.std.proofs.lemmas.Bool.Decides.{nat_tests}
@@ -12,7 +12,7 @@ use Rattle.cluster.specs.Cluster.{Stage, Live, Frozen, Dead, Collecting, Collect
 use Rattle.cluster.specs.Rules.{Act, Input, Puts, Starts, Shows, Works, Replays, Records, Counts, Drops, Hears, Collects, Recovers, Obeys, Enters, Restores, Greets, Freezes, Keeps, Thaws, Dies, Opens, IsNode, May, does, message, with_page, kept_by, put2}
 use Rattle.cluster.proofs.Facts.{choose2, well-is, is-well, takes-is, true-not-false}
 use Rattle.cluster.proofs.Growth.{either-way}
-use Rattle.cluster.specs.Overlap.{Deed, Acts, Meets, Loses, Leaves, Might, restores_anew, goes}
+use Rattle.cluster.specs.Overlap.{Event, Acts, Meets, Loses, Leaves, Might, restores_anew, goes}
 use Rattle.cluster.proofs.Sane.{Low, todo-turn, todo-with, peers-nodes, without-less}
 use Rattle.cluster.proofs.Ages.{IsSound, Ends, IsEnding, Plain, On, Fine}
 
@@ -140,7 +140,7 @@ abbrev pub is_opening : Act → Bool
 is_opening (Opens p n) = true
 is_opening a = false
 
-abbrev pub opens : Deed → Bool
+abbrev pub opens : Event → Bool
 opens (Acts a) = is_opening a
 opens e = false
 
@@ -381,18 +381,18 @@ module _ (born : ℕ → ℕ) (c : Cluster) (h : Plain c) (fine : (p d : ℕ) (x
   meets-well : (q : ℕ) (x : Phase) → is_well c q ≡ false → (r : ℕ) → is_well c r ≡ true → (is_well (record c { phase = put c.phase q x }) r ≡ true) ⊎ (c.stage r ≡ Dead)
   meets-well q x un = choose q (λ j b. is_well c j ≡ true → ((runs (c.stage j) && (c.greeted j && is_up (if b then x else c.phase j))) ≡ true) ⊎ (c.stage j ≡ Dead)) (λ w. absurd (true-not-false w un)) (λ j _ w. inl w)
 
-  pub on-deed : (e : Deed) → opens e ≡ false → Might c e → On c (goes c e)
-  on-deed (Acts a) n may = on-act a n may
-  on-deed (Meets q p i k) n may =
+  pub on-event : (e : Event) → opens e ≡ false → Might c e → On c (goes c e)
+  on-event (Acts a) n may = on-act a n may
+  on-event (Meets q p i k) n may =
       let l : c.heard q p < i = may.2 in
       let o = on-hears c q p i h.low (omega arith) (fine p q (Ask i k) may.0).1.1 in
       record { count = refl; stored = λ p. refl; heard = o.heard; low = o.low; well = meets-well q (restores_anew (c.phase q) p) may.1.1; dead = λ p e. e }
-  on-deed (Loses q p i j k) n may = on-same c h.low
-  on-deed (Leaves p q) n may = on-turn c p (phase_with (without (todo_of (c.phase p)) q)) h.low (λ u. absurd (true-not-false u (not-up c p q may.1)))
+  on-event (Loses q p i j k) n may = on-same c h.low
+  on-event (Leaves p q) n may = on-turn c p (phase_with (without (todo_of (c.phase p)) q)) h.low (λ u. absurd (true-not-false u (not-up c p q may.1)))
 
-  pub plain-deed : (e : Deed) → opens e ≡ false → Might c e → Plain (goes c e)
-  plain-deed (Acts a) n may = plain-act a n may
-  plain-deed (Meets q p i k) n may =
+  pub plain-event : (e : Event) → opens e ≡ false → Might c e → Plain (goes c e)
+  plain-event (Acts a) n may = plain-act a n may
+  plain-event (Meets q p i k) n may =
       let f = fine p q (Ask i k) may.0 in
       let g = plain-turn c q (restores_anew (c.phase q) p) (un-gate q may.1.1) (anew-sound (c.phase q) p (h.sound q)) (λ r e. elim (anew (c.phase q) p r e) [ inl z ↦ (let P : ℕ → Type 0 = λ i. IsNode c i × (i ≢ q) in subst P (sym z) (f.1.0, f.0)) | inr t ↦ h.todo q r t ]) h in
       record {
@@ -406,5 +406,5 @@ module _ (born : ℕ → ℕ) (c : Cluster) (h : Plain c) (fine : (p d : ℕ) (x
         ends = g.ends;
         own = g.own;
       }
-  plain-deed (Loses q p i j k) n may = h
-  plain-deed (Leaves p q) n may = plain-turn c p (phase_with (without (todo_of (c.phase p)) q)) (restores-gate c p q h may.1) (sound-with _) (rest-todo p q) h
+  plain-event (Loses q p i j k) n may = h
+  plain-event (Leaves p q) n may = plain-turn c p (phase_with (without (todo_of (c.phase p)) q)) (restores-gate c p q h may.1) (sound-with _) (rest-todo p q) h

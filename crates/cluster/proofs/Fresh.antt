@@ -26,7 +26,7 @@ use Rattle.cluster.specs.Inside.Agrees.{Beside, world, restored_so_far, is_back,
 use Rattle.cluster.proofs.Worlds.{Lawful}
 use Rattle.cluster.proofs.Facts.{choose2, takes-is, is-well, well-back, back-answered, true-not-false, not-well-collecting}
 use Rattle.cluster.proofs.Growth.{either-way}
-use Rattle.cluster.proofs.Moment.{kept-is}
+use Rattle.cluster.proofs.RecoveryPoint.{kept-is}
 use Rattle.cluster.proofs.Records.{names}
 use Rattle.cluster.proofs.MemoryLemmas.{many-take, receipts-step}
 use Rattle.cluster.proofs.Settings.{does-count}
@@ -470,7 +470,7 @@ few-held c p q k took is = few-numbers (is_of q) (c.saved p) took (holds (c.told
         entry (Some x) g s far = let n = is.names m x far g in let z : n.1.message.sender ≡ q = n.1.sender in (n.0, n.1.message, n.1.at, grind (arith, nat_tests))
 
 pub told-is-new : ToldIsNew
-told-is-new n f acts p q k l g r node at =
+told-is-new n f acts p q k s node at =
     let e : (after_run (opening n f) acts).count ≡ n = run-count (opening n f) acts in
     let pa : p ≤ (after_run (opening n f) acts).count = node.1 in
     let start : Fresh p (opening n f) (λ test. 0) = record {
@@ -480,7 +480,7 @@ told-is-new n f acts p q k l g r node at =
       new = λ test. omega arith;
       frozen = λ q y. absurd (cc);
     } in
-    let t : Fresh p (after_run (opening n f) acts) (λ test. taken_since test p 0 acts) = fresh-run p (opening n f) acts l (omega arith) (opens-holds n f g) r (λ test. 0) start in
+    let t : Fresh p (after_run (opening n f) acts) (λ test. taken_since test p 0 acts) = fresh-run p (opening n f) acts s.few (omega arith) (opens-holds n f s.grows) s.run (λ test. 0) start in
     let a : count_below (holds ((after_run (opening n f) acts).told p q)) k ≤ how_many (is_of q) (drop ((after_run (opening n f) acts).saved p) t.took) = few-held (after_run (opening n f) acts) p q k t.took (t.of.collected q at) in
     let z : how_many (is_of q) (drop ((after_run (opening n f) acts).saved p) t.took) ≤ taken_since (is_of q) p 0 acts = t.few (is_of q) in
     omega arith

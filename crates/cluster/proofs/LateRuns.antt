@@ -2,10 +2,10 @@
 use Rattle.std.proofs.Common.{◌≡◌, inl, inr, ℕ, ◌<◌, List, take, refl, arith}
 use Rattle.world.specs.declared.message.Message.{Message}
 use Rattle.world.specs.Worked.{relaying}
-use Rattle.theorems.specs.Overlap.{passing}
+use Rattle.theorems.specs.WorkedOverlap.{passing}
 use Rattle.cluster.specs.Cluster.{opening}
 use Rattle.cluster.specs.Rules.{IsAll, Run, after_run, message}
-use Rattle.cluster.specs.Late.{renumbered, second_return, job_told, both_back, old_ask_answered, LateNumberIsDropped, LateResumeIsDropped, OldAnswerIsDropped, OpenJobComesFirst, HeardComesBack, OldAskIsHeard}
+use Rattle.cluster.specs.WorkedLate.{renumbered, second_return, job_told, both_back, old_ask_answered, LateNumberIsDropped, LateResumeIsDropped, OldAnswerIsDropped, OpenJobComesFirst, HeardComesBack, OldAskIsHeard}
 use Rattle.cluster.proofs.Chains.{◌▸◌, few, apart, of-one, one-of-two, two-of-two}
 
 pub late-number-is-dropped : LateNumberIsDropped

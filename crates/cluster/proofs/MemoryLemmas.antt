@@ -19,7 +19,7 @@ use Rattle.cluster.specs.Inside.Agrees.{Beside, world, Agrees}
 use Rattle.cluster.proofs.Worlds.{Lawful}
 use Rattle.cluster.proofs.Facts.{well-is}
 use Rattle.cluster.proofs.Growth.{either-way}
-use Rattle.cluster.proofs.Moment.{kept-is}
+use Rattle.cluster.proofs.RecoveryPoint.{kept-is}
 use Rattle.cluster.proofs.Promised.{output-once-node, received-once-node}
 use Rattle.cluster.proofs.Runs.{Holds, run-holds, step-holds, opens-holds}
 
@@ -107,7 +107,7 @@ receipts-run test p c [] n h r k l = l
 receipts-run test p c (a ∷ acts) n h r k l = let s = step-holds c a n h r.0 in receipts-run test p (does c a) acts s.1 s.0 r.1 (counts test p a k) (receipts-step test p c h.beside h.agrees h.lawful k l a r.0)
 
 pub receipts-are-new : ReceiptsAreNew
-receipts-are-new n f acts p test l g r = receipts-run test p (opening n f) acts l (opens-holds n f g) r 0 (omega arith)
+receipts-are-new n f acts p test s = receipts-run test p (opening n f) acts s.few (opens-holds n f s.grows) s.run 0 (omega arith)
 
 -- Logs
 
@@ -188,7 +188,7 @@ module _ (c : Cluster) (b : Beside) (agrees : Agrees c b) (lawful : Lawful (worl
   few-wait p i = let l : waiting c p + one_if (is_busy (c.phase p)) ≤ WINDOW = agrees.wired.window p i in omega arith
 
 pub logs-wait : LogsWait
-logs-wait n f acts p d l g r = let h = run-holds n f acts l g r in log-has _ h.beside h.agrees h.lawful p d
+logs-wait n f acts p d s = let h = run-holds n f acts s.few s.grows s.run in log-has _ h.beside h.agrees h.lawful p d
 
 pub few-numbers-wait : FewWait
-few-numbers-wait n f acts p l g r i = let h = run-holds n f acts l g r in few-wait _ h.beside h.agrees h.lawful p i
+few-numbers-wait n f acts p s i = let h = run-holds n f acts s.few s.grows s.run in few-wait _ h.beside h.agrees h.lawful p i

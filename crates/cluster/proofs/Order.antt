@@ -11,7 +11,7 @@ use Rattle.theorems.proofs.ListLemmas.{get-push, get-take, take-all, take-push, 
 use Rattle.cluster.specs.Cluster.{Cluster, opening}
 use Rattle.cluster.specs.Rules.{Act, Input, Puts, Starts, Shows, Works, Replays, Records, Counts, Drops, Hears, Collects, Recovers, Obeys, Enters, Restores, Greets, Freezes, Keeps, Thaws, Dies, Opens, May, does, message, plan, told_by, kept_by}
 use Rattle.cluster.proofs.Growth.{either-way}
-use Rattle.cluster.specs.Overlap.{Deed, Acts, Meets, Loses, Leaves, Might, steps, Deeds, after_deeds}
+use Rattle.cluster.specs.Overlap.{Event, Acts, Meets, Loses, Leaves, Might, steps, Events, after_events}
 use Rattle.cluster.specs.DurablePromises.{InOrder, AlwaysInOrder}
 use Rattle.cluster.proofs.Firsts.{if_next-is}
 use Rattle.cluster.proofs.DurablePromised.{Durable, opens-durable, step-durable}
@@ -74,15 +74,15 @@ does-order c (Thaws p) jobs may o = o
 does-order c (Dies p) jobs may o = o
 does-order c (Opens p n) jobs may o = o
 
-steps-order : (durable : ℕ → Bool) (c : Cluster) (e : Deed) → Durable durable c → Might c e → Ordered c → Ordered (steps durable c e)
+steps-order : (durable : ℕ → Bool) (c : Cluster) (e : Event) → Durable durable c → Might c e → Ordered c → Ordered (steps durable c e)
 steps-order durable c (Acts a) h may o = does-order c a (λ d m e. (h.firm.jobs d m e).1) may o
 steps-order durable c (Meets q p i k) h may o = o
 steps-order durable c (Loses q p i j k) h may o = o
 steps-order durable c (Leaves p q) h may o = o
 
-deeds-order : (durable : ℕ → Bool) (c : Cluster) (es : List Deed) → Durable durable c → Deeds durable c es → Ordered c → Ordered (after_deeds durable c es)
-deeds-order durable c [] h r o = o
-deeds-order durable c (e ∷ es) h r o = deeds-order durable (steps durable c e) es (step-durable durable c e h r.0) r.1 (steps-order durable c e h r.0 o)
+events-order : (durable : ℕ → Bool) (c : Cluster) (es : List Event) → Durable durable c → Events durable c es → Ordered c → Ordered (after_events durable c es)
+events-order durable c [] h r o = o
+events-order durable c (e ∷ es) h r o = events-order durable (steps durable c e) es (step-durable durable c e h r.0) r.1 (steps-order durable c e h r.0 o)
 
 pub always-in-order : AlwaysInOrder
-always-in-order n f durable es g r = deeds-order durable (opening n f) es (opens-durable n f durable g) r (λ p. none-in-order, none-in-order)
+always-in-order n f durable es g r = events-order durable (opening n f) es (opens-durable n f durable g) r (λ p. none-in-order, none-in-order)

@@ -1,4 +1,4 @@
--- Each deed leaves it so
+-- Each event leaves it so
 use Rattle.std.proofs.Common.{◌≡◌, ◌≢◌, inl, inr, ℕ, suc, ◌+◌, ◌-◌, ◌<◌, ◌≤◌, List, [], ◌∷◌, ◌++◌, length, take, Bool, true, false, refl, sym, ap, ◌∙◌, subst, arith, length-append}
 use Rattle.std.specs.Prelude.{Option, Some, None, ◌==◌, ◌&&◌, nat_lt, nat_le, if◌then◌else◌}
 use Rattle.std.proofs.lemmas.Bool.Decides.{nat_tests}
@@ -23,7 +23,7 @@ use Rattle.cluster.specs.Cluster.{Collected, Cluster, seen, is_well}
 use Rattle.cluster.specs.Rules.{Act, Input, Puts, Starts, Shows, Works, Replays, Records, Counts, Drops, Hears, Collects, Recovers, Obeys, Enters, Restores, Greets, Freezes, Keeps, Thaws, Dies, Opens, MayPut, May, does, message, entry_of, entry_in, with_page, Asks, IsAll, told_by, kept_by, entered, put2, taken_back}
 use Rattle.cluster.proofs.Facts.{choose2, well-is}
 use Rattle.cluster.proofs.Growth.{either-way, plan-begins, takes-back}
-use Rattle.cluster.specs.Overlap.{Deed, Acts, Meets, Loses, Leaves, Might, restores_anew, goes, kept_sends}
+use Rattle.cluster.specs.Overlap.{Event, Acts, Meets, Loses, Leaves, Might, restores_anew, goes, kept_sends}
 use Rattle.cluster.specs.DurablePromises.{AreFirst}
 use Rattle.cluster.proofs.Firsts.{first-more, first-push, first-take, first-plan}
 use Rattle.cluster.proofs.Firm.{Sends, IsGood, IsThere, IsTrue, IsGoodSoFar, Firm, good-more, there-more, true-more, so-far-more}
@@ -158,7 +158,7 @@ module _ (last : ℕ → Bool) (c : Cluster) (h : Firm last c) where
       split ssn m true a false b e = h.numbers p q ssn m e
       split ssn m false a y b e = h.numbers p q ssn m e
 
-  -- Deeds by which checkpoints cover nothing new
+  -- Events by which checkpoints cover nothing new
 
   with-parcel : (p d : ℕ) (x : Body) → p ≢ d → IsTrue last k p d x → Firm last (does c (Puts p d x))
   with-parcel p d x ne t =
@@ -272,7 +272,7 @@ module _ (last : ℕ → Bool) (c : Cluster) (h : Firm last c) where
         shown = h.shown;
       }
 
-  -- Deeds by which they do
+  -- Events by which they do
 
   input-firm : (d : ℕ) (x : Payload) → Firm last (does c (Input d x))
   input-firm d x =
@@ -390,7 +390,7 @@ module _ (last : ℕ → Bool) (c : Cluster) (h : Firm last c) where
   does-firm released (Dies p) may = h
   does-firm released (Opens p n) may = opens p n
 
-  pub goes-firm : (released : (p d : ℕ) → last p ≡ true → released_to (seen c) p d ≤ length (k p d)) (e : Deed) → Might c e → Firm last (goes c e)
+  pub goes-firm : (released : (p d : ℕ) → last p ≡ true → released_to (seen c) p d ≤ length (k p d)) (e : Event) → Might c e → Firm last (goes c e)
   goes-firm released (Acts a) may = does-firm released a may
   goes-firm released (Meets q p i n) may = meets q p i n
   goes-firm released (Loses q p i j n) may = with-parcel q p (Told i j n None (λ _. None)) (λ e. (h.parcels p q (Ask i n) may.0).0 (sym e)) (λ m x _ _ e. absurd (let z : None ≡ Some x = e in cc))

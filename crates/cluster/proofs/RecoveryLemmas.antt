@@ -38,7 +38,7 @@ use Rattle.cluster.proofs.Wires.{step-of, below-self}
 use Rattle.cluster.proofs.Preservation.{cleaned, lose-all, still-cleaned, owned-cleaned, none-cleaned, others-cleaned, none-waits}
 use Rattle.cluster.proofs.Replays.{with-busy, with-working, is-peer}
 use Rattle.cluster.proofs.Plans.{gather-held}
-use Rattle.cluster.proofs.Moment.{back, told-all, Tells, kept-is, within, held, no-next}
+use Rattle.cluster.proofs.RecoveryPoint.{back, told-all, Tells, kept-is, within, held, no-next}
 
 none-below : (test : ℕ → Bool) (n : ℕ) → ((j : ℕ) → j < n → test j ≡ false) → any_below test n ≡ false
 none-below test zero none = refl

@@ -14,10 +14,10 @@ use Rattle.cluster.specs.Promises.{NoOrphanNode, OutputOnce, ReceivedOnce}
 use Rattle.cluster.proofs.Facts.{choose2, true-not-false, well-is}
 use Rattle.cluster.proofs.Growth.{either-way}
 use Rattle.cluster.proofs.Promised.{nodes-keep}
-use Rattle.cluster.specs.Overlap.{Acts, Loses, Might, kept_sends, renews, steps, Deeds, after_deeds}
+use Rattle.cluster.specs.Overlap.{Acts, Loses, Might, kept_sends, renews, steps, Events, after_events}
 use Rattle.cluster.proofs.DurablePromised.{Durable, opens-durable, step-durable}
 use Rattle.cluster.proofs.Less.{letting, Alike, Less, does-alike, does-less, held-less}
-use Rattle.cluster.specs.Exact.{Flagged, flagged, Said, Telling, starts, Step, Takes, Meeting, Losing, Leaving, Says, step, Steps, after_steps, AlwaysExact, acts_of, deeds_of, StepsAreDeeds, ExactRunsDontMeet, ExactRunsKeep}
+use Rattle.cluster.specs.Exact.{Flagged, flagged, Said, Telling, starts, Step, Takes, Meeting, Losing, Leaving, Says, step, Steps, after_steps, AlwaysExact, acts_of, events_of, StepsAreEvents, ExactRunsDontMeet, ExactRunsKeep}
 
 -- whether it is an answer to Ask
 abbrev is_told : Body → Bool
@@ -333,13 +333,13 @@ exact-runs-keep n f durable xs l g r e =
     let P : Cluster → Type 0 = λ c. NoOrphanNode c × OutputOnce c × ReceivedOnce c in
     subst P t.3 (nodes-keep n f (acts_of xs) l g t.2)
 
--- a step leaves what its deed leaves: so the steps are deeds, one by one
-along-deeds : (s : Telling) (xs : List Step) → Steps s xs → Deeds s.durable s.cluster (deeds_of xs) × (after_deeds s.durable s.cluster (deeds_of xs) ≡ (after_steps s xs).cluster)
-along-deeds s [] r = (tt, refl)
-along-deeds s (Takes exact lost a ∷ xs) r = let t = along-deeds (step s (Takes exact lost a)) xs r.1 in ((r.0.0, t.0), t.1)
-along-deeds s (Meeting q p i k ∷ xs) r = let t = along-deeds (step s (Meeting q p i k)) xs r.1 in ((r.0, t.0), t.1)
-along-deeds s (Losing q p i j k ∷ xs) r = let t = along-deeds (step s (Losing q p i j k)) xs r.1 in ((r.0, t.0), t.1)
-along-deeds s (Leaving p q ∷ xs) r = let t = along-deeds (step s (Leaving p q)) xs r.1 in ((r.0.0, t.0), t.1)
+-- a step leaves what its event leaves: so the steps are events, one by one
+along-events : (s : Telling) (xs : List Step) → Steps s xs → Events s.durable s.cluster (events_of xs) × (after_events s.durable s.cluster (events_of xs) ≡ (after_steps s xs).cluster)
+along-events s [] r = (tt, refl)
+along-events s (Takes exact lost a ∷ xs) r = let t = along-events (step s (Takes exact lost a)) xs r.1 in ((r.0.0, t.0), t.1)
+along-events s (Meeting q p i k ∷ xs) r = let t = along-events (step s (Meeting q p i k)) xs r.1 in ((r.0, t.0), t.1)
+along-events s (Losing q p i j k ∷ xs) r = let t = along-events (step s (Losing q p i j k)) xs r.1 in ((r.0, t.0), t.1)
+along-events s (Leaving p q ∷ xs) r = let t = along-events (step s (Leaving p q)) xs r.1 in ((r.0.0, t.0), t.1)
 
-pub steps-are-deeds : StepsAreDeeds
-steps-are-deeds n f durable xs r = along-deeds (starts n f durable) xs r
+pub steps-are-events : StepsAreEvents
+steps-are-events n f durable xs r = along-events (starts n f durable) xs r

@@ -4,8 +4,8 @@ use Rattle.world.specs.declared.message.Message.{Message}
 use Rattle.world.specs.Worked.{relaying}
 use Rattle.cluster.specs.Cluster.{opening}
 use Rattle.cluster.specs.Rules.{IsAll, Run}
-use Rattle.cluster.specs.Pieces.{one_after}
-use Rattle.cluster.specs.Sizes.{told_and_dies, saved_lost, MemoryIsFilled, ToldAgain, SavedMayBeLost}
+use Rattle.cluster.specs.WorkedPieces.{one_after}
+use Rattle.cluster.specs.WorkedSizes.{told_and_dies, saved_lost, MemoryIsFilled, ToldAgain, SavedMayBeLost}
 use Rattle.cluster.proofs.Chains.{◌▸◌, few, apart, of-one}
 
 pub memory-is-filled : MemoryIsFilled

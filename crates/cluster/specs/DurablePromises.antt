@@ -7,7 +7,7 @@ use Rattle.theorems.specs.Growth.{Begins, Grows}
 use Rattle.theorems.specs.Orphans.{payloads_of}
 use Rattle.cluster.specs.Cluster.{Cluster, opening}
 use Rattle.cluster.specs.Promises.{NoOrphanNode, OutputOnce}
-use Rattle.cluster.specs.Overlap.{Deed, Deeds, after_deeds, kept_sends}
+use Rattle.cluster.specs.Overlap.{Event, Events, after_events, kept_sends}
 
 -- senders whose messages last: durable nodes, and the gateway, which never fails
 abbrev pub lasts : (ℕ → Bool) → ℕ → Bool
@@ -41,22 +41,22 @@ InOrder h = (i : ℕ) (m : Message) → slice_get h i ≡ Some m → m.ssn ≡ s
 -- in each run, whatever fails and whether or not nodes are durable: what each node has received, and what the gateway has shown, is in
 -- order
 abbrev pub AlwaysInOrder : Type 0
-AlwaysInOrder = (n : ℕ) (f : Handlers) (durable : ℕ → Bool) (es : List Deed) → Grows f → Deeds durable (opening n f) es
-    → ((p : ℕ) → InOrder ((after_deeds durable (opening n f) es).history p)) × InOrder (after_deeds durable (opening n f) es).shown
+AlwaysInOrder = (n : ℕ) (f : Handlers) (durable : ℕ → Bool) (es : List Event) → Grows f → Events durable (opening n f) es
+    → ((p : ℕ) → InOrder ((after_events durable (opening n f) es).history p)) × InOrder (after_events durable (opening n f) es).shown
 
 -- in each run in which some nodes are durable
 abbrev pub DurableKeep : Type 0
-DurableKeep = (n : ℕ) (f : Handlers) (durable : ℕ → Bool) (es : List Deed) (p : ℕ) → Grows f → Deeds durable (opening n f) es
+DurableKeep = (n : ℕ) (f : Handlers) (durable : ℕ → Bool) (es : List Event) (p : ℕ) → Grows f → Events durable (opening n f) es
     → lasts durable p ≡ true
-    → NobodyHasMore (after_deeds durable (opening n f) es) p
+    → NobodyHasMore (after_events durable (opening n f) es) p
 
 -- a message that a checkpoint covers stays covered for good, of any node
 abbrev pub CheckpointsStay : Type 0
-CheckpointsStay = (n : ℕ) (f : Handlers) (durable : ℕ → Bool) (es more : List Deed) (p : ℕ) → Grows f
-    → Deeds durable (opening n f) (es ++ more)
-    → Stays (after_deeds durable (opening n f) es) (after_deeds durable (opening n f) (es ++ more)) p
+CheckpointsStay = (n : ℕ) (f : Handlers) (durable : ℕ → Bool) (es more : List Event) (p : ℕ) → Grows f
+    → Events durable (opening n f) (es ++ more)
+    → Stays (after_events durable (opening n f) es) (after_events durable (opening n f) (es ++ more)) p
 
 -- if all nodes are durable: no orphan, and each output once
 abbrev pub AllDurableKeep : Type 0
-AllDurableKeep = (n : ℕ) (f : Handlers) (es : List Deed) → Grows f → Deeds (λ _. true) (opening n f) es
-    → NoOrphanNode (after_deeds (λ _. true) (opening n f) es) × OutputOnce (after_deeds (λ _. true) (opening n f) es)
+AllDurableKeep = (n : ℕ) (f : Handlers) (es : List Event) → Grows f → Events (λ _. true) (opening n f) es
+    → NoOrphanNode (after_events (λ _. true) (opening n f) es) × OutputOnce (after_events (λ _. true) (opening n f) es)

@@ -8,7 +8,7 @@ use Rattle.cluster.specs.Parcels.{Body, Told, Restored, Parcel, parcel}
 use Rattle.cluster.specs.Cluster.{Cluster, opening}
 use Rattle.cluster.specs.Rules.{Act, Puts, Hears, Collects, Enters, Restores, Greets, Opens, May, put2, Run, after_run}
 use Rattle.cluster.specs.Promises.{NoOrphanNode, OutputOnce, ReceivedOnce}
-use Rattle.cluster.specs.Overlap.{Deed, Acts, Meets, Loses, Leaves, Might, steps, Deeds, after_deeds}
+use Rattle.cluster.specs.Overlap.{Event, Acts, Meets, Loses, Leaves, Might, steps, Events, after_events}
 
 -- a packet Told or Restored also says whether its teller is exact, and whether the teller lost what it had
 pub record Flagged : Type 0 where
@@ -16,6 +16,7 @@ pub record Flagged : Type 0 where
   pub exact : Bool
   pub lost : Bool
 
+-- a packet with what its sender says of itself
 abbrev pub flagged : Parcel → Bool → Bool → Flagged
 flagged x exact lost = record { packet = x; exact = exact; lost = lost }
 
@@ -35,6 +36,7 @@ pub record Telling : Type 0 where
   -- what all packets said that were ever sent
   pub said : List Flagged
 
+-- a cluster at its opening, where each process is exact and nothing was said
 abbrev pub starts : ℕ → Handlers → (ℕ → Bool) → Telling
 starts n f durable = record { durable = durable; cluster = opening n f; exact = λ _. true; lost = λ _ _. false; said = [] }
 
@@ -87,6 +89,7 @@ also_said s p d (Told i j k u f) = flagged (parcel p d (Told i j k u f)) (s.exac
 also_said s p d (Restored i j n r u f) = flagged (parcel p d (Restored i j n r u f)) (s.exact p) false ∷ s.said
 also_said s p d x = s.said
 
+-- the packets that were said, after an act
 abbrev pub said_after : Telling → Act → List Flagged
 said_after s (Puts p d x) = also_said s p d x
 said_after s a = s.said
@@ -112,6 +115,7 @@ abbrev pub Steps : Telling → List Step → Type 0
 Steps s [] = Unit {0}
 Steps s (x ∷ xs) = MayStep s x × Steps (step s x) xs
 
+-- the cluster after these steps
 abbrev pub after_steps : Telling → List Step → Telling
 after_steps s [] = s
 after_steps s (x ∷ xs) = after_steps (step s x) xs
@@ -129,19 +133,19 @@ acts_of (Meeting q p i k ∷ xs) = acts_of xs
 acts_of (Losing q p i j k ∷ xs) = acts_of xs
 acts_of (Leaving p q ∷ xs) = acts_of xs
 
--- the deeds of any run
-abbrev pub deeds_of : List Step → List Deed
-deeds_of [] = []
-deeds_of (Takes exact lost a ∷ xs) = Acts a ∷ deeds_of xs
-deeds_of (Meeting q p i k ∷ xs) = Meets q p i k ∷ deeds_of xs
-deeds_of (Losing q p i j k ∷ xs) = Loses q p i j k ∷ deeds_of xs
-deeds_of (Leaving p q ∷ xs) = Leaves p q ∷ deeds_of xs
+-- the events of any run
+abbrev pub events_of : List Step → List Event
+events_of [] = []
+events_of (Takes exact lost a ∷ xs) = Acts a ∷ events_of xs
+events_of (Meeting q p i k ∷ xs) = Meets q p i k ∷ events_of xs
+events_of (Losing q p i j k ∷ xs) = Loses q p i j k ∷ events_of xs
+events_of (Leaving p q ∷ xs) = Leaves p q ∷ events_of xs
 
--- the deeds of a run may happen: so it keeps their promises whatever fails
-abbrev pub StepsAreDeeds : Type 0
-StepsAreDeeds = (n : ℕ) (f : Handlers) (durable : ℕ → Bool) (xs : List Step) → Steps (starts n f durable) xs
-    → Deeds durable (opening n f) (deeds_of xs)
-    × (after_deeds durable (opening n f) (deeds_of xs) ≡ (after_steps (starts n f durable) xs).cluster)
+-- the events of a run may happen: so it keeps their promises whatever fails
+abbrev pub StepsAreEvents : Type 0
+StepsAreEvents = (n : ℕ) (f : Handlers) (durable : ℕ → Bool) (xs : List Step) → Steps (starts n f durable) xs
+    → Events durable (opening n f) (events_of xs)
+    × (after_events durable (opening n f) (events_of xs) ≡ (after_steps (starts n f durable) xs).cluster)
 
 -- these acts are a run of nodes whose recoveries don't meet. They lead where the steps lead, except for packets that say that something is
 -- lost, and for what durable nodes release: a node that is up may release less

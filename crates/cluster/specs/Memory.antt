@@ -6,10 +6,9 @@ use Rattle.world.specs.History.{count_of}
 use Rattle.world.specs.Handlers.{Handlers}
 use Rattle.world.specs.Logs.{sent, sent_in_all, covered}
 use Rattle.world.specs.Bounds.{count_below}
-use Rattle.theorems.specs.Growth.{Grows}
 use Rattle.cluster.specs.Parcels.{reaches}
 use Rattle.cluster.specs.Cluster.{Collecting, Collected, Cluster, opening, seen, is_well, waiting, WINDOW}
-use Rattle.cluster.specs.Rules.{Act, Works, Keeps, Drops, IsNode, Run, after_run}
+use Rattle.cluster.specs.Rules.{Act, Works, Keeps, Drops, IsNode, after_run, FromOpening}
 
 -- the receipts that p keeps: of the messages that it received after its durable checkpoint
 abbrev pub receipts : Cluster → ℕ → List Message
@@ -68,29 +67,28 @@ holds (Some t) m = reaches t.upto m && is_some (t.entries m)
 
 -- p keeps receipts, of messages of any kind, only of those that came since its last durable checkpoint
 abbrev pub ReceiptsAreNew : Type 0
-ReceiptsAreNew = (n : ℕ) (f : Handlers) (acts : List Act) (p : ℕ) (test : Message → Bool) → n ≤ 15 → Grows f → Run (opening n f) acts
+ReceiptsAreNew = (n : ℕ) (f : Handlers) (acts : List Act) (p : ℕ) (test : Message → Bool) → FromOpening n f acts
     → how_many test (receipts (after_run (opening n f) acts) p) ≤ taken_since test p 0 acts
 
 -- a log has the messages that no checkpoint of the receiver covers, and those for which the node wasn't told so
 abbrev pub LogsWait : Type 0
-LogsWait = (n : ℕ) (f : Handlers) (acts : List Act) (p d : ℕ) → n ≤ 15 → Grows f → Run (opening n f) acts
+LogsWait = (n : ℕ) (f : Handlers) (acts : List Act) (p d : ℕ) → FromOpening n f acts
     → LogHas (after_run (opening n f) acts) p d
 
 -- if p is up it has dropped whatever d ever reported as covered for good, also before p died
 abbrev pub ToldIsDropped : Type 0
-ToldIsDropped = (n : ℕ) (f : Handlers) (acts more : List Act) (p d k : ℕ) → n ≤ 15 → Grows f
-    → Run (opening n f) (acts ++ Drops d p k ∷ more)
+ToldIsDropped = (n : ℕ) (f : Handlers) (acts more : List Act) (p d k : ℕ) → FromOpening n f (acts ++ Drops d p k ∷ more)
     → is_well (after_run (opening n f) (acts ++ Drops d p k ∷ more)) p ≡ true
     → k ≤ (after_run (opening n f) (acts ++ Drops d p k ∷ more)).trims p d
 
 -- no more RSNs than the window has wait for their acknowledgement
 abbrev pub FewWait : Type 0
-FewWait = (n : ℕ) (f : Handlers) (acts : List Act) (p : ℕ) → n ≤ 15 → Grows f → Run (opening n f) acts
+FewWait = (n : ℕ) (f : Handlers) (acts : List Act) (p : ℕ) → FromOpening n f acts
     → IsNode (after_run (opening n f) acts) p → waiting (after_run (opening n f) acts) p ≤ WINDOW
 
 -- while p collects, it holds from each peer at most as many messages as it took from that peer since its last durable checkpoint, however
 -- often it died since and whatever pages came
 abbrev pub ToldIsNew : Type 0
-ToldIsNew = (n : ℕ) (f : Handlers) (acts : List Act) (p q k : ℕ) → n ≤ 15 → Grows f → Run (opening n f) acts
+ToldIsNew = (n : ℕ) (f : Handlers) (acts : List Act) (p q k : ℕ) → FromOpening n f acts
     → IsNode (after_run (opening n f) acts) p → (after_run (opening n f) acts).stage p ≡ Collecting
     → count_below (holds ((after_run (opening n f) acts).told p q)) k ≤ taken_since (is_of q) p 0 acts

@@ -2,11 +2,11 @@
 use Rattle.std.specs.Prelude.{◌≡◌, ℕ, ◌≤◌, List, [], ◌∷◌, Bool, true, false}
 use Rattle.std.proofs.Common.{◌≢◌}
 use Rattle.world.specs.Handlers.{Handlers}
-use Rattle.theorems.specs.Growth.{Grows}
 use Rattle.cluster.specs.Cluster.{Cluster, opening, is_well}
-use Rattle.cluster.specs.Rules.{Act, Input, Dies, IsNode, Run, after_run}
+use Rattle.cluster.specs.Rules.{Act, Input, Dies, IsNode, Run, after_run, FromOpening}
 use Rattle.cluster.specs.Exact.{Telling, starts, Step, Takes, Steps, after_steps}
 
+-- whether a process dies
 abbrev pub is_death : Act → Bool
 is_death (Dies p) = true
 is_death a = false
@@ -20,13 +20,14 @@ NobodyDies (a ∷ acts) = (is_death a ≡ false) × NobodyDies acts
 abbrev pub CanReach : Cluster → (Cluster → Type 0) → Type 0
 CanReach c P = (acts : List Act) × Run c acts × NobodyDies acts × P (after_run c acts)
 
+-- every process is up, and so is the gateway
 abbrev pub AllUp : Cluster → Type 0
 AllUp c = (q : ℕ) → q ≤ c.count → is_well c q ≡ true
 
 -- after any run: if all nodes except p are up, p comes back, whether it is dead, collects, replays or restores RSNs: the nodes can go on,
 -- without a death, until all are up
 abbrev pub LoneComesBack : Type 0
-LoneComesBack = (n : ℕ) (f : Handlers) (acts : List Act) (p : ℕ) → n ≤ 15 → Grows f → Run (opening n f) acts
+LoneComesBack = (n : ℕ) (f : Handlers) (acts : List Act) (p : ℕ) → FromOpening n f acts
     → IsNode (after_run (opening n f) acts) p
     → ((q : ℕ) → IsNode (after_run (opening n f) acts) q → q ≢ p → is_well (after_run (opening n f) acts) q ≡ true)
     → CanReach (after_run (opening n f) acts) AllUp
@@ -37,6 +38,7 @@ is_quiet (Takes exact lost (Dies p)) = false
 is_quiet (Takes exact lost (Input d x)) = false
 is_quiet x = true
 
+-- in none of these steps a process dies or is doubted
 abbrev pub AllQuiet : List Step → Type 0
 AllQuiet [] = Unit {0}
 AllQuiet (x ∷ xs) = (is_quiet x ≡ true) × AllQuiet xs

@@ -1,6 +1,6 @@
 //! Worked runs in which a node dies, by the moment of its death.
 
-ghost use Rattle.cluster.specs.Deaths.{AllHaveToAnswer, DiesAtCheckpoint, DiesWhileCollecting, NumberIsLost};
+ghost use Rattle.cluster.specs.WorkedDeaths.{AllHaveToAnswer, DiesAtCheckpoint, DiesWhileCollecting, NumberIsLost};
 
 /// A node dies before the RSN of its first message is recorded, and after that of its second is. It
 /// comes back with neither message, nothing that it sent since was released, and both messages are

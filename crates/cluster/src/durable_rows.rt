@@ -1,6 +1,6 @@
 //! Runs in which recoveries meet, computed from the rules.
 
-ghost use Rattle.cluster.specs.DurableRows.{DurableNodesKeep, LossIsTold, MeetingFailuresLose, OldAskIsNoLoss};
+ghost use Rattle.cluster.specs.WorkedDurable.{DurableNodesKeep, LossIsTold, MeetingFailuresLose, OldAskIsNoLoss};
 
 /// If no node is durable, an acknowledged message can be lost, and an output that was shown can
 /// become an orphan.

@@ -1,6 +1,6 @@
 //! The whole rules, with recoveries that meet, and what it means that all nodes stayed exact.
 
-ghost use Rattle.cluster.specs.Exact.{ExactRunsDontMeet, ExactRunsKeep, StepsAreDeeds};
+ghost use Rattle.cluster.specs.Exact.{ExactRunsDontMeet, ExactRunsKeep, StepsAreEvents};
 
 /// A run in which every node was always exact is a run in which no recoveries meet.
 pub fn exact_runs_dont_meet()
@@ -13,7 +13,7 @@ pub fn exact_runs_keep()
     ensures { ExactRunsKeep }
 {}
 
-/// Each run of the whole rules is a list of deeds, so it keeps their promises whatever fails.
-pub fn steps_are_deeds()
-    ensures { StepsAreDeeds }
+/// Each run of the whole rules is a list of events, so it keeps their promises whatever fails.
+pub fn steps_are_events()
+    ensures { StepsAreEvents }
 {}

@@ -1,6 +1,6 @@
 //! Worked runs in which packets come late.
 
-ghost use Rattle.cluster.specs.Late.{HeardComesBack, LateNumberIsDropped, LateResumeIsDropped, OldAnswerIsDropped, OldAskIsHeard, OpenJobComesFirst};
+ghost use Rattle.cluster.specs.WorkedLate.{HeardComesBack, LateNumberIsDropped, LateResumeIsDropped, OldAnswerIsDropped, OldAskIsHeard, OpenJobComesFirst};
 
 /// An RSN that arrives after its node's Ask isn't recorded.
 pub fn late_number_is_dropped()

@@ -1,6 +1,6 @@
 //! Worked runs about what a node keeps in memory.
 
-ghost use Rattle.cluster.specs.Sizes.{MemoryIsFilled, SavedMayBeLost, ToldAgain};
+ghost use Rattle.cluster.specs.WorkedSizes.{MemoryIsFilled, SavedMayBeLost, ToldAgain};
 
 /// A message is in a log until its sender is told that the receiver's checkpoint covers it. A
 /// receipt is kept until a checkpoint covers it.

@@ -58,14 +58,14 @@ column m place text = record { line = m.0; place = place; refused = m.1; text = 
 
 -- how far the columns have come: how many entries came, how many outputs these showed, the keys of the messages on the wire, and
 -- the columns
-pub record TheStanding : Type 0 where
+pub record TheColumnState : Type 0 where
   pub place : ℕ
   pub outputs : ℕ
   pub keys : List ℕ
   pub columns : List Column
 
 -- no moment yet
-abbrev pub unmoved : TheStanding
+abbrev pub unmoved : TheColumnState
 unmoved = record { place = 0; outputs = 0; keys = []; columns = [] }
 
 -- each entry has a column, unless only messages are shown and it moves another packet
@@ -73,7 +73,7 @@ abbrev pub has_column : Bool → List ℕ → Entry → Bool
 has_column only keys e = not (only && moves_other keys e.call)
 
 -- one entry more
-abbrev pub behind_entry : Bool → TheRun → Moment → TheStanding → Entry → TheStanding
+abbrev pub behind_entry : Bool → TheRun → Moment → TheColumnState → Entry → TheColumnState
 behind_entry only run m s e = record {
   place = s.place + 1;
   outputs = s.outputs + outputs_in e.answer;
@@ -82,7 +82,7 @@ behind_entry only run m s e = record {
 }
 
 -- one moment more: a refused order gets a column, and an accepted call is the next entry, if there is one
-abbrev pub behind : Bool → TheRun → TheStanding → Moment → TheStanding
+abbrev pub behind : Bool → TheRun → TheColumnState → Moment → TheColumnState
 behind only run s (line, Some n) = record s { columns = s.columns ++ column (line, Some n) s.place None ∷ [] }
 behind only run s (line, None) = option_map_or (λ e. behind_entry only run (line, None) s e) (slice_get run.entries s.place) s
 

@@ -1,6 +1,6 @@
 pub mod Run
 pub mod Columns
-pub mod Moments
+pub mod Models
 pub mod Page
 pub mod Label
 pub mod Marks

@@ -3,9 +3,9 @@
 
 ghost use Rattle.std.specs.Prelude.{◌≡◌, ◌<◌, ◌+◌, ◌^◌, ◌++◌, ◌∷◌, [], IfOk, None, OnOk, Some};
 ghost use Rattle.diagram.specs.Columns.{behind, behind_entry, column, columns, keys_after, moves_other, outputs_in, text_of};
-ghost use Rattle.diagram.specs.Moments.{run_of, standing_of};
+ghost use Rattle.diagram.specs.Models.{column_state_of, run_of};
 
-use crate::moments::ColumnState;
+use crate::column_state::ColumnState;
 use crate::run::{Moment, Run};
 use helpers::Payload;
 use indexmap::IndexSet;
@@ -25,7 +25,7 @@ pub struct Column {
 impl ColumnState {
     /// Adds a refused order, which gets a column.
     fn refuse(&mut self, line: usize, number: u8) -> Result<(), AllocError>
-        ensures { OnOk result (standing_of self.new ≡ record (standing_of self.old) { columns = self.old.columns.items ++ column (line, Some number) self.old.place None ∷ [] }) }
+        ensures { OnOk result (column_state_of self.new ≡ record (column_state_of self.old) { columns = self.old.columns.items ++ column (line, Some number) self.old.place None ∷ [] }) }
     {
         self.columns.push(Column {
             line,
@@ -46,7 +46,7 @@ impl ColumnState {
         only_messages: bool,
     ) -> Result<(), AllocError>
         requires { self.old.place + 1 < 2 ^ 64 }
-        ensures { OnOk result (standing_of self.new ≡ behind_entry only_messages (run_of run.now) (line, None) (standing_of self.old) entry.now) }
+        ensures { OnOk result (column_state_of self.new ≡ behind_entry only_messages (run_of run.now) (line, None) (column_state_of self.old) entry.now) }
     {
         if !only_messages || !moves_other(&self.messages, &entry.call) {
             self.columns.push(Column {
@@ -63,7 +63,7 @@ impl ColumnState {
 
     /// Adds a moment of a run.
     fn pass(&mut self, run: &Run<'_>, moment: Moment, only_messages: bool) -> Result<(), AllocError>
-        ensures { OnOk result (standing_of self.new ≡ behind only_messages (run_of run.now) (standing_of self.old) moment) }
+        ensures { OnOk result (column_state_of self.new ≡ behind only_messages (run_of run.now) (column_state_of self.old) moment) }
     {
         let (line, refused) = moment;
         if let Some(number) = refused {
@@ -136,14 +136,14 @@ pub(crate) fn columns(
 ) -> Result<Vec<Column>, AllocError>
     ensures { IfOk result (λ v. v.items ≡ columns only_messages (run_of run.now)) }
 {
-    let mut standing = ColumnState {
+    let mut state = ColumnState {
         place: 0,
         outputs: 0,
         messages: IndexSet::new(alloc),
         columns: Vec::new(alloc),
     };
     for moment in run.moments {
-        standing.pass(run, *moment, only_messages)?;
+        state.pass(run, *moment, only_messages)?;
     }
-    Ok(standing.columns)
+    Ok(state.columns)
 }

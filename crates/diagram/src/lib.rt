@@ -18,13 +18,13 @@
 //! ```
 #![tactic(auto)]
 
+mod column_state;
 mod columns;
 mod ink;
 mod label;
 mod lane;
 mod legend;
 mod marks;
-mod moments;
 mod packets;
 mod page;
 mod picture;

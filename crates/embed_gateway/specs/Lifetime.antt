@@ -63,6 +63,7 @@ IsLater changes g h =
     IsFresh g × ((ks : List Change) × AreChanges ks changes × FitAll ks g.store × (h ≡ revived g.page g.tick (applied_all ks g.store))
     × StandsFor (applied_all ks g.store) h)
 
+-- the changes were applied to the gateway, and no fault is told
 abbrev pub IsApplied : List ℕ → ℕ → ℕ → Option TheGateway → Option TheGateway → Type 0
 IsApplied changes was fault old new = Calls old new (λ g h. IsLater changes g h × (fault ≡ was))
 
@@ -79,6 +80,7 @@ IsUnlater changes g was fault Bytes = IsFresh g × AreMisfit changes g.store fau
 IsUnlater changes g was fault Memory = IsFresh g × (fault ≡ was)
 IsUnlater changes g was fault other = ⊥
 
+-- the changes were refused, and the gateway stays; a fault of their bytes is told
 abbrev pub IsUnapplied : List ℕ → ℕ → ℕ → Option TheGateway → GatewayFault → Type 0
 IsUnapplied changes was fault old why = Refuses old (fault ≡ was) (λ g w. IsUnlater changes g was fault w) why
 

@@ -27,9 +27,11 @@ GivesNot out new was size g Memory = IsUntouched out new was size
 GivesNot out new was size g Room = (to : ℕ) × (bytes : List ℕ) × Waits to bytes g × IsUncopied bytes out new size
 GivesNot out new was size g other = ⊥
 
+-- a packet was taken from the gateway
 abbrev pub IsTaken : List ℕ → List ℕ → ℕ → ℕ → Option TheGateway → Option TheGateway → Type 0
 IsTaken out out' size to old new = Calls old new (Gives out out' size to)
 
+-- no packet was taken, and nothing changed
 abbrev pub IsUntaken : List ℕ → List ℕ → ℕ → ℕ → Option TheGateway → GatewayFault → Type 0
 IsUntaken out new was size old why = Refuses old (IsUntouched out new was size) (λ g w. GivesNot out new was size g w) why
 
@@ -48,9 +50,11 @@ ShowsNot out new was size g Memory = IsUntouched out new was size
 ShowsNot out new was size g Room = (o : Output) × (slice_get g.store.outputs 0 ≡ Some o) × IsUncopied o.payload out new size
 ShowsNot out new was size g other = ⊥
 
+-- the oldest output was shown
 abbrev pub IsShown : ℕ → ℕ → List ℕ → List ℕ → ℕ → Option TheGateway → Option TheGateway → Type 0
 IsShown process ssn out out' size old new = Calls old new (Shows process ssn out out' size)
 
+-- no output was shown, and nothing changed
 abbrev pub IsUnshown : List ℕ → List ℕ → ℕ → ℕ → Option TheGateway → GatewayFault → Type 0
 IsUnshown out new was size old why = Refuses old (IsUntouched out new was size) (λ g w. ShowsNot out new was size g w) why
 
@@ -60,6 +64,7 @@ IsUnshown out new was size old why = Refuses old (IsUntouched out new was size) 
 abbrev pub Spells : List ℕ → List ℕ → ℕ → TheGateway → Type 0
 Spells out new size g = (bytes : List ℕ) × IsStoreBytes g.store bytes × IsCopied bytes out new size
 
+-- the store's bytes were written, and the gateway stays
 abbrev pub IsStored : List ℕ → List ℕ → ℕ → Option TheGateway → Option TheGateway → Type 0
 IsStored out out' size old new = OfOpen old (Spells out out' size) × (new ≡ old)
 
@@ -69,6 +74,7 @@ WritesNot Is out new was size Memory = IsUntouched out new was size
 WritesNot Is out new was size Room = (bytes : List ℕ) × Is bytes × IsUncopied bytes out new size
 WritesNot Is out new was size other = ⊥
 
+-- the store's bytes were not written, and nothing changed
 abbrev pub IsUnstored : List ℕ → List ℕ → ℕ → ℕ → Option TheGateway → GatewayFault → Type 0
 IsUnstored out new was size old why =
     Refuses old (IsUntouched out new was size) (λ g w. WritesNot (IsStoreBytes g.store) out new was size w) why
@@ -79,9 +85,11 @@ Tells out new size g h =
     ((bytes : List ℕ) × AreChanges g.changes bytes × IsCopied bytes out new size) × (h ≡ record g { changes = [] }) × Since h.store h
     × Acts g h
 
+-- the changes' bytes were written, and the gateway has no more to tell
 abbrev pub IsTold : List ℕ → List ℕ → ℕ → Option TheGateway → Option TheGateway → Type 0
 IsTold out out' size old new = Calls old new (Tells out out' size)
 
+-- the changes' bytes were not written, and nothing changed
 abbrev pub IsUntold : List ℕ → List ℕ → ℕ → ℕ → Option TheGateway → GatewayFault → Type 0
 IsUntold out new was size old why =
     Refuses old (IsUntouched out new was size) (λ g w. WritesNot (AreChanges g.changes) out new was size w) why

@@ -15,6 +15,7 @@ abbrev pub TakesOut : List ℕ → List ℕ → ℕ → ℕ → TheProcess → T
 TakesOut out out' size to p p' = (x : NodePacket)
     × ((bytes : List ℕ) × IsPacket x bytes × IsCopied bytes out out' size × (to ≡ x.to) × Stays (Takes (Some x)) p p')
 
+-- a packet was taken from the process
 abbrev pub IsTaken : List ℕ → List ℕ → ℕ → ℕ → Option TheProcess → Option TheProcess → Type 0
 IsTaken out out' size to old new = OfBoth old new (TakesOut out out' size to)
 
@@ -35,6 +36,7 @@ abbrev pub Makes : List ℕ → List ℕ → ℕ → TheProcess → TheProcess �
 Makes out out' size p p' = IsSavable p.course × ((bytes : List ℕ) × Keeps p.course bytes × IsCopied bytes out out' size)
     × Stays Freezes p p'
 
+-- the bytes of its checkpoint were written
 abbrev pub IsMade : List ℕ → List ℕ → ℕ → Option TheProcess → Option TheProcess → Type 0
 IsMade out out' size old new = OfBoth old new (Makes out out' size)
 

@@ -27,7 +27,8 @@ is_next o g = o.ssn == (peer_of o.process g).shown + 1
 -- takes a message: shows the next one; drops one that is early or of another incarnation
 abbrev pub arrived : ℕ → Output → TheGateway → TheGateway
 arrived i o g =
-    if not (i == (peer_of o.process g).heard) || nat_lt ((peer_of o.process g).shown + 1) o.ssn then g else says_shown o.process (if is_next o g then happens (Shown o) g else g)
+    if not (i == (peer_of o.process g).heard) || nat_lt ((peer_of o.process g).shown + 1) o.ssn then g
+    else says_shown o.process (if is_next o g then happens (Shown o) g else g)
 
 -- takes an RSN: if it is of an entry and of the incarnation that was heard, records and acknowledges it
 abbrev pub recorded_by : ℕ → ℕ → ℕ → ℕ → TheGateway → TheGateway
@@ -42,10 +43,11 @@ dropped_by p k g = let s = min k (last_of (peer_of p g)) in if nat_le s (peer_of
 abbrev pub entries_in : ℕ → ThePeer → List LoggedMessage
 entries_in k p = entries_above k p.dropped (map (λ (e : Logged). e.payload) p.entries) (map (λ (e : Logged). e.number) p.entries)
 
--- the first page of them, and whether that has all
+-- the first page of them
 abbrev pub told_page : ℕ → ℕ → TheGateway → List LoggedMessage
 told_page p k g = page_of g.page (entries_in k (peer_of p g))
 
+-- whether that page has all of them
 abbrev pub told_all : ℕ → ℕ → TheGateway → Bool
 told_all p k g = length (told_page p k g) == length (entries_in k (peer_of p g))
 
@@ -67,6 +69,7 @@ obeyed p i k g = happens (Heard p i true) (happens (Forgotten p k) g)
 abbrev pub restored_of : ℕ → ℕ → ℕ → TheGateway → Body
 restored_of p i s g = Restored i 1 (peer_of p g).shown s (flags_of true false true) []
 
+-- answers a Resume of p
 abbrev pub restores : ℕ → ℕ → ℕ → TheGateway → TheGateway
 restores p i s g = posts p (restored_of p i s g) g
 

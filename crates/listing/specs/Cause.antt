@@ -136,10 +136,16 @@ cause form len slots s i f V10 = codes "r0 is to be a number at the end"
 abbrev pub advice : Rule → List ℕ
 advice V1 = codes "jump forward, to where an instruction begins; unroll a loop"
 advice V2 = codes "end each way with exit"
-advice V3 = codes "set it on each way that leads here, alike; what a helper must not lose belongs in r6 to r9; r3 is the length in forms 2 and 3 alone, and a handler in C wants --form 3"
+advice V3 =
+    codes "set it on each way that leads here, alike; what a helper must not lose belongs in r6 to r9; "
+    ++ codes "r3 is the length in forms 2 and 3 alone, and a handler in C wants --form 3"
 advice V4 = codes "copy it by mov, and change the copy"
-advice V5 = codes "compute with numbers alone; load and store through places, and move them by add and sub of a constant; a handler in C wants --form 3"
-advice V6 = codes "stay inside the region (the state has as many bytes as --state says, the message 64 in form 1); in form 2 compare the length before the message is read; a handler in C wants --form 3"
+advice V5 =
+    codes "compute with numbers alone; load and store through places, and move them by add and sub of a constant; "
+    ++ codes "a handler in C wants --form 3"
+advice V6 =
+    codes "stay inside the region (the state has as many bytes as --state says, the message 64 in form 1); "
+    ++ codes "in form 2 compare the length before the message is read; a handler in C wants --form 3"
 advice V7 = codes "write to the state or the stack; in C the message is the first argument, the state the second"
 advice V8 = codes "call helper 1, 2, 3 or 4, or in forms 2 and 3 also 5 or 6"
 advice V9 = codes "set the arguments right before the call, and let the bytes lie inside one region"

@@ -54,10 +54,12 @@ cause_text state slots s (NoPayload r n) = codes "r" ++ decimal r ++ codes " is 
 -- what to do about a register
 abbrev pub register_advice : RegisterFault → List ℕ
 register_advice register.Unset =
-    codes "set it on each way that leads here, alike: a function that gives a pointer or NULL gives an index in its place, and one more for none; what a helper must not lose belongs in r6 to r9"
+    codes "set it on each way that leads here, alike: a function that gives a pointer or NULL gives an index in its place, "
+    ++ codes "and one more for none; what a helper must not lose belongs in r6 to r9"
 register_advice register.PlaceAsNumber = codes "compare and compute with indices in place of pointers"
 register_advice register.NumberAsBase =
-    codes "load and store at an index of the message, the state or a local array: a pointer that was kept in the state comes back as a number"
+    codes "load and store at an index of the message, the state or a local array: "
+    ++ codes "a pointer that was kept in the state comes back as a number"
 register_advice register.PlaceStored = codes "keep an index in its place; a pointer is kept by a local variable alone"
 register_advice register.Message =
     codes "copy it to a local array, and change the copy; where the state is meant, the message is the first argument, the state the second"
@@ -72,19 +74,25 @@ word_advice (word.Written n) =
 
 -- what to do about an index
 abbrev pub index_advice : List ℕ
-index_advice = codes "compare the index with a number (if (i >= N) return 1;), or mask it (i & (N - 1), N a power of two), on each way that leads here, before it is added; % bounds nothing where its divisor may be 0, or where clang makes div, mul and sub of it; where the C does so already, within(index, most); right above the access does so anew"
+index_advice =
+    codes "compare the index with a number (if (i >= N) return 1;), or mask it (i & (N - 1), N a power of two), "
+    ++ codes "on each way that leads here, before it is added; "
+    ++ codes "% bounds nothing where its divisor may be 0, or where clang makes div, mul and sub of it; "
+    ++ codes "where the C does so already, within(index, most); right above the access does so anew"
 
 -- what to do about an index that can be any number
 abbrev pub any_index_advice : List ℕ
-any_index_advice = codes "compare the index with a number (if (i >= N) return 1;), or mask it (i & (N - 1), N a power of two), on each way that leads here, before it is added; % bounds nothing where its divisor may be 0, or where clang makes div, mul and sub of it; where the C does so already, within(index, most); right above the access does so anew; one of a signed type, as int, may be negative: make it a u64, and compare that"
+any_index_advice = index_advice ++ codes "; one of a signed type, as int, may be negative: make it a u64, and compare that"
 
 -- what to do about an access outside a region, if no index moves its place
 abbrev pub region_advice : List ℕ
-region_advice = codes "stay inside the region: the message has 512 bytes with the zeros behind it, the local variables have 512, the state has as many as --state says"
+region_advice =
+    codes "stay inside the region: the message has 512 bytes with the zeros behind it, the local variables have 512, "
+    ++ codes "the state has as many as --state says"
 
 -- what to do about an access outside the state, with an index and without
 abbrev pub state_index_advice : List ℕ
-state_index_advice = codes "compare the index with a number (if (i >= N) return 1;), or mask it (i & (N - 1), N a power of two), on each way that leads here, before it is added; % bounds nothing where its divisor may be 0, or where clang makes div, mul and sub of it; where the C does so already, within(index, most); right above the access does so anew; or --state is too small"
+state_index_advice = index_advice ++ codes "; or --state is too small"
 
 -- what to do about an access that leaves the state
 abbrev pub state_advice : List ℕ
@@ -103,7 +111,9 @@ moved_advice t = if t.hi == 2 ^ 64 - 1 then any_index_advice else index_advice
 -- what to do about a cause
 abbrev pub cause_advice : SpanCause → List ℕ
 cause_advice Nothing = codes "read the listing from here upward"
-cause_advice (Jump d) = codes "jump forward, to where an instruction begins: write unrolled above a loop of known length, and turn() first in it where clang leaves it as one"
+cause_advice (Jump d) =
+    codes "jump forward, to where an instruction begins: write unrolled above a loop of known length, "
+    ++ codes "and turn() first in it where clang leaves it as one"
 cause_advice NothingFollows = codes "end each way with exit"
 cause_advice FramePointer = codes "copy it by mov, and change the copy"
 cause_advice NoAnswer = codes "return a number on each way"
@@ -115,4 +125,6 @@ cause_advice (MovedBy r t) = moved_advice t
 cause_advice (ShiftedBy r z) = region_advice
 cause_advice (NoHelper z) = codes "call helper 1 to 6"
 cause_advice (NoCount r) = codes "give the helper a number, set on each way that leads here"
-cause_advice (NoPayload r n) = codes "compare the length with a number that fits before the call, or give a fixed one, and begin where so many bytes are left; where the C compares it already, within(length, most); right above the call does so anew; or --state is too small"
+cause_advice (NoPayload r n) =
+    codes "compare the length with a number that fits before the call, or give a fixed one, and begin where so many bytes are left; "
+    ++ codes "where the C compares it already, within(length, most); right above the call does so anew; or --state is too small"

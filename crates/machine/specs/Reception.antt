@@ -46,6 +46,7 @@ pub record Drops (old new : TheMachine) (key : ℕ) : Type 0 where
 abbrev pub numbered : TheLog → ℕ → ℕ → ℕ → TheLog
 numbered l receiver ssn rsn = with_queue receiver (recorded ssn rsn (queue_of receiver l)) l
 
+-- the sender's log gets the RSN of a message, and nothing else changes
 abbrev pub Records : TheMachine → TheMachine → ℕ → ℕ → ℕ → ℕ → Type 0
 Records old new sender receiver ssn rsn =
     let l : TheLog = numbered (log_at old sender) receiver ssn rsn in
@@ -57,10 +58,12 @@ Records old new sender receiver ssn rsn =
           (record (process_at old sender) { outbox = record (process_at old sender).outbox { log = l } });
     })
 
+-- the packet tells an RSN
 abbrev pub IsNumber : Packet → Type 0
 IsNumber (Number r s i k incarnation) = Unit {0}
 IsNumber other = ⊥
 
+-- the packet acknowledges an RSN
 abbrev pub IsAcknowledgement : Packet → Type 0
 IsAcknowledgement (Acknowledgement s r k incarnation) = Unit {0}
 IsAcknowledgement other = ⊥

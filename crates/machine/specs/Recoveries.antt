@@ -67,6 +67,7 @@ forgotten p k m =
 abbrev pub is_peer_of : TheMachine → ℕ → Bool → ℕ → Bool
 is_peer_of m p alone q = nat_lt 0 q && nat_le q (length m.processes) && not (q == p) && (not alone || is_up_at m q)
 
+-- these are the peers from which p restores its RSNs
 abbrev pub ArePeersOf : TheMachine → ℕ → Bool → Peers → Type 0
 ArePeersOf m p alone peers = (length peers.todo ≡ PARTIES) × ((q : ℕ) → slice_index_or peers.todo q false ≡ is_peer_of m p alone q)
 

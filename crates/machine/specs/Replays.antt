@@ -41,5 +41,6 @@ renumbered_at p r m =
 abbrev pub is_left : TheMachine → ℕ → ℕ → ℕ → Bool
 is_left m p r q = nat_lt 0 q && nat_le q (length m.processes) && not (q == r) && is_to_do (process_at m p).mode q
 
+-- these are the peers that are left to p, after r is done
 abbrev pub ArePeersLeft : TheMachine → ℕ → ℕ → Peers → Type 0
 ArePeersLeft m p r peers = (length peers.todo ≡ PARTIES) × ((q : ℕ) → slice_index_or peers.todo q false ≡ is_left m p r q)

@@ -9,7 +9,8 @@ use Rattle.machine.specs.Queue.{IsRest}
 -- the counts are those of its senders, and it sent at most 8 messages to a destination for each that it received
 pub record IsStable (s : TheSaved) (counts : List ℕ) : Type 0 where
   pub counts_are : (x : ℕ) → x < PARTIES → slice_index_or counts x 0 ≡ count_by (λ y. y == x) s.senders
-  pub sent : (d : ℕ) → (slice_index_or s.queues d nothing_kept).first + length (slice_index_or s.queues d nothing_kept).payloads ≤ EFFECTS * length s.senders + 1
+  pub sent : (d : ℕ) → (slice_index_or s.queues d nothing_kept).first + length (slice_index_or s.queues d nothing_kept).payloads
+      ≤ EFFECTS * length s.senders + 1
 
 -- the checkpoint of a process that received nothing, with a state of len zeros
 abbrev pub idle_saved : ℕ → ℕ → ℕ → TheSaved

@@ -27,7 +27,8 @@ placing m room =
 -- how many messages are released. The outside releases all its inputs
 abbrev pub released_at : TheMachine → ℕ → ℕ → ℕ
 released_at m from to =
-    if from == 0 then (queue_of to m.outside.log).first + length (queue_of to m.outside.log).payloads - 1 else slice_index_or (gate_at m from).released to 0
+    if from == 0 then (queue_of to m.outside.log).first + length (queue_of to m.outside.log).payloads - 1
+    else slice_index_or (gate_at m from).released to 0
 
 -- a sender that is up may put this message on the wire: it is logged and released
 pub record MayLeave (m : TheMachine) (from to ssn : ℕ) : Type 0 where

@@ -20,7 +20,7 @@ use Rattle.x86.specs.declared.instruction.Instr.TheVariants as instr
 use Rattle.x86.specs.Machine.{Value, State, HasAt}
 use Rattle.native.specs.declared.task.SlotTask.{SlotTask}
 use Rattle.native.specs.declared.task.SlotTask.TheVariants as task
-use Rattle.native.specs.Tasks.{operand_of, holds_word, is_word, is_apt, sized_at, task_act, TaskReaches, TaskFits}
+use Rattle.native.specs.Tasks.{operand_of, holds_word, is_word, is_eligible, sized_at, task_act, TaskReaches, TaskFits}
 use Rattle.native.specs.Code.{seen, codes, taken, IsCall, IsDone, IsShort, TaskIsShort, send_tests, send_end, output_tests, output_end, send_sized_tests, send_sized_end, output_sized_tests, output_sized_end}
 use Rattle.native.proofs.Runs.{codes-append}
 use Rattle.native.proofs.Agreement.{Agrees}
@@ -60,7 +60,7 @@ module _ {who : Who} {saved : List Value} {c : State} {words mem : List ℕ} {e 
     whole = refl;
   }
 
-  computes : (o : AluOp) (w : Width) (dst : Reg) (b : Operand) → IsDone (task.Compute o w dst b) is → IsShort b → is_apt slot (task.Compute o w dst b) ≡ true → Performs a code p slot (task.Compute o w dst b) is
+  computes : (o : AluOp) (w : Width) (dst : Reg) (b : Operand) → IsDone (task.Compute o w dst b) is → IsShort b → is_eligible slot (task.Compute o w dst b) ≡ true → Performs a code p slot (task.Compute o w dst b) is
   computes op.Div w dst b j s k =
       let x = and_parts (holds_word dst.number) (is_word b) k in
       computed op.Div w dst b (div_at a code w dst.number (word_register dst.number x.0) b s x.1 is p at fits j)
@@ -136,7 +136,7 @@ module _ {who : Who} {saved : List Value} {c : State} {words mem : List ℕ} {e 
   held r = slice_index words r
 
   -- code that does a task performs it
-  pub performs : (t : SlotTask) → TaskReaches (length mem) words t → TaskFits t → Falls t → IsDone t is → TaskIsShort t → is_apt slot t ≡ true → Performs a code p slot t is
+  pub performs : (t : SlotTask) → TaskReaches (length mem) words t → TaskFits t → Falls t → IsDone t is → TaskIsShort t → is_eligible slot t ≡ true → Performs a code p slot t is
   performs (task.Send k) v f on j s fit =
       by_send (task.Send k) (slice_range mem k (k + 64)) (send_straight k) refl refl (λ s b rcx few. sends b l k v rcx few) (send_few k) j
   performs (task.Output k) v f on j s fit =

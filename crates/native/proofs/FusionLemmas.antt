@@ -18,10 +18,10 @@ use Rattle.x86.specs.declared.instruction.Instr.{Instr}
 use Rattle.x86.specs.declared.instruction.Instr.TheVariants as instr
 use Rattle.native.specs.declared.task.SlotTask.{SlotTask}
 use Rattle.native.specs.declared.task.SlotTask.TheVariants as task
-use Rattle.native.specs.Tasks.{operand_of, task_act, holds_word, is_apt}
+use Rattle.native.specs.Tasks.{operand_of, task_act, holds_word, is_eligible}
 use Rattle.native.specs.SlotTasks.{task_at}
 use Rattle.native.specs.Code.{gpr}
-use Rattle.native.specs.Laid.{ArePends}
+use Rattle.native.specs.Laid.{ArePending}
 use Rattle.native.specs.Fusion.{marked_by, marked, targets_in, sum_of, fused, is_covered}
 use Rattle.native.proofs.Bodies.{word_register}
 
@@ -95,15 +95,15 @@ found_in tasks k t e n = ⊎_elim
     (cases_lt k (length tasks))
 
 -- after two fused slots at most two more steps are pending than before them
-pub fused_balanced : (tasks : List SlotTask) (pends : List ℕ) (slot : ℕ) (i : Instr) → ArePends tasks pends → fused tasks slot ≡ Some i → slice_index pends (slot + 2) ≤ slice_index pends slot + 2
-fused_balanced tasks pends slot i a e =
+pub fused_balanced : (tasks : List SlotTask) (pending : List ℕ) (slot : ℕ) (i : Instr) → ArePending tasks pending → fused tasks slot ≡ Some i → slice_index pending (slot + 2) ≤ slice_index pending slot + 2
+fused_balanced tasks pending slot i a e =
     let s = fused_sum tasks slot i e in
     let t = task.Compute op.Mov W64 s.dst (operand.Reg s.src) in
     let u = task.Compute op.Add W64 s.again (operand.Imm s.imm) in
-    let x : slice_index pends (slot + 1) ≤ slice_index pends slot + 1 = a.each slot t (found_in tasks slot t s.first (λ z. cc)) in
-    let y : slice_index pends (slot + 1 + 1) ≤ slice_index pends (slot + 1) + 1 = a.each (slot + 1) u (found_in tasks (slot + 1) u s.second (λ z. cc)) in
+    let x : slice_index pending (slot + 1) ≤ slice_index pending slot + 1 = a.each slot t (found_in tasks slot t s.first (λ z. cc)) in
+    let y : slice_index pending (slot + 1 + 1) ≤ slice_index pending (slot + 1) + 1 = a.each (slot + 1) u (found_in tasks (slot + 1) u s.second (λ z. cc)) in
     let n : slot + 2 ≡ slot + 1 + 1 = omega arith in
-    let z : slice_index pends (slot + 2) ≡ slice_index pends (slot + 1 + 1) = ap (slice_index pends) n in
+    let z : slice_index pending (slot + 2) ≡ slice_index pending (slot + 1 + 1) = ap (slice_index pending) n in
     omega arith
 
 -- ---- slots that tasks lead to
@@ -187,14 +187,14 @@ module _ (who : Who) (tasks : List SlotTask) (slot : ℕ) (words mem : List ℕ)
   falls_there x = let n : slot + 1 ≡ to = cc in subst (λ k. is_covered tasks k ≡ false) n (covered_next tasks slot none)
 
   -- so from a slot that isn't fused a call comes to one that isn't covered
-  pub uncovered : (t : SlotTask) → slice_get tasks slot ≡ Some t → is_apt slot t ≡ true → Does slot words mem e (task_act who slot words mem e t) (To to) words' mem' e' → is_covered tasks to ≡ false
-  uncovered (task.Branch x w dst o at) f apt d = by_test (holds x w (slice_index words dst.number) (operand_of words o)) d.0
+  pub uncovered : (t : SlotTask) → slice_get tasks slot ≡ Some t → is_eligible slot t ≡ true → Does slot words mem e (task_act who slot words mem e t) (To to) words' mem' e' → is_covered tasks to ≡ false
+  uncovered (task.Branch x w dst o at) f eligible d = by_test (holds x w (slice_index words dst.number) (operand_of words o)) d.0
     where
       by_test : (b : Bool) → To to ≡ To (cond b at (slot + 1)) → is_covered tasks to ≡ false
       by_test true g = covered_target tasks slot to (task.Branch x w dst o at) f (let n : to ≡ at = cc in n)
       by_test false g = falls_there g
-  uncovered (task.Leap at) f apt d = covered_target tasks slot to (task.Leap at) f (let x : To to ≡ To at = d.0 in let n : to ≡ at = cc in n)
-  uncovered (task.Wide dst v) f apt d = covered_target tasks slot to (task.Wide dst v) f (let x : To to ≡ To (slot + 2) = d.0 in let n : to ≡ slot + 2 = cc in n)
-  uncovered task.Exit f apt d = let x : To to ≡ End = d.0 in cc
-  uncovered task.Dead f apt d = absurd (true≢false (sym apt))
-  uncovered t f apt d = falls_there d.0
+  uncovered (task.Leap at) f eligible d = covered_target tasks slot to (task.Leap at) f (let x : To to ≡ To at = d.0 in let n : to ≡ at = cc in n)
+  uncovered (task.Wide dst v) f eligible d = covered_target tasks slot to (task.Wide dst v) f (let x : To to ≡ To (slot + 2) = d.0 in let n : to ≡ slot + 2 = cc in n)
+  uncovered task.Exit f eligible d = let x : To to ≡ End = d.0 in cc
+  uncovered task.Dead f eligible d = absurd (true≢false (sym eligible))
+  uncovered t f eligible d = falls_there d.0

@@ -330,8 +330,8 @@ restoring_few s =
     let n15 = length-append (pop_if s.r15 15) b14 in
     omega (arith, pop_few s.rbx 3, pop_few s.rbp 5, pop_few s.r12 12, pop_few s.r13 13, pop_few s.r14 14, pop_few s.r15 15)
 
-plain_few : (pends tails : List ℕ) (slot : ℕ) (t : SlotTask) (is : List Instr) → Plain pends tails slot t is → Few is
-plain_few pends tails slot t is s =
+plain_few : (pending tails : List ℕ) (slot : ℕ) (t : SlotTask) (is : List Instr) → Plain pending tails slot t is → Few is
+plain_few pending tails slot t is s =
     let e = ap length s.is_are in
     let a = length-append s.bs (flushed s.k ++ skipped s.d) in
     let b = length-append (flushed s.k) (skipped s.d) in
@@ -339,21 +339,21 @@ plain_few pends tails slot t is s =
     omega (arith, flushed_few s.k, skipped_few s.d)
 
 -- the code of a slot's task is at most so long
-pub serves_short : (pends tails : List ℕ) (saved : SavedRegisters) (slot : ℕ) (t : SlotTask) (is : List Instr) → Serves pends tails saved slot t is → length (codes is) ≤ 1000
-serves_short pends tails saved slot (task.Branch x w dst o to) is s =
+pub serves_short : (pending tails : List ℕ) (saved : SavedRegisters) (slot : ℕ) (t : SlotTask) (is : List Instr) → Serves pending tails saved slot t is → length (codes is) ≤ 1000
+serves_short pending tails saved slot (task.Branch x w dst o to) is s =
     few_codes is (let e = ap length s.is_are in let a = length-append (flushed s.k) (compare_code x w dst.number o ∷ jump_if_code (condition_of x) s.d ∷ []) in omega (arith, flushed_few s.k))
-serves_short pends tails saved slot (task.Leap to) is s =
+serves_short pending tails saved slot (task.Leap to) is s =
     few_codes is (let e = ap length s.is_are in let a = length-append (flushed s.k) (jump_code s.d ∷ []) in omega (arith, flushed_few s.k))
-serves_short pends tails saved slot task.Exit is s =
+serves_short pending tails saved slot task.Exit is s =
     few_codes is (let e = ap length s.is_are in let a = length-append (flushed s.k) (leaving saved) in let b = length-append (ending ∷ restoring saved) (instr.Return ∷ []) in omega (arith, flushed_few s.k, restoring_few saved))
-serves_short pends tails saved slot task.Dead is s = few_codes is (omega (arith, ap length s))
-serves_short pends tails saved slot t is s = few_codes is (plain_few pends tails slot t is s)
+serves_short pending tails saved slot task.Dead is s = few_codes is (omega (arith, ap length s))
+serves_short pending tails saved slot t is s = few_codes is (plain_few pending tails slot t is s)
 
 -- that of two slots too
-pub fused_short : (pends tails : List ℕ) (slot : ℕ) (i : Instr) (u : SlotTask) (is : List Instr) → Fuses pends tails slot i u is → length (codes is) ≤ 1000
-fused_short pends tails slot i u is s =
+pub fused_short : (pending tails : List ℕ) (slot : ℕ) (i : Instr) (u : SlotTask) (is : List Instr) → Fuses pending tails slot i u is → length (codes is) ≤ 1000
+fused_short pending tails slot i u is s =
     few_codes is (let e = ap length s.is_are in let a = length-append (flushed s.k) (skipped s.d) in omega (arith, flushed_few s.k, skipped_few s.d))
 
-pub slot_short : (o : Option Instr) (tasks : List SlotTask) (pends tails : List ℕ) (saved : SavedRegisters) (slot : ℕ) (t : SlotTask) (is : List Instr) → ServesBy o tasks pends tails saved slot t is → length (codes is) ≤ 1000
-slot_short None tasks pends tails saved slot t is s = serves_short pends tails saved slot t is s
-slot_short (Some i) tasks pends tails saved slot t is s = fused_short pends tails slot i (task_at tasks (slot + 1)) is s
+pub slot_short : (o : Option Instr) (tasks : List SlotTask) (pending tails : List ℕ) (saved : SavedRegisters) (slot : ℕ) (t : SlotTask) (is : List Instr) → ServesBy o tasks pending tails saved slot t is → length (codes is) ≤ 1000
+slot_short None tasks pending tails saved slot t is s = serves_short pending tails saved slot t is s
+slot_short (Some i) tasks pending tails saved slot t is s = fused_short pending tails slot i (task_at tasks (slot + 1)) is s

@@ -18,11 +18,11 @@ use Rattle.native.specs.declared.prologue.Opening.{Opening}
 use Rattle.native.specs.declared.prologue.Opening.TheVariants as opening
 use Rattle.native.specs.declared.task.SlotTask.{SlotTask}
 use Rattle.native.specs.declared.task.SlotTask.TheVariants as task
-use Rattle.native.specs.Tasks.{is_apt}
+use Rattle.native.specs.Tasks.{is_eligible}
 use Rattle.native.specs.Code.{codes, body_of, flushed, skipped, leaving, condition_of, compare_code, jump_code, jump_if_code, IsBody, IsDone, Counts, Reaches, Plain, Serves, taken}
 use Rattle.native.specs.Fusion.{fused, is_covered}
 use Rattle.native.specs.Laid.{Fuses, ServesBy, IsPiece}
-use Rattle.native.specs.Pends.{pends_in}
+use Rattle.native.specs.Pending.{pending_in}
 use Rattle.native.specs.Openings.{entering_by, saved_for}
 use Rattle.native.specs.SlotTasks.{task_at, task_there, tasks_in}
 use Rattle.native.specs.Written.{Stacks, IsWritten, IsOneCode}
@@ -50,58 +50,58 @@ done_one (task.Compute op.Sdiv w dst o) is js h k = h ∙ sym k
 done_one (task.Compute op.Smod w dst o) is js h k = h ∙ sym k
 done_one t is js h k = body_one (body_of t) is js h k
 
-counts_one : (pends : List ℕ) (slot to k l : ℕ) → Counts pends slot to k → Counts pends slot to l → k ≡ l
-counts_one pends slot to k l a b = let x = a.sums in let y = b.sums in omega arith
+counts_one : (pending : List ℕ) (slot to k l : ℕ) → Counts pending slot to k → Counts pending slot to l → k ≡ l
+counts_one pending slot to k l a b = let x = a.sums in let y = b.sums in omega arith
 
 reaches_one : (tails : List ℕ) (slot to d e : ℕ) → Reaches tails slot to d → Reaches tails slot to e → d ≡ e
 reaches_one tails slot to d e a b = let x = a.sums in let y = b.sums in omega arith
 
-plain_one : (pends tails : List ℕ) (slot : ℕ) (t : SlotTask) (is js : List Instr) → Plain pends tails slot t is → Plain pends tails slot t js → is ≡ js
-plain_one pends tails slot t is js a b =
+plain_one : (pending tails : List ℕ) (slot : ℕ) (t : SlotTask) (is js : List Instr) → Plain pending tails slot t is → Plain pending tails slot t js → is ≡ js
+plain_one pending tails slot t is js a b =
     a.is_are
     ∙ ap (λ x. x ++ (flushed a.k ++ skipped a.d)) (done_one t a.bs b.bs a.done b.done)
-    ∙ ap (λ k. b.bs ++ (flushed k ++ skipped a.d)) (counts_one pends slot (slot + taken t) a.k b.k a.counts b.counts)
+    ∙ ap (λ k. b.bs ++ (flushed k ++ skipped a.d)) (counts_one pending slot (slot + taken t) a.k b.k a.counts b.counts)
     ∙ ap (λ d. b.bs ++ (flushed b.k ++ skipped d)) (reaches_one tails slot (slot + taken t) a.d b.d a.reaches b.reaches)
     ∙ sym b.is_are
 
-serves_one : (pends tails : List ℕ) (saved : SavedRegisters) (slot : ℕ) (t : SlotTask) (is js : List Instr) → Serves pends tails saved slot t is → Serves pends tails saved slot t js → is ≡ js
-serves_one pends tails saved slot (task.Branch x w dst o to) is js a b =
+serves_one : (pending tails : List ℕ) (saved : SavedRegisters) (slot : ℕ) (t : SlotTask) (is js : List Instr) → Serves pending tails saved slot t is → Serves pending tails saved slot t js → is ≡ js
+serves_one pending tails saved slot (task.Branch x w dst o to) is js a b =
     a.is_are
-    ∙ ap (λ k. flushed k ++ compare_code x w dst.number o ∷ jump_if_code (condition_of x) a.d ∷ []) (counts_one pends slot to a.k b.k a.takes b.takes)
+    ∙ ap (λ k. flushed k ++ compare_code x w dst.number o ∷ jump_if_code (condition_of x) a.d ∷ []) (counts_one pending slot to a.k b.k a.takes b.takes)
     ∙ ap (λ d. flushed b.k ++ compare_code x w dst.number o ∷ jump_if_code (condition_of x) d ∷ []) (reaches_one tails slot to a.d b.d a.reaches b.reaches)
     ∙ sym b.is_are
-serves_one pends tails saved slot (task.Leap to) is js a b =
+serves_one pending tails saved slot (task.Leap to) is js a b =
     a.is_are
-    ∙ ap (λ k. flushed k ++ jump_code a.d ∷ []) (counts_one pends slot to a.k b.k a.takes b.takes)
+    ∙ ap (λ k. flushed k ++ jump_code a.d ∷ []) (counts_one pending slot to a.k b.k a.takes b.takes)
     ∙ ap (λ d. flushed b.k ++ jump_code d ∷ []) (reaches_one tails slot to a.d b.d a.reaches b.reaches)
     ∙ sym b.is_are
-serves_one pends tails saved slot task.Exit is js a b =
+serves_one pending tails saved slot task.Exit is js a b =
     a.is_are ∙ ap (λ k. flushed k ++ leaving saved) (a.sums ∙ sym b.sums) ∙ sym b.is_are
-serves_one pends tails saved slot task.Dead is js a b = a ∙ sym b
-serves_one pends tails saved slot t is js a b = plain_one pends tails slot t is js a b
+serves_one pending tails saved slot task.Dead is js a b = a ∙ sym b
+serves_one pending tails saved slot t is js a b = plain_one pending tails slot t is js a b
 
-fused_one : (pends tails : List ℕ) (slot : ℕ) (i : Instr) (u : SlotTask) (is js : List Instr) → Fuses pends tails slot i u is → Fuses pends tails slot i u js → is ≡ js
-fused_one pends tails slot i u is js a b =
+fused_one : (pending tails : List ℕ) (slot : ℕ) (i : Instr) (u : SlotTask) (is js : List Instr) → Fuses pending tails slot i u is → Fuses pending tails slot i u js → is ≡ js
+fused_one pending tails slot i u is js a b =
     let k : a.k ≡ b.k = let x = a.sums in let y = b.sums in omega arith in
     a.is_are
     ∙ ap (λ k. i ∷ (flushed k ++ skipped a.d)) k
     ∙ ap (λ d. i ∷ (flushed b.k ++ skipped d)) (reaches_one tails slot (slot + 2) a.d b.d a.reaches b.reaches)
     ∙ sym b.is_are
 
-slot_one : (o : Option Instr) (tasks : List SlotTask) (pends tails : List ℕ) (saved : SavedRegisters) (slot : ℕ) (t : SlotTask) (is js : List Instr) → ServesBy o tasks pends tails saved slot t is → ServesBy o tasks pends tails saved slot t js → is ≡ js
-slot_one None tasks pends tails saved slot t is js a b = serves_one pends tails saved slot t is js a b
-slot_one (Some i) tasks pends tails saved slot t is js a b = fused_one pends tails slot i (task_at tasks (slot + 1)) is js a b
+slot_one : (o : Option Instr) (tasks : List SlotTask) (pending tails : List ℕ) (saved : SavedRegisters) (slot : ℕ) (t : SlotTask) (is js : List Instr) → ServesBy o tasks pending tails saved slot t is → ServesBy o tasks pending tails saved slot t js → is ≡ js
+slot_one None tasks pending tails saved slot t is js a b = serves_one pending tails saved slot t is js a b
+slot_one (Some i) tasks pending tails saved slot t is js a b = fused_one pending tails slot i (task_at tasks (slot + 1)) is js a b
 
-piece_one : (tasks : List SlotTask) (pends tails : List ℕ) (saved : SavedRegisters) (slot : ℕ) (t : SlotTask) (p q : List ℕ) → IsPiece tasks pends tails saved slot t p → IsPiece tasks pends tails saved slot t q → p ≡ q
-piece_one tasks pends tails saved slot t p q a b = by_test (is_covered tasks slot) (is_apt slot t) refl refl
+piece_one : (tasks : List SlotTask) (pending tails : List ℕ) (saved : SavedRegisters) (slot : ℕ) (t : SlotTask) (p q : List ℕ) → IsPiece tasks pending tails saved slot t p → IsPiece tasks pending tails saved slot t q → p ≡ q
+piece_one tasks pending tails saved slot t p q a b = by_test (is_covered tasks slot) (is_eligible slot t) refl refl
   where
-    by_test : (u v : Bool) → is_covered tasks slot ≡ u → is_apt slot t ≡ v → p ≡ q
-    by_test true v covered apt = a.covered covered ∙ sym (b.covered covered)
-    by_test false true covered apt =
-        let x = a.serves covered apt in
-        let y = b.serves covered apt in
-        x.2 ∙ ap codes (slot_one (fused tasks slot) tasks pends tails saved slot t x.0 y.0 x.1 y.1) ∙ sym y.2
-    by_test false false covered apt = a.none apt ∙ sym (b.none apt)
+    by_test : (u v : Bool) → is_covered tasks slot ≡ u → is_eligible slot t ≡ v → p ≡ q
+    by_test true v covered eligible = a.covered covered ∙ sym (b.covered covered)
+    by_test false true covered eligible =
+        let x = a.serves covered eligible in
+        let y = b.serves covered eligible in
+        x.2 ∙ ap codes (slot_one (fused tasks slot) tasks pending tails saved slot t x.0 y.0 x.1 y.1) ∙ sym y.2
+    by_test false false covered eligible = a.none eligible ∙ sym (b.none eligible)
 
 -- ---- the code of tasks
 
@@ -110,7 +110,7 @@ stacks_one o tasks zero tails tails' code code' a b = (a.0 ∙ sym b.0, a.1 ∙ 
 stacks_one o tasks (suc n) tails tails' code code' (ts, cs, p, s, is, t, c) (ts', cs', p', s', is', t', c') =
     let slot = length tasks - suc n in
     let x = stacks_one o tasks n ts ts' cs cs' s s' in
-    let y : p ≡ p' = piece_one tasks (pends_in tasks) ts' (saved_for o tasks) slot (task_at tasks slot) p p' (subst (λ l. IsPiece tasks (pends_in tasks) l (saved_for o tasks) slot (task_at tasks slot) p) x.0 is) is' in (
+    let y : p ≡ p' = piece_one tasks (pending_in tasks) ts' (saved_for o tasks) slot (task_at tasks slot) p p' (subst (λ l. IsPiece tasks (pending_in tasks) l (saved_for o tasks) slot (task_at tasks slot) p) x.0 is) is' in (
       t ∙ ap (λ l. slice_set l slot (length p + length cs)) x.0 ∙ ap (λ l. slice_set ts' slot (length l + length cs)) y ∙ ap (λ l. slice_set ts' slot (length p' + length l)) x.1 ∙ sym t',
       c ∙ ap (λ l. l ++ cs) y ∙ ap (λ l. p' ++ l) x.1 ∙ sym c',
     )

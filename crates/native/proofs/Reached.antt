@@ -43,7 +43,7 @@ use Rattle.dense.specs.declared.op.Op.TheVariants as op
 use Rattle.dense.specs.Acts.{IsWithin}
 use Rattle.native.specs.declared.task.SlotTask.{SlotTask}
 use Rattle.native.specs.declared.task.SlotTask.TheVariants as task
-use Rattle.native.specs.Tasks.{holds_word, is_read, is_apt}
+use Rattle.native.specs.Tasks.{holds_word, is_read, is_eligible}
 use Rattle.native.specs.Operations.{task_for}
 use Rattle.native.proofs.FormTasks.{alu_imm_task, alu_reg_task, movsx_task, neg_task, swap_task, jump_imm_task, jump_reg_task, load_task, load_sx_task, store_reg_task, store_imm_task}
 
@@ -194,7 +194,7 @@ reg_read a w dst src h = h refl
 
 -- an operation has a task, and there is code for it at this slot
 abbrev pub HasCode : List ℕ → ℕ → Op → Type 0
-HasCode pool slot o = (t : SlotTask) × (task_for pool o ≡ Some t) × (is_apt slot t ≡ true)
+HasCode pool slot o = (t : SlotTask) × (task_for pool o ≡ Some t) × (is_eligible slot t ≡ true)
 
 module _ (form : ImageForm) (slots : List (Option Insn)) (len : ℕ) (pool : List ℕ) (slot at : ℕ) (g : Frame) (n : is_num (ten g) ≡ false) where
   abbrev op_of : Insn → Op

@@ -67,7 +67,7 @@ module _ {form : ImageForm} {slots : List (Option Insn)} {table : Table} {m len 
       let x : slice_get ops slot ≡ Some o = slice_get-get_or ops slot op.Dead w in
       let y : slice_get ops slot ≡ Some (get_or ops slot o) = slice_get-get_or ops slot o w in
       let q : o ≡ get_or ops slot o = cc in
-      let (t, is_task, apt) = has_code form slots len table ops pool slot g.stands.shown.frame o least r.dense g.stands.shown.there x in
+      let (t, is_task, eligible) = has_code form slots len table ops pool slot g.stands.shown.frame o least r.dense g.stands.shown.there x in
       let v = in_slots r g in
       let z = told slot v g.stands.shown.frame o t g.stands.shown.there x is_task in
       let found : slice_get tasks slot ≡ Some t = slice_get-get_or tasks slot task.Dead (omega (arith, v, many)) ∙ ap Some z.0 in
@@ -78,7 +78,7 @@ module _ {form : ImageForm} {slots : List (Option Insn)} {table : Table} {m len 
         array = g.whole;
         this = t;
         there = found;
-        apt = apt;
+        eligible = eligible;
         reaches = within_reaches words t (z.1.within (op_within r g o q));
         fits = z.1.fits;
         next = λ to words' mem' e' d l.

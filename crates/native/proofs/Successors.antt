@@ -24,7 +24,7 @@ use Rattle.x86.specs.declared.instruction.ConditionCode as x86
 use Rattle.x86.specs.Machine.{State, HasAt, Word, Goes, Leaps, value, put, behind, extended, branch, act}
 use Rattle.native.specs.declared.task.SlotTask.{SlotTask}
 use Rattle.native.specs.declared.task.SlotTask.TheVariants as task
-use Rattle.native.specs.Tasks.{operand_of, task_act, holds_word, is_word, is_apt, TaskReaches, TaskFits, WritesWithin}
+use Rattle.native.specs.Tasks.{operand_of, task_act, holds_word, is_word, is_eligible, TaskReaches, TaskFits, WritesWithin}
 use Rattle.native.specs.declared.saved.SavedRegisters.{SavedRegisters}
 use Rattle.native.specs.Saved.{may_write}
 use Rattle.native.specs.Code as code_specs
@@ -64,7 +64,7 @@ pub record Call (who : Who) (tasks : List SlotTask) (long count : ℕ) (Stand : 
   pub array : length mem ≡ long
   pub this : SlotTask
   pub there : slice_get tasks slot ≡ Some this
-  pub apt : is_apt slot this ≡ true
+  pub eligible : is_eligible slot this ≡ true
   pub reaches : TaskReaches long words this
   pub fits : TaskFits this
   pub next : (to : ℕ) (words' mem' : List ℕ) (e' : Emitted) → Does slot words mem e (task_act who slot words mem e this) (To to) words' mem' e' → length mem' ≡ long → (slot < to) × Stand words' mem' to (steps + 1) e'
@@ -86,7 +86,7 @@ pub record Finished (who : Who) (start last : State) (Over : List ℕ → List �
   pub r14 : value last 14 ≡ value start 14
   pub r15 : value last 15 ≡ value start 15
 
-module _ (who : Who) (tasks : List SlotTask) (long count : ℕ) (small : long ≤ 2048) (few : count ≤ 1024) (Stand : List ℕ → List ℕ → ℕ → ℕ → Emitted → Type 0) (Over : List ℕ → List ℕ → ℕ → Emitted → Type 0) (pends tails : List ℕ) (saved : SavedRegisters) (code : List ℕ) (whole : length code < 2 ^ 64) (most : slice_index tails 0 ≤ length code) (falls : (j k : ℕ) → j ≤ k → slice_index tails k ≤ slice_index tails j) (start : State) (opened : List ℕ) (opened_is : (q : ℕ) → may_write saved q ≡ false → q < 10 → value start (gpr q) ≡ Word (slice_index opened q)) where
+module _ (who : Who) (tasks : List SlotTask) (long count : ℕ) (small : long ≤ 2048) (few : count ≤ 1024) (Stand : List ℕ → List ℕ → ℕ → ℕ → Emitted → Type 0) (Over : List ℕ → List ℕ → ℕ → Emitted → Type 0) (pending tails : List ℕ) (saved : SavedRegisters) (code : List ℕ) (whole : length code < 2 ^ 64) (most : slice_index tails 0 ≤ length code) (falls : (j k : ℕ) → j ≤ k → slice_index tails k ≤ slice_index tails j) (start : State) (opened : List ℕ) (opened_is : (q : ℕ) → may_write saved q ≡ false → q < 10 → value start (gpr q) ≡ Word (slice_index opened q)) where
   -- where the code of a slot stands
   abbrev pub place : ℕ → ℕ
   place k = length code - slice_index tails k
@@ -108,7 +108,7 @@ module _ (who : Who) (tasks : List SlotTask) (long count : ℕ) (small : long �
 
   -- from each later slot on that a call comes to
   abbrev More : ℕ → Type 0
-  More slot = (words mem : List ℕ) (e : Emitted) (to steps done : ℕ) (c : State) → slot < to → is_covered tasks to ≡ false → Sound words mem → Kept words → Stand words mem to steps e → Fits c words mem e done → done + slice_index pends to ≡ steps → Done (place to) c
+  More slot = (words mem : List ℕ) (e : Emitted) (to steps done : ℕ) (c : State) → slot < to → is_covered tasks to ≡ false → Sound words mem → Kept words → Stand words mem to steps e → Fits c words mem e done → done + slice_index pending to ≡ steps → Done (place to) c
 
   -- the place where a jump from the end of a slot's code arrives
   lands : (slot d to : ℕ) → Reaches tails slot to d → place (slot + 1) + d ≡ place to
@@ -146,7 +146,7 @@ module _ (who : Who) (tasks : List SlotTask) (long count : ℕ) (small : long �
       let z : q + length (codes fs) + length (codes js) ≡ place (slot + 1) = omega arith in
       (x.0, f.back x.0 (past slot d to (q + length (codes fs)) f.c' x.0 s (has_back code q (codes fs) (codes js) h') z x.1), x.2)
 
-  module _ {words mem : List ℕ} {slot steps : ℕ} {now : Emitted} (sound : Sound words mem) (kept : Kept words) (array : length mem ≡ long) (left : steps + 1 ≤ count) {c : State} {done : ℕ} (a : Fits c words mem now done) (sum : done + slice_index pends slot ≡ steps) (more : More slot) where
+  module _ {words mem : List ℕ} {slot steps : ℕ} {now : Emitted} (sound : Sound words mem) (kept : Kept words) (array : length mem ≡ long) (left : steps + 1 ≤ count) {c : State} {done : ℕ} (a : Fits c words mem now done) (sum : done + slice_index pending slot ≡ steps) (more : More slot) where
     short_count : done < 1024
     short_count = omega (arith, left, few, sum)
 
@@ -159,13 +159,13 @@ module _ (who : Who) (tasks : List SlotTask) (long count : ℕ) (small : long �
 
     module _ (t : SlotTask) (next : Nexts t) (spares : WritesWithin saved t) where
       -- on at a slot
-      on : (words' mem' : List ℕ) (then_e : Emitted) (to done' : ℕ) (c' : State) → Does slot words mem now (task_act who slot words mem now t) (To to) words' mem' then_e → length mem' ≡ long → Fits c' words' mem' then_e done' → Safe (task_act who slot words mem now t) → done' + slice_index pends to ≡ steps + 1 → Done (place to) c'
+      on : (words' mem' : List ℕ) (then_e : Emitted) (to done' : ℕ) (c' : State) → Does slot words mem now (task_act who slot words mem now t) (To to) words' mem' then_e → length mem' ≡ long → Fits c' words' mem' then_e done' → Safe (task_act who slot words mem now t) → done' + slice_index pending to ≡ steps + 1 → Done (place to) c'
       on words' mem' then_e to done' c' d w b safe s =
           let n = next to words' mem' then_e d w in
           more words' mem' then_e to (steps + 1) done' c' n.0 n.1 (does_sound (task_act who slot words mem now t) slot words mem now (To to) words' mem' then_e safe sound d) (does_same saved (task_act who slot words mem now t) slot opened words mem now (To to) words' mem' then_e safe (task_puts saved who slot words mem now t spares) kept d) n.2 b s
 
-      plain : (is : List Instr) → TaskReaches long words t → TaskFits t → Falls t → is_apt slot t ≡ true → Plain pends tails slot t is → HasAt code (place slot) (codes is) → place slot + length (codes is) ≡ place (slot + 1) → Done (place slot) c
-      plain is v fit goes_on apt s h n =
+      plain : (is : List Instr) → TaskReaches long words t → TaskFits t → Falls t → is_eligible slot t ≡ true → Plain pending tails slot t is → HasAt code (place slot) (codes is) → place slot + length (codes is) ≡ place (slot + 1) → Done (place slot) c
+      plain is v fit goes_on eligible s h n =
           let p = place slot in
           let bs = s.bs in
           let k = s.k in
@@ -176,14 +176,14 @@ module _ (who : Who) (tasks : List SlotTask) (long count : ℕ) (small : long �
           let lb = ap length e0 in
           let ln = in_words (slot + 1) in
           let safe = task_safe long who slot words mem now sound a.keeps.me_fits a.keeps.from_fits t v fit s.short in
-          let x = performs a code p slot bs (has_front code p (codes bs) (codes js) h') (omega (arith, array, small)) (omega arith) sound.small t (subst (λ n. TaskReaches n words t) (sym array) v) fit goes_on s.done s.short apt in
+          let x = performs a code p slot bs (has_front code p (codes bs) (codes js) h') (omega (arith, array, small)) (omega arith) sound.small t (subst (λ n. TaskReaches n words t) (sym array) v) fit goes_on s.done s.short eligible in
           let l = short_count in
           let ks = s.counts.short in
           let sums = s.counts.sums in
           let d = passes slot x.words' x.mem' x.e' k s.d (slot + taken t) (p + length (codes bs)) done x.c' x.agrees ks (omega arith) s.reaches (has_back code p (codes bs) (codes js) h') (omega arith) (λ c2 b. on x.words' x.mem' x.e' (slot + taken t) (done + k) c2 x.does (x.whole ∙ array) b safe (omega arith)) in
           (d.0, x.back d.0 d.1, d.2)
 
-      leap : (to : ℕ) (is : List Instr) → Safe (task_act who slot words mem now t) → Does slot words mem now (task_act who slot words mem now t) (To to) words mem now → Jumps pends tails slot to is → HasAt code (place slot) (codes is) → place slot + length (codes is) ≡ place (slot + 1) → Done (place slot) c
+      leap : (to : ℕ) (is : List Instr) → Safe (task_act who slot words mem now t) → Does slot words mem now (task_act who slot words mem now t) (To to) words mem now → Jumps pending tails slot to is → HasAt code (place slot) (codes is) → place slot + length (codes is) ≡ place (slot + 1) → Done (place slot) c
       leap to is safe does s h n =
           let p = place slot in
           let k = s.k in
@@ -207,7 +207,7 @@ module _ (who : Who) (tasks : List SlotTask) (long count : ℕ) (small : long �
         abbrev met : Bool
         met = holds x w (slice_index words dst.number) (operand_of words b)
 
-        fork : (is : List Instr) → Safe (task_act who slot words mem now t) → ((v : Bool) → met ≡ v → Does slot words mem now (task_act who slot words mem now t) (To (if v then to else slot + 1)) words mem now) → dst.number < 10 → is_word b ≡ true → Forks pends tails slot x w dst.number b to is → HasAt code (place slot) (codes is) → place slot + length (codes is) ≡ place (slot + 1) → Done (place slot) c
+        fork : (is : List Instr) → Safe (task_act who slot words mem now t) → ((v : Bool) → met ≡ v → Does slot words mem now (task_act who slot words mem now t) (To (if v then to else slot + 1)) words mem now) → dst.number < 10 → is_word b ≡ true → Forks pending tails slot x w dst.number b to is → HasAt code (place slot) (codes is) → place slot + length (codes is) ≡ place (slot + 1) → Done (place slot) c
         fork is safe does named word s h n =
             let p = place slot in
             let k = s.k in
@@ -235,7 +235,7 @@ module _ (who : Who) (tasks : List SlotTask) (long count : ℕ) (small : long �
             let way = by_test f.c' c2 s.takes.sums s.passes.sums (put_flags f.agrees fl) q2 j s.d hj act_j s.reaches.short z (in_words to) y does met refl in
             (way.0, f.back way.0 (goes code way.0 i q f.c' c2 (has_front code q (bytes_of i) (codes (j ∷ [])) h2) (compares f.agrees x w dst.number b named s.short word) way.1), way.2)
           where
-            by_test : (c1 c2 : State) → (s.k + slice_index pends to ≡ slice_index pends slot + 1) → (s.k + slice_index pends (slot + 1) ≡ slice_index pends slot + 1) → Fits c2 words mem now (done + s.k) → (q2 : ℕ) (j : Instr) (d : ℕ) → HasAt code q2 (bytes_of j) → act j c2 ≡ cond met (Leaps d) (Goes c2) → d < 2 ^ 31 → q2 + length (bytes_of j) + d ≡ place to → place to < 2 ^ 64 → place (slot + 1) ≡ q2 + length (bytes_of j) → ((v : Bool) → met ≡ v → Does slot words mem now (task_act who slot words mem now t) (To (if v then to else slot + 1)) words mem now) → (v : Bool) → met ≡ v → Done q2 c2
+            by_test : (c1 c2 : State) → (s.k + slice_index pending to ≡ slice_index pending slot + 1) → (s.k + slice_index pending (slot + 1) ≡ slice_index pending slot + 1) → Fits c2 words mem now (done + s.k) → (q2 : ℕ) (j : Instr) (d : ℕ) → HasAt code q2 (bytes_of j) → act j c2 ≡ cond met (Leaps d) (Goes c2) → d < 2 ^ 31 → q2 + length (bytes_of j) + d ≡ place to → place to < 2 ^ 64 → place (slot + 1) ≡ q2 + length (bytes_of j) → ((v : Bool) → met ≡ v → Does slot words mem now (task_act who slot words mem now t) (To (if v then to else slot + 1)) words mem now) → (v : Bool) → met ≡ v → Done q2 c2
             by_test c1 c2 st sp b2 q2 j d hj aj ds z fits y does true m =
                 let x = on words mem now to (done + s.k) c2 (does true m) array b2 safe (omega arith) in
                 (x.0, leaps code x.0 j q2 d (place to) c2 hj (aj ∙ ap (λ v. cond v (Leaps d) (Goes c2)) m) ds z fits x.1, x.2)
@@ -243,7 +243,7 @@ module _ (who : Who) (tasks : List SlotTask) (long count : ℕ) (small : long �
                 let x = on words mem now (slot + 1) (done + s.k) c2 (does false m) array b2 safe (omega arith) in
                 (x.0, goes code x.0 j q2 c2 c2 hj (aj ∙ ap (λ v. cond v (Leaps d) (Goes c2)) m) (subst (λ u. Ends code x.0 u c2) y x.1), x.2)
 
-      exit : (is : List Instr) → Leaves t → Does slot words mem now (task_act who slot words mem now t) End words mem now → code_specs.Ends pends saved slot is → HasAt code (place slot) (codes is) → Done (place slot) c
+      exit : (is : List Instr) → Leaves t → Does slot words mem now (task_act who slot words mem now t) End words mem now → code_specs.Ends pending saved slot is → HasAt code (place slot) (codes is) → Done (place slot) c
       exit is leaves_so does s h =
           let p = place slot in
           let k = s.k in
@@ -279,7 +279,7 @@ module _ (who : Who) (tasks : List SlotTask) (long count : ℕ) (small : long �
           )
 
     -- each task
-    by_task : (t : SlotTask) (is : List Instr) → Nexts t → Leaves t → WritesWithin saved t → TaskReaches long words t → TaskFits t → is_apt slot t ≡ true → Serves pends tails saved slot t is → HasAt code (place slot) (codes is) → place slot + length (codes is) ≡ place (slot + 1) → Done (place slot) c
+    by_task : (t : SlotTask) (is : List Instr) → Nexts t → Leaves t → WritesWithin saved t → TaskReaches long words t → TaskFits t → is_eligible slot t ≡ true → Serves pending tails saved slot t is → HasAt code (place slot) (codes is) → place slot + length (codes is) ≡ place (slot + 1) → Done (place slot) c
     by_task (task.Branch x w dst b to) is next e u v f k s h n =
         let y = and_parts (holds_word dst.number) (is_word b && nat_lt slot to) k in
         fork (task.Branch x w dst b to) next u x w dst b to is tt (λ u z. (ap (λ y. To (if y then to else slot + 1)) (sym z), refl, refl, refl)) (word_register dst.number y.0) (and_parts (is_word b) (nat_lt slot to) y.1).0 s h n
@@ -288,9 +288,9 @@ module _ (who : Who) (tasks : List SlotTask) (long count : ℕ) (small : long �
     by_task task.Dead is next e u v f k s h n = absurd v
     by_task t is next e u v f k s h n = plain t next u is v f tt k s h n
 
-  module _ (calls : (words mem : List ℕ) (slot steps : ℕ) (e : Emitted) → Stand words mem slot steps e → Call who tasks long count Stand Over words mem slot steps e) (kept_all : SaveAll tasks saved) (laid : (k : ℕ) (t : SlotTask) → slice_get tasks k ≡ Some t → is_covered tasks k ≡ false → is_apt k t ≡ true → Laid tasks pends tails saved code k t) where
+  module _ (calls : (words mem : List ℕ) (slot steps : ℕ) (e : Emitted) → Stand words mem slot steps e → Call who tasks long count Stand Over words mem slot steps e) (kept_all : SaveAll tasks saved) (laid : (k : ℕ) (t : SlotTask) → slice_get tasks k ≡ Some t → is_covered tasks k ≡ false → is_eligible k t ≡ true → Laid tasks pending tails saved code k t) where
     -- one instruction, and the call has done two slots
-    fuse : (words mem : List ℕ) (e : Emitted) (slot steps done : ℕ) (c : State) → Sound words mem → Kept words → Stand words mem slot steps e → Fits c words mem e done → done + slice_index pends slot ≡ steps → More slot → (i : Instr) (is : List Instr) → fused tasks slot ≡ Some i → Fuses pends tails slot i (task_at tasks (slot + 1)) is → HasAt code (place slot) (codes is) → place slot + length (codes is) ≡ place (slot + 1) → Done (place slot) c
+    fuse : (words mem : List ℕ) (e : Emitted) (slot steps done : ℕ) (c : State) → Sound words mem → Kept words → Stand words mem slot steps e → Fits c words mem e done → done + slice_index pending slot ≡ steps → More slot → (i : Instr) (is : List Instr) → fused tasks slot ≡ Some i → Fuses pending tails slot i (task_at tasks (slot + 1)) is → HasAt code (place slot) (codes is) → place slot + length (codes is) ≡ place (slot + 1) → Done (place slot) c
     fuse words mem e slot steps done c sound kept g a sum more i is f s h n =
         let k = calls words mem slot steps e g in
         let m = fused_sum tasks slot i f in
@@ -338,15 +338,15 @@ module _ (who : Who) (tasks : List SlotTask) (long count : ℕ) (small : long �
         (x.0, goes code x.0 i p c c1 (has_front code p (bytes_of i) (codes js) h') acts x.1, x.2)
 
     -- from where a call stands the code comes to its end, as the tasks do
-    pub follows : (left : ℕ) (words mem : List ℕ) (e : Emitted) (slot steps done : ℕ) (c : State) → count ≤ slot + left → is_covered tasks slot ≡ false → Sound words mem → Kept words → Stand words mem slot steps e → Fits c words mem e done → done + slice_index pends slot ≡ steps → Done (place slot) c
+    pub follows : (left : ℕ) (words mem : List ℕ) (e : Emitted) (slot steps done : ℕ) (c : State) → count ≤ slot + left → is_covered tasks slot ≡ false → Sound words mem → Kept words → Stand words mem slot steps e → Fits c words mem e done → done + slice_index pending slot ≡ steps → Done (place slot) c
     follows zero words mem e slot steps done c h own sound kept g a s = let k = (calls words mem slot steps e g).before in absurd (omega (arith, k, h))
     follows (suc left) words mem e slot steps done c h own sound kept g a s =
         let k = calls words mem slot steps e g in
-        let l = laid slot k.this k.there own k.apt in
+        let l = laid slot k.this k.there own k.eligible in
         let n : place slot + length (codes l.is) ≡ place (slot + 1) = let y = l.next in let z = tail_in slot in omega arith in
         by_fused k l.is n l.stands (λ words' mem' e' to steps' done' c' lt own' sound' kept' g' a' s'. follows left words' mem' e' to steps' done' c' (omega (arith, lt, h)) own' sound' kept' g' a' s') (fused tasks slot) refl l.serves
       where
-        by_fused : (k : Call who tasks long count Stand Over words mem slot steps e) (is : List Instr) → place slot + length (codes is) ≡ place (slot + 1) → HasAt code (place slot) (codes is) → More slot → (o : Option Instr) → fused tasks slot ≡ o → ServesBy o tasks pends tails saved slot k.this is → Done (place slot) c
+        by_fused : (k : Call who tasks long count Stand Over words mem slot steps e) (is : List Instr) → place slot + length (codes is) ≡ place (slot + 1) → HasAt code (place slot) (codes is) → More slot → (o : Option Instr) → fused tasks slot ≡ o → ServesBy o tasks pending tails saved slot k.this is → Done (place slot) c
         by_fused k is n stands more None f serves =
-            by_task sound kept k.array k.left a s more k.this is (λ to words' mem' e' d w. let x = k.next to words' mem' e' d w in (x.0, uncovered who tasks slot words mem e f to words' mem' e' k.this k.there k.apt d, x.1)) k.ends (kept_all slot k.this k.there) k.reaches k.fits k.apt serves stands n
+            by_task sound kept k.array k.left a s more k.this is (λ to words' mem' e' d w. let x = k.next to words' mem' e' d w in (x.0, uncovered who tasks slot words mem e f to words' mem' e' k.this k.there k.eligible d, x.1)) k.ends (kept_all slot k.this k.there) k.reaches k.fits k.eligible serves stands n
         by_fused k is n stands more (Some i) f serves = fuse words mem e slot steps done c sound kept g a s more i is f serves stands n

@@ -7,7 +7,7 @@ use Rattle.std.proofs.lemmas.List.{get_or-set_same, get_or-set_other, get_or_pas
 use Rattle.native.specs.declared.task.SlotTask.{SlotTask}
 use Rattle.native.specs.declared.task.SlotTask.TheVariants as task
 use Rattle.native.specs.SlotTasks.{task_at}
-use Rattle.native.specs.Pends.{far, lowered_behind, is_more_behind, passed, is_passed, settled, pends_in}
+use Rattle.native.specs.Pending.{far, lowered_behind, is_more_behind, passed, is_passed, settled, pending_in}
 use Rattle.native.specs.Code.{IsBalanced}
 
 -- an element that became less
@@ -32,13 +32,13 @@ none_balanced k task.Dead = tt
 none_balanced k t = omega arith
 
 -- what is known of the list, and of it as it is made
-pub record AreFew (pends : List ℕ) : Type 0 where
-  pub begins : slice_index pends 0 ≡ 0
-  pub small : (k : ℕ) → slice_index pends k ≤ 0x40000000
+pub record AreFew (pending : List ℕ) : Type 0 where
+  pub begins : slice_index pending 0 ≡ 0
+  pub small : (k : ℕ) → slice_index pending k ≤ 0x40000000
 
-pub record AreSome (pends : List ℕ) : Type 0 where
-  pub some : 0 < length pends
-  pub few : AreFew pends
+pub record AreSome (pending : List ℕ) : Type 0 where
+  pub some : 0 < length pending
+  pub few : AreFew pending
 
 append_few : (xs : List ℕ) (v m : ℕ) → v ≤ m → ((k : ℕ) → slice_index xs k ≤ m) → (k : ℕ) → slice_index (xs ++ v ∷ []) k ≤ m
 append_few [] v m l h zero = l
@@ -73,9 +73,9 @@ few_less xs ys h a = record {
 }
 
 -- the list as it is made
-pub record Filled (pends : List ℕ) (count : ℕ) : Type 0 where
-  pub some : AreSome pends
-  pub is : pends ≡ 0 ∷ replicate count far
+pub record Filled (pending : List ℕ) (count : ℕ) : Type 0 where
+  pub some : AreSome pending
+  pub is : pending ≡ 0 ∷ replicate count far
 
 pub filled_first : (xs : List ℕ) → xs ≡ 0 ∷ [] → Filled xs 0
 filled_first xs e = record { some = some_first xs e; is = e }
@@ -87,9 +87,9 @@ filled_more xs ys count e f = record {
 }
 
 -- the list as it is settled, after so many passes
-pub record Settling (tasks : List SlotTask) (pends : List ℕ) (count : ℕ) : Type 0 where
-  pub few : AreFew pends
-  pub is : settled tasks (16 - count) pends ≡ pends_in tasks
+pub record Settling (tasks : List SlotTask) (pending : List ℕ) (count : ℕ) : Type 0 where
+  pub few : AreFew pending
+  pub is : settled tasks (16 - count) pending ≡ pending_in tasks
 
 pub settling_first : (tasks : List SlotTask) (xs : List ℕ) (count : ℕ) → count ≡ length tasks → Filled xs count → Settling tasks xs 0
 settling_first tasks xs count n f = record {
@@ -99,10 +99,10 @@ settling_first tasks xs count n f = record {
 
 module _ (tasks : List SlotTask) (xs ys : List ℕ) (count : ℕ) (l : count < 16) (e : ys ≡ passed tasks xs (length tasks)) (s : Settling tasks xs count) where
   -- one pass more
-  step : (b : Bool) → is_passed tasks xs (length tasks) ≡ b → cond b (settled tasks (16 - (count + 1)) ys) ys ≡ pends_in tasks
+  step : (b : Bool) → is_passed tasks xs (length tasks) ≡ b → cond b (settled tasks (16 - (count + 1)) ys) ys ≡ pending_in tasks
   step b t =
       let n : 16 - count ≡ suc (16 - (count + 1)) = omega arith in
-      let u : settled tasks (suc (16 - (count + 1))) xs ≡ pends_in tasks = ap (λ k. settled tasks k xs) (sym n) ∙ s.is in
+      let u : settled tasks (suc (16 - (count + 1))) xs ≡ pending_in tasks = ap (λ k. settled tasks k xs) (sym n) ∙ s.is in
       ap (λ zs. cond b (settled tasks (16 - (count + 1)) zs) zs) e
       ∙ ap (λ v. cond v (settled tasks (16 - (count + 1)) (passed tasks xs (length tasks))) (passed tasks xs (length tasks))) (sym t)
       ∙ u
@@ -110,26 +110,26 @@ module _ (tasks : List SlotTask) (xs ys : List ℕ) (count : ℕ) (l : count < 1
   pub settling_more : is_passed tasks xs (length tasks) ≡ true → ((k : ℕ) → slice_index ys k ≤ slice_index xs k) → Settling tasks ys (count + 1)
   settling_more t h = record { few = few_less xs ys h s.few; is = step true t }
 
-  pub settling_end : is_passed tasks xs (length tasks) ≡ false → ys ≡ pends_in tasks
+  pub settling_end : is_passed tasks xs (length tasks) ≡ false → ys ≡ pending_in tasks
   settling_end t = step false t
 
 -- after all of them nothing is left uncounted
-pub settling_none : (tasks : List SlotTask) (xs : List ℕ) (count : ℕ) → 16 ≤ count → Settling tasks xs count → [] ≡ pends_in tasks
+pub settling_none : (tasks : List SlotTask) (xs : List ℕ) (count : ℕ) → 16 ≤ count → Settling tasks xs count → [] ≡ pending_in tasks
 settling_none tasks xs count l s =
     let n : 0 ≡ 16 - count = omega arith in
     ap (λ k. settled tasks k xs) n ∙ s.is
 
 -- as far as a pass has come
-pub record Passed (tasks : List SlotTask) (old pends : List ℕ) (changed : Bool) (slot : ℕ) : Type 0 where
-  pub list : pends ≡ passed tasks old slot
+pub record Passed (tasks : List SlotTask) (old pending : List ℕ) (changed : Bool) (slot : ℕ) : Type 0 where
+  pub list : pending ≡ passed tasks old slot
   pub more : changed ≡ is_passed tasks old slot
-  pub same : changed ≡ false → pends ≡ old
+  pub same : changed ≡ false → pending ≡ old
   pub balanced : changed ≡ false → (k : ℕ) (t : SlotTask) → k < slot → slice_get tasks k ≡ Some t → IsBalanced old k t
-  pub falls : (k : ℕ) → slice_index pends k ≤ slice_index old k
+  pub falls : (k : ℕ) → slice_index pending k ≤ slice_index old k
 
 -- one more slot is passed
-pub passed_more : (tasks : List SlotTask) (old pends pends' : List ℕ) (changed less : Bool) (slot : ℕ) (u : SlotTask) → slot < length tasks → u ≡ task_at tasks slot → pends' ≡ lowered_behind pends slot u → less ≡ is_more_behind pends slot u → (less ≡ false → pends' ≡ pends) → (less ≡ false → IsBalanced pends slot u) → ((k : ℕ) → slice_index pends' k ≤ slice_index pends k) → Passed tasks old pends changed slot → Passed tasks old pends' (changed || less) (slot + 1)
-passed_more tasks old pends pends' changed less slot u lt is list more same balanced falls p = record {
+pub passed_more : (tasks : List SlotTask) (old pending pending' : List ℕ) (changed less : Bool) (slot : ℕ) (u : SlotTask) → slot < length tasks → u ≡ task_at tasks slot → pending' ≡ lowered_behind pending slot u → less ≡ is_more_behind pending slot u → (less ≡ false → pending' ≡ pending) → (less ≡ false → IsBalanced pending slot u) → ((k : ℕ) → slice_index pending' k ≤ slice_index pending k) → Passed tasks old pending changed slot → Passed tasks old pending' (changed || less) (slot + 1)
+passed_more tasks old pending pending' changed less slot u lt is list more same balanced falls p = record {
   list = list ∙ ap (λ xs. lowered_behind xs slot u) p.list ∙ ap (lowered_behind (passed tasks old slot) slot) is ∙ ap (passed tasks old) next;
   more = ap (λ b. b || less) p.more ∙ ap (λ b. is_passed tasks old slot || b) (more ∙ ap (λ xs. is_more_behind xs slot u) p.list ∙ ap (is_more_behind (passed tasks old slot) slot) is) ∙ ap (is_passed tasks old) next;
   same = λ f. let b = neither changed less f in same b.1 ∙ p.same b.0;

@@ -23,6 +23,7 @@ abbrev pub and_tasks : SavedRegisters → List SlotTask → SavedRegisters
 and_tasks s [] = s
 and_tasks s (t ∷ ts) = and_tasks (and_task s t) ts
 
+-- no register has to be saved
 abbrev pub nothing : SavedRegisters
 nothing = record { rbx = false; rbp = false; r12 = false; r13 = false; r14 = false; r15 = false }
 

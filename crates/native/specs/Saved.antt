@@ -20,17 +20,20 @@ and_register s r = record {
   r15 = s.r15 || (r == 9);
 }
 
+-- pushes a register that is to be saved
 abbrev pub push_if : Bool → ℕ → List Instr
 push_if kept r = if kept then instr.Push r ∷ [] else []
 
+-- pops a register that was saved
 abbrev pub pop_if : Bool → ℕ → List Instr
 pop_if kept r = if kept then instr.Pop r ∷ [] else []
 
--- the saved registers are pushed, and popped in reverse order
+-- pushes the registers to save
 abbrev pub saving : SavedRegisters → List Instr
 saving s =
     push_if s.rbx 3 ++ (push_if s.rbp 5 ++ (push_if s.r12 12 ++ (push_if s.r13 13 ++ (push_if s.r14 14 ++ push_if s.r15 15))))
 
+-- pops what was saved, the last first
 abbrev pub restoring : SavedRegisters → List Instr
 restoring s =
     pop_if s.r15 15 ++ (pop_if s.r14 14 ++ (pop_if s.r13 13 ++ (pop_if s.r12 12 ++ (pop_if s.rbp 5 ++ pop_if s.rbx 3))))

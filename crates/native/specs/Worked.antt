@@ -11,6 +11,7 @@ use Rattle.interp.specs.Words.{AreBytes}
 use Rattle.x86.specs.Machine.{State, Flags, Word, At, Array, Record, value}
 use Rattle.native.specs.Correct.{IsCalled, IsReturned, Keeps}
 
+-- process 1 of 3, on a message of process 2
 abbrev pub who : Who
 who = record { me = 1; from = 2; count = 3 }
 

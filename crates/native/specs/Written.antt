@@ -8,10 +8,10 @@ use Rattle.native.specs.declared.prologue.Opening.{Opening}
 use Rattle.native.specs.declared.prologue.Opening.TheVariants as opening
 use Rattle.native.specs.declared.task.SlotTask.{SlotTask}
 use Rattle.native.specs.SlotTasks.{task_at, tasks_in}
-use Rattle.native.specs.Pends.{pends_in}
+use Rattle.native.specs.Pending.{pending_in}
 use Rattle.native.specs.Openings.{entering_by, saved_for}
 use Rattle.native.specs.Code.{codes}
-use Rattle.native.specs.Laid.{ArePends, SaveAll, IsPiece, LaidFrom}
+use Rattle.native.specs.Laid.{ArePending, SaveAll, IsPiece, LaidFrom}
 
 -- the code of the last n slots, and the length of the code from each of them on, 0 for the others; the code of the
 -- first of them depends on the lengths after it
@@ -19,7 +19,7 @@ abbrev pub Stacks : Opening → List SlotTask → ℕ → List ℕ → List ℕ 
 Stacks o tasks zero tails code = (tails ≡ replicate (length tasks + 1) 0) × (code ≡ [])
 Stacks o tasks (suc n) tails code =
     (tails' code' piece : List ℕ) × Stacks o tasks n tails' code'
-    × IsPiece tasks (pends_in tasks) tails' (saved_for o tasks) (length tasks - suc n) (task_at tasks (length tasks - suc n)) piece
+    × IsPiece tasks (pending_in tasks) tails' (saved_for o tasks) (length tasks - suc n) (task_at tasks (length tasks - suc n)) piece
     × (tails ≡ slice_set tails' (length tasks - suc n) (length piece + length code')) × (code ≡ piece ++ code')
 
 -- the code of all tasks comes after the entry
@@ -31,14 +31,14 @@ pub record IsWritten (o : Opening) (tasks : List SlotTask) (code : List ℕ) : T
 
 -- the slots from this one on are laid out, and their code is stacked
 pub record IsLaidFrom (o : Opening) (tasks : List SlotTask) (tails code : List ℕ) (slot : ℕ) : Type 0 where
-  pub laid : LaidFrom tasks (pends_in tasks) tails (saved_for o tasks) code slot
+  pub laid : LaidFrom tasks (pending_in tasks) tails (saved_for o tasks) code slot
   pub stacks : Stacks o tasks (length tasks - slot) tails code
 
 -- the code of all tasks is written, each slot's code is at its place, each step is counted, and each register is saved
 pub record IsServed (o : Opening) (tasks : List SlotTask) (code : List ℕ) : Type 0 where
   pub written : IsWritten o tasks code
-  pub laid : LaidFrom tasks (pends_in tasks) written.tails (saved_for o tasks) written.rest 0
-  pub pended : ArePends tasks (pends_in tasks)
+  pub laid : LaidFrom tasks (pending_in tasks) written.tails (saved_for o tasks) written.rest 0
+  pub pended : ArePending tasks (pending_in tasks)
   pub saves : SaveAll tasks (saved_for o tasks)
 
 -- the bytes are the machine code of these slots, by the least typing

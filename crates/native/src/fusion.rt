@@ -4,8 +4,8 @@ ghost use Rattle.std.specs.Prelude.{◌≡◌, ◌<◌, ◌≤◌, true, false, 
 ghost use Rattle.limits.specs.declared.TheConstants.{SLOTS};
 ghost use Rattle.native.specs.Fusion as specs;
 
-use crate::apt::holds_word;
 use crate::body::{gpr, number};
+use crate::eligible::holds_word;
 use crate::task::SlotTask;
 use decode::{AluOp, Operand, Reg, Width};
 use limits::SLOTS;

@@ -5,16 +5,16 @@ ghost use Rattle.limits.specs.declared.TheConstants.{SLOTS};
 ghost use Rattle.native.specs.Code.{codes, IsBehind};
 ghost use Rattle.native.specs.Correct.{IsNative};
 ghost use Rattle.native.specs.Fusion.{targets_in};
-ghost use Rattle.native.specs.Laid.{ArePends, IsPiece};
-ghost use Rattle.native.specs.Pends.{pends_in};
+ghost use Rattle.native.specs.Laid.{ArePending, IsPiece};
+ghost use Rattle.native.specs.Pending.{pending_in};
 ghost use Rattle.native.specs.Openings.{entering_by, saved_for};
 ghost use Rattle.native.specs.SlotTasks as slots;
 ghost use Rattle.native.specs.Written.{IsCodeOf, IsLaidFrom, IsServed};
 
-use crate::apt::is_apt;
 use crate::body::clear;
+use crate::eligible::is_eligible;
 use crate::fusion::{is_covered, targets_of, task_at};
-use crate::pends::pends_of;
+use crate::pending::pending_of;
 use crate::prologue::Opening;
 use crate::saved::{SavedRegisters, saved_for};
 use crate::sequence::write_all;
@@ -41,7 +41,7 @@ fn zeros(alloc: Global, count: usize) -> Result<Vec<u64>, AllocError>
 fn write_piece(
     alloc: Global,
     piece: &mut Vec<u8>,
-    pends: &[u64],
+    pending: &[u64],
     tails: &[u64],
     saved: SavedRegisters,
     tasks: &[SlotTask],
@@ -52,18 +52,18 @@ fn write_piece(
     requires within { slot < length tasks.now }
     requires empty { piece.old.items ≡ [] }
     requires targets { targets.now ≡ targets_in tasks.now }
-    requires pended { ArePends tasks.now pends.now }
+    requires pended { ArePending tasks.now pending.now }
     requires behind { IsBehind tails.now slot }
-    ensures { OnOk result (IsPiece tasks.now pends.now tails.now saved slot (slots.task_at tasks.now slot) piece.new.items) }
+    ensures { OnOk result (IsPiece tasks.now pending.now tails.now saved slot (slots.task_at tasks.now slot) piece.new.items) }
 {
     if is_covered(tasks, targets, slot) {
         return Ok(());
     }
     let task = task_at(tasks, slot);
-    if !is_apt(slot, &task) {
+    if !is_eligible(slot, &task) {
         return Ok(());
     }
-    emit(alloc, piece, pends, tails, saved, tasks, targets, slot)?;
+    emit(alloc, piece, pending, tails, saved, tasks, targets, slot)?;
     Ok(())
 }
 
@@ -77,15 +77,15 @@ fn lay_slot(
     opening: Opening,
     tasks: &[SlotTask],
     targets: &[bool],
-    pends: &[u64],
+    pending: &[u64],
     saved: SavedRegisters,
     slot: usize,
 ) -> Result<(), AllocError>
     requires within { slot < length tasks.now }
     requires few { length tasks.now ≤ SLOTS }
     requires targets { targets.now ≡ targets_in tasks.now }
-    requires pended { ArePends tasks.now pends.now }
-    requires pends { pends.now ≡ pends_in tasks.now }
+    requires pended { ArePending tasks.now pending.now }
+    requires pending { pending.now ≡ pending_in tasks.now }
     requires saved { saved ≡ saved_for opening tasks.now }
     requires laid { IsLaidFrom opening tasks.now tails.old.items (reverse back.old.items) (slot + 1) }
     ensures { OnOk result (IsLaidFrom opening tasks.now tails.new.items (reverse back.new.items) slot) }
@@ -94,7 +94,7 @@ fn lay_slot(
     write_piece(
         alloc,
         piece,
-        pends,
+        pending,
         tails.as_slice(),
         saved,
         tasks,
@@ -135,7 +135,7 @@ pub fn write_tasks(
     ensures { IfOk result (λ code. IsServed opening tasks.now code.items) }
 {
     let targets = targets_of(alloc, tasks)?;
-    let pends = pends_of(alloc, tasks)?;
+    let pending = pending_of(alloc, tasks)?;
     let saved = saved_for(opening, tasks);
     let mut tails = zeros(alloc, tasks.len() + 1)?;
     let mut piece = Vec::with_capacity(alloc, 256)?;
@@ -151,7 +151,7 @@ pub fn write_tasks(
             opening,
             tasks,
             targets.as_slice(),
-            pends.as_slice(),
+            pending.as_slice(),
             saved,
             slot,
         )?;

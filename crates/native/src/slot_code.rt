@@ -6,9 +6,9 @@ ghost use Rattle.native.specs.Code.{Emits, codes, flushed, skipped, leaving, ent
 ghost use Rattle.native.specs.Code as specs;
 ghost use Rattle.native.specs.Fusion.{targets_in};
 ghost use Rattle.native.specs.Fusion as fusion;
-ghost use Rattle.native.specs.Laid.{ArePends, Fuses, ServesBy};
+ghost use Rattle.native.specs.Laid.{ArePending, Fuses, ServesBy};
 ghost use Rattle.native.specs.SlotTasks as slots;
-ghost use Rattle.native.specs.Tasks.{is_apt};
+ghost use Rattle.native.specs.Tasks.{is_eligible};
 
 use crate::body::{Body, body_of, clear, gpr};
 use crate::comparison::{compare_code, condition_of};
@@ -31,12 +31,12 @@ pub(crate) fn at(list: &[u64], index: usize) -> u64
 }
 
 // How many steps are added to the count when the call goes on at another slot.
-fn count(pends: &[u64], slot: usize, to: usize) -> u64
-    requires small { slice_index pends.now slot < 2 ^ 31 - 1 }
-    requires less { slice_index pends.now to ≤ slice_index pends.now slot + 1 }
-    ensures { Counts pends.now slot to result }
+fn count(pending: &[u64], slot: usize, to: usize) -> u64
+    requires small { slice_index pending.now slot < 2 ^ 31 - 1 }
+    requires less { slice_index pending.now to ≤ slice_index pending.now slot + 1 }
+    ensures { Counts pending.now slot to result }
 {
-    at(pends, slot) + 1 - at(pends, to)
+    at(pending, slot) + 1 - at(pending, to)
 }
 
 // The distance from the end of a slot's code to the code of a later slot.
@@ -311,19 +311,19 @@ fn taken(task: SlotTask) -> usize
 fn emit_plain(
     alloc: Global,
     code: &mut Vec<u8>,
-    pends: &[u64],
+    pending: &[u64],
     tails: &[u64],
     slot: usize,
     task: SlotTask,
 ) -> Result<(), AllocError>
     requires few { slot < SLOTS }
-    requires small { slice_index pends.now slot < 2 ^ 31 - 1 }
-    requires balanced { slice_index pends.now (slot + taken task) ≤ slice_index pends.now slot + 1 }
+    requires small { slice_index pending.now slot < 2 ^ 31 - 1 }
+    requires balanced { slice_index pending.now (slot + taken task) ≤ slice_index pending.now slot + 1 }
     requires behind { IsBehind tails.now slot }
-    ensures { OnOk result (Emits (Plain pends.now tails.now slot task) code.old.items code.new.items) }
+    ensures { OnOk result (Emits (Plain pending.now tails.now slot task) code.old.items code.new.items) }
 {
     let next = slot + taken(task);
-    let steps = count(pends, slot, next);
+    let steps = count(pending, slot, next);
     let past = distance(tails, slot, next);
     // For the proof: the contract of `body_of` says that the task's number fits 32 bits.
     let _short = body_of(task);
@@ -335,20 +335,20 @@ fn emit_plain(
 /// The instruction of a slot and the next.
 fn emit_fused(
     code: &mut Vec<u8>,
-    pends: &[u64],
+    pending: &[u64],
     tails: &[u64],
     slot: usize,
     instr: Instr,
     second: SlotTask,
 ) -> Result<(), AllocError>
     requires few { slot < SLOTS }
-    requires small { slice_index pends.now slot < 2 ^ 31 - 2 }
-    requires balanced { slice_index pends.now (slot + 2) ≤ slice_index pends.now slot + 2 }
+    requires small { slice_index pending.now slot < 2 ^ 31 - 2 }
+    requires balanced { slice_index pending.now (slot + 2) ≤ slice_index pending.now slot + 2 }
     requires behind { IsBehind tails.now slot }
-    ensures { OnOk result (Emits (Fuses pends.now tails.now slot instr second) code.old.items code.new.items) }
+    ensures { OnOk result (Emits (Fuses pending.now tails.now slot instr second) code.old.items code.new.items) }
 {
     let next = slot + 2;
-    let steps = at(pends, slot) + 2 - at(pends, next);
+    let steps = at(pending, slot) + 2 - at(pending, next);
     let past = distance(tails, slot, next);
     // For the proof: the contract of `body_of` says that the task's number fits 32 bits.
     let _short = body_of(second);
@@ -360,7 +360,7 @@ fn emit_fused(
 /// A conditional jump.
 fn emit_branch(
     code: &mut Vec<u8>,
-    pends: &[u64],
+    pending: &[u64],
     tails: &[u64],
     slot: usize,
     condition: Condition,
@@ -371,12 +371,12 @@ fn emit_branch(
 ) -> Result<(), AllocError>
     requires few { slot < SLOTS }
     requires later { slot < to }
-    requires small { slice_index pends.now slot < 2 ^ 31 - 1 }
-    requires balanced { IsBalanced pends.now slot (SlotTask.Branch condition width dst operand to) }
+    requires small { slice_index pending.now slot < 2 ^ 31 - 1 }
+    requires balanced { IsBalanced pending.now slot (SlotTask.Branch condition width dst operand to) }
     requires behind { IsBehind tails.now slot }
-    ensures { OnOk result (Emits (Forks pends.now tails.now slot condition width dst.number operand to) code.old.items code.new.items) }
+    ensures { OnOk result (Emits (Forks pending.now tails.now slot condition width dst.number operand to) code.old.items code.new.items) }
 {
-    let steps = count(pends, slot, slot + 1);
+    let steps = count(pending, slot, slot + 1);
     let distance = distance(tails, slot, to as usize);
     flush(code, steps)?;
     let jump = jump_if_code(condition_of(condition), distance);
@@ -386,19 +386,19 @@ fn emit_branch(
 /// A jump.
 fn emit_leap(
     code: &mut Vec<u8>,
-    pends: &[u64],
+    pending: &[u64],
     tails: &[u64],
     slot: usize,
     to: u16,
 ) -> Result<(), AllocError>
     requires few { slot < SLOTS }
     requires later { slot < to }
-    requires small { slice_index pends.now slot < 2 ^ 31 - 1 }
-    requires balanced { slice_index pends.now to ≤ slice_index pends.now slot + 1 }
+    requires small { slice_index pending.now slot < 2 ^ 31 - 1 }
+    requires balanced { slice_index pending.now to ≤ slice_index pending.now slot + 1 }
     requires behind { IsBehind tails.now slot }
-    ensures { OnOk result (Emits (Jumps pends.now tails.now slot to) code.old.items code.new.items) }
+    ensures { OnOk result (Emits (Jumps pending.now tails.now slot to) code.old.items code.new.items) }
 {
-    let steps = count(pends, slot, to as usize);
+    let steps = count(pending, slot, to as usize);
     let distance = distance(tails, slot, to as usize);
     flush(code, steps)?;
     write_all(code, &[jump_code(distance)])
@@ -407,14 +407,14 @@ fn emit_leap(
 /// The end of a call.
 fn emit_exit(
     code: &mut Vec<u8>,
-    pends: &[u64],
+    pending: &[u64],
     saved: SavedRegisters,
     slot: usize,
 ) -> Result<(), AllocError>
-    requires { slice_index pends.now slot < 2 ^ 31 - 1 }
-    ensures { OnOk result (Emits (Ends pends.now saved slot) code.old.items code.new.items) }
+    requires { slice_index pending.now slot < 2 ^ 31 - 1 }
+    ensures { OnOk result (Emits (Ends pending.now saved slot) code.old.items code.new.items) }
 {
-    flush(code, at(pends, slot) + 1)?;
+    flush(code, at(pending, slot) + 1)?;
     emit_leaving(code, saved)
 }
 
@@ -458,18 +458,18 @@ pub(crate) fn emit_entry(code: &mut Vec<u8>, saved: SavedRegisters) -> Result<()
 fn emit_task(
     alloc: Global,
     code: &mut Vec<u8>,
-    pends: &[u64],
+    pending: &[u64],
     tails: &[u64],
     saved: SavedRegisters,
     slot: usize,
     task: SlotTask,
 ) -> Result<(), AllocError>
     requires few { slot < SLOTS }
-    requires apt { is_apt slot task ≡ true }
-    requires small { slice_index pends.now slot < 2 ^ 31 - 1 }
-    requires balanced { IsBalanced pends.now slot task }
+    requires eligible { is_eligible slot task ≡ true }
+    requires small { slice_index pending.now slot < 2 ^ 31 - 1 }
+    requires balanced { IsBalanced pending.now slot task }
     requires behind { IsBehind tails.now slot }
-    ensures { OnOk result (Emits (Serves pends.now tails.now saved slot task) code.old.items code.new.items) }
+    ensures { OnOk result (Emits (Serves pending.now tails.now saved slot task) code.old.items code.new.items) }
 {
     match task {
         SlotTask::Branch {
@@ -478,11 +478,15 @@ fn emit_task(
             dst,
             operand,
             to,
-        } => { emit_branch(code, pends, tails, slot, condition, width, dst, operand, to) }
-        SlotTask::Leap { to } => emit_leap(code, pends, tails, slot, to),
-        SlotTask::Exit => emit_exit(code, pends, saved, slot),
+        } => {
+            emit_branch(
+                code, pending, tails, slot, condition, width, dst, operand, to,
+            )
+        }
+        SlotTask::Leap { to } => emit_leap(code, pending, tails, slot, to),
+        SlotTask::Exit => emit_exit(code, pending, saved, slot),
         SlotTask::Dead => Ok(()),
-        _ => emit_plain(alloc, code, pends, tails, slot, task),
+        _ => emit_plain(alloc, code, pending, tails, slot, task),
     }
 }
 
@@ -490,7 +494,7 @@ fn emit_task(
 pub(crate) fn emit(
     alloc: Global,
     code: &mut Vec<u8>,
-    pends: &[u64],
+    pending: &[u64],
     tails: &[u64],
     saved: SavedRegisters,
     tasks: &[SlotTask],
@@ -500,13 +504,21 @@ pub(crate) fn emit(
     requires few { slot < SLOTS }
     requires within { slot < length tasks.now }
     requires targets { targets.now ≡ targets_in tasks.now }
-    requires apt { is_apt slot (slots.task_at tasks.now slot) ≡ true }
-    requires pended { ArePends tasks.now pends.now }
+    requires eligible { is_eligible slot (slots.task_at tasks.now slot) ≡ true }
+    requires pended { ArePending tasks.now pending.now }
     requires behind { IsBehind tails.now slot }
-    ensures { OnOk result (Emits (ServesBy (fusion.fused tasks.now slot) tasks.now pends.now tails.now saved slot (slots.task_at tasks.now slot)) code.old.items code.new.items) }
+    ensures { OnOk result (Emits (ServesBy (fusion.fused tasks.now slot) tasks.now pending.now tails.now saved slot (slots.task_at tasks.now slot)) code.old.items code.new.items) }
 {
     match fused(tasks, targets, slot) {
-        Some(instr) => emit_fused(code, pends, tails, slot, instr, task_at(tasks, slot + 1)),
-        None => emit_task(alloc, code, pends, tails, saved, slot, task_at(tasks, slot)),
+        Some(instr) => emit_fused(code, pending, tails, slot, instr, task_at(tasks, slot + 1)),
+        None => emit_task(
+            alloc,
+            code,
+            pending,
+            tails,
+            saved,
+            slot,
+            task_at(tasks, slot),
+        ),
     }
 }

@@ -42,5 +42,6 @@ says_below me (suc d) n = if d == me then says_below me d n else says_covered d 
 abbrev pub thaws : TheNode → TheNode
 thaws n = let m = released (thawed n) in says_below m.me (m.count + 1) m
 
+-- a checkpoint is durable: if the node waits for one, it goes on
 abbrev pub saved : TheNode → TheNode
 saved n = if n.frozen then thaws n else n

@@ -58,6 +58,7 @@ comes_back k = is_process k && kept_in_range k && nat_le k.length MOST_RECEIVED 
 
 -- ---- what it is in a cluster
 
+-- the queue of a checkpoint's log
 abbrev pub queue_of : KeptLog → TheQueue
 queue_of l = kept_queue l.first l.payloads
 

@@ -111,6 +111,7 @@ abbrev pub with_said : NodePacket → Option Body → List Parcel → List Parce
 with_said x None ps = ps
 with_said x (Some b) ps = parcel x.from x.to b ∷ ps
 
+-- the system after a call
 abbrev pub after_call : System → Call → System
 after_call s (Gave p x new) = record {
   nodes = put s.nodes p new;
@@ -129,6 +130,7 @@ abbrev pub Calls : Answering → System → List Call → Type 0
 Calls f s [] = Unit {0}
 Calls f s (k ∷ ks) = DoesIt f s k × Calls f (after_call s k) ks
 
+-- the system after these calls
 abbrev pub after_calls : System → List Call → System
 after_calls s [] = s
 after_calls s (k ∷ ks) = after_calls (after_call s k) ks

@@ -15,10 +15,11 @@ abbrev pub sends : ℕ → ℕ → ℕ → TheNode → TheNode
 sends to first zero n = n
 sends to first (suc k) n = delivers to (first + k + 1) (sends to first k n)
 
--- the SSN after which the kept messages above an SSN begin; and how many of them are released, at most as many as one call sends
+-- the SSN after which the kept messages above an SSN begin
 abbrev pub first_to_send : ℕ → TheQueue → ℕ
 first_to_send above q = max q.dropped above
 
+-- how many of them are released, at most as many as one call sends
 abbrev pub many_to_send : ℕ → ℕ → TheQueue → ℕ
 many_to_send tick above q = min (q.released - first_to_send above q) tick
 
@@ -48,6 +49,7 @@ abbrev pub released_below : ℕ → ℕ → TheNode → TheNode
 released_below me zero n = n
 released_below me (suc d) n = if d == me then released_below me d n else released_to d (released_below me d n)
 
+-- releases what waited, to each peer
 abbrev pub released : TheNode → TheNode
 released n = released_below n.me (n.count + 1) n
 
@@ -72,7 +74,8 @@ abbrev pub renumbers : ℕ → ℕ → ℕ → ℕ → TheNode → TheNode
 renumbers to place zero left n = n
 renumbers to place (suc k) zero n = n
 renumbers to place (suc k) (suc left) n =
-    if is_told_at to place n then renumbers to (place + 1) k (suc left) n else renumbers to (place + 1) k left (tells to (covered_of to n + place + 1) n)
+    if is_told_at to place n then renumbers to (place + 1) k (suc left) n
+    else renumbers to (place + 1) k left (tells to (covered_of to n + place + 1) n)
 
 -- tells a peer's RSNs again
 abbrev pub renumbered : ℕ → TheNode → TheNode

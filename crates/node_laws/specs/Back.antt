@@ -72,6 +72,7 @@ pub record IsBack (n : ℕ) (f : Handlers) (s t : System) (p : ℕ) (old : TheCo
   pub back : (m : TheNode) → t.processes p ≡ Up m → length_of m ≡ kept_of old new
       → f.state p (take (kept_of old new) ((after_run (opening n f) acts).history p)) ≡ m.state
 
+-- a process that recovers comes back with what it keeps, if all stay exact
 abbrev pub RecoversExactly : Type 0
 RecoversExactly = (f : Answering) (n page tick : ℕ) (limits : ℕ → Limits) (len : ℕ → ℕ) (bytes : ℕ
     → List ℕ) (calls more : List Call) (p : ℕ) (old : TheCollecting) (new : TheReplaying) → n ≤ 15 → AreStored n len bytes

@@ -26,6 +26,7 @@ use Rattle.node_laws.specs.Worked.{sent}
 
 -- ---- packets between the first process, the second and the gateway
 
+-- a packet of a cluster of two
 abbrev pub packet : ℕ → ℕ → Body → NodePacket
 packet from to b = record { count = 2; from = from; to = to; body = b }
 
@@ -33,6 +34,7 @@ packet from to b = record { count = 2; from = from; to = to; body = b }
 abbrev pub ask : ℕ → NodePacket
 ask to = packet 1 to (Ask 2 0)
 
+-- its request for the RSNs of its messages
 abbrev pub resume : ℕ → NodePacket
 resume to = packet 1 to (Resume 2 0 0)
 
@@ -40,25 +42,31 @@ resume to = packet 1 to (Resume 2 0 0)
 abbrev pub told : ℕ → NodePacket
 told from = packet from 1 (Told 2 1 0 (flags_of true false true) [])
 
+-- a peer answers that it has none
 abbrev pub restored : ℕ → NodePacket
 restored from = packet from 1 (Restored 2 1 0 0 (flags_of true false true) [])
 
 -- ---- the gateway, with this size of a page and of a tick
 
+-- it took the question
 abbrev pub asked : ℕ → ℕ → TheGateway
 asked page tick = gateways.handed (ask 0) (new_gateway 2 page tick)
 
+-- and then the request for RSNs
 abbrev pub resumed : ℕ → ℕ → TheGateway
 resumed page tick = gateways.handed (resume 0) (sent (asked page tick))
 
 -- ---- the second process, with a state of zeros
 
+-- it gave its packets
 abbrev pub without : TheNode → TheNode
 without n = record n { out = [] }
 
+-- it took the question
 abbrev pub other_asked : ℕ → TheNode
 other_asked len = nodes.handed (ask 2) (new_node usual 2 2 len)
 
+-- and then the request for RSNs
 abbrev pub other_resumed : ℕ → TheNode
 other_resumed len = nodes.handed (resume 2) (without (other_asked len))
 
@@ -68,33 +76,41 @@ other_resumed len = nodes.handed (resume 2) (without (other_asked len))
 abbrev pub comes : ℕ → TheCollecting
 comes len = revived usual (kept_of (new_node usual 1 2 len)) 2
 
+-- it asks, and still has to give these packets
 abbrev pub asks : ℕ → List NodePacket → TheCollecting
 asks len out = record (comes len) { own = record (comes len).own { out = out } }
 
--- the gateway has answered it, and then the other process
+-- the gateway has answered it
 abbrev pub hears : ℕ → TheCollecting
 hears len = collecting.handed (told 0) (asks len [])
 
+-- the other process has answered too, so it has all answers
 abbrev pub has_all : ℕ → TheCollecting
 has_all len = collecting.handed (told 2) (hears len)
 
+-- it replays an empty plan
 abbrev pub replays : ℕ → TheReplaying
 replays len = record { own = (has_all len).own; plan = []; done = 0 }
 
+-- it begins to ask for RSNs
 abbrev pub begins : ℕ → TheRestoring
 begins len = begun (replayed_of (replays len))
 
+-- it asks for RSNs, and still has to give these packets
 abbrev pub resumes : ℕ → List NodePacket → TheRestoring
 resumes len out = record (begins len) { own = record (begins len).own { out = out } }
 
+-- the gateway has told it the RSNs
 abbrev pub enters : ℕ → TheRestoring
 enters len = restoring.handed (restored 0) (resumes len [])
 
+-- the other process has told it the RSNs too
 abbrev pub has_answers : ℕ → TheRestoring
 has_answers len = restoring.handed (restored 2) (enters len)
 
 -- ---- the calls
 
+-- from its death until it is up again
 abbrev pub worked : ℕ → ℕ → ℕ → List Call
 worked len page tick =
     Died 1
@@ -134,5 +150,6 @@ pub record IsWorked (f : Answering) (len page tick : ℕ) (bytes : ℕ → List 
   pub other : (after_calls (new_system 2 (λ _. usual) (λ _. len) bytes page tick)
       (worked len page tick)).processes 2 ≡ Up (without (other_resumed len))
 
+-- so it goes for every handler, length of the state and size of a page and of a tick
 abbrev pub ComesBackBeside : Type 0
 ComesBackBeside = (f : Answering) (len page tick : ℕ) (bytes : ℕ → List ℕ) → AreStored 2 (λ _. len) bytes → IsWorked f len page tick bytes

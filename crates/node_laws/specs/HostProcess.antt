@@ -57,6 +57,7 @@ seen Absent c = stage_of c
 seen (Pending bytes) c = stage_of c
 seen Durable c = covered (stage_of c)
 
+-- and by its host: one that was killed is that
 abbrev pub as_process : Hosted → Process
 as_process (Runs process checkpoint) = seen checkpoint process.course
 as_process Killed = lives.Killed

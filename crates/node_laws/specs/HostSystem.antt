@@ -43,6 +43,7 @@ pub record Opens (n : ℕ) (images : ℕ → AnyImage) (limits : ℕ → Limits)
   pub opened : (p : ℕ) → IsFirst n p → IsOpened (images p) (limits p) p n (processes p)
   pub stored : (p : ℕ) → IsFirst n p → Keeps (processes p).course (bytes p)
 
+-- n processes and the gateway, before their first call
 abbrev pub new_system : ℕ → (ℕ → TheProcess) → (ℕ → List ℕ) → ℕ → ℕ → System
 new_system n processes bytes page tick =
     record {
@@ -147,6 +148,7 @@ DoesIt images n s (Outside call) = IsOutside call × called.DoesIt (answering n 
 abbrev pub after_outside : System → called.System → System
 after_outside s t = record s { gateway = t.gateway; durable = t.durable; taken = t.taken; given = t.given }
 
+-- the system after a call
 abbrev pub after_call : System → HostCall → System
 after_call s (Gave p x new) = record s { processes = put s.processes p (goes_on new (s.processes p)); given = x ∷ s.given }
 after_call s (GaveBytes p x bytes new) = record s { processes = put s.processes p (goes_on new (s.processes p)); given = x ∷ s.given }
@@ -168,6 +170,7 @@ abbrev pub AreCalls : (ℕ → AnyImage) → ℕ → System → List HostCall �
 AreCalls images n s [] = Unit {0}
 AreCalls images n s (k ∷ ks) = DoesIt images n s k × AreCalls images n (after_call s k) ks
 
+-- the system after these calls
 abbrev pub after_calls : System → List HostCall → System
 after_calls s [] = s
 after_calls s (k ∷ ks) = after_calls (after_call s k) ks

@@ -39,11 +39,13 @@ last p state m = record { state = m.payload; given = [] }
 abbrev pub input : ℕ → List ℕ
 input k = k ∷ []
 
+-- the handler's answer to the k-th input
 abbrev pub answer : ℕ → Answer
 answer k = record { state = input k; given = [] }
 
 -- ---- its packets
 
+-- the k-th message, to the process
 abbrev pub delivery : ℕ → NodePacket
 delivery k = from_gateway (Delivery 1 k (input k))
 
@@ -51,6 +53,7 @@ delivery k = from_gateway (Delivery 1 k (input k))
 abbrev pub number : ℕ → NodePacket
 number k = from_process (Number 1 k k)
 
+-- the gateway acknowledges the k-th RSN
 abbrev pub acknowledgement : ℕ → NodePacket
 acknowledgement k = from_gateway (Acknowledgement 1 k)
 
@@ -58,88 +61,111 @@ acknowledgement k = from_gateway (Acknowledgement 1 k)
 abbrev pub covers : NodePacket
 covers = from_process (Saved 1)
 
+-- the process asks what is logged for it after its first message
 abbrev pub ask : NodePacket
 ask = from_process (Ask 2 1)
 
+-- the log's entry of the k-th message
 abbrev pub entry : ℕ → LoggedMessage
 entry k = record { number = k; ssn = k; payload = input k }
 
+-- the gateway tells the second message and the third
 abbrev pub told : NodePacket
 told = from_gateway (Told 2 1 1 (flags_of true false true) (entry 2 ∷ entry 3 ∷ []))
 
+-- the process asks under which RSNs its messages were received
 abbrev pub resume : NodePacket
 resume = from_process (Resume 2 3 0)
 
+-- the gateway answers that it received none
 abbrev pub restored : NodePacket
 restored = from_gateway (Restored 2 1 0 0 (flags_of true false true) [])
 
 -- ---- the gateway
 
+-- it still has to give these packets
 abbrev pub gave : List NodePacket → TheGateway → TheGateway
 gave out g = record g { out = out }
 
+-- it took the first input
 abbrev pub g1 : TheGateway
 g1 = puts_in 1 (input 1) (new_gateway 1 PAGE TICK)
 
+-- it gave that, and heard its RSN
 abbrev pub g2 : TheGateway
 g2 = gateways.handed (number 1) (sent g1)
 
+-- it took the second input
 abbrev pub g3 : TheGateway
 g3 = puts_in 1 (input 2) (sent g2)
 
+-- it took the third input
 abbrev pub g4 : TheGateway
 g4 = puts_in 1 (input 3) g3
 
+-- it gave both, and heard the RSN of the second
 abbrev pub g5 : TheGateway
 g5 = gateways.handed (number 2) (sent g4)
 
+-- it heard the RSN of the third
 abbrev pub g6 : TheGateway
 g6 = gateways.handed (number 3) g5
 
+-- it was asked by the process that came back
 abbrev pub g7 : TheGateway
 g7 = gateways.handed ask (sent g6)
 
+-- it was asked for RSNs
 abbrev pub g8 : TheGateway
 g8 = gateways.handed resume (sent g7)
 
 -- ---- the process while it is up
 
+-- it gave its packets
 abbrev pub quiet : TheNode → TheNode
 quiet n = record n { out = [] }
 
+-- the handler ran on the k-th message
 abbrev pub works : ℕ → TheNode → TheNode
 works k n = nodes.did_work (input k) [] n.working n
 
+-- the process at its opening
 abbrev pub n0 : TheNode
 n0 = new_node usual 1 1 1
 
--- the first message comes, and the handler runs on it
+-- the first message comes
 abbrev pub n1 : TheNode
 n1 = nodes.handed (delivery 1) n0
 
+-- the handler ran on the first
 abbrev pub n2 : TheNode
 n2 = works 1 n1
 
--- its RSN is acknowledged, and a checkpoint is made
+-- its RSN is acknowledged
 abbrev pub n3 : TheNode
 n3 = nodes.handed (acknowledgement 1) (quiet n2)
 
+-- it froze its checkpoint
 abbrev pub n4 : TheNode
 n4 = saving.froze n3
 
+-- its checkpoint is durable
 abbrev pub n5 : TheNode
 n5 = saving.saved n4
 
--- the second message comes, and the third
+-- the second message comes
 abbrev pub n6 : TheNode
 n6 = nodes.handed (delivery 2) (quiet n5)
 
+-- the handler ran on the second
 abbrev pub n7 : TheNode
 n7 = works 2 n6
 
+-- the third message came
 abbrev pub n8 : TheNode
 n8 = nodes.handed (delivery 3) (quiet n7)
 
+-- the handler ran on the third
 abbrev pub n9 : TheNode
 n9 = works 3 n8
 
@@ -149,33 +175,43 @@ n10 = nodes.handed (acknowledgement 2) (quiet n9)
 
 -- ---- the process while it comes back
 
+-- it comes back from its checkpoint
 abbrev pub comes : TheCollecting
 comes = revived usual (kept_of n4) 2
 
+-- its question is taken
 abbrev pub asks : TheCollecting
 asks = record comes { own = record comes.own { out = [] } }
 
+-- the gateway has told it both messages
 abbrev pub has_all : TheCollecting
 has_all = collecting.handed told asks
 
+-- the job of the k-th message
 abbrev pub job : ℕ → OpenJob
 job k = record { sender = 0; ssn = k; payload = input k }
 
+-- it replays the second message and the third
 abbrev pub replays : TheReplaying
 replays = record { own = has_all.own; plan = job 2 ∷ job 3 ∷ []; done = 0 }
 
+-- it replayed the second
 abbrev pub replays_more : TheReplaying
 replays_more = did_replay (input 2) [] (Some (job 2)) replays
 
+-- it replayed the third
 abbrev pub replayed : TheReplaying
 replayed = did_replay (input 3) [] (Some (job 3)) replays_more
 
+-- it begins to ask for RSNs
 abbrev pub begins : TheRestoring
 begins = begun (replayed_of replayed)
 
+-- its request is taken
 abbrev pub resumes : TheRestoring
 resumes = record begins { own = record begins.own { out = [] } }
 
+-- the gateway has answered it
 abbrev pub has_answer : TheRestoring
 has_answer = restoring.handed restored resumes
 
@@ -217,6 +253,7 @@ before bytes =
     ∷ Handed 1 (acknowledgement 2) (Up n10)
     ∷ []
 
+-- from its death until it is up again
 abbrev pub behind : List Call
 behind =
     Died 1
@@ -261,5 +298,6 @@ pub record IsWorked (stored : ℕ → List ℕ) (bytes : List ℕ) : Type 0 wher
   pub life : (up has_answer).life ≡ 2
   pub state : (up has_answer).state ≡ input 3
 
+-- so it goes for all bytes of its opening and of its checkpoint
 abbrev pub ReplaysTwo : Type 0
 ReplaysTwo = (stored : ℕ → List ℕ) (bytes : List ℕ) → AreStored 1 (λ _. 1) stored → IsKept (kept_of n4) bytes → IsWorked stored bytes

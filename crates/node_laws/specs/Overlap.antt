@@ -18,27 +18,31 @@ use Rattle.node_laws.specs.Beside.{packet}
 abbrev pub lasting : Limits
 lasting = record usual { durable = true }
 
--- the question of a process in its second incarnation, and the answer of the first process that all is lost
+-- the question of a process in its second incarnation
 abbrev pub ask : ℕ → ℕ → NodePacket
 ask from to = packet from to (Ask 2 0)
 
+-- the first process answers the second that all is lost
 abbrev pub loss : NodePacket
 loss = packet 1 2 (Told 2 2 0 (flags_of true true false) [])
 
--- it comes back; and the packets that it has still to give
+-- it comes back
 abbrev pub comes : ℕ → ℕ → TheCollecting
 comes len p = revived lasting (kept_of (new_node usual p 2 len)) 2
 
+-- it still has to give these packets
 abbrev pub gives : TheCollecting → List NodePacket → TheCollecting
 gives n out = record n { own = record n.own { out = out } }
 
--- the first process hears that the other is recovering too; and the other hears of the first
+-- the first process hears that the other is recovering too
 abbrev pub hears : ℕ → TheCollecting
 hears len = handed (ask 2 1) (comes len 1)
 
+-- the second process hears that all is lost
 abbrev pub learns : ℕ → TheCollecting
 learns len = handed loss (gives (comes len 2) [])
 
+-- both die, come back, and hear of each other
 abbrev pub met : ℕ → List Call
 met len =
     Died 1
@@ -55,6 +59,7 @@ met len =
     ∷ Handed 2 loss (Collects (learns len))
     ∷ []
 
+-- two durable processes and the gateway, before their first call
 abbrev pub opening : ℕ → ℕ → ℕ → (ℕ → List ℕ) → System
 opening len page tick bytes = new_system 2 (λ _. lasting) (λ _. len) bytes page tick
 
@@ -65,5 +70,6 @@ pub record IsMet (f : Answering) (len page tick : ℕ) (bytes : ℕ → List ℕ
   pub durable : (p : ℕ) → StaysDurable p (opening len page tick bytes) (met len)
   pub inexact : is_exact ((after_calls (opening len page tick bytes) (met len)).processes 2) ≡ false
 
+-- so it goes for every handler, length of the state and size of a page and of a tick
 abbrev pub DurableMeet : Type 0
 DurableMeet = (f : Answering) (len page tick : ℕ) (bytes : ℕ → List ℕ) → AreStored 2 (λ _. len) bytes → IsMet f len page tick bytes

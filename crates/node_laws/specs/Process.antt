@@ -30,6 +30,7 @@ use Rattle.recovery.specs.Restoration.{TheRestoring, begun, up}
 use Rattle.recovery.specs.Restoration as restores
 use Rattle.recovery.specs.RestorationStands as restoring
 
+-- a process in its stage
 pub data Process : Type 0 where
   Up : TheNode → Process
   -- a node that waits for its checkpoint, which is durable; the node wasn't told so yet
@@ -146,6 +147,7 @@ IsTold (Up n) new = (n.frozen ≡ false) × Becomes Up new (λ m. nodes.Saves n 
 IsTold (Covered n) new = Becomes Up new (λ m. (m ≡ saved n) × nodes.Saves n m)
 IsTold process new = ⊥
 
+-- the process was killed
 abbrev pub IsKilled : Process → Type 0
 IsKilled Killed = Unit {0}
 IsKilled process = ⊥

@@ -121,6 +121,7 @@ DoesIt f n s StoredOut = Unit {0}
 DoesIt f n s (StoredBut k) = Unit {0}
 DoesIt f n s (RevivedOut new) = (new ≡ revived new.page new.tick s.durable.store) × StandsFor s.durable.store new
 
+-- the system after a call
 abbrev pub after_call : System → Call → System
 after_call s (Gave p x new) = record s { processes = put s.processes p new; given = x ∷ s.given }
 after_call s (Handed p x new) = record s { processes = put s.processes p new }
@@ -147,14 +148,16 @@ abbrev pub Calls : Answering → ℕ → System → List Call → Type 0
 Calls f n s [] = Unit {0}
 Calls f n s (k ∷ ks) = DoesIt f n s k × Calls f n (after_call s k) ks
 
+-- the system after these calls
 abbrev pub after_calls : System → List Call → System
 after_calls s [] = s
 after_calls s (k ∷ ks) = after_calls (after_call s k) ks
 
--- at the end of each of these calls each process that is alive is exact
+-- each process that is alive is exact
 abbrev pub AreExact : ℕ → System → Type 0
 AreExact n s = (p : ℕ) → IsFirst n p → is_exact (s.processes p) ≡ true
 
+-- after each of these calls each process that is alive is exact
 abbrev pub StayExact : ℕ → System → List Call → Type 0
 StayExact n s [] = Unit {0}
 StayExact n s (k ∷ ks) = AreExact n (after_call s k) × StayExact n (after_call s k) ks

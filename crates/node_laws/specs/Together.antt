@@ -60,6 +60,7 @@ DoesIt f n s (GaveOut x new) = gateways.Takes (Some x) s.gateway new
 DoesIt f n s (HandedOut x new) = IsOne x s.given × gateways.IsHanded x s.gateway new
 DoesIt f n s (DidOut new) = gateways.Acts s.gateway new
 
+-- the system after a call
 abbrev pub after_call : System → Call → System
 after_call s (Gave p x new) = record s { nodes = put s.nodes p new; given = x ∷ s.given }
 after_call s (Handed p x new) = record s { nodes = put s.nodes p new }
@@ -75,6 +76,7 @@ abbrev pub Calls : Answering → ℕ → System → List Call → Type 0
 Calls f n s [] = Unit {0}
 Calls f n s (k ∷ ks) = DoesIt f n s k × Calls f n (after_call s k) ks
 
+-- the system after these calls
 abbrev pub after_calls : System → List Call → System
 after_calls s [] = s
 after_calls s (k ∷ ks) = after_calls (after_call s k) ks

@@ -24,33 +24,41 @@ use Rattle.node_laws.specs.Durable.{ReplayWhole}
 
 -- ---- its packets
 
--- from the process to the gateway, and back
+-- from the process to the gateway
 abbrev pub from_process : Body → NodePacket
 from_process b = record { count = 1; from = 1; to = 0; body = b }
 
+-- from the gateway to the process
 abbrev pub from_gateway : Body → NodePacket
 from_gateway b = record { count = 1; from = 0; to = 1; body = b }
 
+-- it asks what is logged for it
 abbrev pub ask : NodePacket
 ask = from_process (Ask 2 0)
 
+-- the gateway answers that nothing is
 abbrev pub told : NodePacket
 told = from_gateway (Told 2 1 0 (flags_of true false true) [])
 
+-- it asks under which RSNs its messages were received
 abbrev pub resume : NodePacket
 resume = from_process (Resume 2 0 0)
 
+-- the gateway answers that it received none
 abbrev pub restored : NodePacket
 restored = from_gateway (Restored 2 1 0 0 (flags_of true false true) [])
 
 -- ---- the gateway, with this size of a page and of a tick
 
+-- it gave its packets
 abbrev pub sent : TheGateway → TheGateway
 sent g = record g { out = [] }
 
+-- it took the question
 abbrev pub asked : ℕ → ℕ → TheGateway
 asked page tick = gateways.handed ask (new_gateway 1 page tick)
 
+-- and then the request for RSNs
 abbrev pub resumed : ℕ → ℕ → TheGateway
 resumed page tick = gateways.handed resume (sent (asked page tick))
 
@@ -60,6 +68,7 @@ resumed page tick = gateways.handed resume (sent (asked page tick))
 abbrev pub comes : ℕ → TheCollecting
 comes len = revived usual (kept_of (new_node usual 1 1 len)) 2
 
+-- its question is taken
 abbrev pub asks : ℕ → TheCollecting
 asks len = record (comes len) { own = record (comes len).own { out = [] } }
 
@@ -67,12 +76,15 @@ asks len = record (comes len) { own = record (comes len).own { out = [] } }
 abbrev pub has_all : ℕ → TheCollecting
 has_all len = collecting.handed told (asks len)
 
+-- it replays an empty plan
 abbrev pub replays : ℕ → TheReplaying
 replays len = record { own = (has_all len).own; plan = []; done = 0 }
 
+-- it begins to ask for RSNs
 abbrev pub begins : ℕ → TheRestoring
 begins len = begun (replayed_of (replays len))
 
+-- its request is taken
 abbrev pub resumes : ℕ → TheRestoring
 resumes len = record (begins len) { own = record (begins len).own { out = [] } }
 
@@ -82,6 +94,7 @@ has_answer len = restoring.handed restored (resumes len)
 
 -- ---- the calls
 
+-- from its death until it is up again
 abbrev pub worked : ℕ → ℕ → ℕ → List Call
 worked len page tick =
     Died 1
@@ -114,5 +127,6 @@ pub record IsWorked (f : Answering) (len page tick : ℕ) (bytes : ℕ → List 
   pub life : node.life ≡ 2
   pub state : node.state ≡ (new_node usual 1 1 len).state
 
+-- so it goes for every handler, length of the state and size of a page and of a tick
 abbrev pub ComesBackUp : Type 0
 ComesBackUp = (f : Answering) (len page tick : ℕ) (bytes : ℕ → List ℕ) → AreStored 1 (λ _. len) bytes → IsWorked f len page tick bytes

@@ -26,8 +26,9 @@ kind_number kinds.Saved = 8
 -- the kind of a byte
 abbrev pub kind_at : ℕ → Option PacketKind
 kind_at n =
-    if n == 1 then Some kinds.Delivery else if n == 2 then Some kinds.Number else if n == 3 then Some kinds.Acknowledgement else if n == 4 then Some kinds.Ask
-    else if n == 5 then Some kinds.Told else if n == 6 then Some kinds.Resume else if n == 7 then Some kinds.Restored else if n == 8 then Some kinds.Saved else None
+    if n == 1 then Some kinds.Delivery else if n == 2 then Some kinds.Number else if n == 3 then Some kinds.Acknowledgement
+    else if n == 4 then Some kinds.Ask else if n == 5 then Some kinds.Told else if n == 6 then Some kinds.Resume
+    else if n == 7 then Some kinds.Restored else if n == 8 then Some kinds.Saved else None
 
 -- the kind of a body
 abbrev pub kind_of : Body → PacketKind

@@ -44,6 +44,7 @@ first_number (x ∷ xs) ssn = if x.ssn == ssn then Some x.number else first_numb
 abbrev pub told_end : Flags → ℕ → List LoggedMessage → Option ℕ
 told_end flags k entries = page_end flags k (map (λ (e : LoggedMessage). e.number) entries)
 
+-- how far a page of RSNs by SSN goes
 abbrev pub restored_end : Flags → ℕ → List Pair → Option ℕ
 restored_end flags s pairs = page_end flags s (map (λ (x : Pair). x.ssn) pairs)
 

@@ -18,6 +18,7 @@ pub record TheCollecting : Type 0 where
   pub own : TheOwn
   pub told : List TheCollected
 
+-- what a peer has told
 abbrev pub told_of : List TheCollected → ℕ → TheCollected
 told_of told q = slice_index_or told q (none_told 0)
 
@@ -38,6 +39,7 @@ abbrev pub asks_below : ℕ → ℕ → TheCollecting → TheCollecting
 asks_below me zero n = n
 asks_below me (suc d) n = if d == me then asks_below me d n else asks d (asks_below me d n)
 
+-- asks all peers
 abbrev pub asked : TheCollecting → TheCollecting
 asked n = asks_below n.own.me (n.own.count + 1) n
 

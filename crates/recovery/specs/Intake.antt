@@ -32,6 +32,7 @@ abbrev pub noted_from : List Pair → ℕ → List (Option ℕ) → List (Option
 noted_from pairs ssn [] = []
 noted_from pairs ssn (k ∷ ks) = or_else (first_number pairs (suc ssn)) k ∷ noted_from pairs (suc ssn) ks
 
+-- the messages of a queue get the RSNs of a page
 abbrev pub noted : List Pair → TheQueue → TheQueue
 noted pairs q = record q { numbers = noted_from pairs q.dropped q.numbers }
 

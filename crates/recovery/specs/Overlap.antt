@@ -17,6 +17,7 @@ is_loss body = false
 abbrev pub loss_of : ℕ → ℕ → TheOwn → Body
 loss_of i k o = Told i o.life k (flags_of true true false) []
 
+-- answers a peer that all is lost
 abbrev pub tells_loss : ℕ → ℕ → ℕ → TheOwn → TheOwn
 tells_loss q i k o = posts q (loss_of i k o) o
 

@@ -53,10 +53,11 @@ pub record IsOwn (limits : Limits)
 abbrev pub IsShort : List TheQueue → ℕ → Type 0
 IsShort logs received = (d : ℕ) → (log_at logs d).dropped + length (log_at logs d).payloads ≤ MOST_GIVEN * received
 
--- puts one more packet into the outbox, if there is room
+-- a packet of the process
 abbrev pub packet_of : TheOwn → ℕ → Body → NodePacket
 packet_of o to body = record { count = o.count; from = o.me; to = to; body = body }
 
+-- puts one more packet into the outbox, if there is room
 abbrev pub posts : ℕ → Body → TheOwn → TheOwn
 posts to body o = record o { out = pushed (packet_of o to body) o.out }
 

@@ -42,5 +42,6 @@ collecting_standing n = record (standing_in stage.Collecting 0 0 n.own) { waited
 abbrev pub replaying_standing : TheReplaying → Standing
 replaying_standing n = standing_in stage.Replaying n.done (length n.plan - n.done) n.own
 
+-- the status once all is replayed
 abbrev pub replayed_standing : TheReplayed → Standing
 replayed_standing n = standing_in stage.Replaying (length n.receipts.senders) 0 n.own

@@ -33,6 +33,7 @@ pub record IsReplaying (own : TheOwn) (plan : List OpenJob) (done : ℕ) (receip
 abbrev pub next_job : TheReplaying → Option OpenJob
 next_job n = slice_get n.plan n.done
 
+-- whether all of the plan is replayed
 abbrev pub is_over : TheReplaying → Bool
 is_over n = nat_le (length n.plan) n.done
 

@@ -33,12 +33,15 @@ pub record IsRestoring (own : TheOwn) (above : List ℕ) (answered : List Bool) 
   pub logs_wide : length own.logs ≡ suc own.count
   pub alone : slice_index_or answered own.me true ≡ true
 
+-- the process as it was after its replay
 abbrev pub replayed_of : TheRestoring → TheReplayed
 replayed_of n = record { own = n.own; receipts = n.receipts }
 
+-- the SSN up to which a peer told the RSNs
 abbrev pub above_of : ℕ → TheRestoring → ℕ
 above_of q n = slice_index_or n.above q 0
 
+-- whether a peer has told all
 abbrev pub has_answered : ℕ → TheRestoring → Bool
 has_answered q n = slice_index_or n.answered q true
 
@@ -55,6 +58,7 @@ abbrev pub asks_below : ℕ → TheRestoring → TheRestoring
 asks_below zero n = n
 asks_below (suc d) n = asks d (asks_below d n)
 
+-- asks all peers
 abbrev pub asked : TheRestoring → TheRestoring
 asked n = asks_below (n.own.count + 1) n
 
@@ -109,6 +113,7 @@ page_of from j covered s flags pairs n = if from == 0 then greeted covered flags
 abbrev pub doubted : TheRestoring → TheRestoring
 doubted n = record n { own = trusts (flags_of true false false) n.own }
 
+-- the process, no longer exact if a page doesn't fit
 abbrev pub unless_doubted : Bool → TheRestoring → TheRestoring
 unless_doubted fits n = if fits then n else doubted n
 
@@ -126,7 +131,8 @@ asked_by q i k n =
 abbrev pub heard : ℕ → Body → TheRestoring → TheRestoring
 heard from (Restored i j covered s flags pairs) n =
     if in_range (Restored i j covered s flags pairs) && is_reply from i j s n
-    then (if answers from i j covered s pairs n then page_of from j covered s flags pairs n else doubted (page_of from j covered s flags pairs n)) else n
+    then (if answers from i j covered s pairs n then page_of from j covered s flags pairs n
+    else doubted (page_of from j covered s flags pairs n)) else n
 heard from (Ask i k) n = if in_range (Ask i k) then asked_by from i k n else n
 heard from body n = n
 

@@ -20,6 +20,7 @@ pub record TheNotes : Type 0 where
   pub moments : List (ℕ × Option ℕ)
   pub sent : List (Option Payload)
 
+-- the notes as lists
 abbrev pub notes_of : Notes → TheNotes
 notes_of notes = record { moments = notes.moments.items; sent = notes.sent.items }
 

@@ -22,7 +22,7 @@ use Rattle.spans.specs.Typing.{target}
 use Rattle.span_steps.specs.Acts.{insn_act, IsReached}
 use Rattle.span_steps.specs.Machine.{machine}
 use Rattle.native.specs.declared.task.SlotTask.TheVariants as task
-use Rattle.native.specs.Tasks.{operand_of, position_by, sized_at, task_act, holds_word, is_word, is_read, is_apt}
+use Rattle.native.specs.Tasks.{operand_of, position_by, sized_at, task_act, holds_word, is_word, is_read, is_eligible}
 use Rattle.span_native.specs.SpanTasks.{operand_in, stack_at, slot_of, store_imm_task, store_task, helper_task, task_in}
 use Rattle.span_native.proofs.Blind.{blind, blind_is}
 
@@ -130,7 +130,7 @@ module _ (who : Who) (slot len : ℕ) (ws mem : List ℕ) (e : Emitted) (ten : s
 
   -- ---- helpers
 
-  call_is : (z : ℤ) → is_apt slot (helper_task z) ≡ true → Same (Call z)
+  call_is : (z : ℤ) → is_eligible slot (helper_task z) ≡ true → Same (Call z)
   call_is (pos zero) h = cc
   call_is (pos (suc zero)) h =
       let f : ℕ → ℕ → Act = λ a b. Answers (send who a (Some (slice_range mem b (b + 64))) e).0 (send who a (Some (slice_range mem b (b + 64))) e).1 in
@@ -153,27 +153,27 @@ module _ (who : Who) (slot len : ℕ) (ws mem : List ℕ) (e : Emitted) (ten : s
   -- ---- each instruction
 
   -- what the instruction does, its task does to the words without r10
-  pub acts : (i : Insn) → is_apt slot (task_in len slot i) ≡ true → Lands slot i → IsReached ws i → Same i
-  acts (Alu a w dst o) apt t l =
-      let x = and_parts (holds_word dst.number) (is_read a (operand_in len o)) apt in
+  pub acts : (i : Insn) → is_eligible slot (task_in len slot i) ≡ true → Lands slot i → IsReached ws i → Same i
+  acts (Alu a w dst o) eligible t l =
+      let x = and_parts (holds_word dst.number) (is_read a (operand_in len o)) eligible in
       ap (λ p. Puts dst (result_of a w p (operand_word (machine ws []) o)) 1) (held dst.number x.0)
       ∙ ap (λ q. Puts dst (result_of a w (slice_index bs dst.number) q) 1) (operand_is o)
-  acts (MovSx x dst src) apt t l =
-      let y = and_parts (holds_word dst.number) (holds_word src.number) apt in
+  acts (MovSx x dst src) eligible t l =
+      let y = and_parts (holds_word dst.number) (holds_word src.number) eligible in
       ap (λ p. Puts dst (extension_of x p) 1) (held src.number y.1)
-  acts (Neg w dst) apt t l = ap (λ p. Puts dst (negation_of w p) 1) (held dst.number apt)
-  acts (End o b dst) apt t l = ap (λ p. Puts dst (reorder_of o b p) 1) (held dst.number apt)
-  acts (Jump d) apt t l = ap Leaps (sym (mod-eq_of_lt t))
-  acts (JumpLong d) apt t l = ap Leaps (sym (mod-eq_of_lt t))
-  acts (JumpIf x w dst o d) apt t l =
-      let y = and_parts (holds_word dst.number) (is_word (operand_in len o) && nat_lt slot (slot_of slot (Jump d))) apt in
+  acts (Neg w dst) eligible t l = ap (λ p. Puts dst (negation_of w p) 1) (held dst.number eligible)
+  acts (End o b dst) eligible t l = ap (λ p. Puts dst (reorder_of o b p) 1) (held dst.number eligible)
+  acts (Jump d) eligible t l = ap Leaps (sym (mod-eq_of_lt t))
+  acts (JumpLong d) eligible t l = ap Leaps (sym (mod-eq_of_lt t))
+  acts (JumpIf x w dst o d) eligible t l =
+      let y = and_parts (holds_word dst.number) (is_word (operand_in len o) && nat_lt slot (slot_of slot (Jump d))) eligible in
       ap (λ p. Leaps (if holds x w p (operand_word (machine ws []) o) then target slot (Jump d) else slot + 1)) (held dst.number y.0)
       ∙ ap (λ q. Leaps (if holds x w (slice_index bs dst.number) q then target slot (Jump d) else slot + 1)) (operand_is o)
       ∙ ap (λ to. Leaps (if holds x w (slice_index bs dst.number) (operand_of bs (operand_in len o)) then to else slot + 1)) (sym (mod-eq_of_lt t))
-  acts (Call z) apt t l = call_is z apt
-  acts Exit apt t l = refl
-  acts (Load z dst src d) apt t l = load_is z dst src d l
-  acts (LoadSx z dst src d) apt t l = load_sx_is z dst src d l
-  acts (StoreReg z dst src d) apt t l = store_reg_is z dst src d l
-  acts (StoreImm z dst d imm) apt t l = store_imm_is z dst d imm l
-  acts (Wide dst value) apt t l = refl
+  acts (Call z) eligible t l = call_is z eligible
+  acts Exit eligible t l = refl
+  acts (Load z dst src d) eligible t l = load_is z dst src d l
+  acts (LoadSx z dst src d) eligible t l = load_sx_is z dst src d l
+  acts (StoreReg z dst src d) eligible t l = store_reg_is z dst src d l
+  acts (StoreImm z dst d imm) eligible t l = store_imm_is z dst d imm l
+  acts (Wide dst value) eligible t l = refl

@@ -29,7 +29,7 @@ use Rattle.spans.specs.Frame.{Frame, is_num}
 use Rattle.spans.specs.Ways.{Leaves, Ways, from_span}
 use Rattle.span_verifier.specs.Rules.{frame_pointer_rule}
 use Rattle.native.specs.declared.task.SlotTask.TheVariants as task
-use Rattle.native.specs.Tasks.{holds_word, is_word, is_read, is_apt}
+use Rattle.native.specs.Tasks.{holds_word, is_word, is_read, is_eligible}
 use Rattle.span_native.specs.SpanTasks.{operand_in, stack_at, store_imm_task, store_task, task_in}
 use Rattle.span_native.proofs.Acts.{Lands, not_ten}
 
@@ -101,55 +101,55 @@ module _ (slots : List (Option Insn)) (len s : ℕ) (few : length slots ≤ 1024
       by_test false t = holds r t
 
   -- each instruction that breaks no rule
-  pub apt : (i : Insn) (w : Ways) → first_broken (flow_tests slots s (flow_of i)) ≡ None → frame_pointer_rule i ≡ None → Leaves len i f w → (is_apt s (task_in len s i) ≡ true) × Lands s i
-  apt (Alu a w dst o) ways j k l =
+  pub eligible : (i : Insn) (w : Ways) → first_broken (flow_tests slots s (flow_of i)) ≡ None → frame_pointer_rule i ≡ None → Leaves len i f w → (is_eligible s (task_in len s i) ≡ true) × Lands s i
+  eligible (Alu a w dst o) ways j k l =
       let x = some_none _ _ k in
       let y : (dst.number == 10) ≡ false = ap (λ r. option_map_or is_frame_pointer r false) (sym (alu_written (form_of a w o) dst o)) ∙ x in
       (both_true _ _ (holds dst y) (operand_read len a o), tt)
-  apt (MovSx x dst src) ways j k l = (both_true _ _ (holds dst (some_none _ _ k)) (number_word src (from_span-num _ (f src.number) l.0 l.1)), tt)
-  apt (Neg w dst) ways j k l = (holds dst (some_none _ _ k), tt)
-  apt (End o b dst) ways j k l = (holds dst (some_none _ _ k), tt)
-  apt (Jump d) ways j k l = jumps_to (pos (s + 1) +ℤ d) (none_holds (flow_tests slots s (flow_of (Jump d))) j).0
-  apt (JumpLong d) ways j k l = jumps_to (pos (s + 1) +ℤ d) (none_holds (flow_tests slots s (flow_of (JumpLong d))) j).0
-  apt (JumpIf x w dst o d) ways j k l =
+  eligible (MovSx x dst src) ways j k l = (both_true _ _ (holds dst (some_none _ _ k)) (number_word src (from_span-num _ (f src.number) l.0 l.1)), tt)
+  eligible (Neg w dst) ways j k l = (holds dst (some_none _ _ k), tt)
+  eligible (End o b dst) ways j k l = (holds dst (some_none _ _ k), tt)
+  eligible (Jump d) ways j k l = jumps_to (pos (s + 1) +ℤ d) (none_holds (flow_tests slots s (flow_of (Jump d))) j).0
+  eligible (JumpLong d) ways j k l = jumps_to (pos (s + 1) +ℤ d) (none_holds (flow_tests slots s (flow_of (JumpLong d))) j).0
+  eligible (JumpIf x w dst o d) ways j k l =
       let y = jumps_to (pos (s + 1) +ℤ d) (none_holds (flow_tests slots s (flow_of (JumpIf x w dst o d))) j).0 in
       (both_true _ _ (number_word dst (ap is_num l.2)) (both_true _ _ (operand_word len o) y.0), y.1)
-  apt (Call (pos zero)) ways j k l = absurd l.0
-  apt (Call (pos (suc zero))) ways j k l = (refl, tt)
-  apt (Call (pos (suc (suc zero)))) ways j k l = (refl, tt)
-  apt (Call (pos (suc (suc (suc zero))))) ways j k l = (refl, tt)
-  apt (Call (pos (suc (suc (suc (suc zero)))))) ways j k l = (refl, tt)
-  apt (Call (pos (suc (suc (suc (suc (suc zero))))))) ways j k l = (refl, tt)
-  apt (Call (pos (suc (suc (suc (suc (suc (suc zero)))))))) ways j k l = (refl, tt)
-  apt (Call (pos (suc (suc (suc (suc (suc (suc (suc n))))))))) ways j k l = absurd l.0
-  apt (Call (negsuc n)) ways j k l = absurd l.0
-  apt Exit ways j k l = (refl, tt)
-  apt (Load z dst src d) ways j k l = (by_test (src.number == 10) refl, tt)
+  eligible (Call (pos zero)) ways j k l = absurd l.0
+  eligible (Call (pos (suc zero))) ways j k l = (refl, tt)
+  eligible (Call (pos (suc (suc zero)))) ways j k l = (refl, tt)
+  eligible (Call (pos (suc (suc (suc zero))))) ways j k l = (refl, tt)
+  eligible (Call (pos (suc (suc (suc (suc zero)))))) ways j k l = (refl, tt)
+  eligible (Call (pos (suc (suc (suc (suc (suc zero))))))) ways j k l = (refl, tt)
+  eligible (Call (pos (suc (suc (suc (suc (suc (suc zero)))))))) ways j k l = (refl, tt)
+  eligible (Call (pos (suc (suc (suc (suc (suc (suc (suc n))))))))) ways j k l = absurd l.0
+  eligible (Call (negsuc n)) ways j k l = absurd l.0
+  eligible Exit ways j k l = (refl, tt)
+  eligible (Load z dst src d) ways j k l = (by_test (src.number == 10) refl, tt)
     where
-      by_test : (b : Bool) → (src.number == 10) ≡ b → is_apt s (cond b (task.Load z dst (stack_at len d)) (task.LoadBy z dst src d)) ≡ true
+      by_test : (b : Bool) → (src.number == 10) ≡ b → is_eligible s (cond b (task.Load z dst (stack_at len d)) (task.LoadBy z dst src d)) ≡ true
       by_test true t = holds dst (some_none _ _ k)
       by_test false t = both_true _ _ (holds dst (some_none _ _ k)) (holds src t)
-  apt (LoadSx z dst src d) ways j k l = (by_test (src.number == 10) refl, tt)
+  eligible (LoadSx z dst src d) ways j k l = (by_test (src.number == 10) refl, tt)
     where
-      by_test : (b : Bool) → (src.number == 10) ≡ b → is_apt s (cond b (task.LoadSx z dst (stack_at len d)) (task.LoadSxBy z dst src d)) ≡ true
+      by_test : (b : Bool) → (src.number == 10) ≡ b → is_eligible s (cond b (task.LoadSx z dst (stack_at len d)) (task.LoadSxBy z dst src d)) ≡ true
       by_test true t = holds dst (some_none _ _ k)
       by_test false t = both_true _ _ (holds dst (some_none _ _ k)) (holds src t)
-  apt (StoreReg z dst src d) ways j k l = (by_source (src.number == 10) refl, tt)
+  eligible (StoreReg z dst src d) ways j k l = (by_source (src.number == 10) refl, tt)
     where
-      imm_apt : (v : ℤ) (b : Bool) → (dst.number == 10) ≡ b → is_apt s (cond b (task.StoreImm z (stack_at len d) v) (task.StoreImmBy z dst d v)) ≡ true
-      imm_apt v true t = refl
-      imm_apt v false t = holds dst t
+      imm_eligible : (v : ℤ) (b : Bool) → (dst.number == 10) ≡ b → is_eligible s (cond b (task.StoreImm z (stack_at len d) v) (task.StoreImmBy z dst d v)) ≡ true
+      imm_eligible v true t = refl
+      imm_eligible v false t = holds dst t
 
-      reg_apt : (src.number == 10) ≡ false → (b : Bool) → (dst.number == 10) ≡ b → is_apt s (cond b (task.Store z src (stack_at len d)) (task.StoreBy z src dst d)) ≡ true
-      reg_apt u true t = holds src u
-      reg_apt u false t = both_true _ _ (holds src u) (holds dst t)
+      reg_eligible : (src.number == 10) ≡ false → (b : Bool) → (dst.number == 10) ≡ b → is_eligible s (cond b (task.Store z src (stack_at len d)) (task.StoreBy z src dst d)) ≡ true
+      reg_eligible u true t = holds src u
+      reg_eligible u false t = both_true _ _ (holds src u) (holds dst t)
 
-      by_source : (b : Bool) → (src.number == 10) ≡ b → is_apt s (cond b (store_imm_task len z dst d (pos (512 + len + 512))) (store_task len z dst src d)) ≡ true
-      by_source true t = imm_apt (pos (512 + len + 512)) (dst.number == 10) refl
-      by_source false t = reg_apt t (dst.number == 10) refl
-  apt (StoreImm z dst d imm) ways j k l = (by_test (dst.number == 10) refl, tt)
+      by_source : (b : Bool) → (src.number == 10) ≡ b → is_eligible s (cond b (store_imm_task len z dst d (pos (512 + len + 512))) (store_task len z dst src d)) ≡ true
+      by_source true t = imm_eligible (pos (512 + len + 512)) (dst.number == 10) refl
+      by_source false t = reg_eligible t (dst.number == 10) refl
+  eligible (StoreImm z dst d imm) ways j k l = (by_test (dst.number == 10) refl, tt)
     where
-      by_test : (b : Bool) → (dst.number == 10) ≡ b → is_apt s (cond b (task.StoreImm z (stack_at len d) imm) (task.StoreImmBy z dst d imm)) ≡ true
+      by_test : (b : Bool) → (dst.number == 10) ≡ b → is_eligible s (cond b (task.StoreImm z (stack_at len d) imm) (task.StoreImmBy z dst d imm)) ≡ true
       by_test true t = refl
       by_test false t = holds dst t
-  apt (Wide dst value) ways j k l = (holds dst (some_none _ _ k), tt)
+  eligible (Wide dst value) ways j k l = (holds dst (some_none _ _ k), tt)

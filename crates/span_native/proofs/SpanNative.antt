@@ -14,7 +14,7 @@ use Rattle.native.specs.declared.prologue.Opening.TheVariants as opening
 use Rattle.native.specs.Correct.{IsCalled}
 use Rattle.native.specs.Needs.{saved_in}
 use Rattle.native.specs.Openings.{saved_for}
-use Rattle.native.specs.Pends.{pends_in}
+use Rattle.native.specs.Pending.{pending_in}
 use Rattle.native.specs.Saved.{may_write}
 use Rattle.native.specs.Written.{IsServed}
 use Rattle.native.proofs.Ends.{opening_words, opening_is, opening_small, entered_by, enters_by, agrees_by}
@@ -72,7 +72,7 @@ span_native insns len code typable few small whole served = record {
       let n = length slots in
       let tasks = tasks_in slots len n in
       let saved = saved_for opening.Placed tasks in
-      let pends = pends_in tasks in
+      let pending = pending_in tasks in
       let tails = served.written.tails in
       let words = opened len m who c called in
       let none : Emitted = record { sends = []; outputs = [] } in
@@ -92,8 +92,8 @@ span_native insns len code typable few small whole served = record {
         long_is = refl;
         end_is = refl;
       } in
-      let zero_sum : 0 + slice_index pends 0 ≡ 0 = let z = served.pended.begins in omega (arith, z) in
-      let x = follows who tasks 2048 n (omega arith) few (Stand b) (Leaves b) pends tails saved code whole (tails_in opening.Placed tasks code served) (λ j k u. served.laid.falls j k (omega arith) u) c (opening_words who m c called) (opening_is who m c called saved) (calls b) served.saves (laid_in opening.Placed tasks code served) n (blind words) c.array none 0 0 0 (entered_by who m c called opening.Placed saved) (omega arith) refl (record { small = opened_small len m who c called (omega (arith, short)); bytes = called.bytes }) (opened_same len m who c called saved (added_may (saved_in tasks) 2)) (stands b none refl refl) (agrees_by who m c called opening.Placed saved) zero_sum in
+      let zero_sum : 0 + slice_index pending 0 ≡ 0 = let z = served.pended.begins in omega (arith, z) in
+      let x = follows who tasks 2048 n (omega arith) few (Stand b) (Leaves b) pending tails saved code whole (tails_in opening.Placed tasks code served) (λ j k u. served.laid.falls j k (omega arith) u) c (opening_words who m c called) (opening_is who m c called saved) (calls b) served.saves (laid_in opening.Placed tasks code served) n (blind words) c.array none 0 0 0 (entered_by who m c called opening.Placed saved) (omega arith) refl (record { small = opened_small len m who c called (omega (arith, short)); bytes = called.bytes }) (opened_same len m who c called saved (added_may (saved_in tasks) 2)) (stands b none refl refl) (agrees_by who m c called opening.Placed saved) zero_sum in
       let f = x.2 in
       let y = enters_by who m c called opening.Placed saved code x.0 (entry_in opening.Placed tasks code served) (subst (λ p. (k : ℕ) × Runs code k p (entered_by who m c called opening.Placed saved) x.0) (begins_in opening.Placed tasks code served) x.1) in (
         y.0,

@@ -14,13 +14,13 @@ use Rattle.spans.specs.Concrete.{array_size, address}
 use Rattle.span_steps.specs.Acts.{IsReached}
 use Rattle.native.specs.declared.task.SlotTask.{SlotTask}
 use Rattle.native.specs.declared.task.SlotTask.TheVariants as task
-use Rattle.native.specs.Tasks.{position_by, task_act, holds_word, is_read, is_apt, TaskFits, TaskReaches}
+use Rattle.native.specs.Tasks.{position_by, task_act, holds_word, is_read, is_eligible, TaskFits, TaskReaches}
 use Rattle.span_native.specs.SpanTasks.{stack_at, store_imm_task, store_task, helper_task, task_in}
 use Rattle.span_native.proofs.Blind.{blind, blind_is, SparesTen}
 use Rattle.span_native.proofs.Acts.{below_ten, is_ten, not_ten}
 
 -- a task for which there is code leaves r10
-pub task_spares : (who : Who) (slot : ℕ) (ws mem : List ℕ) (e : Emitted) (t : SlotTask) → is_apt slot t ≡ true → SparesTen (task_act who slot ws mem e t)
+pub task_spares : (who : Who) (slot : ℕ) (ws mem : List ℕ) (e : Emitted) (t : SlotTask) → is_eligible slot t ≡ true → SparesTen (task_act who slot ws mem e t)
 task_spares who slot ws mem e (task.Compute o w dst b) h = below_ten dst.number (and_parts (holds_word dst.number) (is_read o b) h).0
 task_spares who slot ws mem e (task.Extend x dst src) h = below_ten dst.number (and_parts (holds_word dst.number) (holds_word src.number) h).0
 task_spares who slot ws mem e (task.Negate w dst) h = below_ten dst.number h

@@ -47,12 +47,12 @@ use Rattle.span_interp.specs.SpanCall.{called}
 use Rattle.span_interp.proofs.Replies.{replies-few}
 use Rattle.span_interp.proofs.Entries.{called-is, ended_leaves, entry_behind, entry_between, same_slices}
 use Rattle.span_interp.proofs.Progress.{EndsBy, Going, Over, ends_by, going_entry, going_next, over, run, some_left, within}
-use Rattle.native.specs.Tasks.{task_act, is_apt}
+use Rattle.native.specs.Tasks.{task_act, is_eligible}
 use Rattle.native.proofs.Successors.{Call}
 use Rattle.span_native.specs.SpanTasks.{task_in, tasks_in}
 use Rattle.span_native.proofs.Blind.{blind, blind_is, SparesTen, does_blind}
 use Rattle.span_native.proofs.Acts.{acts, Lands as JumpsWithin}
-use Rattle.span_native.proofs.Allowed.{apt}
+use Rattle.span_native.proofs.Allowed.{eligible}
 use Rattle.span_native.proofs.Spared.{task_spares, reaches, fits_in}
 use Rattle.span_native.proofs.Locked.{Kept, Locked, end_word, no_number, step_kept}
 use Rattle.span_native.proofs.Opened.{entry_shown}
@@ -175,17 +175,17 @@ module _ {slots : List (Option Insn)} {n long : ℕ} {who : Who} {table : Table}
     placed : (first_broken (flow_tests slots s (flow_of i)) ≡ None) × (frame_pointer_rule i ≡ None)
     placed = (r.typed.allowed s k.f a.before k.there).1 i a.there
 
-    apt_here : (is_apt s (task_in n s i) ≡ true) × JumpsWithin s i
-    apt_here = apt slots n s r.few_slots k.f (no_number k) i a.ways placed.0 placed.1 a.leaves
+    eligible_here : (is_eligible s (task_in n s i) ≡ true) × JumpsWithin s i
+    eligible_here = eligible slots n s r.few_slots k.f (no_number k) i a.ways placed.0 placed.1 a.leaves
 
     reached : IsReached ws i
     reached = within n slots who total first ws mem s steps e count ended g i a.there r.small
 
     same : insn_act who s ws mem e i ≡ task_act who s (blind ws) mem e (task_in n s i)
-    same = acts who s n ws mem e (end_word k r.small) i apt_here.0 apt_here.1 reached
+    same = acts who s n ws mem e (end_word k r.small) i eligible_here.0 eligible_here.1 reached
 
     spares : SparesTen (insn_act who s ws mem e i)
-    spares = subst SparesTen (sym same) (task_spares who s (blind ws) mem e (task_in n s i) apt_here.0)
+    spares = subst SparesTen (sym same) (task_spares who s (blind ws) mem e (task_in n s i) eligible_here.0)
 
     -- what the task does to the words without r10, the instruction does to all
     done : (to : Next) (bs' mem' : List ℕ) (e' : Emitted) → Does s (blind ws) mem e (task_act who s (blind ws) mem e (task_in n s i)) to bs' mem' e' → (ws' : List ℕ) × (bs' ≡ blind ws') × (length ws' ≡ 11) × Does s ws mem e (insn_act who s ws mem e i) to ws' mem' e'
@@ -283,7 +283,7 @@ module _ {slots : List (Option Insn)} {n long : ℕ} {who : Who} {table : Table}
       array = g.whole;
       this = task_in n s i;
       there = task_found slots n count s i a.before a.there;
-      apt = apt_here.0;
+      eligible = eligible_here.0;
       reaches = reaches s n ws (end_word k r.small) i reached;
       fits = fits_in s n i a.fits;
       next = λ to bs' mem' e' d l.

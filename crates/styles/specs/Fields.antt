@@ -29,7 +29,7 @@ abbrev pub fields_text : TheStyle → List (List ℕ × Value) → List ℕ
 fields_text style fields = flat_map (field_text style) fields
 
 -- a call or an answer: its word and its fields. In JSON it is an object with a name
-unfoldable pub deed_text : TheStyle → List ℕ → List (List ℕ × Value) → List ℕ
-deed_text style word fields =
+unfoldable pub labelled_text : TheStyle → List ℕ → List (List ℕ × Value) → List ℕ
+labelled_text style word fields =
     if style.json then codes "{\"name\":\"" ++ word ++ codes "\"" ++ fields_text style fields ++ codes "}" else word
     ++ fields_text style fields

@@ -1,4 +1,4 @@
-pub mod Deeds
+pub mod Calls
 pub mod Fields
 pub mod Lines
 pub mod Style

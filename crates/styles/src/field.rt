@@ -3,7 +3,7 @@
 ghost use Rattle.std.specs.Prelude.{◌≡◌, ◌++◌, OnOk, map, string_bytes};
 ghost use Rattle.scenario.specs.Order.{party_text};
 ghost use Rattle.scenario.specs.Process.{names_of};
-ghost use Rattle.styles.specs.Fields.{deed_text, field_of, field_text, fields_text, party_in, value_text};
+ghost use Rattle.styles.specs.Fields.{labelled_text, field_of, field_text, fields_text, party_in, value_text};
 ghost use Rattle.styles.specs.Style.{style_of};
 ghost use Rattle.styles.specs.declared.field.Value.TheVariants.{Number, Party};
 
@@ -104,14 +104,14 @@ impl Style<'_> {
     }
 
     /// Writes a call or an answer: its word, and its fields.
-    #[tactic(auto, unfolding(crate::specs::Fields::deed_text))]
+    #[tactic(auto, unfolding(crate::specs::Fields::labelled_text))]
     pub(crate) fn say(
         self,
         out: &mut String,
         word: &str,
         fields: &[Field],
     ) -> Result<(), AllocError>
-        ensures { OnOk result (string_bytes out.new ≡ string_bytes out.old ++ deed_text (style_of self.entry) word.now (map field_of fields.now)) }
+        ensures { OnOk result (string_bytes out.new ≡ string_bytes out.old ++ labelled_text (style_of self.entry) word.now (map field_of fields.now)) }
     {
         if self.json {
             write!(out, "{{\"name\":\"{word}\"")?;

@@ -10,7 +10,7 @@
 //! ```
 #![tactic(auto)]
 
-mod deed;
+mod calls;
 mod entry;
 mod field;
 mod report;

@@ -14,24 +14,24 @@ use Rattle.theorems.specs.Growth.{Begins}
 use Rattle.theorems.specs.Invariants.Secured.{Secured, Safe}
 use Rattle.theorems.specs.Invariants.Sound.{Sound}
 use Rattle.theorems.specs.Invariants.Exact.{Exact}
-use Rattle.theorems.specs.Orphans.{IsStanding, IsSent, NoOrphan, payloads_of, ReceivedBegin, ShownBegin}
+use Rattle.theorems.specs.Orphans.{IsSurviving, IsSent, NoOrphan, payloads_of, ReceivedBegin, ShownBegin}
 use Rattle.theorems.specs.Single.{IsSingle}
 use Rattle.theorems.proofs.ListLemmas.{nth-prefix}
 use Rattle.theorems.proofs.LogLemmas.{payloads-prefix}
 use Rattle.theorems.proofs.KeptLemmas.{secured-kept}
 use Rattle.theorems.proofs.Journals.{always-exact, sound-single}
 
--- what is secured is part of the standing history
-secured-standing : (w : World) (p u k : ℕ) → Secured w p u → IsStanding w p k → u ≤ k
-secured-standing w p u k c t = split (is_down (w.phase p)) refl
+-- what is secured is part of the surviving history
+secured-surviving : (w : World) (p u k : ℕ) → Secured w p u → IsSurviving w p k → u ≤ k
+secured-surviving w p u k c t = split (is_down (w.phase p)) refl
   where
     split : (b : Bool) → is_down (w.phase p) ≡ b → u ≤ k
     split true e = secured-kept w p u k e c (t.down e)
     split false e = let l : u ≤ length (w.history p) = c.within in let f : k ≡ length (w.history p) = t.live e in omega arith
 
--- a safe message is one that its sender's standing history sends
+-- a safe message is one that its sender's surviving history sends
 pub is-sent : (w : World) → Sound w → (d : ℕ) (m : Message) → Safe w d m → IsSent w d m
-is-sent w s d m a k t = nth-prefix _ _ m.ssn m.payload (payloads-prefix w s.grows m.sender (w.history m.sender) d a.upto k (secured-standing w m.sender a.upto k a.secured t)) a.sends
+is-sent w s d m a k t = nth-prefix _ _ m.ssn m.payload (payloads-prefix w s.grows m.sender (w.history m.sender) d a.upto k (secured-surviving w m.sender a.upto k a.secured t)) a.sends
 
 pub no-orphan : (n : ℕ) (f : Handlers) (es : List Entry) → IsSingle n f es → NoOrphan (world_of n f es)
 no-orphan n f es i =
@@ -75,21 +75,21 @@ in-order s c (m ∷ ms) xs all = split (m.sender == s) refl (in-order s c ms xs)
         (r.0, ap (λ ys. m.payload ∷ ys) r.1 ∙ sym (drop-next xs c m.payload there))
 
 -- of a list in which each message is its sender's next and is sent to d, those of s are, in order, a beginning of what s sends to d
-sent-begins : (w : World) (s d k : ℕ) (ms : List Message) → IsStanding w s k → ((j : ℕ) (m : Message) → slice_get ms j ≡ Some m → m.ssn ≡ suc (count_of m.sender (take j ms))) → ((j : ℕ) (m : Message) → slice_get ms j ≡ Some m → IsSent w d m)
+sent-begins : (w : World) (s d k : ℕ) (ms : List Message) → IsSurviving w s k → ((j : ℕ) (m : Message) → slice_get ms j ≡ Some m → m.ssn ≡ suc (count_of m.sender (take j ms))) → ((j : ℕ) (m : Message) → slice_get ms j ≡ Some m → IsSent w d m)
     → Begins (payloads_of s ms) (payloads w s (take k (w.history s)) d)
 sent-begins w s d k ms t next sends = rw (drop-none (payloads w s (take k (w.history s)) d)) at (in-order s 0 ms (payloads w s (take k (w.history s)) d) each)
   where
     each : (j : ℕ) (m : Message) → slice_get ms j ≡ Some m → m.sender ≡ s → (m.ssn ≡ suc (0 + count_of s (take j ms))) × (nth (payloads w s (take k (w.history s)) d) m.ssn ≡ Some m.payload)
     each j m e f =
         let P : ℕ → Type 0 = λ a. m.ssn ≡ suc (count_of a (take j ms)) in
-        let Q : ℕ → Type 0 = λ a. IsStanding w a k → nth (payloads w a (take k (w.history a)) d) m.ssn ≡ Some m.payload in
+        let Q : ℕ → Type 0 = λ a. IsSurviving w a k → nth (payloads w a (take k (w.history a)) d) m.ssn ≡ Some m.payload in
         let n : m.ssn ≡ suc (count_of s (take j ms)) = subst P f (next j m e) in
         (omega arith, subst Q f (sends j m e k) t)
 
-pub shown-begins : (w : World) → Sound w → NoOrphan w → (s k : ℕ) → IsStanding w s k → Begins (payloads_of s w.shown) (payloads w s (take k (w.history s)) 0)
+pub shown-begins : (w : World) → Sound w → NoOrphan w → (s k : ℕ) → IsSurviving w s k → Begins (payloads_of s w.shown) (payloads w s (take k (w.history s)) 0)
 shown-begins w sound h s k t = sent-begins w s 0 k w.shown t sound.shown h.shown
 
-pub received-begins : (w : World) → Sound w → NoOrphan w → (s d k : ℕ) → IsStanding w s k → Begins (payloads_of s (w.history d)) (payloads w s (take k (w.history s)) d)
+pub received-begins : (w : World) → Sound w → NoOrphan w → (s d k : ℕ) → IsSurviving w s k → Begins (payloads_of s (w.history d)) (payloads w s (take k (w.history s)) d)
 received-begins w sound h s d k t = sent-begins w s d k (w.history d) t (λ j m e. (sound.received d j m e).next) (h.received d)
 
 pub received-once : (n : ℕ) (f : Handlers) (es : List Entry) → IsSingle n f es → ReceivedBegin (world_of n f es)

@@ -4,4 +4,4 @@ pub mod Kept
 pub mod Recovery
 pub mod Orphans
 pub mod Invariants
-pub mod Overlap
+pub mod WorkedOverlap

@@ -85,7 +85,8 @@ causes w room (Recover p) =
     (not (is_inside w p), 1) ∷ (not (others_up w p), 8) ∷ (not (is_down (w.phase p)), 10) ∷ (journal_full room (open_jobs w), 12) ∷ []
 causes w room (RecoverAlone p) = (not (is_inside w p), 1) ∷ (not (is_down (w.phase p)), 10) ∷ (journal_full room (open_jobs w), 12) ∷ []
 causes w room (ReplayBegin p) =
-    (not (is_inside w p), 1) ∷ (is_working (w.phase p), 3) ∷ (not (is_replaying (w.phase p)), 11) ∷ (journal_full room (open_jobs w + 1), 12) ∷ []
+    (not (is_inside w p), 1) ∷ (is_working (w.phase p), 3) ∷ (not (is_replaying (w.phase p)), 11)
+    ∷ (journal_full room (open_jobs w + 1), 12) ∷ []
 causes w room (ResyncWith p r) =
     (not (is_inside w p && is_inside w r), 1) ∷ (p == r, 5) ∷ (not (is_up (w.phase r)), 8) ∷ (not (has (todo_of (w.phase p)) r), 11)
     ∷ (journal_full room (open_jobs w), 12) ∷ []

@@ -28,6 +28,7 @@ behind (Some (a, bs)) f = f a bs
 
 -- ---- numbers
 
+-- a byte
 abbrev pub one : List ℕ → Reading ℕ
 one [] = None
 one (b ∷ bs) = Some (b, bs)
@@ -36,12 +37,15 @@ one (b ∷ bs) = Some (b, bs)
 abbrev pub twice : ℕ → (List ℕ → Reading ℕ) → List ℕ → Reading ℕ
 twice values half bs = behind (half bs) (λ low bs. behind (half bs) (λ high bs. Some (low + values * high, bs)))
 
+-- a number of two bytes
 abbrev pub two_bytes : List ℕ → Reading ℕ
 two_bytes = twice (2 ^ 8) one
 
+-- a number of four bytes
 abbrev pub four_bytes : List ℕ → Reading ℕ
 four_bytes = twice (2 ^ 16) two_bytes
 
+-- a number of eight bytes
 abbrev pub eight_bytes : List ℕ → Reading ℕ
 eight_bytes = twice (2 ^ 32) four_bytes
 
@@ -49,6 +53,7 @@ eight_bytes = twice (2 ^ 32) four_bytes
 abbrev pub spread : ℕ → ℕ
 spread b = if nat_lt b 128 then b else b + (2 ^ 32 - 2 ^ 8)
 
+-- a byte, sign-extended to 32 bits, with the bytes after it
 abbrev pub signed_byte : List ℕ → Reading ℕ
 signed_byte bs = behind (one bs) (λ b bs. Some (spread b, bs))
 
@@ -58,6 +63,7 @@ signed_byte bs = behind (one bs) (λ b bs. Some (spread b, bs))
 abbrev pub is_rex : ℕ → Bool
 is_rex p = p / 16 == 4
 
+-- REX's bit W: 64 bits, or 32
 abbrev pub width_of : ℕ → Width
 width_of p = if p / 8 % 2 == 1 then W64 else W32
 
@@ -65,9 +71,11 @@ width_of p = if p / 8 % 2 == 1 then W64 else W32
 abbrev pub reg_of : ℕ → ℕ → ℕ
 reg_of p m = 8 * (p / 4 % 2) + m / 8 % 8
 
+-- the index of a SIB
 abbrev pub index_of : ℕ → ℕ → ℕ
 index_of p s = 8 * (p / 2 % 2) + s / 8 % 8
 
+-- the base of a SIB, or the r/m of a ModR/M
 abbrev pub base_of : ℕ → ℕ → ℕ
 base_of p m = 8 * (p % 2) + m % 8
 
@@ -167,6 +175,7 @@ on_memory op w n base d bs =
     else if op == 141 then whole (instr.Lea n base d) bs  -- 8D /r
     else None
 
+-- an opcode of one byte, on a register or memory
 abbrev pub by_place : ℕ → Width → ℕ → Place → List ℕ → Reading Instr
 by_place op w n (Register r) bs = on_register op w n r bs
 by_place op w n (Memory base d) bs = on_memory op w n base d bs
@@ -221,6 +230,7 @@ by_opcode p op bs =
     else if op == 153 then whole (instr.Spread (width_of p)) bs  -- 99
     else behind (modrm p bs) (λ (n, place). by_place op (width_of p) n place)
 
+-- an opcode after 0F, with its REX; the low three bits of C8 are a register
 abbrev pub by_opcode_0f : ℕ → ℕ → List ℕ → Reading Instr
 by_opcode_0f p op bs =
     if op / 8 == 25 then whole (instr.Swap (width_of p) (base_of p op)) bs  -- 0F C8+r
@@ -239,6 +249,7 @@ no_rex = 64
 abbrev pub by_opcode_66 : ℕ → ℕ → List ℕ → Reading Instr
 by_opcode_66 p op bs = behind (modrm p bs) (λ (n, place). by_place_66 op n place)
 
+-- after 66: a REX, if there is one, and an opcode
 abbrev pub behind_66 : List ℕ → Reading Instr
 behind_66 bs =
     behind (one bs) (λ b bs. if is_rex b then behind (one bs) (by_opcode_66 b) else by_opcode_66 no_rex b bs)

@@ -25,6 +25,7 @@ pub data Change : Type 0 where
   Pushed : List Value → Change
   Sets : Flags → Change
 
+-- a state after a change
 abbrev pub changed : State → Change → State
 changed c (Reg r v) = record c { regs = slice_set c.regs r v }
 changed c (ArrayAt o bs) = record c { array = overwritten c.array o bs }
@@ -33,6 +34,7 @@ changed c (Long bs) = record c { long = bs }
 changed c (Pushed vs) = record c { pushed = vs }
 changed c (Sets f) = record c { flags = f }
 
+-- a state after these changes
 abbrev pub changed_by : State → List Change → State
 changed_by c [] = c
 changed_by c (x ∷ xs) = changed_by (changed c x) xs
@@ -41,10 +43,12 @@ changed_by c (x ∷ xs) = changed_by (changed c x) xs
 abbrev pub Row : Type 0
 Row = List Instr × List ℕ × List Change × List Change
 
+-- the bytes of these instructions
 abbrev pub codes : List Instr → List ℕ
 codes [] = []
 codes (i ∷ is) = bytes_of i ++ codes is
 
+-- what these instructions do, one after another
 abbrev pub acts : List Instr → State → Outcome
 acts [] c = Goes c
 acts (i ∷ is) c = and_on (act i c) (acts is)
@@ -68,6 +72,7 @@ short_jump x = JumpIfShort x 7
 abbrev pub Asked : Type 0
 Asked = ConditionCode × List ℕ × ℕ
 
+-- which flags meet the condition, as a number of sixteen bits
 abbrev pub answers : ConditionCode → ℕ
 answers x = word_of_bits (λ k. if asks x (bit_at k 0 == 1) (bit_at k 1 == 1) (bit_at k 2 == 1) (bit_at k 3 == 1) then 1 else 0) 16
 

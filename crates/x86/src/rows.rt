@@ -1,8 +1,8 @@
 //! Rows of what instructions did on a processor. The proof checks them by computing.
 
 ghost use Rattle.x86.specs.Worked.{AreAsked, AreDone, AreUnsaid, IsRun, long_jump, short_jump, unsaid};
-ghost use Rattle.x86.specs.Observed as observed;
-ghost use Rattle.x86.specs.Observed.{begin};
+ghost use Rattle.x86.specs.WorkedForms as observed;
+ghost use Rattle.x86.specs.WorkedForms.{begin};
 
 /// For each row the definitions give the bytes that an assembler gave, and the result that a processor gave.
 pub fn forms_are_as_observed()

@@ -18,6 +18,7 @@ LeadsTo (flow.Leaps d) p t = pos (p + 1) +ℤ d ≡ pos t
 LeadsTo (flow.Forks d) p t = (pos (p + 1) +ℤ d ≡ pos t) ⊎ (t ≡ p + 1)
 LeadsTo (flow.Falls n) p t = t ≡ p + n
 
+-- the register arrives at a slot without a value, or for this reason
 abbrev pub Arrives : Study → ℕ → ℕ → Arrival → Type 0
 Arrives s r at (Unset p) = (p < at) × Leaves s r p at kind.Unset × ¬ Calls s r p
 Arrives s r at (Reason why) = IsReason s r why at

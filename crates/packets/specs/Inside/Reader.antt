@@ -38,6 +38,7 @@ Gives view (Err e) read = Fails e read
 
 -- ---- fields
 
+-- reads a value, and tells the bytes after it
 abbrev pub Reader : Type 0 → Type 0
 Reader A = List ℕ → Result (A × List ℕ) PacketFault
 
@@ -71,10 +72,12 @@ times field (suc n) bytes = field bytes >>= λ first. times field n first.1 >>= 
 unfoldable pub page_at : {A : Type 0} → Reader A → Reader (List A)
 page_at field bytes = number_at 2 bytes >>= λ count. times field count.0 count.1
 
+-- an entry of a log: RSN, SSN and payload
 unfoldable pub entry_at : Reader LoggedMessage
 entry_at bytes =
     both (number_at 8) (both (number_at 8) payload_at) bytes >>= λ x. Ok (record { number = x.0.0; ssn = x.0.1.0; payload = x.0.1.1 }, x.1)
 
+-- an SSN and its RSN
 unfoldable pub pair_at : Reader Pair
 pair_at bytes = both (number_at 8) (number_at 8) bytes >>= λ x. Ok (record { ssn = x.0.0; number = x.0.1 }, x.1)
 
@@ -105,8 +108,10 @@ body_at kinds.Saved bytes = whole (number_at 8) bytes >>= λ c. Ok (Saved c)
 unfoldable pub fields_at : List ℕ → Result (List ℕ) PacketFault
 fields_at bytes =
     if nat_lt (length bytes) 12 then Err faults.Short else if not (pointwise nat_eq (take 4 bytes) magic) then Err faults.Magic
-    else if not (little_number 4 (drop (length bytes - 4) bytes) == crc32c (take (length bytes - 4) bytes)) then Err faults.Checksum else Ok (fields_of bytes)
+    else if not (little_number 4 (drop (length bytes - 4) bytes) == crc32c (take (length bytes - 4) bytes)) then Err faults.Checksum
+    else Ok (fields_of bytes)
 
+-- a kind that there is
 abbrev pub known : Option PacketKind → Result PacketKind PacketFault
 known None = Err faults.Kind
 known (Some kind) = Ok kind
@@ -114,14 +119,21 @@ known (Some kind) = Ok kind
 -- kind, the number of processes, from and to
 abbrev pub head_in_range : PacketKind → ℕ → ℕ → ℕ → Result PacketHead PacketFault
 head_in_range kind n from to =
-    if nat_lt n 1 || nat_lt PROCESSES n then Err faults.Count else if nat_lt n from || (nat_lt n to || from == to) then Err faults.Ends else Ok (record { kind = kind; count = n; from = from; to = to })
+    if nat_lt n 1 || nat_lt PROCESSES n then Err faults.Count
+    else if nat_lt n from || (nat_lt n to || from == to) then Err faults.Ends
+    else Ok (record { kind = kind; count = n; from = from; to = to })
 
+-- the head of a packet
 unfoldable pub head_at : List ℕ → Result PacketHead PacketFault
 head_at bytes =
     known (kind_at (slice_index bytes 4)) >>= λ kind. head_in_range kind (slice_index bytes 5) (slice_index bytes 6) (slice_index bytes 7)
 
+-- a packet of a head and a body
 abbrev pub packet_of : PacketHead → Body → NodePacket
 packet_of head body = record { count = head.count; from = head.from; to = head.to; body = body }
 
+-- a packet, or the first fault of its bytes
 unfoldable pub reading : List ℕ → Result NodePacket PacketFault
-reading bytes = fields_at bytes >>= λ fields. head_at bytes >>= λ head. body_at head.kind fields >>= λ body. if in_range body then Ok (packet_of head body) else Err faults.Range
+reading bytes =
+    fields_at bytes >>= λ fields. head_at bytes >>= λ head. body_at head.kind fields >>= λ body.
+    if in_range body then Ok (packet_of head body) else Err faults.Range

@@ -30,6 +30,7 @@ module _ {A B : Type 0} where
   abbrev pub spaced : (A → List ℕ) → (B → List ℕ) → A × B → List ℕ
   spaced f g v = f v.0 ++ 32 ∷ g v.1
 
+  -- the first of a pair has the one property, the second the other
   abbrev pub Both : (A → Type 0) → (B → Type 0) → A × B → Type 0
   Both F G v = F v.0 × G v.1
 

@@ -12,6 +12,7 @@ IsInside low len kind.Num offset n = ⊥
 IsInside low len kind.Len offset n = ⊥
 IsInside low len (kind.Place r k) offset n = lie_inside (region_len low len r) n (k +ℤ offset) ≡ true
 
+-- a register of this kind holds a place that may be written
 abbrev pub IsWritable : Kind → Type 0
 IsWritable kind.Unset = ⊥
 IsWritable kind.Num = ⊥

@@ -1,6 +1,6 @@
 use Rattle.std.proofs.Common.{None, refl}
 use Rattle.diagram.specs.Columns.{behind, unmoved}
-use Rattle.diagram.specs.Moments.{run_of}
+use Rattle.diagram.specs.Models.{run_of}
 use Rattle.diagram.proofs.ColumnLemmas.{one_more_moment}
 use Rattle.diagram.proofs.columns.columns.Goals as goal
 

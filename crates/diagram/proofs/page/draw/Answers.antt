@@ -4,7 +4,7 @@ use Rattle.diagram.specs.declared.columns.Column.{Column}
 use Rattle.diagram.specs.Columns.{columns}
 use Rattle.diagram.specs.Marks.{HasPart, marks_from}
 use Rattle.diagram.specs.Page.{page_width}
-use Rattle.diagram.specs.Moments.{run_of}
+use Rattle.diagram.specs.Models.{run_of}
 use Rattle.diagram.proofs.PageLemmas.{enclosed}
 use Rattle.diagram.proofs.page.draw.Goals as goal
 

@@ -1,7 +1,7 @@
 use Rattle.std.proofs.Common.{◌≡◌, ◌+◌, ◌-◌, ◌++◌, [], length, reverse, refl, ap, ◌∙◌, subst, arith}
 use Rattle.native.specs.Code.{codes}
-use Rattle.native.specs.Laid.{ArePends, SaveAll}
-use Rattle.native.specs.Pends.{pends_in}
+use Rattle.native.specs.Laid.{ArePending, SaveAll}
+use Rattle.native.specs.Pending.{pending_in}
 use Rattle.native.specs.Openings.{entering_by, saved_for}
 use Rattle.native.specs.Written.{Stacks, IsLaidFrom}
 use Rattle.native.proofs.Native.{laid_none, stacks_none}
@@ -15,7 +15,7 @@ slots-init c =
     let back = reverse c.in_ok-back.back.items in
     let empty : back ≡ [] = ap reverse c.in_ok-back.ensures.items in
     record {
-      laid = laid_none tasks (pends_in tasks) tails (saved_for o tasks) back (length tasks) refl c.in_ok-tails.ensures empty;
+      laid = laid_none tasks (pending_in tasks) tails (saved_for o tasks) back (length tasks) refl c.in_ok-tails.ensures empty;
       stacks = stacks_none o tasks tails back (length tasks) refl c.in_ok-tails.ensures empty;
     }
 
@@ -41,6 +41,6 @@ returns c =
     record {
       written = record { tails = tails; rest = rest; stacks = subst (λ n. Stacks o tasks n tails rest) whole x.stacks; is = e };
       laid = x.laid;
-      pended = subst (ArePends tasks) c.in_ok-pends.ensures.value c.in_ok-pends.ensures.are;
+      pended = subst (ArePending tasks) c.in_ok-pending.ensures.value c.in_ok-pending.ensures.are;
       saves = subst (SaveAll tasks) c.saved_for-saved.ensures.value c.saved_for-saved.ensures.all;
     }

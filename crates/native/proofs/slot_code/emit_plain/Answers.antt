@@ -18,7 +18,7 @@ returns c =
         d = d;
         done = x.1;
         is_are = refl;
-        counts = subst (λ n. Counts c.args.pends.now c.args.slot n k) t c.count-steps.ensures;
+        counts = subst (λ n. Counts c.args.pending.now c.args.slot n k) t c.count-steps.ensures;
         reaches = subst (λ n. Reaches c.args.tails.now c.args.slot n d) t c.distance-past.ensures;
         short = c.body_of-short.ensures.short;
       },

@@ -9,4 +9,4 @@ returns-in_default c =
     let a = c.args in
     let d = c.in_default in
     subst (λ H. OnOk c.emit_plain.result (Emits H a.code.now.items c.emit_plain.new.code.items))
-    (served_plainly a.pends.now a.tails.now a.saved a.slot a.task d.not-Branch d.not-Leap d.not-Exit d.not-Dead) c.emit_plain.ensures
+    (served_plainly a.pending.now a.tails.now a.saved a.slot a.task d.not-Branch d.not-Leap d.not-Exit d.not-Dead) c.emit_plain.ensures

@@ -69,5 +69,5 @@ settled tasks (suc n) xs =
     if is_passed tasks xs (length tasks) then settled tasks n (passed tasks xs (length tasks)) else passed tasks xs (length tasks)
 
 -- how many steps aren't counted yet where each slot begins
-abbrev pub pends_in : List SlotTask → List ℕ
-pends_in tasks = settled tasks 16 (0 ∷ replicate (length tasks) far)
+abbrev pub pending_in : List SlotTask → List ℕ
+pending_in tasks = settled tasks 16 (0 ∷ replicate (length tasks) far)

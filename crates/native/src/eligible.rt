@@ -39,8 +39,8 @@ fn is_read(op: AluOp, operand: Operand) -> bool
 }
 
 /// Whether a task's registers hold words and its jump goes forward. No call performs any other task.
-pub(crate) fn is_apt(slot: usize, task: &SlotTask) -> bool
-    ensures { result ≡ specs.is_apt slot task.now }
+pub(crate) fn is_eligible(slot: usize, task: &SlotTask) -> bool
+    ensures { result ≡ specs.is_eligible slot task.now }
 {
     match *task {
         SlotTask::Compute {

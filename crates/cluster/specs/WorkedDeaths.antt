@@ -7,8 +7,8 @@ use Rattle.cluster.specs.Parcels.{Number, Told, Saved, parcel, In}
 use Rattle.cluster.specs.Cluster.{opening, seen, is_well}
 use Rattle.cluster.specs.Rules.{Act, Puts, Starts, Works, Replays, Records, Counts, Collects, Recovers, Freezes, Keeps, Dies, May, Run}
 use Rattle.cluster.specs.Rules.{after_run, message}
-use Rattle.cluster.specs.Pieces.{receives, number_recorded, falls, asks, tells, resumes, restores, no_numbers, no_entries, greets}
-use Rattle.cluster.specs.Pieces.{first_entry, one_after}
+use Rattle.cluster.specs.WorkedPieces.{receives, number_recorded, falls, asks, tells, resumes, restores, no_numbers, no_entries, greets}
+use Rattle.cluster.specs.WorkedPieces.{first_entry, one_after}
 
 -- node 1 receives two messages, and only the RSN of the second is recorded
 abbrev pub gap : List ℕ → List ℕ → List Act

@@ -2,7 +2,7 @@
 use Rattle.std.specs.Prelude.{ℕ, List, [], ◌∷◌, ◌++◌, Option, Some, None, ◌==◌, if◌then◌else◌}
 use Rattle.world.specs.declared.message.Message.{Message}
 use Rattle.world.specs.Worked.{relaying}
-use Rattle.theorems.specs.Overlap.{passing}
+use Rattle.theorems.specs.WorkedOverlap.{passing}
 use Rattle.cluster.specs.Parcels.{Delivery, Number, Ask, Told, Resume, Restored}
 use Rattle.cluster.specs.Cluster.{Cluster, opening}
 use Rattle.cluster.specs.Rules.{Act, Input, Puts, Starts, Works, Records, Hears, Collects, Obeys, Restores, Greets, Dies, Opens}
@@ -36,9 +36,11 @@ resumes p q i k = Puts p q (Resume i k 0) ∷ Obeys p q i k 0 ∷ []
 abbrev pub restores : ℕ → ℕ → ℕ → ℕ → (ℕ → Option ℕ) → List Act
 restores p q i j numbers = Puts q p (Restored i j 0 0 None numbers) ∷ Restores q p i j 0 0 numbers ∷ []
 
+-- no message has an RSN
 abbrev pub no_numbers : ℕ → Option ℕ
 no_numbers ssn = None
 
+-- no entry is logged
 abbrev pub no_entries : ℕ → Option Message
 no_entries m = None
 
@@ -50,10 +52,10 @@ greets p i k = resumes p 0 i k ++ Puts 0 p (Restored i 1 0 0 None no_numbers) �
 abbrev pub first_entry : List ℕ → ℕ → Option Message
 first_entry x m = if 1 == m then Some (message 0 1 x) else None
 
--- after these acts: a node that outputs what it receives; and two nodes, of which the first sends what it receives to the second, which
--- outputs it. g gives their states
+-- after these acts, a node that outputs what it receives; g gives its states
 abbrev pub one_after : (ℕ → List Message → List ℕ) → List Act → Cluster
 one_after g acts = after_run (opening 1 (relaying 0 g)) acts
 
+-- after these acts, two nodes: the first sends what it receives to the second, which outputs it; g gives their states
 abbrev pub two_after : (ℕ → List Message → List ℕ) → List Act → Cluster
 two_after g acts = after_run (opening 2 (passing g)) acts

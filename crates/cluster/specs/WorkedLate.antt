@@ -3,13 +3,13 @@ use Rattle.std.specs.Prelude.{◌≡◌, ℕ, List, [], ◌∷◌, ◌++◌, Opt
 use Rattle.world.specs.declared.message.Message.{Message}
 use Rattle.world.specs.Plan.{or_else}
 use Rattle.world.specs.Worked.{relaying}
-use Rattle.theorems.specs.Overlap.{passing}
+use Rattle.theorems.specs.WorkedOverlap.{passing}
 use Rattle.cluster.specs.Parcels.{Delivery, Number, Ask, Told, Resume, Restored, parcel, In}
 use Rattle.cluster.specs.Cluster.{opening, is_well}
 use Rattle.cluster.specs.Rules.{Act, Puts, Starts, Works, Replays, Records, Counts, Hears, Collects, Recovers, Obeys, May, Run, message}
-use Rattle.cluster.specs.Pieces.{receives, number_recorded, falls, asks, tells, resumes, restores, no_numbers, no_entries, greets}
-use Rattle.cluster.specs.Pieces.{first_entry, one_after, two_after}
-use Rattle.cluster.specs.Deaths.{gap_heard, gap_closed, second_entry}
+use Rattle.cluster.specs.WorkedPieces.{receives, number_recorded, falls, asks, tells, resumes, restores, no_numbers, no_entries, greets}
+use Rattle.cluster.specs.WorkedPieces.{first_entry, one_after, two_after}
+use Rattle.cluster.specs.WorkedDeaths.{gap_heard, gap_closed, second_entry}
 
 -- the gateway has heard the Ask of node 1; an RSN from before its death arrives, and isn't recorded
 abbrev pub LateNumberIsDropped : Type 0

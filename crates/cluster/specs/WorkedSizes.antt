@@ -6,7 +6,7 @@ use Rattle.cluster.specs.Parcels.{Delivery, Restored, Saved}
 use Rattle.cluster.specs.Cluster.{opening, is_well, waiting}
 use Rattle.cluster.specs.Rules.{Act, Puts, Shows, Replays, Counts, Drops, Recovers, Greets, Freezes, Keeps, Thaws, Run}
 use Rattle.cluster.specs.Memory.{receipts, taken_since, entries, untold, unsaved, untaken}
-use Rattle.cluster.specs.Pieces.{receives, number_recorded, falls, asks, tells, resumes, no_numbers, first_entry, one_after}
+use Rattle.cluster.specs.WorkedPieces.{receives, number_recorded, falls, asks, tells, resumes, no_numbers, first_entry, one_after}
 use Rattle.cluster.specs.Worked.{comes_back}
 
 -- any message counts
@@ -56,6 +56,7 @@ told_and_dies x =
     ∷ Greets 1 2 1 1 0 no_numbers
     ∷ []
 
+-- an entry that was dropped comes back when the process is told again, and is dropped anew
 abbrev pub ToldAgain : Type 0
 ToldAgain =
     (g : ℕ → List Message → List ℕ) (x : List ℕ) →

@@ -1,0 +1,5 @@
+use Rattle.cluster.proofs.Reports.{steps-are-events}
+use Rattle.cluster.proofs.exact.steps_are_events.Goals as goal
+
+pub returns : goal.returns
+returns c = steps-are-events
