@@ -9,6 +9,7 @@
                          until it is up again, of them in which its peers answered, and its length
    kept CHECKPOINTS      with states of 0 and of 1,024 bytes: the bytes of a checkpoint, KB at most, nanoseconds each */
 #define _POSIX_C_SOURCE 199309L
+#include "../handlers.h"
 #include "sblog.h"
 
 #include <stdio.h>
@@ -18,27 +19,7 @@
 
 enum { PAGE = 60000, TICK = 8, NUMBERS = 256, RECEIPTS = 65536, MOST = 1 << 23, EVERY = 1000, IN_A_SESSION = 5000 };
 
-/* Sends each message on to process 2; behind it, gives each message out. */
-static const uint8_t RELAY_AND_ECHO[] = "SBI1\0\0\x04\0"
-                                        "\xbf\x12\0\0\0\0\0\0"
-                                        "\xb7\x01\0\0\x02\0\0\0"
-                                        "\x85\0\0\0\x01\0\0\0"
-                                        "\x95\0\0\0\0\0\0\0"
-                                        "SBI1\0\0\x02\0"
-                                        "\x85\0\0\0\x02\0\0\0"
-                                        "\x95\0\0\0\0\0\0\0";
-static const uint8_t *const RELAY = RELAY_AND_ECHO, *const ECHO = RELAY_AND_ECHO + 40;
-enum { RELAY_SIZE = 40, ECHO_SIZE = 24 };
-
-/* Adds the first word of a message to the first word of its state, of 8 bytes or more. */
-static const uint8_t ADDER[] = "SBI1\x08\0\x06\0"
-                               "\x79\x13\0\0\0\0\0\0"
-                               "\x79\x24\0\0\0\0\0\0"
-                               "\x0f\x34\0\0\0\0\0\0"
-                               "\x7b\x42\0\0\0\0\0\0"
-                               "\xb7\x00\0\0\0\0\0\0"
-                               "\x95\x00\0\0\0\0\0\0";
-enum { ADDER_SIZE = 56 };
+static const uint8_t *const RELAY = RELAY_AND_ECHO, *const ECHO = RELAY_AND_ECHO + RELAY_SIZE;
 
 static const uint8_t payload[8] = {1};
 static sblog_gateway gateway;

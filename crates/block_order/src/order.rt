@@ -9,9 +9,8 @@ use crate::insns::is_forward;
 use crate::placement::is_placement;
 use crate::search::{Search, search_slots};
 use crate::walk::loop_of;
-use decode::{Insn, slots as slots_in};
+use decode::{Insn, lay_out, slots as slots_in};
 use limits::SLOTS;
-use span_verifier::lay_out;
 use std::alloc::{AllocError, Global};
 
 /// The result for the order of blocks.

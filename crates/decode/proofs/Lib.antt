@@ -4,3 +4,4 @@ pub mod Faults
 pub mod Once
 pub mod OneFault
 pub mod SlotLemmas
+pub mod Layouts

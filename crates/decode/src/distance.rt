@@ -1,7 +1,7 @@
 //! How far an instruction jumps.
 
-ghost use Rattle.std.specs.Prelude.{◌≡◌, IfSome};
-ghost use Rattle.decode.specs.Distance.{distance, with_distance};
+ghost use Rattle.std.specs.Prelude.{◌≡◌, SomeIff};
+ghost use Rattle.decode.specs.Distance.{HasRoom, distance, with_distance};
 
 use crate::insn::Insn;
 
@@ -20,7 +20,7 @@ impl Insn {
 
     /// The instruction with another distance, if it jumps; `None` if it has no room for that one.
     pub fn with_distance(&self, distance: i32) -> Option<Insn>
-        ensures { IfSome result (λ i. i ≡ with_distance self.now distance) }
+        ensures { SomeIff result (HasRoom self.now distance) (with_distance self.now distance) }
     {
         match *self {
             Insn::Jump { .. } => match i16::try_from(distance) {

@@ -13,6 +13,7 @@
 //! let insns = decode(alloc, &bytes)?; // r1 += 5, exit
 //! let same = encode(alloc, &insns)?; // the same sixteen bytes
 //! let count = slots(&insns); // 2
+//! let laid = lay_out(alloc, &insns)?; // by slot, the instruction that begins there
 //! ```
 #![tactic(auto)]
 
@@ -23,6 +24,7 @@ mod fault;
 mod form;
 mod insn;
 mod laws;
+mod layout;
 mod table;
 mod word;
 
@@ -33,3 +35,4 @@ pub use insn::{
     AluOp, ByteOrder, Condition, Extension, Insn, Operand, Reg, SignedSize, Size, SwapBits, Width,
 };
 pub use laws::{one_fault, one_list};
+pub use layout::lay_out;

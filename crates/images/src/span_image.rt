@@ -41,7 +41,7 @@ impl Model for SpanImage {
 }
 
 impl SpanImage {
-    ghost use Rattle.std.specs.Prelude.{◌≡◌, ◌≤◌, length, IfOk};
+    ghost use Rattle.std.specs.Prelude.{◌≡◌, ◌≤◌, ◌↔◌, length, IfOk, IsTrue};
     ghost use Rattle.std.specs.List.{AllByRecursion};
     ghost use Rattle.decode.specs.Encoding.{Fits, encoding};
     ghost use Rattle.decode.specs.Slots.{slots_of};
@@ -78,6 +78,13 @@ impl SpanImage {
         ensures { result.now ≡ encoding self.now.code }
     {
         self.bytes.as_slice()
+    }
+
+    /// Whether the other has the same instructions. It compares bytes.
+    pub fn same_code(&self, other: &SpanImage) -> bool
+        ensures { IsTrue result ↔ (self.now.code ≡ other.now.code) }
+    {
+        self.bytes == other.bytes
     }
 
     /// What is known at each slot of registers and of the stack's words: the least typing. Each call computes it anew;

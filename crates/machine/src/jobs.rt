@@ -16,9 +16,9 @@ use world::{Message, Packet, Refusal};
 
 impl Machine {
     // Opens a job of a process on a message. It takes its memory first.
-    pub(crate) fn begin(&mut self, me: u8, message: Message) -> Result<Job, Refusal>
-        requires { MayBegin self.old me message }
-        ensures ok { IfOk result (λ job. Begins self.old self.new me message job) }
+    pub(crate) fn begin(&mut self, me: u8, message: &Message) -> Result<Job, Refusal>
+        requires { MayBegin self.old me message.now }
+        ensures ok { IfOk result (λ job. Begins self.old self.new me message.now job) }
         ensures err { IfErr result (λ r. (r ≡ Memory) × (self.new ≡ self.old)) }
     {
         let place = me as usize - 1;
@@ -30,14 +30,19 @@ impl Machine {
             incarnation: process.incarnation(),
             rsn: process.length() + 1,
         };
-        // The job has copies of the message and of the state.
-        let given = &message;
-        let handed = *given;
         let spare = self.spare.take();
         let begun = &self.processes[place];
-        let job = Job::new(self.alloc, spare, ticket, image, begun.state(), handed, who)?;
+        let job = Job::new(
+            self.alloc,
+            spare,
+            ticket,
+            image,
+            begun.state(),
+            *message,
+            who,
+        )?;
         let process = &mut self.processes[place];
-        process.begin(message);
+        process.begin(*message);
         self.started += 1;
         self.calls += 1;
         Ok(job)

@@ -175,8 +175,7 @@ impl Machine {
     {
         match self.judge(to, &message) {
             Judgement::Next => {
-                // See jobs.rt.
-                let job = self.begin(to, message)?;
+                let job = self.begin(to, &message)?;
                 self.wire.remove(key);
                 Ok(Arrival::Started(job))
             }

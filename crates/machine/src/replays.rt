@@ -59,7 +59,7 @@ impl Machine {
         if message.sender > self.count() || message.sender == p {
             return Err(Refusal::WrongPhase);
         }
-        self.begin(p, message)
+        self.begin(p, &message)
     }
 
     /// Whether a process still has to restore its RSNs from this peer.

@@ -13,13 +13,6 @@ pub(crate) fn holds_word(reg: Reg) -> bool
     reg.number < 10
 }
 
-// Whether both are true.
-fn both(one: bool, other: bool) -> bool
-    ensures { result ≡ one && other }
-{
-    one && other
-}
-
 fn is_word(operand: Operand) -> bool
     ensures { result ≡ specs.is_word operand }
 {
@@ -48,16 +41,16 @@ pub(crate) fn is_eligible(slot: usize, task: &SlotTask) -> bool
             dst,
             operand,
             ..
-        } => both(holds_word(dst), is_read(op, operand)),
-        SlotTask::Extend { dst, src, .. } => both(holds_word(dst), holds_word(src)),
+        } => holds_word(dst) && is_read(op, operand),
+        SlotTask::Extend { dst, src, .. } => holds_word(dst) && holds_word(src),
         SlotTask::Negate { dst, .. } => holds_word(dst),
         SlotTask::Reorder { dst, .. } => holds_word(dst),
         SlotTask::Load { dst, .. } => holds_word(dst),
         SlotTask::LoadSx { dst, .. } => holds_word(dst),
         SlotTask::Store { src, .. } => holds_word(src),
-        SlotTask::LoadBy { dst, base, .. } => both(holds_word(dst), holds_word(base)),
-        SlotTask::LoadSxBy { dst, base, .. } => both(holds_word(dst), holds_word(base)),
-        SlotTask::StoreBy { src, base, .. } => both(holds_word(src), holds_word(base)),
+        SlotTask::LoadBy { dst, base, .. } => holds_word(dst) && holds_word(base),
+        SlotTask::LoadSxBy { dst, base, .. } => holds_word(dst) && holds_word(base),
+        SlotTask::StoreBy { src, base, .. } => holds_word(src) && holds_word(base),
         SlotTask::StoreImmBy { base, .. } => holds_word(base),
         SlotTask::Wide { dst, .. } => holds_word(dst),
         SlotTask::Branch {
@@ -65,7 +58,7 @@ pub(crate) fn is_eligible(slot: usize, task: &SlotTask) -> bool
             operand,
             to,
             ..
-        } => both(holds_word(dst), both(is_word(operand), slot < to as usize)),
+        } => holds_word(dst) && is_word(operand) && slot < to as usize,
         SlotTask::Leap { to } => slot < to as usize,
         SlotTask::Dead => false,
         _ => true,

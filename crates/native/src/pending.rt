@@ -6,7 +6,6 @@ ghost use Rattle.native.specs.Code.{IsBalanced};
 ghost use Rattle.native.specs.Laid.{AreBalanced, ArePending};
 ghost use Rattle.native.specs.Pending as specs;
 
-use crate::saved::either;
 use crate::slot_code::at;
 use crate::task::SlotTask;
 use limits::SLOTS;
@@ -84,7 +83,7 @@ fn pass(pending: &mut Vec<u64>, tasks: &[SlotTask]) -> bool
     let mut changed = false;
     for slot in 0..tasks.len() {
         let less = lower_behind(pending, slot, tasks[slot]);
-        changed = either(changed, less);
+        changed = changed || less;
     }
     changed
 }

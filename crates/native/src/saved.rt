@@ -27,13 +27,6 @@ pub struct SavedRegisters {
     r15: bool,
 }
 
-/// Whether at least one of the two is true.
-pub(crate) fn either(one: bool, other: bool) -> bool
-    ensures { result ≡ one || other }
-{
-    one || other
-}
-
 impl SavedRegisters {
     // The same, with the caller's register in which this one is.
     fn and_register(self, reg: Reg) -> SavedRegisters
@@ -41,14 +34,14 @@ impl SavedRegisters {
         ensures writes { may_write result reg.number ≡ true }
         ensures more { Includes self result }
     {
-        let written = reg.number;
-        SavedRegisters {
-            rbx: either(self.rbx, written == 5),
-            rbp: either(self.rbp, written == 6),
-            r12: either(self.r12, written == 2),
-            r13: either(self.r13, written == 7),
-            r14: either(self.r14, written == 8),
-            r15: either(self.r15, written == 9),
+        match reg.number {
+            2 => SavedRegisters { r12: true, ..self },
+            5 => SavedRegisters { rbx: true, ..self },
+            6 => SavedRegisters { rbp: true, ..self },
+            7 => SavedRegisters { r13: true, ..self },
+            8 => SavedRegisters { r14: true, ..self },
+            9 => SavedRegisters { r15: true, ..self },
+            _ => self,
         }
     }
 

@@ -13,6 +13,7 @@ use Rattle.packets.specs.declared.fault.PacketFault.{PacketFault}
 use Rattle.packets.specs.declared.fault.PacketFault.TheVariants.{Fields}
 use Rattle.packets.specs.Format.{short_bytes, long_bytes, IsLong, IsPayload, IsEntry, IsPair, IsPage, payload_bytes, entry_bytes, pair_bytes, page_bytes}
 use Rattle.packets.specs.Inside.Reader.{◌>>=◌, Reader, bytes_at, byte_at, number_at, payload_at, both, times, page_at, entry_at, pair_at, whole}
+pub use Rattle.packets.proofs.Steps.{done, broken, ok_is, err_is, not_both, bind_ok, bind_err, guard_ok, passed_ok, passed, cond_err}
 
 abbrev pub IsBytes : List ℕ → Type 0
 IsBytes bytes = (i : ℕ) → get_or bytes i 0 < 256
@@ -26,56 +27,6 @@ IsBytes-take n bytes h i =
       | inl lt ↦ rw (get_or-take n bytes i 0 lt) (h i)
       | inr le ↦ rw (get_or_past (take n bytes) i 0 (omega (arith, length-take n bytes))) (omega arith)
     ]
-
--- ---- steps
-
--- the value of a step that did not fail
-pub bind_ok : {A B : Type 0} (r : Result A PacketFault) (f : A → Result B PacketFault) (y : B) → (r >>= f) ≡ Ok y → (x : A) × (r ≡ Ok x) × (f x ≡ Ok y)
-bind_ok (Ok x) f y e = (x, refl, e)
-bind_ok (Err d) f y e = absurd cc
-
--- a test that did not fail
-pub guard_ok : {A : Type 0} (b : Bool) (d : PacketFault) (x y : A) → cond b (Err d) (Ok x) ≡ Ok y → (b ≡ false) × (x ≡ y)
-guard_ok true d x y e = absurd cc
-guard_ok false d x y e = (refl, cc)
-
--- a test that had to hold, and did
-pub passed_ok : {A : Type 0} (b : Bool) (d : PacketFault) (x y : A) → cond b (Ok x) (Err d) ≡ Ok y → (b ≡ true) × (x ≡ y)
-passed_ok true d x y e = (refl, cc)
-passed_ok false d x y e = absurd cc
-
--- a test that came before
-pub passed : {A : Type 0} (b : Bool) (d : PacketFault) (r : Result A PacketFault) (y : A) → cond b (Err d) r ≡ Ok y → (b ≡ false) × (r ≡ Ok y)
-passed true d r y e = absurd cc
-passed false d r y e = (refl, e)
-
-abbrev broken : {A : Type 0} → PacketFault → Result A PacketFault
-broken f = Err f
-
--- a step fails with one fault
-pub err_is : {A : Type 0} (d f : PacketFault) → broken {A = A} d ≡ Err f → d ≡ f
-err_is d f e = cc
-
--- where a step failed
-pub bind_err : {A B : Type 0} (r : Result A PacketFault) (k : A → Result B PacketFault) (f : PacketFault) → (r >>= k) ≡ Err f → (r ≡ Err f) ⊎ ((x : A) × (r ≡ Ok x) × (k x ≡ Err f))
-bind_err {A} {B} (Ok x) k f e = inr (x, refl, e)
-bind_err {A} {B} (Err d) k f e = inl (ap (λ (g : PacketFault). broken {A = A} g) (err_is {A = B} d f e))
-
--- where a test failed
-pub cond_err : {A : Type 0} (b : Bool) (d : PacketFault) (r : Result A PacketFault) (f : PacketFault) → cond b (Err d) r ≡ Err f → ((b ≡ true) × (d ≡ f)) ⊎ ((b ≡ false) × (r ≡ Err f))
-cond_err {A} true d r f e = inl (refl, err_is {A = A} d f e)
-cond_err false d r f e = inr (refl, e)
-
-abbrev pub done : {A : Type 0} → A → Result A PacketFault
-done x = Ok x
-
--- a step that gave a value didn't fail
-pub not_both : {A : Type 0} (x : A) (f : PacketFault) → done x ≡ Err f → ⊥
-not_both x f e = cc
-
--- a step gives one value
-pub ok_is : {A : Type 0} (x y : A) → done x ≡ done y → x ≡ y
-ok_is x y e = cc
 
 -- ---- what a reader takes
 

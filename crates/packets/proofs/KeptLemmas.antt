@@ -19,48 +19,16 @@ use Rattle.packets.specs.Format.{short_bytes, long_bytes, checksum_bytes}
 use Rattle.packets.specs.Faults.{fields_of}
 use Rattle.packets.specs.Kept.{kept_magic, log_bytes, kept_fields, kept_unsealed, kept_bytes, kept_in_range, KeptFits, IsKept}
 use Rattle.packets.specs.KeptFaults.{kept_fault_number, state_length, SpellsKept, HasKeptFault, IsFirstKept, IsKeptReason, ReadsKept, IsOneKept}
-use Rattle.packets.specs.Inside.KeptReader.{and_then, GivesKept, kept_at, read_kept, kept_fields_at, kept_head_at, kept_reading}
+use Rattle.packets.specs.Inside.Reader.{and_then}
+use Rattle.packets.specs.Inside.KeptReader.{GivesKept, kept_at, read_kept, kept_fields_at, kept_head_at, kept_reading}
 use Rattle.packets.proofs.Codecs.{IsBytes, IsBytes-drop, IsBytes-take, back_2, number_again}
-use Rattle.packets.proofs.WholeLemmas.{turned, turned_back, neither, either, count_wrong, eight, split_as, last_of, crc_fits}
+use Rattle.packets.proofs.Steps.{done, ok_is, err_is, bind_ok, bind_err, passed_ok, passed_err, passed, cond_err}
+use Rattle.packets.proofs.Sealing.{Numbered, AreOfSeal, sealed_as, sealed_again}
+use Rattle.packets.proofs.Sealing as sealing
+use Rattle.packets.proofs.WholeLemmas.{neither, either, count_wrong, eight, split_as, last_of}
 use Rattle.packets.proofs.KeptCodecs.{IsKeptBody, kept_found, kept_again_at}
 
 -- ---- steps
-
-abbrev done : {A : Type 0} → A → Result A KeptFault
-done x = Ok x
-
-abbrev broken : {A : Type 0} → KeptFault → Result A KeptFault
-broken f = Err f
-
-ok_is : {A : Type 0} (x y : A) → done x ≡ done y → x ≡ y
-ok_is x y e = cc
-
-err_is : {A : Type 0} (d f : KeptFault) → broken {A = A} d ≡ Err f → d ≡ f
-err_is d f e = cc
-
-then_ok : {A B : Type 0} (r : Result A KeptFault) (f : A → Result B KeptFault) (y : B) → and_then r f ≡ Ok y → (x : A) × (r ≡ Ok x) × (f x ≡ Ok y)
-then_ok (Ok x) f y e = (x, refl, e)
-then_ok (Err d) f y e = absurd cc
-
-then_err : {A B : Type 0} (r : Result A KeptFault) (k : A → Result B KeptFault) (f : KeptFault) → and_then r k ≡ Err f → (r ≡ Err f) ⊎ ((x : A) × (r ≡ Ok x) × (k x ≡ Err f))
-then_err {A} {B} (Ok x) k f e = inr (x, refl, e)
-then_err {A} {B} (Err d) k f e = inl (ap (λ (g : KeptFault). broken {A = A} g) (err_is {A = B} d f e))
-
-passed : {A : Type 0} (b : Bool) (d : KeptFault) (r : Result A KeptFault) (y : A) → cond b (Err d) r ≡ Ok y → (b ≡ false) × (r ≡ Ok y)
-passed true d r y e = absurd cc
-passed false d r y e = (refl, e)
-
-cond_err : {A : Type 0} (b : Bool) (d : KeptFault) (r : Result A KeptFault) (f : KeptFault) → cond b (Err d) r ≡ Err f → ((b ≡ true) × (d ≡ f)) ⊎ ((b ≡ false) × (r ≡ Err f))
-cond_err {A} true d r f e = inl (refl, err_is {A = A} d f e)
-cond_err false d r f e = inr (refl, e)
-
-chosen_ok : (c : Bool) (k l : Kept) → cond c (Ok k) (broken Range) ≡ Ok l → (c ≡ true) × (k ≡ l)
-chosen_ok true k l e = (refl, ok_is k l e)
-chosen_ok false k l e = absurd cc
-
-chosen_err : (c : Bool) (k : Kept) (f : KeptFault) → cond c (Ok k) (broken Range) ≡ Err f → (c ≡ false) × (Range ≡ f)
-chosen_err true k f e = absurd cc
-chosen_err false k f e = (refl, err_is {A = Kept} Range f e)
 
 -- what the fields are read as
 read_ok : (r : Result Kept PacketFault) (k : Kept) → read_kept r ≡ Ok k → r ≡ Ok k
@@ -94,32 +62,18 @@ fault_again State = refl
 fault_again Fields = refl
 fault_again Range = refl
 
--- no fault below this number
-abbrev Clear : ℕ → List ℕ → Type 0
-Clear n bytes = (g : KeptFault) → kept_fault_number g < n → ¬ HasKeptFault g bytes
+faults_by : Numbered kept_fault_number
+unfolding fault_at
+faults_by = record { at = fault_at; again = fault_again; last = omega arith }
 
-clear_none : (bytes : List ℕ) → Clear 1 bytes
-clear_none bytes g lt = absurd (no g lt)
-  where
-    no : (g : KeptFault) → kept_fault_number g < 1 → ⊥
-    no Short lt = omega arith
-    no Magic lt = omega arith
-    no Checksum lt = omega arith
-    no Count lt = omega arith
-    no Own lt = omega arith
-    no State lt = omega arith
-    no Fields lt = omega arith
-    no Range lt = omega arith
+seal : AreOfSeal kept_fault_number HasKeptFault Short Magic Checksum 20 kept_magic
+seal = record { by = faults_by; first = refl; second = refl; third = refl; short_is = λ bytes. (λ h. h, λ h. h); magic_is = λ bytes. (λ h. h, λ h. h); checksum_is = λ bytes. (λ h. h, λ h. h) }
+
+abbrev Clear : ℕ → List ℕ → Type 0
+Clear = sealing.Clear kept_fault_number HasKeptFault
 
 clear_more : (f : KeptFault) (bytes : List ℕ) → Clear (kept_fault_number f) bytes → ¬ HasKeptFault f bytes → Clear (suc (kept_fault_number f)) bytes
-clear_more f bytes clear absent g lt =
-    elim (cases_lt (kept_fault_number g) (kept_fault_number f)) [
-      | inl below ↦ clear g below
-      | inr le ↦
-          let same : kept_fault_number f ≡ kept_fault_number g = omega arith in
-          let is : f ≡ g = sym (fault_again f) ∙ ap fault_at same ∙ fault_again g in
-          subst (λ (h : KeptFault). ¬ HasKeptFault h bytes) is absent
-    ]
+clear_more = sealing.clear_more kept_fault_number HasKeptFault faults_by
 
 -- bytes with this fault and none before it
 as_first : (d f : KeptFault) (bytes : List ℕ) → d ≡ f → HasKeptFault d bytes → Clear (kept_fault_number d) bytes → IsFirstKept f bytes
@@ -127,46 +81,19 @@ as_first d f bytes same holds clear = subst (λ (g : KeptFault). IsFirstKept g b
 
 -- ---- magic and checksum
 
-record Sealed (bytes fields : List ℕ) : Type 0 where
-  long : 20 ≤ length bytes
-  magical : take 4 bytes ≡ kept_magic
-  summed : little_number 4 (drop (length bytes - 4) bytes) ≡ crc32c (take (length bytes - 4) bytes)
-  fields_are : fields ≡ fields_of bytes
+abbrev Sealed : List ℕ → List ℕ → Type 0
+Sealed = sealing.Sealed 20 kept_magic
 
 sealed : (bytes fields : List ℕ) → kept_fields_at bytes ≡ Ok fields → Sealed bytes fields
 unfolding kept_fields_at
-sealed bytes fields e =
-    let a = passed (nat_lt (length bytes) 20) Short _ fields e in
-    let b = passed (not (pointwise nat_eq (take 4 bytes) kept_magic)) Magic _ fields a.1 in
-    let c = passed (not (eqb (little_number 4 (drop (length bytes - 4) bytes)) (crc32c (take (length bytes - 4) bytes)))) Checksum _ fields b.1 in
-    record {
-      long = ltb-false _ _ a.0;
-      magical = same_text (take 4 bytes) kept_magic (sym (turned _ b.0));
-      summed = eqb-true _ _ (turned _ c.0);
-      fields_are = sym (ok_is (fields_of bytes) fields c.1);
-    }
+sealed = sealed_as Short Magic Checksum 20 kept_magic
 
 sealed_clear : (bytes fields : List ℕ) → Sealed bytes fields → Clear 4 bytes
-sealed_clear bytes fields s =
-    clear_more Checksum bytes (clear_more Magic bytes (clear_more Short bytes (clear_none bytes) (λ h. omega (arith, h, s.long))) (λ h. h s.magical)) (λ h. h s.summed)
+sealed_clear = sealing.sealed_clear kept_fault_number HasKeptFault Short Magic Checksum 20 kept_magic seal
 
 sealed_refused : (bytes : List ℕ) (f : KeptFault) → kept_fields_at bytes ≡ Err f → IsFirstKept f bytes
 unfolding kept_fields_at
-sealed_refused bytes f e =
-    elim (cond_err (nat_lt (length bytes) 20) Short _ f e) [
-      | inl h ↦ as_first Short f bytes h.1 (ltb-true _ _ h.0) (clear_none bytes)
-      | inr a ↦
-          let c1 : Clear 2 bytes = clear_more Short bytes (clear_none bytes) (λ h. let long : 20 ≤ length bytes = ltb-false _ _ a.0 in omega (arith, h, long)) in
-          elim (cond_err (not (pointwise nat_eq (take 4 bytes) kept_magic)) Magic _ f a.1) [
-            | inl h ↦ as_first Magic f bytes h.1 (other_text (take 4 bytes) kept_magic (sym (turned_back _ h.0))) c1
-            | inr b ↦
-                let c2 : Clear 3 bytes = clear_more Magic bytes c1 (λ h. h (same_text (take 4 bytes) kept_magic (sym (turned _ b.0)))) in
-                elim (cond_err (not (eqb (little_number 4 (drop (length bytes - 4) bytes)) (crc32c (take (length bytes - 4) bytes)))) Checksum _ f b.1) [
-                  | inl h ↦ as_first Checksum f bytes h.1 (eqb-false _ _ (turned_back _ h.0)) c2
-                  | inr c ↦ let no : done (fields_of bytes) ≡ Err f = c.1 in absurd cc
-                ]
-          ]
-    ]
+sealed_refused bytes f e = let x = sealing.sealed_refused kept_fault_number HasKeptFault Short Magic Checksum 20 kept_magic seal bytes f e in record { holds = x.0; first = x.1 }
 
 -- ---- the head
 
@@ -255,23 +182,23 @@ fields_fit bytes fields fits s = subst (λ (x : List ℕ). IsBytes x) (sym s.fie
 refused : (bytes : List ℕ) (f : KeptFault) → IsBytes bytes → kept_reading bytes ≡ Err f → IsFirstKept f bytes
 unfolding kept_reading
 refused bytes f fits e =
-    elim (then_err (kept_fields_at bytes) (λ fields. and_then (kept_head_at bytes) (λ head. and_then (read_kept (kept_at head fields)) finish)) f e) [
+    elim (bind_err (kept_fields_at bytes) (λ fields. and_then (kept_head_at bytes) (λ head. and_then (read_kept (kept_at head fields)) finish)) f e) [
       | inl a ↦ sealed_refused bytes f a
       | inr a ↦
           let s : Sealed bytes a.0 = sealed bytes a.0 a.1 in
           let c3 : Clear 4 bytes = sealed_clear bytes a.0 s in
-          elim (then_err (kept_head_at bytes) (λ head. and_then (read_kept (kept_at head a.0)) finish) f a.2) [
+          elim (bind_err (kept_head_at bytes) (λ head. and_then (read_kept (kept_at head a.0)) finish) f a.2) [
             | inl b ↦ headed_refused bytes f c3 b
             | inr b ↦
                 let t : Headed bytes b.0 = headed bytes b.0 b.1 in
                 let c6 : Clear 7 bytes = headed_clear bytes b.0 t c3 in
-                elim (then_err (read_kept (kept_at b.0 a.0)) finish f b.2) [
+                elim (bind_err (read_kept (kept_at b.0 a.0)) finish f b.2) [
                   | inl c ↦
                       let out = read_err (kept_at b.0 a.0) f c in
                       as_first Fields f bytes out.0 (λ k is. out.1 k (read_again bytes a.0 b.0 k s t is)) c6
                   | inr c ↦
                       let read : kept_at b.0 a.0 ≡ Ok c.0 = read_ok (kept_at b.0 a.0) c.0 c.1 in
-                      let out = chosen_err (kept_in_range c.0) c.0 f c.2 in
+                      let out = passed_err (kept_in_range c.0) Range c.0 f c.2 in
                       let here : SpellsKept c.0 bytes = spelled bytes a.0 b.0 c.0 s t (kept_found b.0 a.0 c.0 (fields_fit bytes a.0 fits s) read) in
                       let wrong : HasKeptFault Range bytes = λ k is good.
                       let same : k ≡ c.0 = ok_is k c.0 (ap (λ (r : Result Kept PacketFault). read_kept r) (sym (read_again bytes a.0 b.0 k s t is) ∙ read)) in
@@ -328,10 +255,10 @@ fits_of bytes h k t is range = record {
 found : (bytes : List ℕ) (k : Kept) → IsBytes bytes → kept_reading bytes ≡ Ok k → IsKept k bytes
 unfolding kept_reading
 found bytes k fits e =
-    let a = then_ok (kept_fields_at bytes) (λ fields. and_then (kept_head_at bytes) (λ head. and_then (read_kept (kept_at head fields)) finish)) k e in
-    let b = then_ok (kept_head_at bytes) (λ head. and_then (read_kept (kept_at head a.0)) finish) k a.2 in
-    let c = then_ok (read_kept (kept_at b.0 a.0)) finish k b.2 in
-    let g = chosen_ok (kept_in_range c.0) c.0 k c.2 in
+    let a = bind_ok (kept_fields_at bytes) (λ fields. and_then (kept_head_at bytes) (λ head. and_then (read_kept (kept_at head fields)) finish)) k e in
+    let b = bind_ok (kept_head_at bytes) (λ head. and_then (read_kept (kept_at head a.0)) finish) k a.2 in
+    let c = bind_ok (read_kept (kept_at b.0 a.0)) finish k b.2 in
+    let g = passed_ok (kept_in_range c.0) Range c.0 k c.2 in
     let s : Sealed bytes a.0 = sealed bytes a.0 a.1 in
     let t : Headed bytes b.0 = headed bytes b.0 b.1 in
     let l : Kept = c.0 in
@@ -352,24 +279,9 @@ some_fields k =
     let rest = flat_map long_bytes k.counts ++ (k.state ++ flat_map log_bytes k.logs) in
     omega (arith, length-append (long_bytes k.length) rest, long_length k.length)
 
-fields_again : (k : Kept) → KeptFits k → kept_fields_at (kept_bytes k) ≡ Ok (kept_fields k)
+fields_again : (k : Kept) → kept_fields_at (kept_bytes k) ≡ Ok (kept_fields k)
 unfolding kept_fields_at checksum_bytes short_bytes
-fields_again k fits =
-    let body = kept_fields k in
-    let u = kept_unsealed k in
-    let sum = little_bytes 4 (crc32c u) in
-    let bytes = u ++ sum in
-    let len : length bytes ≡ length body + 12 = omega (arith, length-append u sum) in
-    let some : 8 ≤ length body = some_fields k in
-    let cut : length u ≡ length bytes - 4 = omega (arith, len) in
-    let inner : length body ≡ length bytes - 4 - 8 = omega (arith, len) in
-    let long : nat_lt (length bytes) 20 ≡ false = le-ltb _ _ (omega (arith, len, some)) in
-    let front : take (length bytes - 4) bytes ≡ u = take_at u sum (length bytes - 4) cut in
-    let back : drop (length bytes - 4) bytes ≡ sum = drop_at u sum (length bytes - 4) cut in
-    let summed : eqb (little_number 4 (drop (length bytes - 4) bytes)) (crc32c (take (length bytes - 4) bytes)) ≡ true =
-    eq-eqb _ _ (ap (λ (x : List ℕ). little_number 4 x) back ∙ number_again 4 (crc32c u) (crc_fits u) ∙ ap crc32c (sym front)) in
-    let text : fields_of bytes ≡ body = take_at body sum (length bytes - 4 - 8) inner in
-    rw (long, summed, text) refl
+fields_again k = sealed_again Short Magic Checksum 20 kept_magic (kept_unsealed k) (kept_fields k) refl refl (omega arith) (omega (arith, some_fields k))
 
 head_again : (k : Kept) → KeptFits k → kept_head_at (kept_bytes k) ≡ Ok (record { me = k.me; count = k.count; state_len = length k.state })
 unfolding kept_head_at short_bytes
@@ -388,7 +300,7 @@ unfolding kept_reading
 reading_again k bytes is =
     let h : KeptHead = record { me = k.me; count = k.count; state_len = length k.state } in
     let body : kept_at h (kept_fields k) ≡ Ok k = kept_again_at h (kept_fields k) k (record { me = refl; count = refl; state = refl; room = is.fits.room; spelled = refl }) in
-    ap kept_reading is.bytes_are ∙ rw (fields_again k is.fits, head_again k is.fits, body, is.fits.range) refl
+    ap kept_reading is.bytes_are ∙ rw (fields_again k, head_again k is.fits, body, is.fits.range) refl
 
 pub one_kept : IsOneKept
 one_kept k l bytes a b = ok_is k l (sym (reading_again k bytes a) ∙ reading_again l bytes b)

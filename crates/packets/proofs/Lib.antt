@@ -1,12 +1,15 @@
 pub mod ChecksumLemmas
 pub mod Counted
 pub mod Spelled
+pub mod Steps
 pub mod Codecs
+pub mod Sealing
 pub mod Fixed
 pub mod BodyLemmas
 pub mod WholeLemmas
 pub mod KeptCodecs
 pub mod KeptLemmas
 pub mod PageLemmas
+pub mod Sayable
 pub mod Reports
 pub mod Ranges

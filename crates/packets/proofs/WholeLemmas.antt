@@ -20,7 +20,10 @@ use Rattle.packets.specs.Format.{magic, body_bytes, unsealed, packet_bytes, chec
 use Rattle.packets.specs.Faults.{fault_number, fields_of, Spells, HasFault, IsFirst, IsReason, Reads}
 use Rattle.packets.specs.Laws.{IsOnePacket}
 use Rattle.packets.specs.Inside.Reader.{◌>>=◌, Gives, body_at, fields_at, known, head_in_range, head_at, packet_of, reading}
-use Rattle.packets.proofs.Codecs.{IsBytes, IsBytes-drop, IsBytes-take, bind_ok, passed_ok, passed, err_is, bind_err, cond_err, done, ok_is, back_4, number_again}
+use Rattle.packets.proofs.Codecs.{IsBytes, IsBytes-drop, IsBytes-take, back_4}
+use Rattle.packets.proofs.Steps.{done, ok_is, err_is, bind_ok, bind_err, passed_ok, passed_err, passed, cond_err}
+use Rattle.packets.proofs.Sealing.{Numbered, AreOfSeal, sealed_as, sealed_again}
+use Rattle.packets.proofs.Sealing as sealing
 use Rattle.packets.proofs.BodyLemmas.{IsBody, body_found, body_again, body_fails}
 
 -- ---- kinds
@@ -82,83 +85,38 @@ fault_again Ends = refl
 fault_again Fields = refl
 fault_again Range = refl
 
--- no fault below this number
-abbrev Clear : ℕ → List ℕ → Type 0
-Clear n bytes = (g : PacketFault) → fault_number g < n → ¬ HasFault g bytes
+faults_by : Numbered fault_number
+unfolding fault_at
+faults_by = record { at = fault_at; again = fault_again; last = omega arith }
 
-clear_none : (bytes : List ℕ) → Clear 1 bytes
-clear_none bytes g lt = absurd (no g lt)
-  where
-    no : (g : PacketFault) → fault_number g < 1 → ⊥
-    no Short lt = omega arith
-    no Magic lt = omega arith
-    no Checksum lt = omega arith
-    no Kind lt = omega arith
-    no Count lt = omega arith
-    no Ends lt = omega arith
-    no Fields lt = omega arith
-    no Range lt = omega arith
+seal : AreOfSeal fault_number HasFault Short Magic Checksum 12 magic
+seal = record { by = faults_by; first = refl; second = refl; third = refl; short_is = λ bytes. (λ h. h, λ h. h); magic_is = λ bytes. (λ h. h, λ h. h); checksum_is = λ bytes. (λ h. h, λ h. h) }
+
+abbrev Clear : ℕ → List ℕ → Type 0
+Clear = sealing.Clear fault_number HasFault
 
 clear_more : (f : PacketFault) (bytes : List ℕ) → Clear (fault_number f) bytes → ¬ HasFault f bytes → Clear (suc (fault_number f)) bytes
-clear_more f bytes clear absent g lt =
-    elim (cases_lt (fault_number g) (fault_number f)) [
-      | inl below ↦ clear g below
-      | inr le ↦
-          let same : fault_number f ≡ fault_number g = omega arith in
-          let is : f ≡ g = sym (fault_again f) ∙ ap fault_at same ∙ fault_again g in
-          subst (λ (h : PacketFault). ¬ HasFault h bytes) is absent
-    ]
+clear_more = sealing.clear_more fault_number HasFault faults_by
+
+-- bytes with this fault and none before it
+as_first : (d f : PacketFault) (bytes : List ℕ) → d ≡ f → HasFault d bytes → Clear (fault_number d) bytes → IsFirst f bytes
+as_first d f bytes same holds clear = subst (λ (g : PacketFault). IsFirst g bytes) same (record { holds = holds; first = clear })
 
 -- ---- magic and checksum
 
-record Sealed (bytes fields : List ℕ) : Type 0 where
-  long : 12 ≤ length bytes
-  magical : take 4 bytes ≡ magic
-  summed : little_number 4 (drop (length bytes - 4) bytes) ≡ crc32c (take (length bytes - 4) bytes)
-  fields_are : fields ≡ fields_of bytes
-
-pub turned : (b : Bool) → not b ≡ false → b ≡ true
-turned true e = refl
-turned false e = absurd cc
-
-pub turned_back : (b : Bool) → not b ≡ true → b ≡ false
-turned_back true e = absurd cc
-turned_back false e = refl
+abbrev Sealed : List ℕ → List ℕ → Type 0
+Sealed = sealing.Sealed 12 magic
 
 sealed : (bytes fields : List ℕ) → fields_at bytes ≡ Ok fields → Sealed bytes fields
 unfolding fields_at
-sealed bytes fields e =
-    let a = passed (nat_lt (length bytes) 12) Short _ fields e in
-    let b = passed (not (pointwise nat_eq (take 4 bytes) magic)) Magic _ fields a.1 in
-    let c = passed (not (eqb (little_number 4 (drop (length bytes - 4) bytes)) (crc32c (take (length bytes - 4) bytes)))) Checksum _ fields b.1 in
-    record {
-      long = ltb-false _ _ a.0;
-      magical = same_text (take 4 bytes) magic (sym (turned _ b.0));
-      summed = eqb-true _ _ (turned _ c.0);
-      fields_are = sym (ok_is (fields_of bytes) fields c.1);
-    }
+sealed = sealed_as Short Magic Checksum 12 magic
 
 sealed_clear : (bytes fields : List ℕ) → Sealed bytes fields → Clear 4 bytes
-sealed_clear bytes fields s =
-    clear_more Checksum bytes (clear_more Magic bytes (clear_more Short bytes (clear_none bytes) (λ h. omega (arith, h, s.long))) (λ h. h s.magical)) (λ h. h s.summed)
+sealed_clear = sealing.sealed_clear fault_number HasFault Short Magic Checksum 12 magic seal
 
 sealed_refused : (bytes : List ℕ) (f : PacketFault) → fields_at bytes ≡ Err f → IsFirst f bytes
 unfolding fields_at
-sealed_refused bytes f e =
-    elim (cond_err (nat_lt (length bytes) 12) Short _ f e) [
-      | inl h ↦ subst (λ (g : PacketFault). IsFirst g bytes) h.1 (record { holds = ltb-true _ _ h.0; first = clear_none bytes })
-      | inr a ↦
-          let c1 : Clear 2 bytes = clear_more Short bytes (clear_none bytes) (λ h. let long : 12 ≤ length bytes = ltb-false _ _ a.0 in omega (arith, h, long)) in
-          elim (cond_err (not (pointwise nat_eq (take 4 bytes) magic)) Magic _ f a.1) [
-            | inl h ↦ subst (λ (g : PacketFault). IsFirst g bytes) h.1 (record { holds = other_text (take 4 bytes) magic (sym (turned_back _ h.0)); first = c1 })
-            | inr b ↦
-                let c2 : Clear 3 bytes = clear_more Magic bytes c1 (λ h. h (same_text (take 4 bytes) magic (sym (turned _ b.0)))) in
-                elim (cond_err (not (eqb (little_number 4 (drop (length bytes - 4) bytes)) (crc32c (take (length bytes - 4) bytes)))) Checksum _ f b.1) [
-                  | inl h ↦ subst (λ (g : PacketFault). IsFirst g bytes) h.1 (record { holds = eqb-false _ _ (turned_back _ h.0); first = c2 })
-                  | inr c ↦ let no : done (fields_of bytes) ≡ Err f = c.1 in absurd cc
-                ]
-          ]
-    ]
+sealed_refused bytes f e = let x = sealing.sealed_refused fault_number HasFault Short Magic Checksum 12 magic seal bytes f e in record { holds = x.0; first = x.1 }
 
 -- ---- the head
 
@@ -247,16 +205,16 @@ headed_refused bytes f clear e =
       | inl a ↦
           let none = known_err (kind_at (slice_index bytes 4)) f a in
           let wrong : HasFault Kind bytes = λ k same. let here : Some k ≡ None = sym (kind_again k) ∙ ap kind_at same ∙ none.0 in absurd cc in
-          subst (λ (g : PacketFault). IsFirst g bytes) none.1 (record { holds = wrong; first = clear })
+          as_first Kind f bytes none.1 wrong clear
       | inr a ↦
           let c4 : Clear 5 bytes = clear_more Kind bytes clear (λ no. no a.0 (kind_found (slice_index bytes 4) a.0 (known_ok _ a.0 a.1))) in
           elim (cond_err (nat_lt n 1 || nat_lt 15 n) Count _ f a.2) [
-            | inl h ↦ subst (λ (g : PacketFault). IsFirst g bytes) h.1 (record { holds = count_wrong n h.0; first = c4 })
+            | inl h ↦ as_first Count f bytes h.1 (count_wrong n h.0) c4
             | inr b ↦
                 let two = neither (nat_lt n 1) (nat_lt 15 n) b.0 in
                 let c5 : Clear 6 bytes = clear_more Count bytes c4 (λ no. no (ltb-false _ _ two.0, ltb-false _ _ two.1)) in
                 elim (cond_err (nat_lt n from || (nat_lt n to || eqb from to)) Ends _ f b.1) [
-                  | inl h ↦ subst (λ (g : PacketFault). IsFirst g bytes) h.1 (record { holds = ends_wrong n from to h.0; first = c5 })
+                  | inl h ↦ as_first Ends f bytes h.1 (ends_wrong n from to h.0) c5
                   | inr c ↦ let no : Ok (let g : PacketHead = record { kind = a.0; count = n; from = from; to = to } in g) ≡ Err f = c.1 in absurd cc
                 ]
           ]
@@ -272,10 +230,6 @@ read_again bytes fields h b s t is =
     let same : kind_of b ≡ h.kind = one_kind (kind_of b) h.kind (is.kind ∙ sym t.kind) in
     let text : fields ≡ body_bytes b = s.fields_are ∙ is.fields in
     subst (λ (k : the_kind.PacketKind). body_at k fields ≡ Ok b) same (subst (λ (x : List ℕ). body_at (kind_of b) x ≡ Ok b) (sym text) (body_again b is.room))
-
-chosen_err : (c : Bool) (p : NodePacket) (f : PacketFault) → cond c (Ok p) (Err Range) ≡ Err f → (c ≡ false) × (Range ≡ f)
-chosen_err true p f e = absurd cc
-chosen_err false p f e = (refl, err_is {A = NodePacket} Range f e)
 
 -- the fault of bytes that are refused is the first that they have
 pub refused : (bytes : List ℕ) (f : PacketFault) → IsBytes bytes → reading bytes ≡ Err f → IsFirst f bytes
@@ -295,16 +249,16 @@ refused bytes f fits e =
                   | inl c ↦
                       let is : Fields ≡ f = sym (body_fails b.0.kind a.0 f c) in
                       let wrong : HasFault Fields bytes = λ x h. let here : Ok x ≡ Err f = sym (read_again bytes a.0 b.0 x s t h) ∙ c in absurd cc in
-                      subst (λ (g : PacketFault). IsFirst g bytes) is (record { holds = wrong; first = c6 })
+                      as_first Fields f bytes is wrong c6
                   | inr c ↦
-                      let out = chosen_err (in_range c.0) (packet_of b.0 c.0) f c.2 in
+                      let out = passed_err (in_range c.0) Range (packet_of b.0 c.0) f c.2 in
                       let bytes_fit : IsBytes a.0 = subst (λ (x : List ℕ). IsBytes x) (sym s.fields_are) (IsBytes-take _ (drop 8 bytes) (IsBytes-drop 8 bytes fits)) in
                       let here : Spells c.0 bytes = spelled bytes a.0 b.0 c.0 s t (body_found b.0.kind a.0 c.0 bytes_fit c.1) in
                       let wrong : HasFault Range bytes = λ x h good.
                       let same : x ≡ c.0 = ok_is x c.0 (sym (read_again bytes a.0 b.0 x s t h) ∙ c.1) in
                       let no : true ≡ false = sym good ∙ ap in_range same ∙ out.0 in
                       absurd cc in
-                      subst (λ (g : PacketFault). IsFirst g bytes) out.1 (record { holds = wrong; first = clear_more Fields bytes c6 (λ no. no c.0 here) })
+                      as_first Range f bytes out.1 wrong (clear_more Fields bytes c6 (λ no. no c.0 here))
                 ]
           ]
     ]
@@ -376,27 +330,9 @@ found bytes p fits e =
 
 -- ---- what is written so is read
 
-pub crc_fits : (bytes : List ℕ) → crc32c bytes < 256 ^ 4
-unfolding crc32c
-crc_fits bytes = omega arith
-
 fields_again : (p : NodePacket) → fields_at (packet_bytes p) ≡ Ok (body_bytes p.body)
 unfolding fields_at checksum_bytes
-fields_again p =
-    let body = body_bytes p.body in
-    let u = unsealed p in
-    let sum = little_bytes 4 (crc32c u) in
-    let bytes = u ++ sum in
-    let len : length bytes ≡ length body + 12 = omega (arith, length-append u sum) in
-    let cut : length u ≡ length bytes - 4 = omega (arith, len) in
-    let inner : length body ≡ length bytes - 4 - 8 = omega (arith, len) in
-    let long : nat_lt (length bytes) 12 ≡ false = le-ltb _ _ (omega (arith, len)) in
-    let front : take (length bytes - 4) bytes ≡ u = take_at u sum (length bytes - 4) cut in
-    let back : drop (length bytes - 4) bytes ≡ sum = drop_at u sum (length bytes - 4) cut in
-    let summed : eqb (little_number 4 (drop (length bytes - 4) bytes)) (crc32c (take (length bytes - 4) bytes)) ≡ true =
-    eq-eqb _ _ (ap (λ (x : List ℕ). little_number 4 x) back ∙ number_again 4 (crc32c u) (crc_fits u) ∙ ap crc32c (sym front)) in
-    let text : fields_of bytes ≡ body = take_at body sum (length bytes - 4 - 8) inner in
-    rw (long, summed, text) refl
+fields_again p = sealed_again Short Magic Checksum 12 magic (unsealed p) (body_bytes p.body) refl refl (omega arith) (omega arith)
 
 head_again : (p : NodePacket) → Fits p → head_at (packet_bytes p) ≡ Ok (record { kind = kind_of p.body; count = p.count; from = p.from; to = p.to })
 unfolding head_at

@@ -1,5 +1,5 @@
 -- The kinds of packets, and the ranges of their fields
-use Rattle.std.specs.Prelude.{ℕ, ◌+◌, ◌/◌, ◌%◌, ◌^◌, List, length, drop, Bool, not, ◌&&◌, ◌||◌, ◌==◌, nat_lt, Option, Some, None}
+use Rattle.std.specs.Prelude.{ℕ, ◌+◌, ◌/◌, ◌%◌, ◌^◌, ◌<◌, List, length, drop, Bool, not, ◌&&◌, ◌||◌, ◌==◌, nat_lt, Option, Some, None}
 use Rattle.std.specs.Prelude.{if◌then◌else◌}
 use Rattle.std.specs.List.{list_all, zip}
 use Rattle.packets.specs.declared.kind.PacketKind.{PacketKind}
@@ -68,6 +68,10 @@ is_number n = nat_lt n (2 ^ 63)
 -- a number that counts from 1
 abbrev pub is_positive : ℕ → Bool
 is_positive n = nat_lt 0 n && nat_lt n (2 ^ 63)
+
+-- the same as a statement; one more still fits
+abbrev pub IsPositive : ℕ → Type 0
+IsPositive n = (0 < n) × (n < 2 ^ 63)
 
 -- each is before the next one
 abbrev pub ascends : {A : Type 0} → (A → A → Bool) → List A → Bool

@@ -7,7 +7,7 @@
 //! leave on the instruction's two ways, or the least rule that is broken. [`leq`] orders frames by what they say, and
 //! [`join`] keeps what two frames both say, so a pass over the code can join all frames that arrive at an instruction.
 //! The rules are monotone: a frame that says more breaks no more of them, and on each way a frame leaves that says
-//! more.
+//! more. [`leads`] applies V1 and V2, which need no frame.
 //!
 //! ```
 //! let entry = Frame::entry(ImageForm::Sbi1);
@@ -26,6 +26,7 @@ mod kinds;
 mod laws;
 mod local;
 mod rule;
+mod targets;
 mod ways;
 
 pub use attributes::{Access, Attributes, attributes_from, bytes_in, signed_bytes_in};
@@ -34,4 +35,5 @@ pub use frame::{Frame, Kind, Region, join, leq};
 pub use image_form::ImageForm;
 pub use laws::rules_are_monotone;
 pub use rule::Rule;
+pub use targets::leads;
 pub use ways::{Leaving, transfer};

@@ -5,9 +5,9 @@ ghost use Rattle.span_native.specs.Correct.{IsSpanNative};
 ghost use Rattle.span_native.specs.Written.{IsCodeOf};
 
 use crate::slot_tasks::tasks_of;
+use decode::lay_out;
 use images::SpanImage;
 use native::{Opening, write_tasks};
-use span_verifier::lay_out;
 use std::alloc::{AllocError, Global};
 
 /// The machine code of an image. It fails only if memory runs out.

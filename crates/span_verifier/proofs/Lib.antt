@@ -4,7 +4,6 @@ pub mod Ones
 pub mod Erasure
 pub mod Words
 pub mod Stores
-pub mod Layouts
 pub mod Passes
 pub mod Forms
 pub mod SpanPasses

@@ -25,7 +25,7 @@ use Rattle.spans.specs.Typing.{target}
 use Rattle.decode.specs.Distance.{distance}
 use Rattle.span_verifier.specs.Ways.{ways}
 use Rattle.span_verifier.specs.Transfer.{frame_of}
-use Rattle.span_verifier.specs.Layout.{Follows}
+use Rattle.decode.specs.Slots.{Follows}
 use Rattle.span_verifier.specs.Inside.Pass.{AreFitting, IsWayWithin}
 use Rattle.span_verifier.specs.Typing.{table_of}
 

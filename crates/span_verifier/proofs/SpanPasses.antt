@@ -21,7 +21,7 @@ use Rattle.span_verifier.proofs.Exact.{exact, neither}
 use Rattle.spans.specs.Typing.{Table, IsAllowed, target}
 use Rattle.spans.specs.Typing as calls
 use Rattle.span_verifier.specs.Form.{Below}
-use Rattle.span_verifier.specs.Layout.{Follows}
+use Rattle.decode.specs.Slots.{Follows}
 use Rattle.span_verifier.specs.Least.{IsLeast, StopsAt}
 use Rattle.span_verifier.specs.Inside.Pass.{IsMerged, IsOpening, IsSpread, IsWayMerged, merged}
 use Rattle.span_verifier.specs.Typing.{IsPlaced, broken_at, span_form, IsTyped}

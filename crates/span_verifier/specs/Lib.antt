@@ -4,7 +4,6 @@ pub mod Exactness
 pub mod Transfer
 pub mod Form
 pub mod Least
-pub mod Layout
 pub mod Typing
 pub mod Verdict
 pub mod Laws

@@ -5,15 +5,14 @@ ghost use Rattle.decode.specs.Encoding.{Fits};
 ghost use Rattle.spans.specs.Frame.{IsFrame, kind_at};
 ghost use Rattle.span_verifier.specs.Inside.Pass.{AreFitting, IsLeavingAt, IsSlotJudged};
 ghost use Rattle.span_verifier.specs.Typing.{span_form, table_of};
-ghost use Rattle.span_verifier.specs.Layout.{Follows};
+ghost use Rattle.decode.specs.Slots.{Follows};
 ghost use Rattle.span_verifier.specs.Least.{IsLeast};
 
 use crate::propagation::spread;
-use crate::targets::leads;
 use crate::ways::{SpanLeaving, transfer};
 use decode::Insn;
 use limits::SLOTS;
-use regtypes::Rule;
+use regtypes::{Rule, flow_from, leads};
 use spans::Cells;
 use std::alloc::{AllocError, Global};
 
@@ -31,7 +30,7 @@ fn leave(
     requires frame { IsFrame (kind_at frame.now.kinds) }
     ensures { IsLeavingAt state_len slots.now slot insn.now (kind_at frame.now.kinds) result }
 {
-    match leads(slots, slot, insn) {
+    match leads(slots, slot, &flow_from(insn)) {
         Ok(()) => transfer(insn, frame, state_len),
         Err(rule) => Err(rule),
     }

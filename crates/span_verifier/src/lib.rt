@@ -20,8 +20,8 @@
 //! The part of the pass that any form of images needs is separate, so another form can be verified the same way.
 //! `specs/Form` says what a form gives for a slot and which laws it has to keep, and `specs/Least` defines the least
 //! typing and a refusal. `proofs/Passes` has the lemmas: how a join and a slot change the least typing, and that there
-//! is only one refusal. Every form shares [`lay_out`], which puts instructions slot by slot, and [`leads`], which
-//! judges where an instruction leads, by the rules V1 and V2.
+//! is only one refusal. Every form shares `decode::lay_out`, which puts instructions slot by slot, and
+//! `regtypes::leads`, which judges where an instruction leads, by the rules V1 and V2.
 //!
 //! Form 3 takes all that forms 1 and 2 take. A frame of theirs is read as one of form 3 (`specs/FlatFrames`): a number
 //! is any number, the message's length a number up to 256, a place that one place, and each word of the stack any
@@ -32,9 +32,6 @@
 //! ```
 //! let frames = verify(alloc, &code, 64)?;
 //! let cells = &frames.table[0]; // what is known as a call begins
-//! let slots = lay_out(alloc, &code)?;
-//! // the first instruction jumps to one that begins at a later slot, and another begins after it
-//! leads(&slots, 0, &code[0])?;
 //! // r3 is a number from 0 to 256, and r2 the state's first byte: their sum is a place of the state
 //! let add = Insn::Alu { op: AluOp::Add, width: Width::W64, dst: r2, operand: Operand::Reg(r3) };
 //! let left = transfer(&add, &entry(), 257);
@@ -54,7 +51,6 @@ mod frame;
 mod judgement;
 mod kind;
 mod laws;
-mod layout;
 mod memory;
 mod narrowing;
 mod pass;
@@ -62,7 +58,6 @@ mod propagation;
 mod results;
 mod rules;
 mod sums;
-mod targets;
 mod verification;
 mod ways;
 
@@ -74,12 +69,10 @@ pub use fault::SpanVerifyError;
 pub use flat_laws::{order_is_kept, rules_are_subsumed, typings_are_subsumed};
 pub use frame::{entry, join};
 pub use laws::{form_3_keeps_laws, refusals_are_one, typed_calls_are_shown, typings_are_typings};
-pub use layout::lay_out;
 pub use memory::{load_rule, loaded, store_rule, stored};
 pub use narrowing::{opposite, shown};
 pub use pass::{SpanFrames, frames_of};
 pub use results::{result, whole};
 pub use rules::{argument_rule, exit_rule, lesser, number_rule, value_rule};
-pub use targets::leads;
 pub use verification::verify;
 pub use ways::{SpanLeaving, transfer};

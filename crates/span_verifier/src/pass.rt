@@ -10,8 +10,7 @@ ghost use Rattle.span_verifier.specs.Verdict.{IsJudged};
 
 use crate::frame::entry;
 use crate::judgement::judge;
-use crate::layout::lay_out;
-use decode::Insn;
+use decode::{Insn, lay_out};
 use limits::SLOTS;
 use regtypes::Rule;
 use spans::Cells;

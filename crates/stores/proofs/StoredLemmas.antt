@@ -13,52 +13,20 @@ use Rattle.packets.specs.Format.{checksum_bytes}
 use Rattle.packets.specs.Kept.{word_bytes}
 use Rattle.packets.specs.Faults.{fields_of}
 use Rattle.packets.proofs.Codecs.{IsBytes, IsBytes-drop, IsBytes-take, number_again}
-use Rattle.packets.proofs.WholeLemmas.{turned, turned_back, neither, count_wrong, eight, split_as, last_of, crc_fits}
+use Rattle.packets.proofs.Steps.{done, ok_is, err_is, bind_ok, bind_err, passed_ok, passed_err, passed, cond_err}
+use Rattle.packets.proofs.Sealing.{Numbered, AreOfSeal, sealed_as, sealed_again, turned, turned_back}
+use Rattle.packets.proofs.Sealing as sealing
+use Rattle.packets.proofs.WholeLemmas.{neither, count_wrong, eight, split_as, last_of}
 use Rattle.stores.specs.declared.stored.StoredStore.{StoredStore}
 use Rattle.stores.specs.declared.store_fault.StoreFault.{StoreFault}
 use Rattle.stores.specs.declared.store_fault.StoreFault.TheVariants.{Short, Magic, Checksum, Count, Zeros, Fields, Range}
 use Rattle.stores.specs.Format.{store_magic, head_bytes, log_bytes, output_bytes, stored_bytes, stored_unsealed, sealed_bytes}
 use Rattle.stores.specs.Faults.{StoredHasRoom, stored_in_range, store_fault_number, three_of, SpellsStored, HasStoreFault, IsFirstFault}
-use Rattle.stores.specs.Inside.Reader.{and_then, stored_at, read_stored, store_fields_at, count_at, store_reading}
+use Rattle.packets.specs.Inside.Reader.{and_then}
+use Rattle.stores.specs.Inside.Reader.{stored_at, read_stored, store_fields_at, count_at, store_reading}
 use Rattle.stores.proofs.StoredCodecs.{IsStoredBody, stored_found, stored_again}
 
 -- ---- steps
-
-abbrev pub done : {A : Type 0} → A → Result A StoreFault
-done x = Ok x
-
-abbrev pub broken : {A : Type 0} → StoreFault → Result A StoreFault
-broken f = Err f
-
-pub ok_is : {A : Type 0} (x y : A) → done x ≡ done y → x ≡ y
-ok_is x y e = cc
-
-pub err_is : {A : Type 0} (d f : StoreFault) → broken {A = A} d ≡ Err f → d ≡ f
-err_is d f e = cc
-
-pub then_ok : {A B : Type 0} (r : Result A StoreFault) (f : A → Result B StoreFault) (y : B) → and_then r f ≡ Ok y → (x : A) × (r ≡ Ok x) × (f x ≡ Ok y)
-then_ok (Ok x) f y e = (x, refl, e)
-then_ok (Err d) f y e = absurd cc
-
-pub then_err : {A B : Type 0} (r : Result A StoreFault) (k : A → Result B StoreFault) (f : StoreFault) → and_then r k ≡ Err f → (r ≡ Err f) ⊎ ((x : A) × (r ≡ Ok x) × (k x ≡ Err f))
-then_err {A} {B} (Ok x) k f e = inr (x, refl, e)
-then_err {A} {B} (Err d) k f e = inl (ap (λ (g : StoreFault). broken {A = A} g) (err_is {A = B} d f e))
-
-passed : {A : Type 0} (b : Bool) (d : StoreFault) (r : Result A StoreFault) (y : A) → cond b (Err d) r ≡ Ok y → (b ≡ false) × (r ≡ Ok y)
-passed true d r y e = absurd cc
-passed false d r y e = (refl, e)
-
-cond_err : {A : Type 0} (b : Bool) (d : StoreFault) (r : Result A StoreFault) (f : StoreFault) → cond b (Err d) r ≡ Err f → ((b ≡ true) × (d ≡ f)) ⊎ ((b ≡ false) × (r ≡ Err f))
-cond_err {A} true d r f e = inl (refl, err_is {A = A} d f e)
-cond_err false d r f e = inr (refl, e)
-
-chosen_ok : (c : Bool) (k l : StoredStore) → cond c (Ok k) (broken Range) ≡ Ok l → (c ≡ true) × (k ≡ l)
-chosen_ok true k l e = (refl, ok_is k l e)
-chosen_ok false k l e = absurd cc
-
-chosen_err : (c : Bool) (k : StoredStore) (f : StoreFault) → cond c (Ok k) (broken Range) ≡ Err f → (c ≡ false) × (Range ≡ f)
-chosen_err true k f e = absurd cc
-chosen_err false k f e = (refl, err_is {A = StoredStore} Range f e)
 
 -- what the fields are read as
 read_ok : (r : Result StoredStore PacketFault) (k : StoredStore) → read_stored r ≡ Ok k → r ≡ Ok k
@@ -90,31 +58,18 @@ fault_again Zeros = refl
 fault_again Fields = refl
 fault_again Range = refl
 
--- no fault below this number
-abbrev Clear : ℕ → List ℕ → Type 0
-Clear n bytes = (g : StoreFault) → store_fault_number g < n → ¬ HasStoreFault g bytes
+faults_by : Numbered store_fault_number
+unfolding fault_at
+faults_by = record { at = fault_at; again = fault_again; last = omega arith }
 
-clear_none : (bytes : List ℕ) → Clear 1 bytes
-clear_none bytes g lt = absurd (no g lt)
-  where
-    no : (g : StoreFault) → store_fault_number g < 1 → ⊥
-    no Short lt = omega arith
-    no Magic lt = omega arith
-    no Checksum lt = omega arith
-    no Count lt = omega arith
-    no Zeros lt = omega arith
-    no Fields lt = omega arith
-    no Range lt = omega arith
+seal : AreOfSeal store_fault_number HasStoreFault Short Magic Checksum 16 store_magic
+seal = record { by = faults_by; first = refl; second = refl; third = refl; short_is = λ bytes. (λ h. h, λ h. h); magic_is = λ bytes. (λ h. h, λ h. h); checksum_is = λ bytes. (λ h. h, λ h. h) }
+
+abbrev Clear : ℕ → List ℕ → Type 0
+Clear = sealing.Clear store_fault_number HasStoreFault
 
 clear_more : (f : StoreFault) (bytes : List ℕ) → Clear (store_fault_number f) bytes → ¬ HasStoreFault f bytes → Clear (suc (store_fault_number f)) bytes
-clear_more f bytes clear absent g lt =
-    elim (cases_lt (store_fault_number g) (store_fault_number f)) [
-      | inl below ↦ clear g below
-      | inr le ↦
-          let same : store_fault_number f ≡ store_fault_number g = omega arith in
-          let is : f ≡ g = sym (fault_again f) ∙ ap fault_at same ∙ fault_again g in
-          subst (λ (h : StoreFault). ¬ HasStoreFault h bytes) is absent
-    ]
+clear_more = sealing.clear_more store_fault_number HasStoreFault faults_by
 
 -- bytes with this fault and none before it
 as_first : (d f : StoreFault) (bytes : List ℕ) → d ≡ f → HasStoreFault d bytes → Clear (store_fault_number d) bytes → IsFirstFault f bytes
@@ -122,46 +77,19 @@ as_first d f bytes same holds clear = subst (λ (g : StoreFault). IsFirstFault g
 
 -- ---- magic and checksum
 
-record Sealed (bytes fields : List ℕ) : Type 0 where
-  long : 16 ≤ length bytes
-  magical : take 4 bytes ≡ store_magic
-  summed : little_number 4 (drop (length bytes - 4) bytes) ≡ crc32c (take (length bytes - 4) bytes)
-  fields_are : fields ≡ fields_of bytes
+abbrev Sealed : List ℕ → List ℕ → Type 0
+Sealed = sealing.Sealed 16 store_magic
 
 sealed : (bytes fields : List ℕ) → store_fields_at bytes ≡ Ok fields → Sealed bytes fields
 unfolding store_fields_at
-sealed bytes fields e =
-    let a = passed (nat_lt (length bytes) 16) Short _ fields e in
-    let b = passed (not (pointwise nat_eq (take 4 bytes) store_magic)) Magic _ fields a.1 in
-    let c = passed (not (eqb (little_number 4 (drop (length bytes - 4) bytes)) (crc32c (take (length bytes - 4) bytes)))) Checksum _ fields b.1 in
-    record {
-      long = ltb-false _ _ a.0;
-      magical = same_text (take 4 bytes) store_magic (sym (turned _ b.0));
-      summed = eqb-true _ _ (turned _ c.0);
-      fields_are = sym (ok_is (fields_of bytes) fields c.1);
-    }
+sealed = sealed_as Short Magic Checksum 16 store_magic
 
 sealed_clear : (bytes fields : List ℕ) → Sealed bytes fields → Clear 4 bytes
-sealed_clear bytes fields s =
-    clear_more Checksum bytes (clear_more Magic bytes (clear_more Short bytes (clear_none bytes) (λ h. omega (arith, h, s.long))) (λ h. h s.magical)) (λ h. h s.summed)
+sealed_clear = sealing.sealed_clear store_fault_number HasStoreFault Short Magic Checksum 16 store_magic seal
 
 sealed_refused : (bytes : List ℕ) (f : StoreFault) → store_fields_at bytes ≡ Err f → IsFirstFault f bytes
 unfolding store_fields_at
-sealed_refused bytes f e =
-    elim (cond_err (nat_lt (length bytes) 16) Short _ f e) [
-      | inl h ↦ as_first Short f bytes h.1 (ltb-true _ _ h.0) (clear_none bytes)
-      | inr a ↦
-          let c1 : Clear 2 bytes = clear_more Short bytes (clear_none bytes) (λ h. let long : 16 ≤ length bytes = ltb-false _ _ a.0 in omega (arith, h, long)) in
-          elim (cond_err (not (pointwise nat_eq (take 4 bytes) store_magic)) Magic _ f a.1) [
-            | inl h ↦ as_first Magic f bytes h.1 (other_text (take 4 bytes) store_magic (sym (turned_back _ h.0))) c1
-            | inr b ↦
-                let c2 : Clear 3 bytes = clear_more Magic bytes c1 (λ h. h (same_text (take 4 bytes) store_magic (sym (turned _ b.0)))) in
-                elim (cond_err (not (eqb (little_number 4 (drop (length bytes - 4) bytes)) (crc32c (take (length bytes - 4) bytes)))) Checksum _ f b.1) [
-                  | inl h ↦ as_first Checksum f bytes h.1 (eqb-false _ _ (turned_back _ h.0)) c2
-                  | inr c ↦ let no : done (fields_of bytes) ≡ Err f = c.1 in absurd cc
-                ]
-          ]
-    ]
+sealed_refused bytes f e = let x = sealing.sealed_refused store_fault_number HasStoreFault Short Magic Checksum 16 store_magic seal bytes f e in record { holds = x.0; first = x.1 }
 
 -- ---- the head
 
@@ -225,23 +153,23 @@ fields_fit bytes fields fits s = subst (λ (x : List ℕ). IsBytes x) (sym s.fie
 pub refused : (bytes : List ℕ) (f : StoreFault) → IsBytes bytes → store_reading bytes ≡ Err f → IsFirstFault f bytes
 unfolding store_reading
 refused bytes f fits e =
-    elim (then_err (store_fields_at bytes) (λ fields. and_then (count_at bytes) (λ n. and_then (read_stored (stored_at n fields)) finish)) f e) [
+    elim (bind_err (store_fields_at bytes) (λ fields. and_then (count_at bytes) (λ n. and_then (read_stored (stored_at n fields)) finish)) f e) [
       | inl a ↦ sealed_refused bytes f a
       | inr a ↦
           let s : Sealed bytes a.0 = sealed bytes a.0 a.1 in
           let c3 : Clear 4 bytes = sealed_clear bytes a.0 s in
-          elim (then_err (count_at bytes) (λ n. and_then (read_stored (stored_at n a.0)) finish) f a.2) [
+          elim (bind_err (count_at bytes) (λ n. and_then (read_stored (stored_at n a.0)) finish) f a.2) [
             | inl b ↦ counted_refused bytes f c3 b
             | inr b ↦
                 let t : Counted bytes b.0 = counted bytes b.0 b.1 in
                 let c5 : Clear 6 bytes = counted_clear bytes b.0 t c3 in
-                elim (then_err (read_stored (stored_at b.0 a.0)) finish f b.2) [
+                elim (bind_err (read_stored (stored_at b.0 a.0)) finish f b.2) [
                   | inl c ↦
                       let out = read_err (stored_at b.0 a.0) f c in
                       as_first Fields f bytes out.0 (λ r is. out.1 r (read_again bytes a.0 b.0 r s t is)) c5
                   | inr c ↦
                       let read : stored_at b.0 a.0 ≡ Ok c.0 = read_ok (stored_at b.0 a.0) c.0 c.1 in
-                      let out = chosen_err (stored_in_range c.0) c.0 f c.2 in
+                      let out = passed_err (stored_in_range c.0) Range c.0 f c.2 in
                       let here : SpellsStored c.0 bytes = spelled bytes a.0 b.0 c.0 s t (stored_found b.0 a.0 c.0 (fields_fit bytes a.0 fits s) read) in
                       let wrong : HasStoreFault Range bytes = λ r is good.
                       let same : r ≡ c.0 = ok_is r c.0 (ap (λ (x : Result StoredStore PacketFault). read_stored x) (sym (read_again bytes a.0 b.0 r s t is) ∙ read)) in
@@ -277,10 +205,10 @@ text_of bytes r long magical three is =
 pub found : (bytes : List ℕ) (r : StoredStore) → IsBytes bytes → store_reading bytes ≡ Ok r → IsSealed r bytes
 unfolding store_reading
 found bytes r fits e =
-    let a = then_ok (store_fields_at bytes) (λ fields. and_then (count_at bytes) (λ n. and_then (read_stored (stored_at n fields)) finish)) r e in
-    let b = then_ok (count_at bytes) (λ n. and_then (read_stored (stored_at n a.0)) finish) r a.2 in
-    let c = then_ok (read_stored (stored_at b.0 a.0)) finish r b.2 in
-    let g = chosen_ok (stored_in_range c.0) c.0 r c.2 in
+    let a = bind_ok (store_fields_at bytes) (λ fields. and_then (count_at bytes) (λ n. and_then (read_stored (stored_at n fields)) finish)) r e in
+    let b = bind_ok (count_at bytes) (λ n. and_then (read_stored (stored_at n a.0)) finish) r a.2 in
+    let c = bind_ok (read_stored (stored_at b.0 a.0)) finish r b.2 in
+    let g = passed_ok (stored_in_range c.0) Range c.0 r c.2 in
     let s : Sealed bytes a.0 = sealed bytes a.0 a.1 in
     let t : Counted bytes b.0 = counted bytes b.0 b.1 in
     let l : StoredStore = c.0 in
@@ -306,22 +234,7 @@ some_fields r =
 
 fields_again : (r : StoredStore) → store_fields_at (sealed_bytes r) ≡ Ok (stored_bytes r)
 unfolding store_fields_at checksum_bytes
-fields_again r =
-    let body = stored_bytes r in
-    let u = stored_unsealed r in
-    let sum = little_bytes 4 (crc32c u) in
-    let bytes = u ++ sum in
-    let len : length bytes ≡ length body + 12 = omega (arith, length-append u sum) in
-    let some : 4 ≤ length body = some_fields r in
-    let cut : length u ≡ length bytes - 4 = omega (arith, len) in
-    let inner : length body ≡ length bytes - 4 - 8 = omega (arith, len) in
-    let long : nat_lt (length bytes) 16 ≡ false = le-ltb _ _ (omega (arith, len, some)) in
-    let front : take (length bytes - 4) bytes ≡ u = take_at u sum (length bytes - 4) cut in
-    let back : drop (length bytes - 4) bytes ≡ sum = drop_at u sum (length bytes - 4) cut in
-    let summed : eqb (little_number 4 (drop (length bytes - 4) bytes)) (crc32c (take (length bytes - 4) bytes)) ≡ true =
-    eq-eqb _ _ (ap (λ (x : List ℕ). little_number 4 x) back ∙ number_again 4 (crc32c u) (crc_fits u) ∙ ap crc32c (sym front)) in
-    let text : fields_of bytes ≡ body = take_at body sum (length bytes - 4 - 8) inner in
-    rw (long, summed, text) refl
+fields_again r = sealed_again Short Magic Checksum 16 store_magic (stored_unsealed r) (stored_bytes r) refl refl (omega arith) (omega (arith, some_fields r))
 
 count_again : (r : StoredStore) → 1 ≤ length r.heads → length r.heads ≤ 15 → count_at (sealed_bytes r) ≡ Ok (length r.heads)
 unfolding count_at

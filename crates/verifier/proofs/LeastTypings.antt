@@ -7,7 +7,7 @@ use Rattle.std.proofs.lemmas.Bool.{cases_eq, cases_lt, false≢true}
 use Rattle.std.proofs.lemmas.Bool.Decides.{nat_tests}
 use Rattle.std.proofs.lemmas.List.{get_or-set_same, get_or-set_other, length-set}
 use Rattle.decode.specs.declared.insn.Insn.{Insn}
-use Rattle.decode.specs.Slots.{size_of, insn_at}
+use Rattle.decode.specs.Slots.{Follows, size_of, insn_at}
 use Rattle.regtypes.specs.declared.image_form.ImageForm.{ImageForm}
 use Rattle.regtypes.specs.declared.image_form.ImageForm.TheVariants.{Sbi1, Sbi2}
 use Rattle.regtypes.specs.declared.frame.Frame.{Frame}
@@ -25,7 +25,7 @@ use Rattle.regtypes.proofs.Typings.{within, typing_keeps, typing_leads}
 use Rattle.regtypes.proofs.Monotone.{monotone, raised_within, none_holds, first_of_both, both_pass, not_false, Leq-refl, Leq-trans, Leq-antisym}
 use Rattle.verifier.specs.Verdict.{IsOneRefusal}
 use Rattle.verifier.specs.Least.{Below, IsLeast, StopsAt, IsRefused}
-use Rattle.verifier.specs.Inside.Pass.{Follows, Merged, IsOpening}
+use Rattle.verifier.specs.Inside.Pass.{Merged, IsOpening}
 
 -- ---- frames and tables
 

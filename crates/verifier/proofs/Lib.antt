@@ -1,5 +1,4 @@
 pub mod LeastTypings
-pub mod Layouts
 pub mod Files
 pub mod Places
 pub mod RuleLemmas

@@ -1,15 +1,14 @@
 //! One slot of the pass: its rules, and the frames that leave it.
 
 ghost use Rattle.std.specs.Prelude.{◌≡◌, ◌≤◌, ◌<◌, ◌+◌, MatchResult, OnErr, length, true, is_some, pos, ◌+ℤ◌, Some, None};
-ghost use Rattle.decode.specs.Slots.{insn_at};
-ghost use Rattle.regtypes.specs.Rules.{first_broken};
-ghost use Rattle.regtypes.specs.Typing.{is_target, flow_tests};
+ghost use Rattle.decode.specs.Slots.{Follows, insn_at};
+ghost use Rattle.regtypes.specs.Typing.{is_target};
 ghost use Rattle.verifier.specs.Least.{IsLeast, StopsAt};
-ghost use Rattle.verifier.specs.Inside.Pass.{Follows, Merged};
+ghost use Rattle.verifier.specs.Inside.Pass.{Merged};
 
 use decode::Insn;
 use limits::{PAYLOAD_BYTES, REGISTERS, SLOTS};
-use regtypes::{Flow, Frame, ImageForm, Rule, flow_from, join, transfer};
+use regtypes::{Flow, Frame, ImageForm, Rule, flow_from, join, leads, transfer};
 
 /// Joins a frame into the frame of a slot.
 fn merge(table: &mut [Option<Frame>], to: usize, frame: &Frame)
@@ -24,21 +23,6 @@ fn merge(table: &mut [Option<Frame>], to: usize, frame: &Frame)
     };
 }
 
-/// Whether an instruction begins at a slot.
-fn begins(slots: &[Option<Insn>], slot: usize) -> bool
-    ensures { result ≡ is_some (insn_at slots.now slot) }
-{
-    slot < slots.len() && slots[slot].is_some()
-}
-
-/// Whether a jump leads to a later slot in which an instruction begins.
-fn is_target(slots: &[Option<Insn>], slot: usize, distance: i32) -> bool
-    requires { slot < SLOTS }
-    ensures { result ≡ is_target slots.now slot (pos (slot + 1) +ℤ distance) }
-{
-    distance >= 0 && begins(slots, slot + 1 + distance as usize)
-}
-
 /// The slot that a jump leads to.
 fn target(slots: &[Option<Insn>], slot: usize, distance: i32) -> usize
     requires short { slot < SLOTS }
@@ -48,36 +32,6 @@ fn target(slots: &[Option<Insn>], slot: usize, distance: i32) -> usize
     ensures begins { is_some (insn_at slots.now result) ≡ true }
 {
     slot + 1 + distance as usize
-}
-
-/// The rules on where an instruction leads, V1 and V2.
-fn leads(slots: &[Option<Insn>], slot: usize, flow: &Flow) -> Result<(), Rule>
-    requires short { slot < SLOTS }
-    requires within { slot < length slots.now }
-    ensures { MatchResult result (λ _. first_broken (flow_tests slots.now slot flow.now) ≡ None) (λ r. first_broken (flow_tests slots.now slot flow.now) ≡ Some r) }
-{
-    match *flow {
-        Flow::Ends => {}
-        Flow::Leaps(distance) => {
-            if !is_target(slots, slot, distance) {
-                return Err(Rule::V1);
-            }
-        }
-        Flow::Forks(distance) => {
-            if !is_target(slots, slot, distance) {
-                return Err(Rule::V1);
-            }
-            if slot + 1 >= slots.len() {
-                return Err(Rule::V2);
-            }
-        }
-        Flow::Falls(size) => {
-            if size >= slots.len() - slot {
-                return Err(Rule::V2);
-            }
-        }
-    }
-    Ok(())
 }
 
 /// Judges one slot, and joins the frames that leave it into those of the next slots. A slot that no path leads to is

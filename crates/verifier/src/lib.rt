@@ -22,7 +22,6 @@ mod header;
 mod image;
 mod judgement;
 mod laws;
-mod layout;
 mod loader;
 mod pass;
 mod translation;

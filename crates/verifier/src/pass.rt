@@ -6,8 +6,7 @@ ghost use Rattle.verifier.specs.Inside.Pass.{IsOpening};
 ghost use Rattle.verifier.specs.Verdict.{IsJudged};
 
 use crate::judgement::judge;
-use crate::layout::lay_out;
-use decode::Insn;
+use decode::{Insn, lay_out};
 use limits::SLOTS;
 use regtypes::{Frame, ImageForm, Rule};
 use std::alloc::{AllocError, Global};

@@ -34,30 +34,21 @@ fn put_pair(code: &mut Vec<u8>, first: u8, second: u8) -> Result<(), AllocError>
 fn put_half(code: &mut Vec<u8>, number: u64) -> Result<(), AllocError>
     ensures { OnOk result (code.new.items ≡ code.old.items ++ le_bytes 2 number) }
 {
-    put_pair(code, (number % 256) as u8, (number / 256 % 256) as u8)
+    put_all(code, &number.to_le_bytes()[..2])
 }
 
 // Appends the low 32 bits of a number.
 fn put_number(code: &mut Vec<u8>, number: u64) -> Result<(), AllocError>
     ensures { OnOk result (code.new.items ≡ code.old.items ++ le_bytes 4 number) }
 {
-    put_all(
-        code,
-        &[
-            (number % 256) as u8,
-            (number / 256 % 256) as u8,
-            (number / 256 / 256 % 256) as u8,
-            (number / 256 / 256 / 256 % 256) as u8,
-        ],
-    )
+    put_all(code, &number.to_le_bytes()[..4])
 }
 
 // Appends a number of 64 bits.
 fn put_wide(code: &mut Vec<u8>, number: u64) -> Result<(), AllocError>
     ensures { OnOk result (code.new.items ≡ code.old.items ++ le_bytes 8 number) }
 {
-    put_number(code, number)?;
-    put_number(code, number / 256 / 256 / 256 / 256)
+    put_all(code, &number.to_le_bytes())
 }
 
 // REX, with W for 64 bits, R, X and B for registers from 8 on.

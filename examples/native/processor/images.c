@@ -2,6 +2,7 @@
 // this processor, by the same code in the emulator, and by the interpreter. Of the first two all registers and both blocks
 // of memory are compared, of the first and the last all that a call leaves: r0, steps, state, sends and outputs.
 #define _GNU_SOURCE
+#include "chance.h"
 #include <stdint.h>
 #include <stdio.h>
 #include <stdlib.h>
@@ -49,19 +50,6 @@ __asm__(".text\n"
         "movups %xmm0, behind+136(%rip)\n"
         "pop %r15; pop %r14; pop %r13; pop %r12; pop %rbp; pop %rbx\n"
         "ret\n");
-
-// ---- chance
-
-static uint64_t seed = 0x9e3779b97f4a7c15;
-
-static uint64_t chance(void) {
-    seed ^= seed << 13;
-    seed ^= seed >> 7;
-    seed ^= seed << 17;
-    return seed * 0x2545f4914f6cdd1d;
-}
-
-static uint64_t below(uint64_t limit) { return (chance() >> 11) % limit; }
 
 // ---- what is compared
 

@@ -1,5 +1,6 @@
 // Runs each form's bytes on this processor and in the emulator, from the same registers, flags and memory, and compares.
 #define _GNU_SOURCE
+#include "chance.h"
 #include <stdint.h>
 #include <stdio.h>
 #include <stdlib.h>
@@ -62,17 +63,6 @@ __asm__(".text\n"
         "ret\n");
 
 // ---- chance
-
-static uint64_t seed = 0x9e3779b97f4a7c15;
-
-static uint64_t chance(void) {
-    seed ^= seed << 13;
-    seed ^= seed >> 7;
-    seed ^= seed << 17;
-    return seed * 0x2545f4914f6cdd1d;
-}
-
-static uint64_t below(uint64_t limit) { return (chance() >> 11) % limit; }
 
 // A word: any, near a power of two, or small.
 static uint64_t word(void) {

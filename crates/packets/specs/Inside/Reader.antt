@@ -21,10 +21,14 @@ use Rattle.packets.specs.Packet.{kind_at, in_range}
 use Rattle.packets.specs.Format.{magic}
 use Rattle.packets.specs.Faults.{fields_of}
 
+-- a step of reading, and then the next
+abbrev pub and_then : {F A B : Type 0} → Result A F → (A → Result B F) → Result B F
+and_then (Ok x) f = f x
+and_then (Err e) f = Err e
+
 infixl 10 ◌>>=◌
 abbrev pub ◌>>=◌ : {A B : Type 0} → Result A PacketFault → (A → Result B PacketFault) → Result B PacketFault
-(Ok x) >>= f = f x
-(Err e) >>= f = Err e
+r >>= f = and_then r f
 
 -- an error is the one that reading gives, unless memory ran out
 abbrev pub Fails : {Y : Type 0} → PacketError → Result Y PacketFault → Type 0
@@ -104,12 +108,17 @@ body_at kinds.Restored bytes =
     Ok (Restored x.0 x.1.0 x.1.1.0 x.1.1.1.0 (record { bits = x.1.1.1.1.0 }) x.1.1.1.1.1)
 body_at kinds.Saved bytes = whole (number_at 8) bytes >>= λ c. Ok (Saved c)
 
+-- the fields of bytes under this magic, of which there are at least so many, or the first of three faults: of the length, the magic and the
+-- checksum
+abbrev pub sealed_fields : {F : Type 0} → F → F → F → ℕ → List ℕ → List ℕ → Result (List ℕ) F
+sealed_fields short wrong changed least m bytes =
+    if nat_lt (length bytes) least then Err short else if not (pointwise nat_eq (take 4 bytes) m) then Err wrong
+    else if not (little_number 4 (drop (length bytes - 4) bytes) == crc32c (take (length bytes - 4) bytes)) then Err changed
+    else Ok (fields_of bytes)
+
 -- the bytes of the fields, if magic and checksum are right
 unfoldable pub fields_at : List ℕ → Result (List ℕ) PacketFault
-fields_at bytes =
-    if nat_lt (length bytes) 12 then Err faults.Short else if not (pointwise nat_eq (take 4 bytes) magic) then Err faults.Magic
-    else if not (little_number 4 (drop (length bytes - 4) bytes) == crc32c (take (length bytes - 4) bytes)) then Err faults.Checksum
-    else Ok (fields_of bytes)
+fields_at bytes = sealed_fields faults.Short faults.Magic faults.Checksum 12 magic bytes
 
 -- a kind that there is
 abbrev pub known : Option PacketKind → Result PacketKind PacketFault

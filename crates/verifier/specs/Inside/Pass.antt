@@ -8,11 +8,6 @@ use Rattle.regtypes.specs.declared.frame.Frame.{Frame}
 use Rattle.regtypes.specs.Frame.{entry_frame, Leq}
 use Rattle.regtypes.specs.Typing.{Table, frame_at}
 
--- after an instruction that is not the last another begins
-abbrev pub Follows : List (Option Insn) → Type 0
-Follows slots = (s n : ℕ) (i : Insn) → insn_at slots s ≡ Some i → n ≡ s + size_of i → n < length slots → (j : Insn)
-    × (insn_at slots n ≡ Some j)
-
 -- a frame joined into the frame of a slot
 pub record Merged (old : Table) (to : ℕ) (f : Frame) (new : Table) : Type 0 where
   pub size : length new ≡ length old

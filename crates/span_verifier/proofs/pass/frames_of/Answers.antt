@@ -3,12 +3,12 @@ use Rattle.std.proofs.Math.Seq.{take-append_seam}
 use Rattle.decode.specs.declared.insn.Insn.{Insn}
 use Rattle.decode.specs.Slots.{slots_of}
 use Rattle.limits.specs.declared.TheConstants.{SLOTS}
-use Rattle.span_verifier.specs.Layout.{Follows}
+use Rattle.decode.specs.Slots.{Follows}
 use Rattle.span_verifier.specs.Least.{IsLeast, StopsAt}
 use Rattle.span_verifier.specs.Inside.Pass.{AreFitting, IsSlotJudged}
 use Rattle.span_verifier.specs.Typing.{span_form, table_of}
 use Rattle.span_verifier.specs.Verdict.{IsLeastTyping}
-use Rattle.span_verifier.proofs.Layouts.{first_begins_at, laid_some}
+use Rattle.decode.proofs.Layouts.{first_begins_at, laid_some}
 use Rattle.span_verifier.proofs.SpanPasses.{least_first, refused}
 use Rattle.span_verifier.proofs.Slots.{are_fitting}
 use Rattle.span_verifier.proofs.pass.frames_of.Goals as goal

@@ -2,10 +2,10 @@ use Rattle.std.proofs.Common.{◌≡◌, ℕ, ◌<◌, ◌++◌, length, take, d
 use Rattle.std.proofs.Math.Seq.{take-append_seam}
 use Rattle.decode.specs.Slots.{slots_of}
 use Rattle.regtypes.specs.Typing.{Table}
-use Rattle.verifier.specs.Inside.Pass.{Follows}
+use Rattle.decode.specs.Slots.{Follows}
 use Rattle.verifier.specs.Least.{IsLeast, IsLeastTyping, StopsAt}
 use Rattle.verifier.proofs.LeastTypings.{least_opening, no_typing, refused}
-use Rattle.verifier.proofs.Layouts.{first_begins_at, laid_some}
+use Rattle.decode.proofs.Layouts.{first_begins_at, laid_some}
 use Rattle.verifier.proofs.pass.frames_of.Goals as goal
 
 -- a table that was lent and not changed is the same again

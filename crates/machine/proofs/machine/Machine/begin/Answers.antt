@@ -17,7 +17,7 @@ new-requires c =
     let m = view_of c.self.inside in
     let me = c.args.me in
     let within : me ≤ length m.processes = subst (λ (v : TheMachine). me ≤ length v.processes) (sym c.self.view_is) c.requires.within in
-    let sender : c.args.message.sender ≤ length m.processes = subst (λ (v : TheMachine). c.args.message.sender ≤ length v.processes) (sym c.self.view_is) c.requires.from in
+    let sender : c.args.message.now.sender ≤ length m.processes = subst (λ (v : TheMachine). c.args.message.now.sender ≤ length v.processes) (sym c.self.view_is) c.requires.from in
     let positive = c.requires.inside in
     let inside : me - 1 < length c.self.inside.images.items = omega (arith, c.self.invariant.images, within, positive) in
     let image = image_in c.in_ok-image.image in
@@ -28,8 +28,8 @@ new-requires c =
     let state_is : c.state.result.now ≡ (process_at m me).state = c.state.ensures ∙ ap (λ (x : TheProcess). x.state) at in
     let few = c.self.invariant.few in
     let back : is_lost (process_at m me).mode ≡ false = subst (λ (v : TheMachine). is_lost (process_at v me).mode ≡ false) (sym c.self.view_is) c.requires.back in
-    let called : TheMachine → Who = λ v. record { me = me; from = c.args.message.sender; count = length v.processes } in
-    let who : c.who-who.result ≡ record { me = me; from = c.args.message.sender; count = length m.processes } = c.who-who.ensures ∙ ap called (sym c.self.view_is) in
+    let called : TheMachine → Who = λ v. record { me = me; from = c.args.message.now.sender; count = length v.processes } in
+    let who : c.who-who.result ≡ record { me = me; from = c.args.message.now.sender; count = length m.processes } = c.who-who.ensures ∙ ap called (sym c.self.view_is) in
     let len : length c.state.result.now ≡ image.len = ap length state_is ∙ (sound_at c.self.inside c.self.invariant me (idle_process 0 0 0) image positive within).state back ∙ ap (λ (e : TheImage). e.len) image_is in
     rw who (record { state_len = len; inside = positive; within = within; few = few; sender = sender; other = c.requires.other })
 
@@ -52,12 +52,12 @@ invariant_of-self-2 c =
     let within : me ≤ length xs = subst (λ (v : TheMachine). me ≤ length v.processes) (sym c.self.view_is) c.requires.within in
     let calls : m.calls < ENTRIES = subst (λ (v : TheMachine). v.calls < ENTRIES) (sym c.self.view_is) c.requires.calls in
     let here : was ≡ slice_index_or xs (me - 1) was = first_of (search rules, grind (arith, common_steps)) in
-    let begins : y ≡ record was { working = Some c.args.message } = first_of (search rules, grind (arith, common_steps)) in
+    let begins : y ≡ record was { working = Some c.args.message.now } = first_of (search rules, grind (arith, common_steps)) in
     let at : was ≡ process_at c.args.self.now me = here ∙ get_or_default xs (me - 1) was (idle_process 0 0 0) (omega (arith, positive, within)) ∙ ap (λ (v : TheMachine). process_at v me) c.self.view_is in
     let sound : (e : TheImage) → IsSoundAt (length xs) me (slice_index_or images (me - 1) e).len c.self.inside.calls was = λ e. subst (IsSoundAt (length xs) me (slice_index_or images (me - 1) e).len c.self.inside.calls) (sym here) (sound_at c.self.inside i me was e positive within) in
     let now : (e : TheImage) → IsSoundAt (length xs) me (slice_index_or images (me - 1) e).len (c.self.inside.calls + 1) y =
     λ e. subst (IsSoundAt (length xs) me (slice_index_or images (me - 1) e).len (c.self.inside.calls + 1)) (sym begins)
-    (sound-begun (length xs) me _ c.self.inside.calls was c.args.message (sound e) (subst (λ (x : TheProcess). IsNextFor x.mode c.args.message) (sym at) c.requires.next)) in
+    (sound-begun (length xs) me _ c.self.inside.calls was c.args.message.now (sound e) (subst (λ (x : TheProcess). IsNextFor x.mode c.args.message.now) (sym at) c.requires.next)) in
     let len = length-set xs (me - 1) y in
     record {
       some = omega (arith, len, i.some);

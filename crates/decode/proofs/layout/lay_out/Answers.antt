@@ -1,8 +1,10 @@
-use Rattle.std.proofs.Common.{◌≡◌, List, Option, Some, None, ◌++◌, ◌∷◌, [], ap, ◌∙◌, true, false, append_assoc}
+use Rattle.std.proofs.Common.{◌≡◌, List, Option, Some, None, ◌++◌, ◌∷◌, [], ap, ◌∙◌, append_assoc}
+use Rattle.std.proofs.lemmas.List.{take_all}
 use Rattle.decode.specs.declared.insn.Insn.{Insn}
-use Rattle.verifier.proofs.Layouts.{laid_more, laid_wide, laid_narrow, follows_taken}
-use Rattle.verifier.proofs.layout.lay_out.Goals as goal
-use Rattle.verifier.proofs.layout.lay_out.Goals.{then-is_wide+in_ok-push-2, else-is_wide}
+use Rattle.decode.specs.Slots.{slots_of}
+use Rattle.decode.proofs.Layouts.{laid_more, laid_wide, laid_narrow, follows_taken}
+use Rattle.decode.proofs.layout.lay_out.Goals as goal
+use Rattle.decode.proofs.layout.lay_out.Goals.{then-is_wide+in_ok-push-2, else-is_wide}
 
 pub loop-insn-preserved : goal.loop-insn-preserved
 loop-insn-preserved c =
@@ -21,3 +23,9 @@ loop-insn-preserved c =
 
 pub returns-clause-follows : goal.returns-clause-follows
 returns-clause-follows c = follows_taken c.args.code.now c.loop-insn.slots.items c.loop-insn.insn-index c.loop-insn.invariant
+
+pub returns-clause-slots : goal.returns-clause-slots
+returns-clause-slots c = c.loop-insn.invariant ∙ ap slots_of (take_all c.loop-insn.insn-index c.args.code.now c.loop-insn-test.false)
+
+pub loop-insn-init : goal.loop-insn-init
+loop-insn-init c = c.new-slots.ensures.items

@@ -1,14 +1,14 @@
-//! Where an instruction leads.
+//! The rules on where an instruction leads.
 
 ghost use Rattle.std.specs.Prelude.{◌≡◌, ◌≤◌, ◌<◌, ◌+◌, MatchResult, length, is_some, pos, ◌+ℤ◌, Some, None};
 ghost use Rattle.decode.specs.Slots.{insn_at};
-ghost use Rattle.regtypes.specs.Flow.{flow_of};
 ghost use Rattle.regtypes.specs.Rules.{first_broken};
 ghost use Rattle.regtypes.specs.Typing.{is_target, flow_tests};
 
+use crate::flow::Flow;
+use crate::rule::Rule;
 use decode::Insn;
 use limits::SLOTS;
-use regtypes::{Flow, Rule, flow_from};
 
 /// Whether an instruction begins at a slot.
 fn begins(slots: &[Option<Insn>], slot: usize) -> bool
@@ -27,12 +27,12 @@ fn is_target(slots: &[Option<Insn>], slot: usize, distance: i32) -> bool
 
 /// The rules on where an instruction leads. V1: a jump goes to an instruction that begins at a later slot. V2: after
 /// any other instruction, and after a conditional jump, there is a slot.
-pub fn leads(slots: &[Option<Insn>], slot: usize, insn: &Insn) -> Result<(), Rule>
+pub fn leads(slots: &[Option<Insn>], slot: usize, flow: &Flow) -> Result<(), Rule>
     requires short { slot < SLOTS }
     requires within { slot < length slots.now }
-    ensures { MatchResult result (λ _. first_broken (flow_tests slots.now slot (flow_of insn.now)) ≡ None) (λ r. first_broken (flow_tests slots.now slot (flow_of insn.now)) ≡ Some r) }
+    ensures { MatchResult result (λ _. first_broken (flow_tests slots.now slot flow.now) ≡ None) (λ r. first_broken (flow_tests slots.now slot flow.now) ≡ Some r) }
 {
-    match flow_from(insn) {
+    match *flow {
         Flow::Ends => {}
         Flow::Leaps(distance) => {
             if !is_target(slots, slot, distance) {

@@ -1,10 +1,9 @@
 //! Instructions slot by slot.
 
 ghost use Rattle.std.specs.Prelude.{◌≡◌, IfOk};
-ghost use Rattle.decode.specs.Slots.{slots_of};
-ghost use Rattle.span_verifier.specs.Layout.{Follows};
+ghost use Rattle.decode.specs.Slots.{Follows, slots_of};
 
-use decode::Insn;
+use crate::insn::Insn;
 use std::alloc::{AllocError, Global};
 
 /// For each slot the instruction that begins there.

@@ -3,9 +3,8 @@ use Rattle.std.proofs.Common.{◌≡◌, ℕ, zero, suc, ◌+◌, ◌<◌, ◌==
 use Rattle.std.proofs.lemmas.Bool.{false≢true}
 use Rattle.std.proofs.lemmas.List.{take_more}
 use Rattle.decode.specs.declared.insn.Insn.{Insn}
-use Rattle.decode.specs.Slots.{slots_of, size_of, insn_at}
+use Rattle.decode.specs.Slots.{Follows, slots_of, size_of, insn_at}
 use Rattle.decode.proofs.SlotLemmas.{slots_of-append, one_or_two}
-use Rattle.verifier.specs.Inside.Pass.{Follows}
 
 -- an instruction begins at the first slot
 abbrev Begin : List (Option Insn) → Type 0
