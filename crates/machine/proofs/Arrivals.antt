@@ -26,11 +26,12 @@ use Rattle.world.specs.Refusals.{refusal_of}
 use Rattle.theorems.proofs.Changes.{choose}
 use Rattle.theorems.proofs.PhaseLemmas.{up-length}
 use Rattle.theorems.proofs.RunLemmas.{run_to-is, run_to-more}
-use Rattle.machine.specs.Process.{TheProcess, idle_process, received, Acknowledges}
-use Rattle.machine.specs.Wire.{Puts}
+use Rattle.session_process.specs.Process.{TheProcess, idle_process, received, Acknowledges}
+use Rattle.session_process.specs.Wire.{Puts}
+use Rattle.session_process.specs.Mode.{is_live}
 use Rattle.machine.specs.Reception.{numbered, Records}
 use Rattle.machine.specs.Simulation.{TheMachine, process_at, log_at, gate_at, is_up_at, StandsAt, Keeps, Holds, Shows, Stands, Steps, sent_by}
-use Rattle.machine.specs.Mode.{IsNextAfter, is_live, held_by}
+use Rattle.machine.specs.Work.{IsNextAfter, held_by}
 use Rattle.machine.proofs.Updates.{put-is, set-is}
 use Rattle.machine.proofs.Status.{wire-is, at_process, up_is, up_at, up-down, is_live-at, live-lost, live-busy, live-works, held-live, entry_at}
 use Rattle.machine.proofs.Steps.{put-wire, shows-wire, step}

@@ -11,7 +11,7 @@ use Rattle.world.specs.World.{World}
 use Rattle.world.specs.Logs.{released_to, is_entry}
 use Rattle.world.specs.Bounds.{is_none, open_jobs, journal_full, wire_full}
 use Rattle.world.specs.Refusals.{least, refusal_of, cause_of, is_to_busy, starts, one_if}
-use Rattle.machine.specs.Outside.{is_taken}
+use Rattle.session_process.specs.Outside.{is_taken}
 use Rattle.machine.specs.Simulation.{TheMachine, Stands, log_at, is_up_at}
 use Rattle.machine.specs.Transmission.{busy, live, placing, released_at}
 use Rattle.machine.proofs.Status.{wire-is, jobs, live-is, packets-is, up_is, up_at, down_at, entry_at, released_is}

@@ -16,12 +16,13 @@ use Rattle.world.specs.World.{World, put}
 use Rattle.world.specs.Logs.{length_in, payloads, sent, sent_in_all, run_of, run_to}
 use Rattle.world.specs.Refusals.{refusal_of}
 use Rattle.theorems.proofs.RunLemmas.{run_to-whole, run_to-is}
-use Rattle.machine.specs.Process.{TheProcess, IsSaved}
+use Rattle.session_process.specs.Process.{TheProcess, IsSaved}
+use Rattle.session_process.specs.Mode.{is_live}
+use Rattle.session_process.specs.declared.mode.Mode.{Mode}
+use Rattle.session_process.specs.declared.mode.Mode.TheVariants as modes
 use Rattle.machine.specs.Fields.{IsSoundAt}
-use Rattle.machine.specs.Mode.{is_live, held_by, MayWork}
+use Rattle.machine.specs.Work.{held_by, MayWork}
 use Rattle.machine.specs.Simulation.{TheMachine, Stands, StandsAt, Steps, Keeps, Holds, process_at, log_at, gate_at, is_up_at, sent_by}
-use Rattle.machine.specs.declared.mode.Mode.{Mode}
-use Rattle.machine.specs.declared.mode.Mode.TheVariants as modes
 use Rattle.machine.proofs.Status.{at_process, keeps_at, holds_at, up_at, down_at, is_live-at, held-live, live-lost}
 use Rattle.machine.proofs.Steps.{step}
 use Rattle.machine.proofs.Releases.{holds-released}

@@ -26,14 +26,14 @@ use Rattle.world.specs.Logs.{sent, run_to, run_of}
 use Rattle.theorems.specs.Invariants.Sound.{JobNext}
 use Rattle.theorems.proofs.ListLemmas.{take-all, take-push}
 use Rattle.theorems.proofs.RunLemmas.{run_to-is, run_to-ends}
-use Rattle.machine.specs.Process.{TheProcess, received, HasSent, Commits}
-use Rattle.machine.specs.Stable.{Saves}
-use Rattle.machine.specs.Mode.{is_live, held_by, phase_of, IsNextAfter}
-use Rattle.machine.specs.declared.mode.Mode.{Mode}
-use Rattle.machine.specs.declared.mode.Mode.TheVariants as modes
-use Rattle.machine.specs.Wire.{Puts}
+use Rattle.session_process.specs.Process.{TheProcess, received, HasSent, Commits}
+use Rattle.session_process.specs.Mode.{is_live}
+use Rattle.session_process.specs.declared.mode.Mode.{Mode}
+use Rattle.session_process.specs.declared.mode.Mode.TheVariants as modes
+use Rattle.session_process.specs.Wire.{Puts}
+use Rattle.machine.specs.Simulation.{Saves, TheMachine, StandsAt, Keeps, Holds, Shows, Stands, Steps, process_at, log_at, is_up_at, sent_by}
+use Rattle.machine.specs.Work.{held_by, phase_of, IsNextAfter}
 use Rattle.machine.specs.Fields.{IsLogOf}
-use Rattle.machine.specs.Simulation.{TheMachine, StandsAt, Keeps, Holds, Shows, Stands, Steps, process_at, log_at, is_up_at, sent_by}
 use Rattle.machine.specs.Jobs.{Matches}
 use Rattle.machine.specs.Arrival.{IsOpen}
 use Rattle.machine.proofs.ReceiptLemmas.{InOrderFrom-push}

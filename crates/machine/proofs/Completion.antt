@@ -15,10 +15,11 @@ use Rattle.replay.specs.Plan.{ThePlan, numbered}
 use Rattle.replay.specs.Task.{TheTask, MayCall, IsAnswer, answer_of}
 use Rattle.world.specs.declared.message.Message.{Message}
 use Rattle.world.specs.Refusals.{one_if}
-use Rattle.machine.specs.Process.{TheProcess, idle_process, received, advanced, Commits, Recalls, IsNextAt}
-use Rattle.machine.specs.Mode.{is_live, is_lost, IsInPlan, IsNextIn}
-use Rattle.machine.specs.declared.mode.Mode.{Mode}
-use Rattle.machine.specs.declared.mode.Mode.TheVariants as modes
+use Rattle.session_process.specs.Process.{TheProcess, idle_process, received, advanced, Commits, Recalls, IsNextAt}
+use Rattle.session_process.specs.Mode.{is_live, is_lost}
+use Rattle.session_process.specs.declared.mode.Mode.{Mode}
+use Rattle.session_process.specs.declared.mode.Mode.TheVariants as modes
+use Rattle.machine.specs.Work.{IsInPlan, IsNextIn}
 use Rattle.machine.specs.Fields.{view_of, IsSound, IsSoundAt}
 use Rattle.machine.specs.Jobs.{Matches}
 use Rattle.machine.specs.Recoveries.{MaySettle}

@@ -11,8 +11,8 @@ use Rattle.world.specs.declared.answer.Answer.TheVariants.{Crashed}
 use Rattle.world.specs.Phases.{Down}
 use Rattle.world.specs.World.{World, put}
 use Rattle.world.specs.Refusals.{refusal_of}
-use Rattle.machine.specs.Process.{TheProcess, crashed}
-use Rattle.machine.specs.Outbox.{TheOutbox, empty_outbox}
+use Rattle.session_process.specs.Process.{TheProcess, crashed}
+use Rattle.session_process.specs.Outbox.{TheOutbox, empty_outbox}
 use Rattle.machine.specs.Fields.{IsSoundAt}
 use Rattle.machine.specs.Simulation.{TheMachine, Stands, StandsAt, Steps, process_at}
 use Rattle.machine.proofs.Status.{at_process}

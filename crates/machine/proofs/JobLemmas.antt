@@ -14,11 +14,12 @@ use Rattle.world.specs.declared.packet.Packet.{Packet}
 use Rattle.world.specs.History.{nth}
 use Rattle.world.specs.World.{World}
 use Rattle.world.specs.Logs.{length_of, state_of, open_in, open_message}
-use Rattle.machine.specs.Process.{TheProcess, idle_process, received}
+use Rattle.session_process.specs.Process.{TheProcess, idle_process, received}
+use Rattle.session_process.specs.Mode.{is_lost}
+use Rattle.session_process.specs.declared.mode.Mode.{Mode}
+use Rattle.session_process.specs.declared.mode.Mode.TheVariants as modes
 use Rattle.machine.specs.Simulation.{TheMachine, StandsAt, Stands, process_at}
-use Rattle.machine.specs.Mode.{is_lost, phase_of, MayWork}
-use Rattle.machine.specs.declared.mode.Mode.{Mode}
-use Rattle.machine.specs.declared.mode.Mode.TheVariants as modes
+use Rattle.machine.specs.Work.{phase_of, MayWork}
 use Rattle.machine.specs.Jobs.{Begins, Matches}
 use Rattle.machine.specs.Arrival.{HasCode, HasForm, IsOpen}
 use Rattle.machine.proofs.Status.{at_process, down_is}

@@ -19,7 +19,6 @@ pub mod Releases
 pub mod Preservation
 pub mod KeepLemmas
 pub mod Arrivals
-pub mod MailLemmas
 pub mod Replies
 pub mod Completion
 pub mod Commitment
@@ -27,9 +26,6 @@ pub mod Recall
 pub mod ReplaySteps
 pub mod Splits
 pub mod ResyncSteps
-pub mod OutboxLemmas
-pub mod OutsideLemmas
-pub mod StableLemmas
 pub mod Others
 pub mod Losses
 pub mod Settlement
@@ -37,5 +33,4 @@ pub mod Returns
 pub mod Restoration
 pub mod NumberLemmas
 pub mod Picks
-pub mod WireLemmas
 pub mod StartLemmas

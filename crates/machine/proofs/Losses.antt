@@ -11,13 +11,13 @@ use Rattle.world.specs.History.{Payload}
 use Rattle.world.specs.World.{World, put}
 use Rattle.world.specs.Logs.{sent}
 use Rattle.world.specs.Calls.{up_to as kept_to}
-use Rattle.machine.specs.Process.{TheProcess, idle_process, unnumbered_at}
-use Rattle.machine.specs.Outbox.{TheOutbox, empty_outbox, with_messages}
-use Rattle.machine.specs.Outside.{TheOutside}
+use Rattle.session_process.specs.Process.{TheProcess, idle_process, unnumbered_at}
+use Rattle.session_process.specs.Outbox.{TheOutbox, empty_outbox, with_messages}
+use Rattle.session_process.specs.Outside.{TheOutside}
+use Rattle.session_process.proofs.StableLemmas.{at-map, at-replicate}
 use Rattle.machine.specs.Fields.{IsLogOf, IsSoundAt}
 use Rattle.machine.specs.Recoveries.{forgotten}
 use Rattle.machine.specs.Simulation.{TheMachine, Keeps, process_at, log_at, gate_at}
-use Rattle.machine.proofs.StableLemmas.{at-map, at-replicate}
 use Rattle.machine.proofs.Others.{TheLife, life, StandsFor, ShowsBut}
 
 -- a log without its numbers above k for p

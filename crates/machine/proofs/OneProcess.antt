@@ -8,7 +8,7 @@ use Rattle.world.specs.declared.message.Message.{Message}
 use Rattle.world.specs.Phases.{Phase, is_up, is_down}
 use Rattle.world.specs.World.{World}
 use Rattle.world.specs.Logs.{length_in, payloads, sent, run_of, run_to}
-use Rattle.machine.specs.Process.{TheProcess, idle_process}
+use Rattle.session_process.specs.Process.{TheProcess, idle_process}
 use Rattle.machine.specs.Simulation.{TheMachine, StandsAt, Keeps, Holds, Shows, process_at, log_at, gate_at, sent_by}
 
 -- the changed process, and the others

@@ -23,10 +23,10 @@ use Rattle.theorems.proofs.HandlerLemmas.{handlers-grow, handlers-start}
 use Rattle.theorems.proofs.Journals.{opens-sound}
 use Rattle.theorems.proofs.TidyLemmas.{opens-tidy}
 use Rattle.theorems.proofs.GateLemmas.{opens-gated}
-use Rattle.machine.specs.Process.{TheProcess, idle_process}
-use Rattle.machine.specs.Outside.{empty_outside}
-use Rattle.machine.specs.Stable.{Saves, idle_saved}
-use Rattle.machine.specs.Simulation.{TheMachine, StandsAt, Keeps, Holds, Shows, Stands}
+use Rattle.session_process.specs.Process.{TheProcess, idle_process}
+use Rattle.session_process.specs.Outside.{empty_outside}
+use Rattle.session_process.specs.Stable.{idle_saved}
+use Rattle.machine.specs.Simulation.{Saves, TheMachine, StandsAt, Keeps, Holds, Shows, Stands}
 use Rattle.machine.specs.Fields.{IsSoundAt, IsLogOf}
 use Rattle.machine.specs.Openings.{AreIdle}
 

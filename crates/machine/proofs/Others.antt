@@ -9,8 +9,8 @@ use Rattle.world.specs.Phases.{Phase, Up, is_up, is_down}
 use Rattle.world.specs.Fold.{handlers_of}
 use Rattle.world.specs.World.{World}
 use Rattle.world.specs.Logs.{length_in, sent, run_of, run_to}
-use Rattle.machine.specs.Process.{TheProcess, idle_process}
-use Rattle.machine.specs.Outside.{is_taken}
+use Rattle.session_process.specs.Process.{TheProcess, idle_process}
+use Rattle.session_process.specs.Outside.{is_taken}
 use Rattle.machine.specs.Simulation.{TheMachine, StandsAt, Keeps, Holds, Shows, process_at, log_at, gate_at, is_up_at, sent_by}
 use Rattle.machine.proofs.Status.{is_up-phase_of}
 

@@ -23,10 +23,11 @@ use Rattle.world.specs.declared.refusal.Refusal.{Refusal}
 use Rattle.world.specs.declared.refusal.Refusal.TheVariants.{NoSuchProcess, NotUp, Busy, NoPacket, SameProcess, NotReleased, NotLogged, PeerNotUp, StaleJob, NotDown, WrongPhase, JournalFull, WireFull, FeedTaken, Memory}
 use Rattle.world.specs.Refusals.{least, refusal_of, cause_of}
 use Rattle.world.specs.Useful.{belongs, is_at, wants, works_on, is_unacknowledged, is_useful}
-use Rattle.machine.specs.Wire.{AreListed}
-use Rattle.machine.specs.declared.mode.Mode.{Mode}
-use Rattle.machine.specs.declared.mode.Mode.TheVariants as modes
-use Rattle.machine.specs.Mode.{is_live, phase_of}
+use Rattle.session_process.specs.Wire.{AreListed}
+use Rattle.session_process.specs.declared.mode.Mode.{Mode}
+use Rattle.session_process.specs.declared.mode.Mode.TheVariants as modes
+use Rattle.session_process.specs.Mode.{is_live}
+use Rattle.machine.specs.Work.{phase_of}
 use Rattle.machine.specs.Simulation.{TheMachine, StandsAt, Stands, process_at, log_at, is_up_at, IsTold}
 use Rattle.machine.specs.Transmission.{busy, live, placing, released_at}
 use Rattle.machine.specs.Choice.{IsPick, ArePeers, next_ssn}

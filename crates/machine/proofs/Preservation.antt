@@ -4,8 +4,8 @@ use Rattle.std.specs.Prelude.{slice_index_or, Option, Some, None, ◌==◌}
 use Rattle.std.proofs.lemmas.Bool.Decides.{nat_tests}
 use Rattle.limits.specs.declared.TheConstants.{ENTRIES, PACKETS}
 use Rattle.world.specs.declared.packet.Packet.{Packet}
-use Rattle.machine.specs.Process.{TheProcess}
-use Rattle.machine.specs.Wire.{Puts}
+use Rattle.session_process.specs.Process.{TheProcess}
+use Rattle.session_process.specs.Wire.{Puts}
 use Rattle.machine.specs.Fields.{IsCarried, AreCarried, IsSoundAt, IsSound}
 use Rattle.machine.specs.declared.machine.Machine.TheInside.{Inside}
 

@@ -13,11 +13,12 @@ use Rattle.world.specs.declared.phase.PhaseName.TheVariants as names
 use Rattle.world.specs.Phases.{Phase, Up, Busy, Down, Replaying, Resync, is_down, name_of}
 use Rattle.world.specs.World.{World}
 use Rattle.world.specs.Logs.{length_in, length_of, state_of}
-use Rattle.machine.specs.Process.{received}
-use Rattle.machine.specs.Outbox.{TheOutbox}
-use Rattle.machine.specs.Mode.{is_lost, held_by, phase_of}
-use Rattle.machine.specs.declared.mode.Mode.{Mode}
-use Rattle.machine.specs.declared.mode.Mode.TheVariants as modes
+use Rattle.session_process.specs.Process.{received}
+use Rattle.session_process.specs.Outbox.{TheOutbox}
+use Rattle.session_process.specs.Mode.{is_lost}
+use Rattle.session_process.specs.declared.mode.Mode.{Mode}
+use Rattle.session_process.specs.declared.mode.Mode.TheVariants as modes
+use Rattle.machine.specs.Work.{held_by, phase_of}
 use Rattle.machine.specs.Simulation.{TheMachine, StandsAt, Stands, process_at, log_at, gate_at}
 use Rattle.machine.specs.Readings.{ReceiptsStand, LogStands, GateStands}
 use Rattle.machine.proofs.Status.{at_process, down_is, held_at, keeps_at, holds_at}

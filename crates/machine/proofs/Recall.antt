@@ -19,13 +19,13 @@ use Rattle.world.specs.Refusals.{refusal_of}
 use Rattle.theorems.specs.Invariants.Sound.{is_recovering}
 use Rattle.theorems.proofs.ListLemmas.{take-all, take-length, take-next}
 use Rattle.theorems.proofs.RunLemmas.{run_to-whole}
-use Rattle.machine.specs.Process.{TheProcess, received, advanced, Recalls}
-use Rattle.machine.specs.Stable.{Saves}
-use Rattle.machine.specs.Mode.{is_lost, held_by, phase_of, MayWork, Replays}
-use Rattle.machine.specs.declared.mode.Mode.TheVariants as modes
+use Rattle.session_process.specs.Process.{TheProcess, received, advanced, Recalls}
+use Rattle.session_process.specs.Mode.{is_lost}
+use Rattle.session_process.specs.declared.mode.Mode.TheVariants as modes
+use Rattle.machine.specs.Simulation.{Saves, TheMachine, StandsAt, Keeps, Shows, Stands, Steps, process_at, log_at, is_up_at}
+use Rattle.machine.specs.Work.{held_by, phase_of, MayWork, Replays}
 use Rattle.machine.specs.Fields.{IsLogOf}
 use Rattle.machine.specs.Recoveries.{SettlesAt}
-use Rattle.machine.specs.Simulation.{TheMachine, StandsAt, Keeps, Shows, Stands, Steps, process_at, log_at, is_up_at}
 use Rattle.machine.specs.Jobs.{Matches}
 use Rattle.machine.specs.Arrival.{IsOpen}
 use Rattle.machine.proofs.ReceiptLemmas.{senders}

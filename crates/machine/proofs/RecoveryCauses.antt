@@ -8,11 +8,11 @@ use Rattle.world.specs.Phases.{is_up, is_busy, is_working}
 use Rattle.world.specs.World.{World}
 use Rattle.world.specs.Bounds.{any_below}
 use Rattle.world.specs.Refusals.{least, refusal_of, cause_of, one_if, others_up}
+use Rattle.session_process.specs.Process.{TheProcess, idle_process}
+use Rattle.session_process.specs.Mode.{is_live, is_lost}
 use Rattle.machine.specs.Simulation.{TheMachine, Stands, process_at, is_up_at}
-use Rattle.machine.specs.Process.{TheProcess, idle_process}
 use Rattle.machine.specs.Transmission.{busy}
 use Rattle.machine.specs.Recoveries.{returning}
-use Rattle.machine.specs.Mode.{is_live, is_lost}
 use Rattle.machine.proofs.Status.{jobs, at_process, up_is, down_is, is_working-phase_of, is_busy-phase_of}
 
 -- a journal has no place for a call where its room is no more than the open jobs

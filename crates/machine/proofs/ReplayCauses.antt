@@ -8,9 +8,10 @@ use Rattle.world.specs.declared.call.Call.TheVariants.{ReplayBegin, Resync as Re
 use Rattle.world.specs.Phases.{is_working, is_replaying, todo_of, has, those}
 use Rattle.world.specs.World.{World}
 use Rattle.world.specs.Refusals.{refusal_of}
-use Rattle.machine.specs.declared.mode.Mode.{Mode}
-use Rattle.machine.specs.declared.mode.Mode.TheVariants as modes
-use Rattle.machine.specs.Mode.{phase_of, next_job, is_to_do, MayWork}
+use Rattle.session_process.specs.declared.mode.Mode.{Mode}
+use Rattle.session_process.specs.declared.mode.Mode.TheVariants as modes
+use Rattle.session_process.specs.Mode.{next_job}
+use Rattle.machine.specs.Work.{phase_of, is_to_do, MayWork}
 use Rattle.machine.specs.Simulation.{TheMachine, Stands, process_at, is_up_at}
 use Rattle.machine.specs.Transmission.{busy}
 use Rattle.machine.proofs.Status.{jobs, at_process, up_is, is_working-phase_of}

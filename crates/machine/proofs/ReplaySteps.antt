@@ -19,10 +19,11 @@ use Rattle.world.specs.declared.refusal.Refusal.{Refusal}
 use Rattle.world.specs.declared.refusal.Refusal.TheVariants.{Memory}
 use Rattle.world.specs.Refusals.{refusal_of, cause_of}
 use Rattle.theorems.proofs.ListLemmas.{take-length}
-use Rattle.machine.specs.Process.{TheProcess}
-use Rattle.machine.specs.Mode.{phase_of, next_job, MayWork, Replays}
-use Rattle.machine.specs.declared.mode.Mode.{Mode}
-use Rattle.machine.specs.declared.mode.Mode.TheVariants as modes
+use Rattle.session_process.specs.Process.{TheProcess}
+use Rattle.session_process.specs.Mode.{next_job}
+use Rattle.session_process.specs.declared.mode.Mode.{Mode}
+use Rattle.session_process.specs.declared.mode.Mode.TheVariants as modes
+use Rattle.machine.specs.Work.{phase_of, MayWork, Replays}
 use Rattle.machine.specs.Simulation.{TheMachine, StandsAt, Keeps, Shows, Stands, Steps, Simulates, answering, process_at, log_at}
 use Rattle.machine.specs.Jobs.{Begins}
 use Rattle.machine.specs.Arrival.{IsOpen}

@@ -11,7 +11,7 @@ use Rattle.world.specs.Handlers.{Handlers}
 use Rattle.world.specs.Fold.{handlers_of, emitted_to}
 use Rattle.world.specs.World.{World}
 use Rattle.world.proofs.FoldLemmas.{handlers_of-push, sends-push}
-use Rattle.machine.specs.Outbox.{TheOutbox, Gives}
+use Rattle.session_process.specs.Outbox.{TheOutbox, Gives}
 use Rattle.machine.specs.Fields.{IsLogOf}
 use Rattle.machine.specs.Simulation.{TheMachine, Keeps, Shows, Stands, process_at}
 use Rattle.machine.specs.Jobs.{Matches}

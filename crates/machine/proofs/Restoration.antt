@@ -10,16 +10,16 @@ use Rattle.rsn.specs.Receipts.{run_of}
 use Rattle.checkpoint.specs.declared.form.CheckpointForm.TheVariants.{Second}
 use Rattle.checkpoint.specs.Saved.{TheSaved, Fits, is_sender, log_again, queue_again}
 use Rattle.replay.specs.Plan.{ThePlan}
-use Rattle.machine.specs.Process.{TheProcess, idle_process, received, restored, unnumbered_at}
+use Rattle.session_process.specs.Process.{TheProcess, idle_process, received, restored, unnumbered_at}
+use Rattle.session_process.specs.Mode.{is_lost}
+use Rattle.session_process.specs.Outside.{TheOutside}
+use Rattle.session_process.proofs.StableLemmas.{run-replicate}
 use Rattle.machine.specs.Recoveries.{MaySettle, forgotten}
 use Rattle.machine.specs.Simulation.{TheMachine, process_at}
-use Rattle.machine.specs.Mode.{is_lost}
-use Rattle.machine.specs.Outside.{TheOutside}
 use Rattle.machine.specs.Fields.{view_of, AreCarried, IsLogOf, IsSoundAt, IsSound}
 use Rattle.machine.specs.declared.machine.Machine.TheInside.{Inside}
 use Rattle.machine.proofs.Preservation.{later}
 use Rattle.machine.proofs.Losses.{forgot, forgotten-at, forgotten-width, inputs-forgot, log-forgot, processes-forgot}
-use Rattle.machine.proofs.ReceiptLemmas.{run-replicate}
 use Rattle.machine.proofs.Soundness.{sound_at, sound-put}
 
 -- the log of a checkpoint

@@ -21,12 +21,13 @@ use Rattle.world.specs.Refusals.{refusal_of}
 use Rattle.theorems.specs.Invariants.Sound.{is_recovering}
 use Rattle.theorems.proofs.ListLemmas.{take-all}
 use Rattle.theorems.proofs.RunLemmas.{run_to-whole}
-use Rattle.machine.specs.Process.{TheProcess, Settles}
-use Rattle.machine.specs.Outbox.{with_messages}
-use Rattle.machine.specs.Mode.{is_lost, held_by, phase_of, is_to_do, MayWork}
-use Rattle.machine.specs.declared.mode.Mode.{Mode}
-use Rattle.machine.specs.declared.mode.Mode.TheVariants as modes
-use Rattle.machine.specs.declared.mode.Peers.{Peers}
+use Rattle.session_process.specs.Process.{TheProcess, Settles}
+use Rattle.session_process.specs.Outbox.{with_messages}
+use Rattle.session_process.specs.Mode.{is_lost}
+use Rattle.session_process.specs.declared.mode.Mode.{Mode}
+use Rattle.session_process.specs.declared.mode.Mode.TheVariants as modes
+use Rattle.session_process.specs.declared.mode.Peers.{Peers}
+use Rattle.machine.specs.Work.{held_by, phase_of, is_to_do, MayWork}
 use Rattle.machine.specs.Fields.{IsLogOf}
 use Rattle.machine.specs.Replays.{ArePeersLeft}
 use Rattle.machine.specs.Simulation.{TheMachine, StandsAt, Keeps, Shows, Stands, Steps, process_at, log_at, is_up_at}

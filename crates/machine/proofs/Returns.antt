@@ -25,18 +25,18 @@ use Rattle.theorems.specs.Invariants.Tidy.{is_behind}
 use Rattle.theorems.proofs.SoundCalls.{sound-call}
 use Rattle.theorems.proofs.RunLemmas.{run_to-whole}
 use Rattle.theorems.proofs.ListLemmas.{take-all}
+use Rattle.session_process.specs.Mode.{is_lost}
+use Rattle.session_process.specs.declared.mode.Mode.{Mode}
+use Rattle.session_process.specs.declared.mode.Mode.TheVariants as modes
+use Rattle.session_process.specs.Process.{TheProcess, idle_process, restored}
+use Rattle.session_process.specs.Outbox.{TheOutbox}
+use Rattle.session_process.proofs.StableLemmas.{at-replicate, queue-at}
 use Rattle.machine.specs.Receipts.{InOrder}
-use Rattle.machine.specs.Stable.{Saves}
-use Rattle.machine.specs.Mode.{is_lost, phase_of}
-use Rattle.machine.specs.declared.mode.Mode.{Mode}
-use Rattle.machine.specs.declared.mode.Mode.TheVariants as modes
-use Rattle.machine.specs.Process.{TheProcess, idle_process, restored}
+use Rattle.machine.specs.Simulation.{Saves, TheMachine, StandsAt, Keeps, Shows, Stands, Steps, process_at, log_at, is_up_at}
+use Rattle.machine.specs.Work.{phase_of}
 use Rattle.machine.specs.Recoveries.{SettlesAt, forgotten, logs_of, recovery_of}
-use Rattle.machine.specs.Outbox.{TheOutbox}
 use Rattle.machine.specs.Fields.{IsLogOf}
-use Rattle.machine.specs.Simulation.{TheMachine, StandsAt, Keeps, Shows, Stands, Steps, process_at, log_at, is_up_at}
 use Rattle.machine.proofs.ReceiptLemmas.{senders, InOrderFrom-each}
-use Rattle.machine.proofs.StableLemmas.{at-replicate, queue-at}
 use Rattle.machine.proofs.Status.{at_process, down_is, entry_at, number_at, payload_at}
 use Rattle.machine.proofs.Steps.{step}
 use Rattle.machine.proofs.Others.{TheLife, life, StandsFor, ShowsAt, ShowsBut, others, together, replaced, now_at, log_now, but-replaced, but-world, shows-calls, up-but}

@@ -17,8 +17,8 @@ use Rattle.world.specs.Logs.{sent}
 use Rattle.world.specs.Plan.{message_of}
 use Rattle.world.specs.Calls.{input, delivery}
 use Rattle.world.specs.Refusals.{refusal_of}
-use Rattle.machine.specs.Outside.{TheOutside, is_taken, Takes}
-use Rattle.machine.specs.Wire.{Puts}
+use Rattle.session_process.specs.Outside.{TheOutside, is_taken, Takes}
+use Rattle.session_process.specs.Wire.{Puts}
 use Rattle.machine.specs.Fields.{IsSound}
 use Rattle.machine.specs.declared.machine.Machine.TheInside.{Inside}
 use Rattle.machine.specs.Simulation.{TheMachine, Keeps, Shows, Stands, Steps, log_at, is_up_at}

@@ -13,17 +13,17 @@ use Rattle.world.specs.World.{World}
 use Rattle.world.specs.Logs.{run_of, run_to}
 use Rattle.world.specs.Calls.{peers as peers_of, phase_with, ready, released_with}
 use Rattle.theorems.proofs.ListLemmas.{take-all}
+use Rattle.session_process.specs.Mode.{is_lost, has_no_peer}
+use Rattle.session_process.specs.declared.mode.Mode.{Mode}
+use Rattle.session_process.specs.declared.mode.Mode.TheVariants as modes
+use Rattle.session_process.specs.declared.mode.Peers.{Peers}
+use Rattle.session_process.specs.Outbox.{TheOutbox, ReleasesAll}
+use Rattle.session_process.specs.Process.{TheProcess, Settles, received}
 use Rattle.machine.specs.Receipts.{InOrder}
-use Rattle.machine.specs.Stable.{Saves}
-use Rattle.machine.specs.Mode.{is_lost, has_no_peer, held_by, phase_of, IsNextAfter, MayWork}
-use Rattle.machine.specs.declared.mode.Mode.{Mode}
-use Rattle.machine.specs.declared.mode.Mode.TheVariants as modes
-use Rattle.machine.specs.declared.mode.Peers.{Peers}
-use Rattle.machine.specs.Outbox.{TheOutbox, ReleasesAll}
-use Rattle.machine.specs.Process.{TheProcess, Settles, received}
+use Rattle.machine.specs.Simulation.{Saves, TheMachine, Keeps, Holds, log_at, is_up_at}
+use Rattle.machine.specs.Work.{held_by, phase_of, IsNextAfter, MayWork}
 use Rattle.machine.specs.Fields.{IsLogOf, IsSoundAt}
 use Rattle.machine.specs.Recoveries.{ArePeersOf}
-use Rattle.machine.specs.Simulation.{TheMachine, Keeps, Holds, log_at, is_up_at}
 use Rattle.machine.proofs.ReceiptLemmas.{senders}
 use Rattle.machine.proofs.Status.{rest-length}
 use Rattle.machine.proofs.Others.{TheLife, life, StandsFor, ShowsAt, replaced, now_at, log_now}

@@ -4,11 +4,11 @@ use Rattle.std.specs.Prelude.{slice_index_or, Option, Some}
 use Rattle.std.proofs.lemmas.List.{length-set}
 use Rattle.handlers.specs.Image.{TheImage, image_in}
 use Rattle.world.specs.declared.message.Message.{Message}
-use Rattle.machine.specs.Process.{TheProcess, received}
-use Rattle.machine.specs.Mode.{IsNextFor, IsInPlan}
-use Rattle.machine.specs.declared.mode.Mode.{Mode}
-use Rattle.machine.specs.declared.mode.Mode.TheVariants as modes
-use Rattle.machine.specs.Outbox.{TheOutbox}
+use Rattle.session_process.specs.Process.{TheProcess, received}
+use Rattle.session_process.specs.declared.mode.Mode.{Mode}
+use Rattle.session_process.specs.declared.mode.Mode.TheVariants as modes
+use Rattle.session_process.specs.Outbox.{TheOutbox}
+use Rattle.machine.specs.Work.{IsNextFor, IsInPlan}
 use Rattle.machine.specs.Fields.{IsSoundAt, IsLogOf, IsSound}
 use Rattle.machine.specs.declared.machine.Machine.TheInside.{Inside}
 use Rattle.machine.proofs.Updates.{set-is}

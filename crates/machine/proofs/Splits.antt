@@ -8,8 +8,8 @@ use Rattle.handlers.specs.Image.{TheImage, image_in}
 use Rattle.rsn.specs.Receipts.{Received, numbers_of}
 use Rattle.sender_log.specs.Queue.{renumbered}
 use Rattle.sender_log.specs.Log.{queue_of}
-use Rattle.machine.specs.Process.{TheProcess, idle_process}
-use Rattle.machine.specs.Outbox.{with_messages}
+use Rattle.session_process.specs.Process.{TheProcess, idle_process}
+use Rattle.session_process.specs.Outbox.{with_messages}
 use Rattle.machine.specs.Replays.{renumbered_at}
 use Rattle.machine.specs.Fields.{view_of, AreCarried, IsLogOf, IsSoundAt, IsSound}
 use Rattle.machine.specs.Simulation.{TheMachine, process_at, log_at}

@@ -22,12 +22,12 @@ use Rattle.world.specs.Logs.{length_in, length_of, sent, run_of, released_to, is
 use Rattle.world.specs.Bounds.{WIRE, count_below, is_none, open_jobs, live_jobs, packets}
 use Rattle.world.specs.Answers.{Next, Known, Ahead, received_of, verdict_of, judge}
 use Rattle.world.proofs.Counts.{count_below-same, count_below-shift, count_below-more, count_below-list}
-use Rattle.machine.specs.Process.{TheProcess, idle_process}
-use Rattle.machine.specs.Simulation.{TheMachine, StandsAt, Keeps, Holds, Stands, process_at, log_at, gate_at, is_up_at, sent_by}
-use Rattle.machine.specs.Queue.{IsRest}
-use Rattle.machine.specs.Mode.{is_live, is_lost, held_by, phase_of, MayWork, IsNextAfter}
-use Rattle.machine.specs.declared.mode.Mode.{Mode}
-use Rattle.machine.specs.declared.mode.Mode.TheVariants as modes
+use Rattle.session_process.specs.Process.{TheProcess, idle_process}
+use Rattle.session_process.specs.Mode.{is_live, is_lost}
+use Rattle.session_process.specs.declared.mode.Mode.{Mode}
+use Rattle.session_process.specs.declared.mode.Mode.TheVariants as modes
+use Rattle.machine.specs.Simulation.{TheMachine, StandsAt, Keeps, Holds, Stands, process_at, log_at, gate_at, is_up_at, sent_by, IsRest}
+use Rattle.machine.specs.Work.{held_by, phase_of, MayWork, IsNextAfter}
 use Rattle.machine.specs.Transmission.{live, released_at}
 use Rattle.machine.specs.Reception.{IsJudged}
 use Rattle.machine.proofs.ReceiptLemmas.{senders, length-numbers, rsn_from-numbers}

@@ -11,7 +11,7 @@ use Rattle.world.specs.Refusals.{refusal_of}
 use Rattle.theorems.proofs.SoundCalls.{sound-call}
 use Rattle.theorems.proofs.TidyCalls.{tidy-call}
 use Rattle.theorems.proofs.GateCalls.{gated-call}
-use Rattle.machine.specs.Wire.{Puts}
+use Rattle.session_process.specs.Wire.{Puts}
 use Rattle.machine.specs.Simulation.{TheMachine, Shows, Stands, Steps}
 use Rattle.machine.proofs.Updates.{put-is}
 use Rattle.machine.proofs.Inputs.{unsent-after}

@@ -16,12 +16,12 @@ use Rattle.world.specs.Logs.{sent, covered}
 use Rattle.world.specs.Calls.{trim, trimmed as trimmed_in, dropped}
 use Rattle.theorems.specs.Invariants.Sound.{Sound}
 use Rattle.world.specs.Refusals.{refusal_of}
-use Rattle.machine.specs.Process.{TheProcess, idle_process, trimmed_at}
+use Rattle.session_process.specs.Process.{TheProcess, idle_process, trimmed_at}
+use Rattle.session_process.specs.Mode.{is_live}
 use Rattle.machine.specs.Fields.{IsSoundAt}
 use Rattle.machine.specs.Checkpoints.{covered_at, drops, dropped_by, dropped_to, trimmed_log, trimmed_to, without_covered}
 use Rattle.machine.specs.Simulation.{TheMachine, Shows, Stands, StandsAt, Steps, Keeps, process_at, log_at, is_up_at}
 use Rattle.machine.proofs.Status.{rest-length, up-down, is_up-phase_of, is_live-at, live-lost}
-use Rattle.machine.specs.Mode.{is_live}
 use Rattle.machine.proofs.OneProcess.{shows-one, unchanged-at}
 use Rattle.machine.proofs.Steps.{step}
 

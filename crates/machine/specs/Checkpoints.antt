@@ -7,9 +7,8 @@ use Rattle.sender_log.specs.Queue.{count_up_to, trimmed}
 use Rattle.sender_log.specs.Log.{TheLog, queue_of, with_queue}
 use Rattle.world.specs.History.{count_of}
 use Rattle.world.specs.World.{World}
-use Rattle.machine.specs.Process.{trimmed_at}
-use Rattle.machine.specs.Stable.{Saves}
-use Rattle.machine.specs.Simulation.{TheMachine, process_at, log_at, is_up_at}
+use Rattle.session_process.specs.Process.{trimmed_at}
+use Rattle.machine.specs.Simulation.{Saves, TheMachine, process_at, log_at, is_up_at}
 
 -- the bytes are the checkpoint of p in this world: of the messages that it covers, and of what was dropped by then
 pub record IsSavedOf (w : World) (p : ℕ) (bytes : List ℕ) : Type 0 where

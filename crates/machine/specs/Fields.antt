@@ -9,8 +9,9 @@ use Rattle.world.specs.declared.packet.Packet.TheVariants.{Delivery, Number, Ack
 use Rattle.world.specs.Refusals.{one_if}
 use Rattle.rsn.specs.Receipts.{run_of}
 use Rattle.checkpoint.specs.Saved.{is_sender}
-use Rattle.machine.specs.Process.{TheProcess, received}
-use Rattle.machine.specs.Mode.{is_live, is_lost, IsInPlan}
+use Rattle.session_process.specs.Process.{TheProcess, received}
+use Rattle.session_process.specs.Mode.{is_live, is_lost}
+use Rattle.machine.specs.Work.{IsInPlan}
 use Rattle.machine.specs.Simulation.{TheMachine}
 use Rattle.machine.specs.declared.machine.Machine.TheInside.{Inside}
 

@@ -4,8 +4,9 @@ use Rattle.limits.specs.declared.TheConstants.{ENTRIES}
 use Rattle.handlers.specs.Image.{TheImage}
 use Rattle.replay.specs.Task.{TheTask}
 use Rattle.world.specs.declared.message.Message.{Message}
-use Rattle.machine.specs.Process.{received}
-use Rattle.machine.specs.Mode.{is_lost, IsNextFor}
+use Rattle.session_process.specs.Process.{received}
+use Rattle.session_process.specs.Mode.{is_lost}
+use Rattle.machine.specs.Work.{IsNextFor}
 use Rattle.machine.specs.Simulation.{TheMachine, process_at}
 
 -- a message of another for a process that isn't down. If the process replays, it is the next of the plan

@@ -1,14 +1,7 @@
-pub mod Mail
-pub mod Outbox
-pub mod Process
-pub mod Queue
-pub mod Stable
-pub mod Mode
+pub mod Work
 pub mod Checkpoints
 pub mod Recoveries
 pub mod Replays
-pub mod Outside
-pub mod Wire
 pub mod Receipts
 pub mod Simulation
 pub mod Fields

@@ -7,7 +7,7 @@ use Rattle.world.specs.declared.refusal.Refusal.{Refusal}
 use Rattle.world.specs.declared.refusal.Refusal.TheVariants.{NoSuchProcess, Memory}
 use Rattle.world.specs.Fold.{handlers_of}
 use Rattle.world.specs.World.{opening}
-use Rattle.machine.specs.Process.{TheProcess, idle_process}
+use Rattle.session_process.specs.Process.{TheProcess, idle_process}
 use Rattle.machine.specs.Simulation.{TheMachine, Stands}
 
 -- for each image, whose state has at most 1,024 bytes, one of n processes that received nothing, numbered from 1

@@ -13,8 +13,8 @@ use Rattle.world.specs.History.{rsn_of}
 use Rattle.world.specs.World.{World}
 use Rattle.world.specs.Answers.{Next, Known, Ahead, judge, target_of}
 use Rattle.world.specs.Refusals.{refusal_of}
+use Rattle.session_process.specs.Wire.{Puts}
 use Rattle.machine.specs.Fields.{IsCarried}
-use Rattle.machine.specs.Wire.{Puts}
 use Rattle.machine.specs.Simulation.{TheMachine, Stands, process_at, log_at, is_up_at}
 
 -- the world gives the message the same verdict. A process knows the RSN of a message that it has

@@ -14,13 +14,13 @@ use Rattle.rsn.specs.Receipts.{run_of}
 use Rattle.checkpoint.specs.declared.form.CheckpointForm.TheVariants.{Second}
 use Rattle.checkpoint.specs.Saved.{Fits, log_again, receipts_again}
 use Rattle.replay.specs.Plan.{IsPlan, found}
+use Rattle.session_process.specs.Outbox.{outbox_again}
+use Rattle.session_process.specs.Process.{TheProcess, Settles, received, unnumbered_at}
+use Rattle.session_process.specs.declared.mode.Peers.{Peers}
+use Rattle.session_process.specs.Mode.{is_lost}
 use Rattle.machine.specs.Fields.{IsLogOf}
-use Rattle.machine.specs.Outbox.{outbox_again}
-use Rattle.machine.specs.Process.{TheProcess, Settles, received, unnumbered_at}
 use Rattle.machine.specs.Simulation.{TheMachine, Stands, process_at, is_up_at}
-use Rattle.machine.specs.declared.mode.Peers.{Peers}
 use Rattle.machine.specs.declared.recoveries.Remains.{Remains}
-use Rattle.machine.specs.Mode.{is_lost}
 use Rattle.machine.specs.Transmission.{busy}
 
 -- why p would not recover, whatever the other processes do

@@ -5,10 +5,11 @@ use Rattle.limits.specs.declared.TheConstants.{PARTIES}
 use Rattle.rsn.specs.Receipts.{numbers_of}
 use Rattle.sender_log.specs.Queue.{renumbered}
 use Rattle.sender_log.specs.Log.{queue_of}
-use Rattle.machine.specs.Outbox.{with_messages}
-use Rattle.machine.specs.Process.{TheProcess}
-use Rattle.machine.specs.Mode.{next_job, is_to_do}
-use Rattle.machine.specs.declared.mode.Peers.{Peers}
+use Rattle.session_process.specs.Outbox.{with_messages}
+use Rattle.session_process.specs.Process.{TheProcess}
+use Rattle.session_process.specs.Mode.{next_job}
+use Rattle.session_process.specs.declared.mode.Peers.{Peers}
+use Rattle.machine.specs.Work.{is_to_do}
 use Rattle.machine.specs.Simulation.{TheMachine, process_at, is_up_at}
 
 -- p replays, has no open job, and something is left to replay

@@ -1,11 +1,12 @@
 -- Which worlds a machine stands for, and what a call guarantees
-use Rattle.std.specs.Prelude.{◌≡◌, ◌≢◌, ℕ, suc, ◌+◌, ◌-◌, ◌<◌, ◌≤◌, List, [], length, map, take, Option, Some, None, Result, Ok, Err}
+use Rattle.std.specs.Prelude.{◌≡◌, ◌≢◌, ℕ, suc, ◌+◌, ◌-◌, ◌<◌, ◌≤◌, List, [], ◌++◌, length, map, take, Option, Some, None, Result, Ok, Err}
 use Rattle.std.specs.Prelude.{Bool, true, false, ◌==◌, ◌||◌, nat_le, if◌then◌else◌, slice_index_or}
 use Rattle.std.specs.List.{filter}
 use Rattle.handlers.specs.Image.{TheImage}
 use Rattle.sender_log.specs.Queue.{TheQueue}
 use Rattle.sender_log.specs.Log.{TheLog, queue_of}
 use Rattle.send_gate.specs.Gate.{TheGate, count_to}
+use Rattle.checkpoint.specs.Saved.{TheSaved, nothing_kept}
 use Rattle.world.specs.declared.message.Message.{Message}
 use Rattle.world.specs.declared.packet.Packet.{Packet}
 use Rattle.world.specs.declared.call.Call.{Call}
@@ -23,13 +24,12 @@ use Rattle.world.specs.Refusals.{refusal_of, cause_of}
 use Rattle.theorems.specs.Invariants.Sound.{Sound}
 use Rattle.theorems.specs.Invariants.Tidy.{Tidy}
 use Rattle.theorems.specs.Invariants.Gated.{Gated}
-use Rattle.machine.specs.Process.{TheProcess, idle_process}
-use Rattle.machine.specs.Outside.{TheOutside, is_taken}
+use Rattle.session_process.specs.Process.{TheProcess, idle_process}
+use Rattle.session_process.specs.Outside.{TheOutside, is_taken}
+use Rattle.session_process.specs.Outbox.{empty_outbox}
+use Rattle.session_process.specs.Mode.{is_live, is_lost}
 use Rattle.machine.specs.Receipts.{InOrder}
-use Rattle.machine.specs.Outbox.{empty_outbox}
-use Rattle.machine.specs.Stable.{Saves}
-use Rattle.machine.specs.Mode.{is_live, is_lost, held_by, phase_of, MayWork}
-use Rattle.machine.specs.Queue.{IsRest}
+use Rattle.machine.specs.Work.{held_by, phase_of, MayWork}
 
 -- what clauses see of a machine: no capacities. Processes and images are those of the numbers 1, 2, ..
 pub record TheMachine : Type 0 where
@@ -55,6 +55,20 @@ gate_at m p = (process_at m p).outbox.gate
 -- whether this one is up. The outside always is
 abbrev pub is_up_at : TheMachine → ℕ → Bool
 is_up_at m p = (p == 0) || is_live (process_at m p).mode
+
+-- the first elements of a list are dropped, this many, and these are left
+pub record IsRest {X : Type 0} (dropped : ℕ) (rest all : List X) : Type 0 where
+  pub before : List X
+  pub count : length before ≡ dropped
+  pub joined : before ++ rest ≡ all
+
+-- for each destination the first sent messages are dropped, as many as trims says, and the others are saved
+pub record Saves (n me : ℕ) (s : TheSaved) (state : List ℕ) (history : List Message) (trims : ℕ → ℕ) (sent : ℕ
+    → List Payload) : Type 0 where
+  pub state_is : s.state ≡ state
+  pub senders_are : s.senders ≡ map (λ (m : Message). m.sender) history
+  pub first : (d : ℕ) → d ≤ n → d ≢ me → (slice_index_or s.queues d nothing_kept).first ≡ suc (trims d)
+  pub rest : (d : ℕ) → d ≤ n → d ≢ me → IsRest (trims d) (slice_index_or s.queues d nothing_kept).payloads (sent d)
 
 -- what the machine keeps of the process me of n agrees with what it received, what it does, and what its checkpoint covers. While
 -- it is down, its state and its logs are gone

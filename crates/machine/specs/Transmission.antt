@@ -6,9 +6,9 @@ use Rattle.sender_log.specs.Queue.{is_logged}
 use Rattle.sender_log.specs.Log.{queue_of}
 use Rattle.world.specs.declared.refusal.Refusal.{Refusal}
 use Rattle.world.specs.declared.refusal.Refusal.TheVariants.{JournalFull, WireFull}
-use Rattle.machine.specs.Process.{TheProcess}
+use Rattle.session_process.specs.Process.{TheProcess}
+use Rattle.session_process.specs.Mode.{is_live}
 use Rattle.machine.specs.Simulation.{TheMachine, gate_at, is_up_at, log_at}
-use Rattle.machine.specs.Mode.{is_live}
 
 -- how many jobs are open
 abbrev pub busy : TheMachine → ℕ

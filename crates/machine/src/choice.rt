@@ -6,10 +6,10 @@ ghost use Rattle.world.specs.World.{World};
 ghost use Rattle.world.specs.Bounds.{WIRE, any_below};
 ghost use Rattle.world.specs.Refusals.{refusal_of};
 ghost use Rattle.world.specs.Useful.{belongs, is_unacknowledged, is_useful, wants, works_on};
+ghost use Rattle.session_process.specs.declared.mode.Mode.TheVariants.{Live};
 ghost use Rattle.machine.specs.Fields.{IsCarried};
 ghost use Rattle.machine.specs.Simulation.{Stands, process_at, is_up_at};
-ghost use Rattle.machine.specs.Mode.{phase_of};
-ghost use Rattle.machine.specs.declared.mode.Mode.TheVariants.{Live};
+ghost use Rattle.machine.specs.Work.{phase_of};
 ghost use Rattle.machine.specs.Choice.{IsPick, IsMove, ArePeers, IsWanted, NoneWanted, next_ssn};
 
 use crate::machine::Machine;

@@ -10,10 +10,6 @@ ghost use Rattle.machine.specs.Transmission.{live};
 ghost use Rattle.machine.specs.Openings.{Opens, AreIdle};
 ghost use Rattle.machine.specs.Readings.{ReceiptsStand, LogStands, GateStands};
 
-use crate::mode::Mode;
-use crate::outside::Outside;
-use crate::process::Process;
-use crate::wire::Wire;
 use handlers::Handler;
 use helpers::Who;
 use limits::PROCESSES;
@@ -21,6 +17,7 @@ use replay::Spare;
 use rsn::Receipts;
 use send_gate::Gate;
 use sender_log::Log;
+use session_process::{Mode, Outside, Process, Wire};
 use std::alloc::{AllocError, Global};
 use std::marker::Model;
 use std::sync::Arc;

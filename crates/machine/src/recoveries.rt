@@ -4,16 +4,15 @@ ghost use Rattle.std.specs.Prelude.{◌≡◌, ◌+◌, ◌<◌, ◌≤◌, leng
 ghost use Rattle.world.specs.World.{World};
 ghost use Rattle.world.specs.Refusals.{refusal_of, cause_of, others_up};
 ghost use Rattle.replay.specs.Plan.{IsPlan, found};
+ghost use Rattle.session_process.specs.Mode.{is_lost};
 ghost use Rattle.machine.specs.Simulation.{Stands, Simulates, answering, process_at, is_up_at, IsTold};
 ghost use Rattle.machine.specs.Recoveries.{MayRecover, MaySettle, IsLeftOf, SettlesAt, returning, ArePeersOf, forgotten, logs_of, recovery_of};
-ghost use Rattle.machine.specs.Mode.{is_lost};
 
 use crate::machine::Machine;
-use crate::mode::Peers;
-use crate::outbox::Outbox;
 use limits::{ENTRIES, PARTIES};
 use replay::{Plan, collect_from};
 use rsn::Receipts;
+use session_process::{Outbox, Peers};
 use std::alloc::{AllocError, Global};
 use world::{Answer, Call, Refusal};
 

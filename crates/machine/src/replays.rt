@@ -8,13 +8,13 @@ ghost use Rattle.sender_log.specs.Queue.{known};
 ghost use Rattle.sender_log.specs.Log.{queue_of};
 ghost use Rattle.machine.specs.Arrival.{IsHandedOut};
 ghost use Rattle.machine.specs.Simulation.{Stands, Simulates, answering, process_at, log_at, IsTold};
-ghost use Rattle.machine.specs.Mode.{is_to_do};
+ghost use Rattle.machine.specs.Work.{is_to_do};
 ghost use Rattle.machine.specs.Replays.{MayReplay, MayResync, ArePeersLeft, renumbered_at};
 
 use crate::machine::Machine;
-use crate::mode::{Mode, Peers};
 use limits::ENTRIES;
 use replay::Job;
+use session_process::{Mode, Peers};
 use std::alloc::AllocError;
 use world::{Answer, Call, Refusal};
 

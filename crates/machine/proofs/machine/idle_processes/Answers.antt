@@ -2,7 +2,7 @@ use Rattle.std.proofs.Common.{◌≡◌, ◌≤◌, ◌+◌, ◌++◌, ◌∷◌
 use Rattle.std.proofs.lemmas.List.{take_more, map-append}
 use Rattle.limits.specs.declared.TheConstants.{STATE_BYTES}
 use Rattle.handlers.specs.Image.{image_in, the_image}
-use Rattle.machine.specs.Process.{idle_process}
+use Rattle.session_process.specs.Process.{idle_process}
 use Rattle.machine.specs.Openings.{AreIdle}
 use Rattle.machine.proofs.Openings.{idle-push}
 use Rattle.machine.proofs.machine.idle_processes.Goals as goal

@@ -6,9 +6,9 @@ use Rattle.world.specs.declared.packet.Packet.TheVariants.{Delivery, Number, Ack
 use Rattle.world.specs.declared.call.Call.TheVariants.{Arrive}
 use Rattle.world.specs.declared.answer.Answer.TheVariants.{Unreachable}
 use Rattle.world.specs.Answers.{target_of}
+use Rattle.session_process.specs.Wire.{Puts}
 use Rattle.machine.specs.Reception.{MayArrive}
 use Rattle.machine.specs.Fields.{IsCarried}
-use Rattle.machine.specs.Wire.{Puts}
 use Rattle.machine.specs.Simulation.{TheMachine, Steps, is_up_at}
 use Rattle.machine.proofs.Arrivals.{unreachable}
 use Rattle.machine.proofs.machine.Machine.arrive.Goals as goal

@@ -5,10 +5,11 @@ use Rattle.std.proofs.lemmas.List.{length-set, get_or-map, get_or_default}
 use Rattle.limits.specs.declared.TheConstants.{ENTRIES}
 use Rattle.helpers.specs.declared.effects.Who.{Who}
 use Rattle.handlers.specs.Image.{TheImage, image_in, the_image}
-use Rattle.machine.specs.Process.{TheProcess, idle_process}
+use Rattle.session_process.specs.Process.{TheProcess, idle_process}
+use Rattle.session_process.specs.Mode.{is_lost}
 use Rattle.machine.specs.Simulation.{TheMachine, process_at}
 use Rattle.machine.specs.Fields.{view_of, AreCarried, IsLogOf, IsSoundAt}
-use Rattle.machine.specs.Mode.{is_lost, IsNextFor}
+use Rattle.machine.specs.Work.{IsNextFor}
 use Rattle.machine.proofs.Soundness.{sound_at, sound-begun, sound-set}
 use Rattle.machine.proofs.machine.Machine.begin.Goals as goal
 

@@ -5,8 +5,8 @@ use Rattle.handlers.specs.Image.{TheImage, image_in}
 use Rattle.checkpoint.specs.Saved.{TheSaved, saved_of}
 use Rattle.world.specs.declared.call.Call.TheVariants.{Checkpoint}
 use Rattle.world.specs.declared.answer.Answer.TheVariants.{Saved}
-use Rattle.machine.specs.Process.{TheProcess, idle_process, received, IsSaved}
-use Rattle.machine.specs.Mode.{is_live, is_lost}
+use Rattle.session_process.specs.Process.{TheProcess, idle_process, received, IsSaved}
+use Rattle.session_process.specs.Mode.{is_live, is_lost}
 use Rattle.machine.specs.Fields.{view_of, AreCarried, IsLogOf, IsSoundAt}
 use Rattle.machine.specs.Simulation.{TheMachine, Steps, process_at, is_up_at}
 use Rattle.machine.proofs.Status.{is_live-at, live-lost}

@@ -1,8 +1,8 @@
 use Rattle.std.proofs.Common.{◌≡◌, length, sym, ap, ◌∙◌}
 use Rattle.std.specs.Prelude.{◌&&◌, is_some}
-use Rattle.machine.specs.Process.{TheProcess}
+use Rattle.session_process.specs.Process.{TheProcess}
+use Rattle.session_process.specs.Mode.{is_live}
 use Rattle.machine.specs.Simulation.{process_at}
-use Rattle.machine.specs.Mode.{is_live}
 use Rattle.machine.proofs.RecoveryCauses.{inside-of, checkpoint-down, checkpoint-busy, checkpoint-full, checkpoint-free}
 use Rattle.machine.proofs.machine.Machine.checkpoint_cause.Goals as goal
 

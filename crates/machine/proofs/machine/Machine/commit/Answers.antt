@@ -10,9 +10,9 @@ use Rattle.world.specs.declared.call.Call.TheVariants.{Finish}
 use Rattle.world.specs.declared.answer.Answer.TheVariants.{Committed}
 use Rattle.world.specs.World.{World}
 use Rattle.replay.specs.Task.{TheTask, MayCall}
-use Rattle.machine.specs.Process.{TheProcess, idle_process, received, HasSent, Commits}
-use Rattle.machine.specs.Mode.{is_live}
-use Rattle.machine.specs.Wire.{Puts}
+use Rattle.session_process.specs.Process.{TheProcess, idle_process, received, HasSent, Commits}
+use Rattle.session_process.specs.Mode.{is_live}
+use Rattle.session_process.specs.Wire.{Puts}
 use Rattle.machine.specs.Simulation.{TheMachine, Stands, Steps, process_at}
 use Rattle.machine.specs.Fields.{AreCarried, IsLogOf, IsSoundAt}
 use Rattle.machine.specs.Arrival.{IsOpen}

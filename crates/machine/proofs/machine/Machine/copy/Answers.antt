@@ -5,7 +5,7 @@ use Rattle.limits.specs.declared.TheConstants.{ENTRIES, PACKETS}
 use Rattle.world.specs.declared.call.Call.TheVariants.{Copy}
 use Rattle.world.specs.World.{World}
 use Rattle.world.specs.Refusals.{refusal_of}
-use Rattle.machine.specs.Wire.{Puts}
+use Rattle.session_process.specs.Wire.{Puts}
 use Rattle.machine.specs.Simulation.{TheMachine, Stands}
 use Rattle.machine.specs.Fields.{view_of, IsCarried}
 use Rattle.machine.proofs.Preservation.{keys-put, sound-wire}

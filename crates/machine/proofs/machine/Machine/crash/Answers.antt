@@ -5,8 +5,8 @@ use Rattle.limits.specs.declared.TheConstants.{ENTRIES}
 use Rattle.handlers.specs.Image.{TheImage, image_in}
 use Rattle.world.specs.declared.call.Call.TheVariants.{Crash}
 use Rattle.world.specs.declared.answer.Answer.TheVariants.{Crashed}
-use Rattle.machine.specs.Process.{TheProcess, idle_process, crashed}
-use Rattle.machine.specs.Outbox.{empty_outbox}
+use Rattle.session_process.specs.Process.{TheProcess, idle_process, crashed}
+use Rattle.session_process.specs.Outbox.{empty_outbox}
 use Rattle.machine.specs.Fields.{AreCarried, IsLogOf, IsSoundAt}
 use Rattle.machine.specs.Simulation.{TheMachine, Steps, process_at}
 use Rattle.machine.proofs.Crashes.{crash-step, crashed-sound}

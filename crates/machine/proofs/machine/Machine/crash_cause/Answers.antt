@@ -2,9 +2,9 @@ use Rattle.std.proofs.Common.{◌≡◌, length, sym, ap, ◌∙◌, true, false
 use Rattle.std.specs.Prelude.{◌+◌, ◌<◌, ◌≤◌, Bool, is_some}
 use mir.Val.{bool_byte}
 use Rattle.world.specs.Refusals.{one_if}
+use Rattle.session_process.specs.Process.{TheProcess}
+use Rattle.session_process.specs.Mode.{is_lost}
 use Rattle.machine.specs.Simulation.{process_at}
-use Rattle.machine.specs.Process.{TheProcess}
-use Rattle.machine.specs.Mode.{is_lost}
 use Rattle.machine.proofs.RecoveryCauses.{inside-of, crash-full, crash-free}
 use Rattle.machine.proofs.machine.Machine.crash_cause.Goals as goal
 

@@ -2,7 +2,7 @@ use Rattle.std.proofs.Common.{rules, arith, ◌≡◌, ◌<◌, ◌≤◌, ◌-�
 use Rattle.std.proofs.lemmas.Grind.{common_steps}
 use Rattle.std.proofs.lemmas.List.{length-set}
 use Rattle.handlers.specs.Image.{TheImage, image_in}
-use Rattle.machine.specs.Process.{trimmed_at}
+use Rattle.session_process.specs.Process.{trimmed_at}
 use Rattle.machine.specs.Fields.{AreCarried, IsLogOf, IsSoundAt}
 use Rattle.machine.specs.Simulation.{TheMachine}
 use Rattle.machine.proofs.Trims.{trimmed-sound}

@@ -1,6 +1,6 @@
 use Rattle.std.proofs.Common.{◌≡◌, ◌≤◌, ◌++◌, length, map, take, drop, ap, ◌∙◌, arith}
 use Rattle.std.proofs.lemmas.List.{append-nil, drop_all, take_all}
-use Rattle.machine.specs.Process.{unnumbered_at}
+use Rattle.session_process.specs.Process.{unnumbered_at}
 use Rattle.machine.proofs.Losses.{walked}
 use Rattle.machine.proofs.Restoration.{forgotten-sound}
 use Rattle.machine.proofs.machine.Machine.forget_after.Goals as goal

@@ -1,6 +1,6 @@
 use Rattle.std.proofs.Common.{◌≡◌, subst, sym, ap, ◌∙◌}
 use Rattle.send_gate.specs.Gate.{TheGate}
-use Rattle.machine.specs.Process.{TheProcess}
+use Rattle.session_process.specs.Process.{TheProcess}
 use Rattle.machine.specs.Simulation.{gate_at}
 use Rattle.machine.specs.Readings.{GateStands}
 use Rattle.machine.proofs.Readings.{gate-stands}

@@ -7,7 +7,7 @@ use Rattle.sender_log.specs.Log.{queue_of, with_queue}
 use Rattle.world.specs.declared.call.Call.TheVariants.{Input}
 use Rattle.world.specs.World.{World}
 use Rattle.world.specs.Refusals.{refusal_of}
-use Rattle.machine.specs.Outside.{Takes}
+use Rattle.session_process.specs.Outside.{Takes}
 use Rattle.machine.specs.Simulation.{TheMachine, Stands}
 use Rattle.machine.specs.Fields.{view_of}
 use Rattle.machine.proofs.Sendings.{logged, sound-input}

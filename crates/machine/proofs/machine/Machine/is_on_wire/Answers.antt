@@ -1,7 +1,7 @@
 use Rattle.std.proofs.Common.{◌≡◌, ◌≤◌, false, ℕ, sym, ◌∙◌, ap, arith, slice_index_or}
 use Rattle.std.specs.Prelude.{Some, None, option_copied}
 use Rattle.limits.specs.declared.TheConstants.{PACKETS}
-use Rattle.machine.specs.Wire.{AreListed}
+use Rattle.session_process.specs.Wire.{AreListed}
 use Rattle.machine.specs.Simulation.{TheMachine}
 use Rattle.world.specs.Useful.{belongs}
 use Rattle.machine.proofs.Picks.{wire-has, wire-lacks, up-more, not-some}

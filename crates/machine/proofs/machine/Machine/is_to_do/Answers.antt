@@ -2,7 +2,7 @@ use Rattle.std.proofs.Common.{rules, ◌≡◌, length, arith, sym, ◌∙◌}
 use Rattle.std.specs.Prelude.{◌&&◌, nat_lt, nat_le}
 use Rattle.std.proofs.lemmas.Grind.{common_steps}
 use Rattle.machine.specs.Simulation.{process_at}
-use Rattle.machine.specs.Mode.{is_to_do}
+use Rattle.machine.specs.Work.{is_to_do}
 use Rattle.machine.proofs.ReplayCauses.{todo-is}
 use Rattle.machine.proofs.machine.Machine.is_to_do.Goals as goal
 

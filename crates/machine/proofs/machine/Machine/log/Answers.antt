@@ -2,7 +2,7 @@ use Rattle.std.proofs.Common.{◌≡◌, subst, sym, ap, ◌∙◌, arith}
 use Rattle.std.specs.Prelude.{◌==◌, false}
 use Rattle.std.proofs.lemmas.Bool.Decides.{nat_tests}
 use Rattle.sender_log.specs.Log.{TheLog}
-use Rattle.machine.specs.Process.{TheProcess}
+use Rattle.session_process.specs.Process.{TheProcess}
 use Rattle.machine.specs.Simulation.{log_at}
 use Rattle.machine.specs.Readings.{LogStands}
 use Rattle.machine.proofs.Readings.{log-stands}

@@ -4,8 +4,8 @@ use Rattle.world.specs.declared.packet.Packet.TheVariants.{Number, Acknowledgeme
 use Rattle.world.specs.declared.call.Call.TheVariants.{Arrive}
 use Rattle.world.specs.declared.answer.Answer.TheVariants.{Numbered, Stale}
 use Rattle.world.specs.Answers.{target_of}
-use Rattle.machine.specs.Process.{TheProcess}
-use Rattle.machine.specs.Wire.{Puts}
+use Rattle.session_process.specs.Process.{TheProcess}
+use Rattle.session_process.specs.Wire.{Puts}
 use Rattle.machine.specs.Fields.{IsCarried}
 use Rattle.machine.specs.Reception.{Drops}
 use Rattle.machine.specs.Simulation.{TheMachine, Steps, process_at, is_up_at}

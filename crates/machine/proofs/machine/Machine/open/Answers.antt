@@ -6,7 +6,7 @@ use Rattle.limits.specs.declared.TheConstants.{PACKETS, PROCESSES}
 use Rattle.handlers.specs.Image.{image_in}
 use Rattle.sender_log.specs.Log.{queue_of}
 use Rattle.world.specs.declared.packet.Packet.{Packet}
-use Rattle.machine.specs.Outside.{TheOutside, empty_outside}
+use Rattle.session_process.specs.Outside.{TheOutside, empty_outside}
 use Rattle.machine.specs.Fields.{AreCarried, IsLogOf}
 use Rattle.machine.proofs.Openings.{idle-handed, opens, idle-sound, outside-sound, inputs-sound}
 use Rattle.machine.proofs.machine.Machine.open.Goals as goal

@@ -2,7 +2,7 @@ use Rattle.std.proofs.Common.{◌≢◌, arith, sym, ap, ◌∙◌}
 use Rattle.std.specs.Prelude.{None, not, slice_index_or}
 use Rattle.world.specs.declared.call.Call.TheVariants.{Arrive}
 use Rattle.world.specs.Refusals.{refusal_of}
-use Rattle.machine.specs.Wire.{AreListed}
+use Rattle.session_process.specs.Wire.{AreListed}
 use Rattle.machine.proofs.Picks.{arrives-none, told-refuses, up-more}
 use Rattle.machine.proofs.machine.Machine.pick_arrival.Goals as goal
 

@@ -5,8 +5,8 @@ use Rattle.std.proofs.Math.Seq.{take-suc, take-suc-set}
 use Rattle.std.proofs.lemmas.List.{length-set, map-append, take_all}
 use Rattle.sender_log.specs.Log.{TheLog}
 use Rattle.replay.specs.Plan.{ThePlan, IsPlan, found, lent}
-use Rattle.machine.specs.Outbox.{TheOutbox}
-use Rattle.machine.specs.Process.{TheProcess}
+use Rattle.session_process.specs.Outbox.{TheOutbox}
+use Rattle.session_process.specs.Process.{TheProcess}
 use Rattle.machine.specs.Recoveries.{logs_of}
 use Rattle.machine.proofs.machine.Machine.plan.Goals as goal
 

@@ -2,7 +2,7 @@
 use Rattle.std.proofs.Common.{◌≡◌, ◌∷◌, suc, length, map, take}
 use Rattle.limits.specs.declared.TheConstants.{PARTIES}
 use Rattle.replay.specs.Plan.{lent}
-use Rattle.machine.specs.Process.{TheProcess}
+use Rattle.session_process.specs.Process.{TheProcess}
 use Rattle.machine.proofs.machine.Machine.plan.Given as goal
 
 abbrev pub invariant-loop-place : goal.invariant-loop-place

@@ -4,8 +4,8 @@ use Rattle.std.proofs.lemmas.Bool.Decides.{nat_tests}
 use Rattle.rsn.specs.Receipts.{Received}
 use Rattle.world.specs.declared.answer.Answer.TheVariants.{Kept}
 use Rattle.checkpoint.specs.Saved.{TheSaved, receipts_again}
-use Rattle.machine.specs.Outbox.{outbox_again}
-use Rattle.machine.specs.Process.{restored}
+use Rattle.session_process.specs.Outbox.{outbox_again}
+use Rattle.session_process.specs.Process.{restored}
 use Rattle.machine.specs.Recoveries.{SettlesAt, forgotten, recovery_of}
 use Rattle.machine.specs.Simulation.{TheMachine, Steps, process_at}
 use Rattle.machine.proofs.Others.{replaced}

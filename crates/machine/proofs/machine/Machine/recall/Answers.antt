@@ -6,8 +6,8 @@ use Rattle.world.specs.declared.call.Call.TheVariants.{Finish}
 use Rattle.world.specs.declared.answer.Answer.TheVariants.{Replayed}
 use Rattle.replay.specs.Task.{TheTask, MayCall, IsAnswer, answer_of}
 use Rattle.replay.specs.Plan.{ThePlan}
-use Rattle.machine.specs.Process.{received, Recalls}
-use Rattle.machine.specs.Mode.{is_replayed}
+use Rattle.session_process.specs.Process.{received, Recalls}
+use Rattle.session_process.specs.Mode.{is_replayed}
 use Rattle.machine.specs.Recoveries.{SettlesAt}
 use Rattle.machine.specs.Fields.{view_of}
 use Rattle.machine.specs.Simulation.{TheMachine, Steps}

@@ -1,5 +1,5 @@
 use Rattle.std.proofs.Common.{sym, ap, ◌∙◌, subst}
-use Rattle.machine.specs.Process.{TheProcess}
+use Rattle.session_process.specs.Process.{TheProcess}
 use Rattle.machine.specs.Readings.{ReceiptsStand}
 use Rattle.machine.proofs.Readings.{receipts-stand}
 use Rattle.machine.proofs.machine.Machine.receipts.Goals as goal

@@ -8,8 +8,8 @@ use Rattle.world.specs.declared.packet.Packet.TheVariants.{Delivery, Number}
 use Rattle.world.specs.declared.call.Call.TheVariants.{Arrive}
 use Rattle.world.specs.declared.answer.Answer.TheVariants.{Started, Duplicate, Early}
 use Rattle.world.specs.World.{World}
-use Rattle.machine.specs.Process.{TheProcess}
-use Rattle.machine.specs.Wire.{Puts}
+use Rattle.session_process.specs.Process.{TheProcess}
+use Rattle.session_process.specs.Wire.{Puts}
 use Rattle.machine.specs.Fields.{view_of}
 use Rattle.machine.specs.Arrival.{IsOpen}
 use Rattle.machine.specs.Simulation.{TheMachine, Stands, Steps, process_at}

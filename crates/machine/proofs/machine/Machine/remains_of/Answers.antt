@@ -5,10 +5,10 @@ use Rattle.rsn.specs.Receipts.{Received}
 use Rattle.checkpoint.specs.declared.form.CheckpointForm.TheVariants.{Second}
 use Rattle.checkpoint.specs.Saved.{TheSaved, Fits, log_again, receipts_again}
 use Rattle.replay.specs.Plan.{IsPlan, found}
-use Rattle.machine.specs.Process.{TheProcess, idle_process}
+use Rattle.session_process.specs.Process.{TheProcess, idle_process}
+use Rattle.session_process.specs.Outbox.{outbox_again}
 use Rattle.machine.specs.Fields.{view_of, IsLogOf}
 use Rattle.machine.specs.Recoveries.{logs_of}
-use Rattle.machine.specs.Outbox.{outbox_again}
 use Rattle.machine.specs.Simulation.{TheMachine, process_at}
 use Rattle.machine.proofs.Soundness.{sound_at, some-of}
 use Rattle.machine.proofs.Restoration.{log-again}

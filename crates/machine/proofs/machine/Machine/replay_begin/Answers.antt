@@ -1,7 +1,7 @@
 use Rattle.std.proofs.Common.{◌≡◌, ◌≢◌, ◌≤◌, length, refl, sym, ap, ◌∙◌, arith}
 use Rattle.std.specs.Prelude.{Result, Ok, Err, IfOk, Some}
-use Rattle.machine.specs.Process.{TheProcess}
-use Rattle.machine.specs.Mode.{next_job}
+use Rattle.session_process.specs.Process.{TheProcess}
+use Rattle.session_process.specs.Mode.{next_job}
 use Rattle.machine.specs.Arrival.{IsHandedOut}
 use Rattle.machine.specs.Jobs.{Begins}
 use Rattle.machine.specs.Simulation.{process_at}

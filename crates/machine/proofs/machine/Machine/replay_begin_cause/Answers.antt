@@ -1,8 +1,8 @@
 use Rattle.std.proofs.Common.{◌≡◌, length, sym, ap, ◌∙◌, true, false}
 use Rattle.std.specs.Prelude.{is_some, not}
-use Rattle.machine.specs.Process.{TheProcess}
+use Rattle.session_process.specs.Process.{TheProcess}
+use Rattle.session_process.specs.Mode.{next_job}
 use Rattle.machine.specs.Simulation.{process_at}
-use Rattle.machine.specs.Mode.{next_job}
 use Rattle.machine.proofs.RecoveryCauses.{inside-of}
 use Rattle.machine.proofs.ReplayCauses.{replay-nothing, replay-full, replay-free}
 use Rattle.machine.proofs.machine.Machine.replay_begin_cause.Goals as goal

@@ -2,7 +2,7 @@ use Rattle.std.proofs.Common.{◌≡◌, ◌<◌, ◌-◌, length, sym, ap, ◌�
 use Rattle.std.specs.Prelude.{Result, Ok, Err, IfOk}
 use Rattle.sender_log.specs.Queue.{known}
 use Rattle.sender_log.specs.Log.{queue_of}
-use Rattle.machine.specs.Process.{TheProcess}
+use Rattle.session_process.specs.Process.{TheProcess}
 use Rattle.machine.proofs.Splits.{front-at, front-log, front-sound, front-view, back-at, back-log, back-sound, back-view}
 use Rattle.machine.proofs.machine.Machine.restore_numbers.Goals as goal
 use Rattle.machine.proofs.machine.Machine.restore_numbers.Goals.{then-p-r, else-p-r}

@@ -4,9 +4,8 @@ use Rattle.handlers.specs.Image.{TheImage, image_in}
 use Rattle.checkpoint.specs.declared.form.CheckpointForm.TheVariants.{Second}
 use Rattle.checkpoint.specs.Format.{IsCheckpoint}
 use Rattle.checkpoint.specs.Saved.{TheSaved}
-use Rattle.machine.specs.Process.{TheProcess, idle_process}
-use Rattle.machine.specs.Stable.{Saves}
-use Rattle.machine.specs.Simulation.{TheMachine, process_at}
+use Rattle.session_process.specs.Process.{TheProcess, idle_process}
+use Rattle.machine.specs.Simulation.{Saves, TheMachine, process_at}
 use Rattle.machine.proofs.Status.{at_process}
 use Rattle.machine.proofs.Soundness.{sound_at, some-of}
 use Rattle.machine.proofs.machine.Machine.saved.Goals as goal

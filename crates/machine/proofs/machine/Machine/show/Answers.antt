@@ -5,8 +5,8 @@ use Rattle.sender_log.specs.Log.{queue_of}
 use Rattle.world.specs.declared.packet.Packet.TheVariants.{Delivery}
 use Rattle.world.specs.declared.call.Call.TheVariants.{Arrive}
 use Rattle.world.specs.declared.answer.Answer.TheVariants.{Shown, ShownBefore, Early}
-use Rattle.machine.specs.Outside.{TheOutside}
-use Rattle.machine.specs.Wire.{Puts}
+use Rattle.session_process.specs.Outside.{TheOutside}
+use Rattle.session_process.specs.Wire.{Puts}
 use Rattle.machine.specs.Fields.{view_of, IsLogOf}
 use Rattle.machine.specs.Simulation.{TheMachine, Steps}
 use Rattle.machine.proofs.Arrivals.{early, shown, shown_before}

@@ -1,5 +1,5 @@
 use Rattle.std.proofs.Common.{ap, ◌∙◌}
-use Rattle.machine.specs.Process.{TheProcess}
+use Rattle.session_process.specs.Process.{TheProcess}
 use Rattle.machine.proofs.Readings.{state-back, state-gone}
 use Rattle.machine.proofs.machine.Machine.state.Goals as goal
 

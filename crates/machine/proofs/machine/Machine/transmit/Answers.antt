@@ -9,7 +9,7 @@ use Rattle.world.specs.declared.packet.Packet.TheVariants.{Delivery}
 use Rattle.world.specs.declared.call.Call.TheVariants.{Transmit}
 use Rattle.world.specs.World.{World}
 use Rattle.world.specs.Refusals.{refusal_of}
-use Rattle.machine.specs.Wire.{Puts}
+use Rattle.session_process.specs.Wire.{Puts}
 use Rattle.machine.specs.Simulation.{TheMachine, Stands, log_at}
 use Rattle.machine.specs.Transmission.{MayLeave}
 use Rattle.machine.specs.Fields.{view_of, IsCarried}

@@ -1,9 +1,9 @@
 use Rattle.std.proofs.Common.{◌<◌, arith, sym, ap, ◌∙◌}
 use Rattle.std.specs.Prelude.{not}
 use Rattle.world.specs.Useful.{works_on, is_unacknowledged}
-use Rattle.machine.specs.Process.{TheProcess}
-use Rattle.machine.specs.declared.mode.Mode.TheVariants.{Live}
-use Rattle.machine.specs.Mode.{phase_of}
+use Rattle.session_process.specs.Process.{TheProcess}
+use Rattle.session_process.specs.declared.mode.Mode.TheVariants.{Live}
+use Rattle.machine.specs.Work.{phase_of}
 use Rattle.machine.proofs.Picks.{wants-next, wants-other, flag-is}
 use Rattle.machine.proofs.machine.Machine.wants.Goals as goal
 

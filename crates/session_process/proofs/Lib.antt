@@ -1,0 +1,5 @@
+pub mod MailLemmas
+pub mod OutboxLemmas
+pub mod StableLemmas
+pub mod OutsideLemmas
+pub mod WireLemmas
