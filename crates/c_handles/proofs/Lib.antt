@@ -1,0 +1,3 @@
+pub mod Loosened
+pub mod OnHeap
+pub mod Steps

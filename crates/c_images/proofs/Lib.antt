@@ -1,0 +1,11 @@
+pub mod Overwritten
+pub mod Reports
+pub mod CallLemmas
+pub mod FirstFailure
+pub mod Lent
+pub mod OpenedValue
+pub mod Laid
+pub mod AsByFile
+pub mod CallRecords
+pub mod FlatRuns
+pub mod SpanRuns
