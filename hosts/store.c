@@ -26,7 +26,7 @@ static const struct {
     {"process", "it is the store of another process"},
     {"processes", "the cluster had other processes when this store began"},
     {"image", "the image isn't the one that this process began with"},
-    {"durable", "whether the process is durable was fixed when this store began"},
+    {"durable", "whether the process is durable was fixed when this store began, and --volatile asks for no"},
 };
 enum { LINE_COUNT = sizeof LINES / sizeof *LINES };
 
