@@ -32,7 +32,7 @@ enum { LINE_COUNT = sizeof LINES / sizeof *LINES };
 
 static void identity_of(const struct owner *owner, char text[LINE_COUNT][IDENTITY_LIMIT]) {
     const struct cluster *cluster = owner->cluster;
-    strcpy(text[0], "2");
+    strcpy(text[0], "3");
     strcpy(text[1], cluster->name);
     snprintf(text[2], IDENTITY_LIMIT, "%d %s", owner->me, cluster->processes[owner->me].name);
     *text[3] = 0;
