@@ -9,13 +9,13 @@
 #include <string.h>
 #include <sys/un.h>
 
-enum { WORD_LIMIT = 5 };
+enum { WORD_LIMIT = 6 };
 
 /* What is being read, for sentences about it. */
 struct reading {
     const char *path;
     int line;
-    bool has_name, has_gateway;
+    bool has_name, has_gateway, has_numbers;
 };
 
 static int refused(const struct reading *at, const char *why, const char *word) {
@@ -70,16 +70,36 @@ static char *beside(const char *path, const char *image) {
     return joined;
 }
 
+/* A number from 1 on; 0 of another word. */
+static int number_in(const char *word) {
+    size_t size = strlen(word);
+    return *word != '0' && size <= 2 && strspn(word, "0123456789") == size ? atoi(word) : 0;
+}
+
+/* The number that a line says; if it says none, that of the line among those of processes. */
+static int read_number(struct reading *at, const char *word, const struct cluster *cluster, int *number) {
+    *number = word ? number_in(word) : cluster->count + 1;
+    if (cluster->count == 0) at->has_numbers = word;
+    if (at->has_numbers != (word != NULL)) return refused(at, "all processes have a number, or none has", word ? word : "");
+    if (*number < 1 || *number > PROCESS_LIMIT) return refused(at, "the number of a process is 1 to 15", word);
+    if (*cluster->processes[*number].name) return refused(at, "there are two processes of this number", word);
+    return STATUS_DONE;
+}
+
 static int read_process(struct reading *at, char *const words[], int count, struct cluster *cluster) {
-    if (count != 4) return refused(at, "such a line is: process NAME IMAGE ADDRESS", "");
-    if (!is_name(words[1])) return refused(at, "a name has 1 to 32 letters, digits, - and _", words[1]);
-    if (!strcmp(words[1], "gateway")) return refused(at, "no process is called so", words[1]);
-    if (cluster_find(cluster, words[1])) return refused(at, "there are two processes of this name", words[1]);
-    if (cluster->count == PROCESS_LIMIT) return refused(at, "a cluster has at most 15 processes", words[1]);
-    struct process *process = &cluster->processes[++cluster->count];
-    strcpy(process->name, words[1]);
-    process->image = beside(at->path, words[2]);
-    return process->image ? read_address(at, words[3], &process->address) : STATUS_MEMORY;
+    if (count != 4 && count != 5) return refused(at, "such a line is: process NAME IMAGE ADDRESS, or process N NAME IMAGE ADDRESS", "");
+    const char *name = words[count - 3];
+    if (!is_name(name)) return refused(at, "a name has 1 to 32 letters, digits, - and _", name);
+    if (!strcmp(name, "gateway")) return refused(at, "no process is called so", name);
+    if (cluster_find(cluster, name)) return refused(at, "there are two processes of this name", name);
+    if (cluster->count == PROCESS_LIMIT) return refused(at, "a cluster has at most 15 processes", name);
+    int number, status = read_number(at, count == 5 ? words[1] : NULL, cluster, &number);
+    if (status != STATUS_DONE) return status;
+    struct process *process = &cluster->processes[number];
+    cluster->count++;
+    strcpy(process->name, name);
+    process->image = beside(at->path, words[count - 2]);
+    return process->image ? read_address(at, words[count - 1], &process->address) : STATUS_MEMORY;
 }
 
 static int read_words(struct reading *at, char *const words[], int count, struct cluster *cluster) {
@@ -118,13 +138,18 @@ static int judge(const struct reading *at, const struct cluster *cluster) {
         report("%s: there is no line: %s", at->path, missing);
         return STATUS_CLUSTER;
     }
-    for (int p = 0; p <= cluster->count; p++)
+    for (int p = 0; p <= cluster->count; p++) {
+        if (!*cluster->processes[p].name) {
+            report("%s: there are %d processes, and none of the number %d", at->path, cluster->count, p);
+            return STATUS_CLUSTER;
+        }
         for (int q = 0; q < p; q++) {
             const struct address *a = &cluster->processes[p].address, *b = &cluster->processes[q].address;
             if (a->carrier == CARRIER_NATS || a->carrier != b->carrier || strcmp(a->where, b->where) != 0) continue;
             report("%s: two have the same address: %s", at->path, a->where);
             return STATUS_CLUSTER;
         }
+    }
     return STATUS_DONE;
 }
 
@@ -154,7 +179,7 @@ int cluster_read(const char *path, struct cluster *cluster) {
 }
 
 int cluster_find(const struct cluster *cluster, const char *name) {
-    for (int p = 1; p <= cluster->count; p++)
-        if (!strcmp(cluster->processes[p].name, name)) return p;
+    for (int p = 1; p <= PROCESS_LIMIT; p++)
+        if (*name && !strcmp(cluster->processes[p].name, name)) return p;
     return 0;
 }

@@ -58,6 +58,15 @@ def tells(program, **figures):
         time.sleep(0.1)
 
 
+def has_said(program, sentence):
+    """It has said so, within a while."""
+    until = time.monotonic() + 10
+    while not any(sentence in line for line in program.said):
+        if time.monotonic() > until:
+            raise Wrong(f"{program.name} hasn't said {sentence!r}")
+        time.sleep(0.01)
+
+
 def works(cluster, talk, *numbers):
     """Inputs are logged and their outputs come, one after the other."""
     for number in numbers:

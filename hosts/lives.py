@@ -35,7 +35,7 @@ def crc32c(data):
 def slot(number, data, room=1 << 16):
     """One of the two that the file `kept` has."""
     head = struct.pack("<QQ", number, len(data))
-    return (b"SBS1" + struct.pack("<I", crc32c(head + data)) + head + data).ljust(room, b"\0")
+    return (b"SBS2" + struct.pack("<I", crc32c(head + data + data[-4:])) + head + data).ljust(room, b"\0")
 
 
 def last_of(kept):

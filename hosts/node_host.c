@@ -216,6 +216,14 @@ static void put_out(struct host *host) {
         pace_send(&host->pace, to, host->packet, size, now);
 }
 
+/* What anybody has of a durable process stays; of another one, what its checkpoint covers. */
+static void tell_failures(const struct host *host, uint64_t covered) {
+    if (host->options->durable) report("failures met (exact is no): what anybody has of this process stays, since it is durable");
+    else
+        report("failures met (exact is no): messages after the first %" PRIu64 " may be lost, though they were acknowledged; it goes "
+               "on, and CLUSTER.md says what to compare", covered);
+}
+
 /* What changed since the last turn, for people. */
 static void tell(struct host *host) {
     const sblog_standing *now = &host->standing;
@@ -223,7 +231,7 @@ static void tell(struct host *host) {
     if (is_up && !host->was_up)
         report("up in incarnation %" PRIu64 " with %" PRIu64 " messages, %" PRIu64 " of its checkpoint, after %.1f ms",
                now->incarnation, now->length, now->base, (double)(clock_now() - host->started) / 1000);
-    if (host->was_exact && !now->exact) report("failures met: what was acknowledged may be lost from here on (exact is no)");
+    if (host->was_exact && !now->exact) tell_failures(host, now->base);
     host->was_up = is_up;
     host->was_exact = now->exact;
 }

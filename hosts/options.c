@@ -24,8 +24,9 @@ static const char USAGE[] =
     "  --cluster FILE         who there is, with which image, and where\n"
     "  --me N                 the process's number in the file, 1 to 15, or 0\n"
     "  --store DIR            its store, which is made where it isn't there\n"
-    "  --checkpoint-every K   a checkpoint after K messages (1 to 65536; 256)\n"
-    "  --durable              what it sends waits for a checkpoint that covers it\n"
+    "  --durable              what a process sends waits for a checkpoint that covers it, as it does anyway\n"
+    "  --volatile             it doesn't wait: messages may be lost if two such processes are down at once\n"
+    "  --checkpoint-every K   of a volatile process: a checkpoint after K messages (1 to 65536; 256)\n"
     "  --tick MS              what isn't answered goes again after MS milliseconds or more (1 to 10000; 5)\n"
     "  --listen unix:PATH     the gateway takes lines of programs that connect there\n"
     "  --metrics unix:PATH    figures for Prometheus, by HTTP\n"
@@ -36,15 +37,16 @@ static const char USAGE[] =
     "Statuses: 0; 2 the command line; 3 a refused image; 4 a refused cluster file; 5 want of memory;\n"
     "6 input and output; 7 a store that isn't this process's or its cluster's, or is in use.\n";
 
-enum { CLUSTER = 1, ME, STORE, CHECKPOINT_EVERY, DURABLE, EVERY_TICK, LISTEN, METRICS, STATUS, HELP, VERSION };
+enum { CLUSTER = 1, ME, STORE, CHECKPOINT_EVERY, DURABLE, VOLATILE, EVERY_TICK, LISTEN, METRICS, STATUS, HELP, VERSION };
 
 static const struct option OPTIONS[] = {
     {"cluster", required_argument, NULL, CLUSTER}, {"me", required_argument, NULL, ME},
     {"store", required_argument, NULL, STORE},     {"checkpoint-every", required_argument, NULL, CHECKPOINT_EVERY},
-    {"durable", no_argument, NULL, DURABLE},       {"tick", required_argument, NULL, EVERY_TICK},
-    {"listen", required_argument, NULL, LISTEN},   {"metrics", required_argument, NULL, METRICS},
-    {"status", no_argument, NULL, STATUS},         {"help", no_argument, NULL, HELP},
-    {"version", no_argument, NULL, VERSION},       {NULL, 0, NULL, 0},
+    {"durable", no_argument, NULL, DURABLE},       {"volatile", no_argument, NULL, VOLATILE},
+    {"tick", required_argument, NULL, EVERY_TICK}, {"listen", required_argument, NULL, LISTEN},
+    {"metrics", required_argument, NULL, METRICS}, {"status", no_argument, NULL, STATUS},
+    {"help", no_argument, NULL, HELP},             {"version", no_argument, NULL, VERSION},
+    {NULL, 0, NULL, 0},
 };
 
 /* A number in its range. */
@@ -67,7 +69,8 @@ static bool read_option(int option, const char *text, struct options *options) {
     switch (option) {
     case CLUSTER: options->cluster = text; break;
     case STORE: options->store = text; break;
-    case DURABLE: options->durable = true; break;
+    case DURABLE: options->says_durable = true; break;
+    case VOLATILE: options->durable = false; break;
     case STATUS: options->status = true; break;
     case LISTEN: return read_path(text, &options->listen);
     case METRICS: return read_path(text, &options->metrics);
@@ -89,7 +92,7 @@ static bool read_option(int option, const char *text, struct options *options) {
 
 int options_read(int argc, char **argv, struct options *options) {
     int option, at;
-    *options = (struct options){.me = -1, .checkpoint_every = EVERY, .tick = USUAL_TICK * THOUSAND};
+    *options = (struct options){.me = -1, .checkpoint_every = EVERY, .tick = USUAL_TICK * THOUSAND, .durable = true};
     while ((option = getopt_long(argc, argv, "", OPTIONS, &at)) != -1) {
         if (option == HELP) {
             fputs(USAGE, stdout);
@@ -107,7 +110,9 @@ int options_read(int argc, char **argv, struct options *options) {
     if (optind < argc) report("%s is no option", argv[optind]);
     else if (!options->cluster || options->me < 0 || !options->store) report("--cluster, --me and --store are needed; see --help");
     else if (options->listen && options->me != 0) report("--listen is of the gateway alone");
-    else if (options->durable && options->me == 0) report("--durable is of processes alone: the gateway always is");
+    else if (options->me == 0 && (options->says_durable || !options->durable))
+        report("--durable and --volatile are of processes alone: the gateway always is durable");
+    else if (options->says_durable && !options->durable) report("--durable and --volatile exclude each other");
     else return STATUS_DONE;
     return STATUS_COMMAND;
 }

@@ -11,7 +11,7 @@ struct options {
     int me;
     uint32_t checkpoint_every; /* messages */
     uint64_t tick;             /* microseconds */
-    bool durable, status;
+    bool durable, says_durable, status; /* durable unless --volatile is said; whether --durable is */
 };
 
 /* Reads the command line; a status, and what isn't taken is reported. */

@@ -14,13 +14,16 @@
 
 enum { LEAST = 1 << 16 }; /* bytes of a slot */
 
-static const char *const KEPT = "kept", MAGIC[] = "SBS1";
+static const char *const KEPT = "kept", MAGIC[] = "SBS2";
 
 /* A slot's head: MAGIC, the checksum of all after it, the number of the write, how many bytes follow. */
 enum { CHECKSUM = 4, NUMBER = 8, SIZE = 16, HEAD = 24, WORD = 8, HALF = 4 };
 
+/* Kept bytes end with their own checksum, and one over them with that is the same for all of their length. So their last bytes count
+   twice: a new head before old bytes isn't right. */
 static uint32_t checksum_of(const uint8_t *head, const uint8_t *bytes, size_t size) {
-    return checksum(checksum(0, head + NUMBER, HEAD - NUMBER), bytes, size);
+    size_t last = size < HALF ? size : HALF;
+    return checksum(checksum(checksum(0, head + NUMBER, HEAD - NUMBER), bytes, size), bytes + size - last, last);
 }
 
 static void write_head(uint8_t *head, uint64_t number, const uint8_t *bytes, size_t size) {

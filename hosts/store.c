@@ -26,13 +26,13 @@ static const struct {
     {"process", "it is the store of another process"},
     {"processes", "the cluster had other processes when this store began"},
     {"image", "the image isn't the one that this process began with"},
-    {"durable", "whether the process is durable was fixed when this store began"},
+    {"durable", "whether the process is durable was fixed when this store began, and --volatile asks for no"},
 };
 enum { LINE_COUNT = sizeof LINES / sizeof *LINES };
 
 static void identity_of(const struct owner *owner, char text[LINE_COUNT][IDENTITY_LIMIT]) {
     const struct cluster *cluster = owner->cluster;
-    strcpy(text[0], "2");
+    strcpy(text[0], "3");
     strcpy(text[1], cluster->name);
     snprintf(text[2], IDENTITY_LIMIT, "%d %s", owner->me, cluster->processes[owner->me].name);
     *text[3] = 0;

@@ -1,5 +1,7 @@
 /* Whether stores that were cut off in the midst of a write hold what was before it, or what it wrote, and nothing else: prefixes of a
    slot, of a record and of a renewed log, blocks of 512 bytes in any order, and records that are missing. torn FOLDER */
+#include "../../hosts/bytes.h"
+#include "../../hosts/checksum.h"
 #include "../../hosts/gateway_store.h"
 #include "../../hosts/slots.h"
 
@@ -9,7 +11,7 @@
 #include <string.h>
 #include <unistd.h>
 
-enum { SECTOR = 512, SLOT_HEAD = 24, BLOCK = 4096, LOG_HEAD = 32, RANDOM = 40 };
+enum { SECTOR = 512, SLOT_HEAD = 24, CHECKSUM = 4, BLOCK = 4096, LOG_HEAD = 32, RANDOM = 40 };
 
 static struct store folder;
 static long tried;
@@ -39,9 +41,11 @@ static void leave(const char *name, const uint8_t *bytes, size_t size) {
     close(file);
 }
 
+/* Bytes that end with their checksum, as all have that are kept. */
 static uint8_t *filled(size_t size, int with) {
     uint8_t *bytes = malloc(size + 1);
     for (size_t i = 0; i < size; i++) bytes[i] = (uint8_t)((size_t)with * 31 + i * 7 + i / 256);
+    if (size > CHECKSUM) number_put(bytes + size - CHECKSUM, checksum(0, bytes, size - CHECKSUM), CHECKSUM);
     return bytes;
 }
 
@@ -83,7 +87,7 @@ static void tear_slot(const struct image *before, const struct image *after, siz
 }
 
 static void try_slots(void) {
-    static const size_t sizes[] = {30, 300, 299, 7, 5000, 64, 20000, 1, 1, 300};
+    static const size_t sizes[] = {30, 300, 299, 7, 5000, 64, 20000, 1, 1, 300, 64, 300};
     struct slots slots = {.store = &folder, .file = -1};
     struct image was = {filled(10, 0), 10};
     must(slots_write(&slots, was.bytes, was.size) == 0, "the first slot", 0);

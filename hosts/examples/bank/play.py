@@ -20,7 +20,7 @@ AHEAD = 64  # lines of the gateway without an answer
 
 
 def begin(folder):
-    cluster = Cluster(folder, "bank", bank.PROCESSES, words=["--checkpoint-every", "64"])
+    cluster = Cluster(folder, "bank", bank.PROCESSES, words=["--volatile", "--checkpoint-every", "64"])
     cluster.start()
     made = bank.deposits()
     for transfer in made:
