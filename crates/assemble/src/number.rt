@@ -80,9 +80,9 @@ pub fn number_of(bytes: &[u8]) -> Result<i32, TextFault>
     }
 }
 
-/// A number of 16 bits with its sign.
-pub fn offset_of(bytes: &[u8]) -> Result<i16, TextFault>
-    ensures { Reads (λ z. bytes.now ≡ with_sign z) (λ z. FitsSigned w16 z) result }
+/// A number of 32 bits with its sign.
+pub fn distance_of(bytes: &[u8]) -> Result<i32, TextFault>
+    ensures { Reads (λ z. bytes.now ≡ with_sign z) (λ z. FitsSigned w32 z) result }
 {
     if !is_signed(bytes) {
         return Err(TextFault::Shape);
@@ -96,18 +96,13 @@ pub fn offset_of(bytes: &[u8]) -> Result<i16, TextFault>
     }
 }
 
-/// A number of 32 bits with its sign.
-pub fn distance_of(bytes: &[u8]) -> Result<i32, TextFault>
-    ensures { Reads (λ z. bytes.now ≡ with_sign z) (λ z. FitsSigned w32 z) result }
+/// A number of 16 bits with its sign.
+pub fn offset_of(bytes: &[u8]) -> Result<i16, TextFault>
+    ensures { Reads (λ z. bytes.now ≡ with_sign z) (λ z. FitsSigned w16 z) result }
 {
-    if !is_signed(bytes) {
-        return Err(TextFault::Shape);
-    }
-    let Some(text) = text_of(bytes) else {
-        return Err(TextFault::Shape);
-    };
-    match text.parse() {
-        Ok(number) => Ok(number),
+    let distance = distance_of(bytes)?;
+    match i16::try_from(distance) {
+        Ok(offset) => Ok(offset),
         Err(_) => Err(TextFault::Range),
     }
 }

@@ -24,7 +24,7 @@ use Rattle.gateway.specs.Calls.{obeyed}
 use Rattle.gateway.specs.Stands.{Stands, KeepsOf, EndsWith, Goes, shown_as}
 use Rattle.stores.proofs.Peers.{each-peer, same-part, as-many, each-twice, twice-many}
 use Rattle.gateway.proofs.Preservation.{kept-within, sent-size, kept-appended, kept-numbered, kept-dropped, kept-forgot}
-use Rattle.gateway.proofs.Steps.{takes-here, out-posted, does-one, stays}
+use Rattle.gateway.proofs.Steps.{takes-here, out-posted, does-one, stays, stands-waiting}
 
 pub node-is : (g : TheGateway) (c : Cluster) (p : ℕ) → Stands g c → IsOf p g.store → IsNode c p
 node-is g c p s o = (o.some, omega (arith, o.low, s.count))
@@ -260,21 +260,7 @@ goes-taken g c k s =
 
 -- nor is it when its host asks what happened
 pub goes-asked : (g : TheGateway) (c : Cluster) → Stands g c → Goes (record g { changes = [] }) c
-goes-asked g c s =
-    stays (record g { changes = [] }) c (record {
-      count = s.count;
-      stage = s.stage;
-      greeted = s.greeted;
-      phase = s.phase;
-      life = s.life;
-      history = s.history;
-      logs = s.logs;
-      shown = s.shown;
-      outputs = s.outputs;
-      heard = s.heard;
-      resumed = s.resumed;
-      out = s.out;
-    })
+goes-asked g c s = stays (record g { changes = [] }) c (stands-waiting g c g.out [] s s.out)
 
 -- a log whose messages and numbers are as they were
 kept-same : (y z : ThePeer) (d : ℕ) (xs : List Payload) (numbers : ℕ → Option ℕ) → y.dropped ≡ z.dropped → y.entries ≡ z.entries → KeepsOf z d xs numbers → KeepsOf y d xs numbers

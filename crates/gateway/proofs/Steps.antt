@@ -8,11 +8,30 @@ use Rattle.cluster.specs.Rules.{Act, Puts, May, MayPut, does, Run, after_run, Is
 use Rattle.packets.specs.declared.packet.Body as bodies
 use Rattle.packets.specs.declared.packet.NodePacket.{NodePacket}
 use Rattle.packets.specs.Outbox.{pushed}
+use Rattle.stores.specs.declared.change.Change.{Change}
 use Rattle.packets.specs.declared.outbox.TheConstants.{OUTBOX}
 use Rattle.gateway.specs.Gateway.{TheGateway, posts, packet_of}
 use Rattle.packets.specs.Says.{Says}
 use Rattle.gateway.specs.Deeds.{IsByGateway}
 use Rattle.gateway.specs.Stands.{Stands, PutOut, Goes, Owes, Acts}
+
+-- it stands so with other packets that were put out, and whatever is told of what happened
+pub stands-waiting : (g : TheGateway) (c : Cluster) (out : List NodePacket) (ks : List Change) → Stands g c → AllByRecursion (PutOut c.count c.parcels) out → Stands (record g { out = out; changes = ks }) c
+stands-waiting g c out ks s put =
+    record {
+      count = s.count;
+      stage = s.stage;
+      greeted = s.greeted;
+      phase = s.phase;
+      life = s.life;
+      history = s.history;
+      logs = s.logs;
+      shown = s.shown;
+      outputs = s.outputs;
+      heard = s.heard;
+      resumed = s.resumed;
+      out = put;
+    }
 
 -- what holds of all holds of them where less was asked
 pub all-more : {X : Type 0} (P Q : X → Type 0) (xs : List X) → ((x : X) → P x → Q x) → AllByRecursion P xs → AllByRecursion Q xs

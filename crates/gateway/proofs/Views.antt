@@ -6,6 +6,7 @@ use Rattle.cluster.specs.Cluster.{Cluster}
 use Rattle.packets.specs.Outbox.{Pops}
 use Rattle.gateway.specs.Gateway.{TheGateway}
 use Rattle.gateway.specs.Stands.{Stands, PutOut, Takes}
+use Rattle.gateway.proofs.Steps.{stands-waiting}
 
 pub on-ok : {X E : Type 0} (r : Result X E) (P Q : Type 0) → (P → Q) → OnOk r P → OnOk r Q
 on-ok (Ok x) P Q f h = f h
@@ -25,20 +26,4 @@ takes-so None g rest e = (e.0, ap (λ xs. record g { out = xs }) e.1 ∙ ap (λ 
 takes-so (Some x) g rest e = (ap (λ xs. record g { out = xs }) e, λ c s. taken c s (subst (AllByRecursion (PutOut c.count c.parcels)) e s.out))
   where
     taken : (c : Cluster) → Stands g c → AllByRecursion (PutOut c.count c.parcels) (x ∷ rest) → PutOut c.count c.parcels x × Stands (record g { out = rest }) c
-    taken c s out = (
-      out.0,
-      record {
-        count = s.count;
-        stage = s.stage;
-        greeted = s.greeted;
-        phase = s.phase;
-        life = s.life;
-        history = s.history;
-        logs = s.logs;
-        shown = s.shown;
-        outputs = s.outputs;
-        heard = s.heard;
-        resumed = s.resumed;
-        out = out.1;
-      },
-    )
+    taken c s out = (out.0, stands-waiting g c rest g.changes s out.1)

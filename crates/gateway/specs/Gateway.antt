@@ -14,6 +14,7 @@ use Rattle.stores.specs.declared.change.Change.{Change}
 use Rattle.stores.specs.declared.change.Change.TheVariants.{Input, Taken}
 use Rattle.stores.specs.Peer.{ThePeer, no_peer, last_of, payload_of}
 use Rattle.stores.specs.Store.{TheStore, IsOf, peer_at, applied}
+pub use Rattle.packets.specs.Packet.{IsPositive}
 
 -- the greatest size of a packet, and how many messages to a process one tick sends again; what is kept in stable storage, and its changes
 -- since the host asked for them; the packets that wait
@@ -47,10 +48,6 @@ packet_of g to body = record { count = length g.store.peers; from = 0; to = to; 
 -- puts one more packet into the outbox, if there is room
 abbrev pub posts : ℕ → Body → TheGateway → TheGateway
 posts to body g = record g { out = pushed (packet_of g to body) g.out }
-
--- a number that counts from 1; one more still fits
-abbrev pub IsPositive : ℕ → Type 0
-IsPositive n = (0 < n) × (n < 2 ^ 63)
 
 -- the gateway may say this to a process, and each field is in range
 pub record CanSay (g : TheGateway) (to : ℕ) (body : Body) : Type 0 where

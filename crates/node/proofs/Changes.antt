@@ -10,7 +10,7 @@ use Rattle.node.specs.Pages.{told_of, restored_of}
 use Rattle.node.specs.Answers.{heard_of, hears, asked_by, works_for, obeys, resumed_by}
 use Rattle.node.specs.Calls.{recorded_by}
 use Rattle.packets.specs.declared.packet.Body.TheVariants.{Acknowledgement}
-use Rattle.node.proofs.Sendable.{IsSayable}
+use Rattle.packets.proofs.Sayable.{IsSayable}
 use Rattle.node.proofs.Logs.{changed-at}
 use Rattle.node.specs.declared.node.TheConstants.{MOST_GIVEN}
 

@@ -2,6 +2,7 @@
 use Rattle.std.specs.Prelude.{◌≡◌, ◌≢◌, ℕ, suc, ◌+◌, ◌*◌, ◌≤◌, List, [], ◌∷◌, ◌++◌, length, map, take, drop, slice_index_or, None, Bool}
 use Rattle.std.specs.Prelude.{true, ◌&&◌, ◌==◌, nat_lt, nat_le}
 use Rattle.std.specs.List.{list_all}
+use Rattle.limits.specs.declared.TheConstants.{PROCESSES}
 use Rattle.world.specs.History.{count_of}
 use Rattle.cluster.specs.Cluster.{Cluster}
 use Rattle.cluster.specs.Rules.{Act, Keeps, May, does, after_run}
@@ -50,7 +51,7 @@ is_short most l = nat_lt (l.first + length l.payloads) most
 
 -- the state is that of a process of a cluster, with counts and logs for each peer
 abbrev pub is_process : Kept → Bool
-is_process k = nat_lt 0 k.me && nat_le k.me k.count && nat_le k.count 15 && (length k.counts == k.count) && (length k.logs == k.count)
+is_process k = nat_lt 0 k.me && nat_le k.me k.count && nat_le k.count PROCESSES && (length k.counts == k.count) && (length k.logs == k.count)
 
 -- its numbers are in range, and for each received message at most sixteen were sent to each destination
 abbrev pub comes_back : Kept → Bool

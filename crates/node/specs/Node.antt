@@ -2,6 +2,7 @@
 use Rattle.std.specs.Prelude.{◌≡◌, ◌≢◌, ℕ, suc, ◌+◌, ◌-◌, ◌*◌, ◌^◌, ◌<◌, ◌≤◌, List, [], ◌∷◌, length, Option, Some, None, is_some, Bool}
 use Rattle.std.specs.Prelude.{true, false, slice_get, slice_index_or, slice_set, replicate, sum}
 use Rattle.std.specs.List.{AllByRecursion}
+use Rattle.limits.specs.declared.TheConstants.{PROCESSES}
 use Rattle.rsn.specs.Receipts.{Received, accepted, acknowledged, numbers_of}
 use Rattle.rsn.specs.declared.receipts.TheConstants.{LIMIT}
 use Rattle.packets.specs.declared.packet.Body.{Body}
@@ -16,6 +17,7 @@ use Rattle.node.specs.Limit.{AreAllowed}
 use Rattle.node.specs.declared.job.OpenJob.{OpenJob}
 use Rattle.node.specs.declared.job.Given.{Given}
 use Rattle.node.specs.declared.node.TheConstants.{MOST_GIVEN, MOST_RECEIVED}
+pub use Rattle.packets.specs.Packet.{IsPositive}
 
 -- the job is on a message of a peer
 abbrev pub OfPeer : ℕ → ℕ → Option OpenJob → Type 0
@@ -25,10 +27,6 @@ OfPeer me count (Some j) = (j.sender ≤ count) × (j.sender ≢ me)
 -- another process, or the gateway
 abbrev pub IsPeer : ℕ → ℕ → ℕ → Type 0
 IsPeer me count q = (q ≤ count) × (q ≢ me)
-
--- a number that counts from 1; one more still fits
-abbrev pub IsPositive : ℕ → Type 0
-IsPositive n = (0 < n) × (n < 2 ^ 63)
 
 -- its message has an SSN
 abbrev pub HasSsn : Option OpenJob → Type 0
@@ -77,7 +75,7 @@ pub record IsWithin (limits : Limits)
   pub allowed : AreAllowed limits
   pub inside : 1 ≤ me
   pub within : me ≤ count
-  pub few : count ≤ 15
+  pub few : count ≤ PROCESSES
   pub wide : length covered ≡ suc count
   pub heard_wide : length heard ≡ suc count
   pub resumed_wide : length resumed ≡ suc count

@@ -1,5 +1,6 @@
 -- Calls of nodes, one after another, together with a gateway
 use Rattle.std.specs.Prelude.{◌≡◌, ◌⊎◌, ℕ, zero, ◌<◌, ◌≤◌, List, [], ◌∷◌, ◌++◌, Option, Some, None, replicate}
+use Rattle.limits.specs.declared.TheConstants.{PROCESSES}
 use Rattle.world.specs.declared.message.Message.{Message}
 use Rattle.world.specs.History.{Payload}
 use Rattle.world.specs.Handlers.{Handlers}
@@ -149,6 +150,6 @@ pub record IsRunOf (n : ℕ) (f : Handlers) (s : System) : Type 0 where
 
 -- calls of nodes in any order, durable or not, with packets that come late, twice or never, are a run of a cluster
 abbrev pub CallsRun : Type 0
-CallsRun = (f : Answering) (n : ℕ) (limits : ℕ → Limits) (len : ℕ → ℕ) (calls : List Call) → n ≤ 15
+CallsRun = (f : Answering) (n : ℕ) (limits : ℕ → Limits) (len : ℕ → ℕ) (calls : List Call) → n ≤ PROCESSES
     → Calls f (new_system n limits len (handlers_of f len)) calls
     → IsRunOf n (handlers_of f len) (after_calls (new_system n limits len (handlers_of f len)) calls)

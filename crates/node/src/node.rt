@@ -11,6 +11,7 @@ ghost use Rattle.node.specs.Stands.{Stands, BeginsWith, Takes};
 use crate::job::OpenJob;
 use crate::limit::Limits;
 use crate::queue::KeptQueue;
+use limits::PROCESSES;
 use packets::{Body, NodePacket, PacketQueue};
 use rsn::Receipts;
 use std::alloc::{AllocError, Global};
@@ -79,7 +80,7 @@ impl Node {
     ) -> Result<Node, AllocError>
         requires limits { AreAllowed limits }
         requires own { (1 ≤ me) × (me ≤ count) }
-        requires few { count ≤ 15 }
+        requires few { count ≤ PROCESSES }
         ensures value { IfOk result (λ n. n ≡ new_node limits me count state_len) }
         ensures stands { IfOk result (λ n. (f : Handlers) → BeginsWith f me state_len → Stands n (opening count f) me) }
     {
@@ -129,7 +130,7 @@ impl Node {
     /// The number of processes.
     pub(crate) fn count(&self) -> u8
         ensures value { result ≡ self.now.count }
-        ensures few { result ≤ 15 }
+        ensures few { result ≤ PROCESSES }
     {
         self.count
     }

@@ -4,7 +4,7 @@ use Rattle.stores.specs.Peer.{ThePeer, is_kept}
 use Rattle.stores.specs.Store.{peer_at}
 use Rattle.gateway.specs.Gateway.{TheGateway, peer_of}
 use Rattle.gateway.proofs.Preservation.{kept-within}
-use Rattle.gateway.proofs.Sendable.{delivery-fits}
+use Rattle.packets.proofs.Sayable.{delivery-fits}
 use Rattle.gateway.proofs.gateway.Gateway.deliver.Goals as goal
 
 pub put-requires : goal.put-requires

@@ -12,7 +12,7 @@ use Rattle.node.specs.declared.node.TheConstants.{MOST_GIVEN, MOST_RECEIVED}
 use Rattle.node.specs.contracts.node.Node.{the_view}
 use Rattle.node.specs.Node.{Within, HasSsn, IsPositive}
 use Rattle.node.proofs.Changes.{has-place}
-use Rattle.node.proofs.Sendable.{number-fits}
+use Rattle.packets.proofs.Sayable.{number-fits}
 use Rattle.node.proofs.node.Node.finish.Goals as goal
 
 pub unlog-requires : goal.unlog-requires

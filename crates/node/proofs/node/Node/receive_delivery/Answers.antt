@@ -6,7 +6,8 @@ use Rattle.node.specs.Node.{TheNode, IsPeer, covered_of}
 use Rattle.node.specs.Answers.{heard_of}
 use Rattle.node.specs.Calls.{takes_more}
 use Rattle.node.proofs.Changes.{has-place, there-is}
-use Rattle.node.proofs.Sendable.{can-say, saved-fits}
+use Rattle.packets.proofs.Sayable.{saved-fits}
+use Rattle.node.proofs.Sendable.{can-say}
 use Rattle.packets.specs.declared.packet.Body.TheVariants.{Saved}
 use Rattle.node.proofs.Deliveries.{busy-drops, stale-drops, says-so, is-known, tells-so, opens-so, full-so, far-so, within-opened}
 use Rattle.node.proofs.node.Node.receive_delivery.Goals as goal

@@ -5,7 +5,8 @@ use Rattle.node.specs.contracts.node.Node.{the_view}
 use Rattle.node.specs.Queue.{no_queue, recorded, is_kept}
 use Rattle.node.specs.Node.{TheNode, IsPeer, log_at}
 use Rattle.node.specs.Answers.{heard_of}
-use Rattle.node.proofs.Sendable.{can-say, acknowledgement-fits}
+use Rattle.packets.proofs.Sayable.{acknowledgement-fits}
+use Rattle.node.proofs.Sendable.{can-say}
 use Rattle.packets.specs.declared.packet.Body.TheVariants.{Acknowledgement}
 use Rattle.node.proofs.Changes.{has-place, there-is, no-longer, same-logs, within-still, stale-number, dropped-number, takes-number}
 use Rattle.node.proofs.node.Node.receive_number.Goals as goal

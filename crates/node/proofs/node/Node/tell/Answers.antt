@@ -4,7 +4,8 @@ use Rattle.rsn.specs.Receipts.{numbers_of}
 use Rattle.rsn.proofs.ReceiptLemmas.{numbers_from-above, numbers_from-within, numbers_from-bound}
 use Rattle.packets.specs.declared.packet.Body.TheVariants.{Number}
 use Rattle.node.specs.Node.{TheNode, IsPositive, covered_of}
-use Rattle.node.proofs.Sendable.{number-fits, can-say}
+use Rattle.packets.proofs.Sayable.{number-fits}
+use Rattle.node.proofs.Sendable.{can-say}
 use Rattle.node.proofs.node.Node.tell.Goals as goal
 
 pub put-requires : goal.put-requires
