@@ -2,7 +2,7 @@
 """The worked rows that the tests of both bindings drive: `rows.py` prints a line for each, `TABLE CALL ARGUMENTS = CODE NUMBERS BYTES`,
 with bytes in hexadecimal after an x.
 
-Those of sessions and gateways are the tables of tests/embed_session and tests/embed_gateway, whose values a model worked out. Those
+Those of sessions and gateways are the tables of tests/embed_session and tests/c_cluster, whose values a model worked out. Those
 of nodes are what the model in tests/model/calls answers to a list of calls. Left out is what bindings leave no way to ask for: a buffer
 that is too short, lengths that don't fit their files, and a handle that is opened or closed twice.
 """
@@ -157,7 +157,7 @@ def rows():
     every = [
         *session_rows("embed_session/tests.rattle", "ADDING", "RELAYING", "STUCK", "SCHEDULED", "ENDING", "CLOSED", "TRACED"),
         *session_rows("embed_session/tests/ordinary_c.rattle", "DROPPING"),
-        *gateway_rows("embed_gateway/tests.rattle", "CLOSED", "RUNNING", "REVIVING"),
+        *gateway_rows("c_cluster/tests/gateways.rattle", "CLOSED", "RUNNING", "REVIVING"),
         *node_rows(),
     ]
     return [row for row in every if row[3] != SHORT and not (row[3] == TWICE and row[1] in OPENING)]

@@ -1,0 +1,7 @@
+-- The boxes that handles keep
+use Rattle.c_handles.proofs.Steps.{Bx, on_heap}
+use Rattle.gateway.specs.contracts.gateway.Gateway as Gateway
+use Rattle.gateway.proofs.gateway.Gateway.TheLaws as gateway
+
+abbrev pub OfGateway : Bx
+OfGateway = on_heap Gateway.the_row gateway.the_row_laws

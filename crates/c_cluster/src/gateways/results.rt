@@ -1,0 +1,158 @@
+//! What the gateway of a handle gives: packets, outputs, its store and changes.
+
+ghost use Rattle.std.specs.Prelude.{◌≡◌, MatchResult, OnErr};
+ghost use Rattle.c_cluster.specs.Gateways.Answers.{Does, Results};
+ghost use Rattle.c_cluster.specs.Gateways.Results.{Gives, GivesNot, IsShown, IsStored, IsTaken, IsTold, IsUnshown, IsUnstored, IsUntaken, IsUntold, Shows, ShowsNot, Spells, Tells, WritesNot};
+ghost use Rattle.stores.specs.Format.{IsStoreBytes};
+ghost use Rattle.stores.specs.Changes.{AreChanges};
+
+use crate::gateways::fault::GatewayFault;
+use crate::gateways::handle::GatewayHandle;
+use c_handles::{copy, measure, write};
+use gateway::Gateway;
+use std::alloc::Global;
+
+/// Takes the first packet that waits: writes its bytes, their number, and its receiver.
+fn give(
+    alloc: Global,
+    gateway: &mut Gateway,
+    out: &mut [u8],
+    size: &mut usize,
+    to: &mut u8,
+) -> Result<(), GatewayFault>
+    ensures given { Does result gateway.old gateway.new (Gives out.old out.new size.new to.new) (GivesNot out.old out.new size.old size.new) }
+    ensures kept { OnErr result (to.new ≡ to.old) }
+{
+    let Some((name, bytes)) = gateway.first_bytes(alloc)? else {
+        return Err(GatewayFault::Absent);
+    };
+    copy(&bytes, out, size, GatewayFault::Room)?;
+    *to = name;
+    let _ = gateway.take();
+    Ok(())
+}
+
+/// The same for the gateway of a handle.
+pub(crate) fn take(
+    alloc: Global,
+    handle: &mut GatewayHandle,
+    out: &mut [u8],
+    size: &mut usize,
+    to: &mut u8,
+) -> Result<(), GatewayFault>
+    ensures taken { Results result handle.old.gateway.value handle.new.gateway.value (IsTaken out.old out.new size.new to.new) (IsUntaken out.old out.new size.old size.new) }
+    ensures kept { OnErr result (to.new ≡ to.old) }
+{
+    let Some(mut gateway) = handle.take(alloc) else {
+        return Err(GatewayFault::Handle);
+    };
+    let done = give(alloc, &mut gateway, out, size, to);
+    handle.put(gateway);
+    done
+}
+
+/// Takes the first output that wasn't taken: writes its process, its SSN, its bytes and their
+/// number.
+fn show(
+    gateway: &mut Gateway,
+    process: &mut u8,
+    ssn: &mut u64,
+    out: &mut [u8],
+    size: &mut usize,
+) -> Result<(), GatewayFault>
+    ensures shown { Does result gateway.old gateway.new (Shows process.new ssn.new out.old out.new size.new) (ShowsNot out.old out.new size.old size.new) }
+    ensures kept { OnErr result ((process.new ≡ process.old) × (ssn.new ≡ ssn.old)) }
+{
+    let Some(output) = gateway.store().first_output() else {
+        return Err(GatewayFault::Absent);
+    };
+    let bytes = output.payload.as_slice();
+    measure(bytes, out, size, GatewayFault::Room)?;
+    let _ = gateway.output()?;
+    write(bytes, out, size);
+    *process = output.process;
+    *ssn = output.ssn;
+    Ok(())
+}
+
+/// The same for the gateway of a handle.
+pub(crate) fn output(
+    alloc: Global,
+    handle: &mut GatewayHandle,
+    process: &mut u8,
+    ssn: &mut u64,
+    out: &mut [u8],
+    size: &mut usize,
+) -> Result<(), GatewayFault>
+    ensures shown { Results result handle.old.gateway.value handle.new.gateway.value (IsShown process.new ssn.new out.old out.new size.new) (IsUnshown out.old out.new size.old size.new) }
+    ensures kept { OnErr result ((process.new ≡ process.old) × (ssn.new ≡ ssn.old)) }
+{
+    let Some(mut gateway) = handle.take(alloc) else {
+        return Err(GatewayFault::Handle);
+    };
+    let done = show(&mut gateway, process, ssn, out, size);
+    handle.put(gateway);
+    done
+}
+
+/// Writes the bytes of a gateway's store, and their number.
+fn spell(
+    alloc: Global,
+    gateway: &Gateway,
+    out: &mut [u8],
+    size: &mut usize,
+) -> Result<(), GatewayFault>
+    ensures { MatchResult result (λ _. Spells out.old out.new size.new gateway.now) (WritesNot (IsStoreBytes gateway.now.store) out.old out.new size.old size.new) }
+{
+    let bytes = gateway.store_bytes(alloc)?;
+    copy(&bytes, out, size, GatewayFault::Room)
+}
+
+/// The same for the gateway of a handle.
+pub(crate) fn store(
+    alloc: Global,
+    handle: &mut GatewayHandle,
+    out: &mut [u8],
+    size: &mut usize,
+) -> Result<(), GatewayFault>
+    ensures { Results result handle.old.gateway.value handle.new.gateway.value (IsStored out.old out.new size.new) (IsUnstored out.old out.new size.old size.new) }
+{
+    let Some(gateway) = handle.take(alloc) else {
+        return Err(GatewayFault::Handle);
+    };
+    let done = spell(alloc, &gateway, out, size);
+    handle.put(gateway);
+    done
+}
+
+/// Takes the changes of a gateway's store: writes their bytes, and their number.
+fn tell(
+    alloc: Global,
+    gateway: &mut Gateway,
+    out: &mut [u8],
+    size: &mut usize,
+) -> Result<(), GatewayFault>
+    ensures { Does result gateway.old gateway.new (Tells out.old out.new size.new) (λ g. WritesNot (AreChanges g.changes) out.old out.new size.old size.new) }
+{
+    let bytes = gateway.changes_bytes(alloc)?;
+    copy(&bytes, out, size, GatewayFault::Room)?;
+    gateway.forget_changes();
+    Ok(())
+}
+
+/// The same for the gateway of a handle.
+pub(crate) fn changes(
+    alloc: Global,
+    handle: &mut GatewayHandle,
+    out: &mut [u8],
+    size: &mut usize,
+) -> Result<(), GatewayFault>
+    ensures { Results result handle.old.gateway.value handle.new.gateway.value (IsTold out.old out.new size.new) (IsUntold out.old out.new size.old size.new) }
+{
+    let Some(mut gateway) = handle.take(alloc) else {
+        return Err(GatewayFault::Handle);
+    };
+    let done = tell(alloc, &mut gateway, out, size);
+    handle.put(gateway);
+    done
+}

@@ -1,5 +1,0 @@
-pub mod Inside
-pub mod Answers
-pub mod Lifetime
-pub mod Calls
-pub mod Results
