@@ -12,3 +12,4 @@ pub mod Sentence
 pub mod SpanStudy
 pub mod SpanListing
 pub mod FileListing
+pub mod RulePage

@@ -14,6 +14,9 @@
 //! slot that is named. A reason why a register isn't set is given only if it holds
 //! (`specs/Why.antt`).
 //!
+//! [`page_of`] gives the page of a rule: what it means, C that breaks it, and how to mend that
+//! (`specs/RulePage.antt`). That a page describes the verifier rightly is not proved.
+//!
 //! ```text
 //! let text = explain_file(alloc, &bytes)?;
 //! // form 1, 8 bytes of state
@@ -32,6 +35,8 @@ mod kinds;
 mod listing;
 mod notes;
 mod reads;
+mod rule_page;
+mod rule_text;
 mod sentence;
 mod span_cause;
 mod span_kinds;
@@ -42,3 +47,4 @@ mod why;
 
 pub use file_listing::explain_file;
 pub use listing::explain;
+pub use rule_page::page_of;

@@ -5,7 +5,7 @@ use Rattle.std.specs.String.{string_bytes}
 use Rattle.cli.specs.Asks.{AsksFor, IsRefusal, own_input_text, Order, Run, Tell, Live, Draw, Check, Explain, Why, Asm, Pack, Dis, Native}
 use Rattle.cli.specs.declared.refusal.UsageRefusal.TheVariants as refusal
 use Rattle.block_order.specs.declared.blocks.Blocks.{Blocks}
-use Rattle.rule_pages.specs.Page.{page_text}
+use Rattle.listing.specs.RulePage.{page_text}
 use Rattle.scenario.specs.Scenario.{IsScenario}
 use Rattle.scenario.specs.declared.order.Allowed.TheVariants.{All, Inputs}
 use Rattle.scenario.specs.declared.scenario.Scenario.{Scenario}

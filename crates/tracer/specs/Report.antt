@@ -3,7 +3,7 @@ use Rattle.std.specs.Prelude.{◌≡◌, ℕ, List, []}
 use Rattle.cli.specs.Asks.{Order, Run, Tell, Live, Draw, Check, Explain, Why, Asm, Pack, Dis, Native}
 use Rattle.listing.specs.FileListing.{IsFileExplained}
 use Rattle.block_order.specs.declared.blocks.Blocks.{Blocks}
-use Rattle.rule_pages.specs.Page.{page_text}
+use Rattle.listing.specs.RulePage.{page_text}
 use Rattle.image_commands.specs.Asm.{IsAssembled}
 use Rattle.image_commands.specs.Check.{IsAccepted, accepted_text}
 use Rattle.image_commands.specs.Dis.{IsListing}

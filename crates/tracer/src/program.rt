@@ -16,7 +16,7 @@ use image_commands::{
     Fault, Files, Loaded, Site, Stream, check_image, disassemble_image, explain_image, hints_in,
     load_scenario, print_or_tell, write_image, write_machine_code, write_packed,
 };
-use rule_pages::page_of;
+use listing::page_of;
 use runner::run;
 use scenario::Allowed;
 use std::alloc::Global;

@@ -1,7 +1,7 @@
 -- The pages of the rules.
 use Rattle.std.specs.Prelude.{ℕ, List, cond, codes}
 use Rattle.std.specs.Str.{bytes_eq}
-use Rattle.rule_pages.specs.declared.text.TheConstants.{INDEX, V1, V2, V3, V4, V5, V6, V7, V8, V9, V10}
+use Rattle.listing.specs.declared.rule_text.TheConstants.{INDEX, V1, V2, V3, V4, V5, V6, V7, V8, V9, V10}
 
 -- the page of the rule with this name, or the list of all rules
 abbrev pub page_text : List ℕ → List ℕ
