@@ -56,7 +56,7 @@ unfoldable pub form_at : List ℕ → Result (CheckpointForm × List ℕ) SavedF
 form_at bytes = do
   found ← bytes_at 4 bytes
   if pointwise nat_eq found.0 (magic First) then Ok (First, found.1)
-    else (if pointwise nat_eq found.0 (magic Second) then Ok (Second, found.1) else Err Magic)
+      else (if pointwise nat_eq found.0 (magic Second) then Ok (Second, found.1) else Err Magic)
 
 -- the senders of the receipts, a byte each
 unfoldable pub senders_at : ℕ → ℕ → ℕ → List ℕ → Result (List ℕ × List ℕ) SavedFault
