@@ -7,7 +7,8 @@ import time
 
 import lives
 from lives import Cluster, Wrong
-from listening import HERE, PROCESSES, begin, connect, is_refused, payload, tells, works
+from disk import preload
+from listening import PROCESSES, begin, connect, is_refused, payload, tells, works
 from proxy import Proxy
 
 
@@ -160,11 +161,10 @@ def joins(folder, name, environment=None, seed=None):
 def joining(folder):
     """A new cluster begins whichever program dies at whichever call on its store, and over a way that loses, doubles and delays."""
     os.makedirs(folder)
-    preload = os.path.join(folder, "die.so")
-    subprocess.run(["cc", "-O2", "-shared", "-fPIC", "-o", preload, os.path.join(HERE, "..", "tests", "campaign", "die.c"), "-ldl"], check=True)
+    library = preload(folder)
     for name in ("gateway", "relay"):
         call = 1
-        while joins(os.path.join(folder, f"{name}{call}"), name, {"LD_PRELOAD": preload, "DIE_AT": str(call)}):
+        while joins(os.path.join(folder, f"{name}{call}"), name, {"LD_PRELOAD": library, "DIE_AT": str(call)}):
             call += 1
         if call < 16:
             raise Wrong(f"{name} changes its store only {call - 1} times until it has joined")

@@ -1,28 +1,32 @@
-/* Kills its program before the n-th call that changes a file: write, sync, rename, truncate, unlink. It is loaded in front of the
-   C library, and DIE_AT is n. A write of an even n is cut in half first. Where FAIL is set, that call fails once instead: EIO. */
+/* Kills its program before the n-th call that changes a file: write, pwrite, fsync, fdatasync, rename, ftruncate, unlink. It is loaded
+   in front of the C library, and DIE_AT is n. A write of an even n is cut in half first. If DIE_ON names one of them, or openat to
+   write, the n-th of these counts. If FAIL is set, that call fails once instead: EIO, and a line says so. */
 #include <dlfcn.h>
 #include <errno.h>
+#include <fcntl.h>
 #include <signal.h>
+#include <stdarg.h>
+#include <stdio.h>
 #include <stdlib.h>
+#include <string.h>
 #include <sys/stat.h>
 #include <sys/types.h>
 #include <sys/uio.h>
 #include <unistd.h>
 
-static long calls;
+static _Atomic long calls;
 
 /* Whether this is the call to die at. */
-static int is_last(void) {
-    static long at = -1;
-    if (at < 0) at = getenv("DIE_AT") ? atol(getenv("DIE_AT")) : 0;
-    return at > 0 && ++calls == at;
+static int is_last(const char *call) {
+    const char *at = getenv("DIE_AT"), *on = getenv("DIE_ON");
+    return at && !strcmp(call, on ? on : call) && ++calls == atol(at);
 }
 
 static int die(void) {
+    if (!getenv("FAIL")) kill(getpid(), SIGKILL);
+    dprintf(STDERR_FILENO, "the disk fails\n");
     errno = EIO;
-    if (getenv("FAIL")) return -1;
-    kill(getpid(), SIGKILL);
-    for (;;) pause();
+    return -1;
 }
 
 static void *next(const char *name) { return dlsym(RTLD_NEXT, name); }
@@ -34,7 +38,7 @@ static int is_file(int file) {
 
 ssize_t write(int file, const void *bytes, size_t size) {
     ssize_t (*real)(int, const void *, size_t) = next("write");
-    if (is_file(file) && is_last()) {
+    if (is_file(file) && is_last("write")) {
         if (calls % 2 == 0) real(file, bytes, size / 2);
         return die();
     }
@@ -43,7 +47,7 @@ ssize_t write(int file, const void *bytes, size_t size) {
 
 ssize_t pwrite64(int file, const void *bytes, size_t size, off_t at) {
     ssize_t (*real)(int, const void *, size_t, off_t) = next("pwrite64");
-    if (is_last()) {
+    if (is_last("pwrite")) {
         if (calls % 2 == 0) real(file, bytes, size / 2, at);
         return die();
     }
@@ -55,7 +59,7 @@ ssize_t pwrite(int file, const void *bytes, size_t size, off_t at) { return pwri
 /* It is cut in the midst of its last part. */
 ssize_t pwritev64(int file, const struct iovec *parts, int count, off_t at) {
     ssize_t (*real)(int, const struct iovec *, int, off_t) = next("pwritev64");
-    if (is_last()) {
+    if (is_last("pwrite")) {
         if (calls % 2 == 0) {
             real(file, parts, count - 1, at);
             for (int i = 0; i < count - 1; i++) at += (off_t)parts[i].iov_len;
@@ -69,31 +73,42 @@ ssize_t pwritev64(int file, const struct iovec *parts, int count, off_t at) {
 ssize_t pwritev(int file, const struct iovec *parts, int count, off_t at) { return pwritev64(file, parts, count, at); }
 
 int fsync(int file) {
-    if (is_last()) return die();
+    if (is_last("fsync")) return die();
     return ((int (*)(int))next("fsync"))(file);
 }
 
 int fdatasync(int file) {
-    if (is_last()) return die();
+    if (is_last("fdatasync")) return die();
     return ((int (*)(int))next("fdatasync"))(file);
 }
 
 int renameat(int from, const char *old, int to, const char *new) {
-    if (is_last()) return die();
+    if (is_last("rename")) return die();
     return ((int (*)(int, const char *, int, const char *))next("renameat"))(from, old, to, new);
 }
 
 int rename(const char *old, const char *new) {
-    if (is_last()) return die();
+    if (is_last("rename")) return die();
     return ((int (*)(const char *, const char *))next("rename"))(old, new);
 }
 
 int ftruncate64(int file, off_t size) {
-    if (is_last()) return die();
+    if (is_last("ftruncate")) return die();
     return ((int (*)(int, off_t))next("ftruncate64"))(file, size);
 }
 
+int ftruncate(int file, off_t size) { return ftruncate64(file, size); }
+
 int unlink(const char *path) {
-    if (is_last()) return die();
+    if (is_last("unlink")) return die();
     return ((int (*)(const char *))next("unlink"))(path);
+}
+
+int openat(int folder, const char *path, int flags, ...) {
+    va_list rest;
+    va_start(rest, flags);
+    mode_t mode = flags & O_CREAT ? va_arg(rest, mode_t) : 0;
+    va_end(rest);
+    if ((flags & O_ACCMODE) != O_RDONLY && getenv("DIE_ON") && is_last("openat")) return die();
+    return ((int (*)(int, const char *, int, ...))next("openat"))(folder, path, flags, mode);
 }
