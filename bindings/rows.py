@@ -2,7 +2,7 @@
 """The worked rows that the tests of both bindings drive: `rows.py` prints a line for each, `TABLE CALL ARGUMENTS = CODE NUMBERS BYTES`,
 with bytes in hexadecimal after an x.
 
-Those of sessions and gateways are the tables of tests/embed_session and tests/c_cluster, whose values a model worked out. Those
+Those of sessions and gateways are the tables of tests/c_sessions and tests/c_cluster, whose values a model worked out. Those
 of nodes are what the model in tests/model/calls answers to a list of calls. Left out is what bindings leave no way to ask for: a buffer
 that is too short, lengths that don't fit their files, and a handle that is opened or closed twice.
 """
@@ -155,8 +155,8 @@ def node_rows():
 def rows():
     """All rows that bindings can ask for."""
     every = [
-        *session_rows("embed_session/tests.rattle", "ADDING", "RELAYING", "STUCK", "SCHEDULED", "ENDING", "CLOSED", "TRACED"),
-        *session_rows("embed_session/tests/ordinary_c.rattle", "DROPPING"),
+        *session_rows("c_sessions/tests.rattle", "ADDING", "RELAYING", "STUCK", "SCHEDULED", "ENDING", "CLOSED", "TRACED"),
+        *session_rows("c_sessions/tests/ordinary_c.rattle", "DROPPING"),
         *gateway_rows("c_cluster/tests/gateways.rattle", "CLOSED", "RUNNING", "REVIVING"),
         *node_rows(),
     ]

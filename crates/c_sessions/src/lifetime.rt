@@ -1,0 +1,89 @@
+//! Opening a session from image files.
+
+ghost use Rattle.std.specs.Prelude.{◌≡◌, ◌≤◌, MatchResult, OnOk, IfErr, length, map};
+ghost use Rattle.handlers.specs.Image.{image_in};
+ghost use Rattle.c_sessions.specs.Inside.Loads.{AreMore, IsUnread};
+ghost use Rattle.c_sessions.specs.Lifetime.{IsImageIn, IsMisfit, IsOpened, IsRefused, IsUnopened};
+ghost use Rattle.c_sessions.specs.Session.{Results};
+
+use crate::fault::SessionFault;
+use crate::handle::SessionHandle;
+use handlers::Handler;
+use limits::PROCESSES;
+use sessions::Service;
+use std::alloc::Global;
+use std::sync::Arc;
+use verifier::ImageError;
+use world::Refusal;
+
+/// The handler of an image file.
+fn handler_of(alloc: Global, file: &[u8]) -> Result<Arc<Handler>, SessionFault>
+    ensures { MatchResult result (λ image. IsImageIn file.now (image_in image)) (IsUnread (IsRefused file.now)) }
+{
+    let image = match Handler::load(alloc, file) {
+        Ok(image) => image,
+        Err(ImageError::Memory) => return Err(SessionFault::Session(Refusal::Memory)),
+        Err(_) => return Err(SessionFault::File),
+    };
+    match Arc::new(alloc, image) {
+        Ok(image) => Ok(image),
+        Err(_) => Err(SessionFault::Session(Refusal::Memory)),
+    }
+}
+
+/// Loads the images of files that come one after the other, each as long as its length says.
+fn load_each(
+    alloc: Global,
+    files: &[u8],
+    lengths: &[u32],
+    images: &mut Vec<Arc<Handler>>,
+) -> Result<(), SessionFault>
+    ensures loaded { OnOk result (AreMore files.now lengths.now (map image_in images.old.items) (map image_in images.new.items)) }
+    ensures refused { IfErr result (IsUnread (IsMisfit files.now lengths.now)) }
+{
+    let Some((first, rest)) = lengths.split_first() else {
+        if !files.is_empty() {
+            return Err(SessionFault::File);
+        }
+        return Ok(());
+    };
+    let size = *first as usize;
+    if size > files.len() {
+        return Err(SessionFault::File);
+    }
+    let (file, others) = files.split_at(size);
+    let image = handler_of(alloc, file)?;
+    if images.push(image).is_err() {
+        return Err(SessionFault::Session(Refusal::Memory));
+    }
+    load_each(alloc, others, rest, images)
+}
+
+/// Opens a session of the images of files that come one after the other, each as long as its length
+/// says. The first is of process 1.
+pub(crate) fn open(
+    alloc: Global,
+    files: &[u8],
+    lengths: &[u32],
+    handle: &mut SessionHandle,
+) -> Result<(), SessionFault>
+    ensures { Results result handle.old.session.value handle.new.session.value (IsOpened files.now lengths.now) (IsUnopened files.now lengths.now) }
+{
+    if handle.is_open() {
+        return Err(SessionFault::Handle);
+    }
+    if lengths.is_empty() || lengths.len() > PROCESSES {
+        return Err(SessionFault::Session(Refusal::NoSuchProcess));
+    }
+    let mut images = Vec::new(alloc);
+    load_each(alloc, files, lengths, &mut images)?;
+    // There are 1 to 15 images, so only memory can be lacking.
+    let Ok(service) = Service::open(alloc, images) else {
+        return Err(SessionFault::Session(Refusal::Memory));
+    };
+    let Ok(boxed) = Box::new(alloc, service) else {
+        return Err(SessionFault::Session(Refusal::Memory));
+    };
+    handle.put(boxed);
+    Ok(())
+}

@@ -1,8 +1,0 @@
-use Rattle.std.proofs.Common.{arith}
-use Rattle.world.specs.Bounds.{WIRE}
-use Rattle.embed_session.specs.Inside.Calls.{HasKey}
-use Rattle.embed_session.proofs.calls.number_of.Goals as goal
-
-pub overflow_cast-result : goal.overflow_cast-result
-unfolding WIRE
-overflow_cast-result c = let low : HasKey c.args.answer.now = c.requires in let at = rw c.in-Placed.is at low in omega (arith, at)
