@@ -20,7 +20,7 @@ use Rattle.world.specs.declared.call.Call.TheVariants.{Finish}
 use Rattle.world.specs.declared.answer.Answer.TheVariants.{Committed}
 use Rattle.world.specs.History.{count_of}
 use Rattle.world.specs.Phases.{Up, Busy}
-use Rattle.world.specs.Fold.{emitted_to}
+use Rattle.replay.specs.Fold.{emitted_to}
 use Rattle.world.specs.World.{World, put}
 use Rattle.world.specs.Logs.{sent, run_to, run_of}
 use Rattle.theorems.specs.Invariants.Sound.{JobNext}

@@ -14,12 +14,12 @@ use Rattle.handlers.specs.Image.{TheImage}
 use Rattle.checkpoint.specs.Saved.{TheKept, nothing_kept}
 use Rattle.sender_log.specs.Queue.{TheQueue, no_queue}
 use Rattle.sender_log.specs.Log.{queue_of}
-use Rattle.world.specs.Fold.{handlers_of}
+use Rattle.replay.specs.Fold.{handlers_of}
 use Rattle.world.specs.World.{World, opening}
 use Rattle.world.specs.History.{Payload}
 use Rattle.world.specs.Phases.{Up}
-use Rattle.world.proofs.FoldLemmas.{handlers_of-nothing}
-use Rattle.theorems.proofs.HandlerLemmas.{handlers-grow, handlers-start}
+use Rattle.replay.proofs.FoldLemmas.{handlers_of-nothing}
+use Rattle.replay.proofs.HandlerLemmas.{handlers-grow, handlers-start}
 use Rattle.theorems.proofs.Journals.{opens-sound}
 use Rattle.theorems.proofs.TidyLemmas.{opens-tidy}
 use Rattle.theorems.proofs.GateLemmas.{opens-gated}

@@ -6,7 +6,7 @@ use Rattle.std.proofs.lemmas.List.{get_or_default, get_or-set_same, get_or-set_o
 use Rattle.sender_log.specs.Log.{queue_of}
 use Rattle.world.specs.declared.message.Message.{Message}
 use Rattle.world.specs.Phases.{Phase, Up, is_up, is_down}
-use Rattle.world.specs.Fold.{handlers_of}
+use Rattle.replay.specs.Fold.{handlers_of}
 use Rattle.world.specs.World.{World}
 use Rattle.world.specs.Logs.{length_in, sent, run_of, run_to}
 use Rattle.session_process.specs.Process.{TheProcess, idle_process}

@@ -8,9 +8,9 @@ use Rattle.world.specs.declared.message.Message.{Message}
 use Rattle.world.specs.declared.packet.Packet.{Packet}
 use Rattle.world.specs.History.{nth}
 use Rattle.world.specs.Handlers.{Handlers}
-use Rattle.world.specs.Fold.{handlers_of, emitted_to}
+use Rattle.replay.specs.Fold.{handlers_of, emitted_to}
 use Rattle.world.specs.World.{World}
-use Rattle.world.proofs.FoldLemmas.{handlers_of-push, sends-push}
+use Rattle.replay.proofs.FoldLemmas.{handlers_of-push, sends-push}
 use Rattle.session_process.specs.Outbox.{TheOutbox, Gives}
 use Rattle.machine.specs.Fields.{IsLogOf}
 use Rattle.machine.specs.Simulation.{TheMachine, Keeps, Shows, Stands, process_at}

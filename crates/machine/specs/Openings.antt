@@ -5,7 +5,7 @@ use Rattle.limits.specs.declared.TheConstants.{PROCESSES, STATE_BYTES}
 use Rattle.handlers.specs.Image.{TheImage}
 use Rattle.world.specs.declared.refusal.Refusal.{Refusal}
 use Rattle.world.specs.declared.refusal.Refusal.TheVariants.{NoSuchProcess, Memory}
-use Rattle.world.specs.Fold.{handlers_of}
+use Rattle.replay.specs.Fold.{handlers_of}
 use Rattle.world.specs.World.{opening}
 use Rattle.session_process.specs.Process.{TheProcess, idle_process}
 use Rattle.machine.specs.Simulation.{TheMachine, Stands}

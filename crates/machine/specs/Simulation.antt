@@ -15,7 +15,7 @@ use Rattle.world.specs.declared.refusal.Refusal.{Refusal}
 use Rattle.world.specs.declared.refusal.Refusal.TheVariants.{Memory}
 use Rattle.world.specs.History.{Payload}
 use Rattle.world.specs.Phases.{Phase, Up, is_up, is_down}
-use Rattle.world.specs.Fold.{handlers_of}
+use Rattle.replay.specs.Fold.{handlers_of}
 use Rattle.world.specs.World.{World}
 use Rattle.world.specs.Logs.{sent, run_of}
 use Rattle.world.specs.Calls.{after}

@@ -1,2 +1,4 @@
 pub mod PlanLemmas
+pub mod FoldLemmas
+pub mod HandlerLemmas
 pub mod AgreementLemmas

@@ -1,3 +1,4 @@
 pub mod Task
+pub mod Fold
 pub mod Plan
 pub mod Agreement

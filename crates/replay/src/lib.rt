@@ -8,6 +8,9 @@
 //! handler's answer to that task. So whoever takes a `Done` back has only to compare its task with
 //! the one that was handed out.
 //!
+//! `specs/Fold` says what the handlers of images make of a history: the state, and what was sent.
+//! [`handlers_grow`] says of them what the laws of `theorems` ask of handlers.
+//!
 //! A [`Plan`] is what a recovered process receives again. [`collect`] takes it from the logs of all
 //! senders: the messages with the RSNs after those that the process still has, without a gap.
 //! [`same_is_found`] and [`plan_is_gathered`] say that this is the plan of the protocol's
@@ -26,6 +29,7 @@
 mod agreement;
 mod collection;
 mod done;
+mod fold;
 mod job;
 mod plan;
 mod resynchronization;
@@ -35,6 +39,7 @@ mod task;
 pub use agreement::{plan_is_gathered, same_is_found};
 pub use collection::{collect, collect_from};
 pub use done::Done;
+pub use fold::handlers_grow;
 pub use job::Job;
 pub use plan::Plan;
 pub use resynchronization::resync;

@@ -9,7 +9,7 @@ use Rattle.world.specs.declared.call.Call.TheVariants as call
 use Rattle.world.specs.declared.answer.Answer.{Answer}
 use Rattle.world.specs.declared.entry.Entry.{Entry}
 use Rattle.world.specs.declared.refusal.Refusal.TheVariants.{StaleJob}
-use Rattle.world.specs.Fold.{handlers_of}
+use Rattle.replay.specs.Fold.{handlers_of}
 use Rattle.world.specs.History.{Payload}
 use Rattle.world.specs.Legal.{WStep, world_of}
 use Rattle.world.specs.Refusals.{number_of, refusal_of}

@@ -8,7 +8,7 @@ use Rattle.world.specs.declared.answer.Answer.{Answer}
 use Rattle.world.specs.declared.entry.Entry.{Entry}
 use Rattle.world.specs.declared.refusal.Refusal.{Refusal}
 use Rattle.world.specs.declared.refusal.Refusal.TheVariants.{Memory}
-use Rattle.world.specs.Fold.{handlers_of}
+use Rattle.replay.specs.Fold.{handlers_of}
 use Rattle.world.specs.World.{World, opening}
 use Rattle.world.specs.Bounds.{count_below, open_jobs}
 use Rattle.world.specs.Calls.{after}

@@ -30,4 +30,3 @@ pub mod TidyLemmas
 pub mod TidyCalls
 pub mod GateLemmas
 pub mod GateCalls
-pub mod HandlerLemmas

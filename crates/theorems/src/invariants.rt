@@ -2,7 +2,6 @@
 
 ghost use Rattle.std.specs.Prelude.{ℕ, List};
 ghost use Rattle.world.specs.declared.entry.Entry.{Entry};
-ghost use Rattle.world.specs.Fold.{TheImage, handlers_of};
 ghost use Rattle.world.specs.Handlers.{Handlers};
 ghost use Rattle.world.specs.Legal.{Legal, world_of};
 ghost use Rattle.theorems.specs.Invariants.Exact.{Exact};
@@ -11,13 +10,6 @@ ghost use Rattle.theorems.specs.Growth.{Grows, Starts};
 ghost use Rattle.theorems.specs.Single.{IsSingle};
 ghost use Rattle.theorems.specs.Invariants.Sound.{Sound};
 ghost use Rattle.theorems.specs.Invariants.Tidy.{Tidy};
-
-/// A handler's later messages take back nothing that it sent or put out. It sends and puts out
-/// nothing before its first message.
-pub fn handlers_grow()
-    ensures grow { (images : List TheImage) → Grows (handlers_of images) }
-    ensures start { (images : List TheImage) → Starts (handlers_of images) }
-{}
 
 /// Whatever fails, and however failures overlap, the world is sound.
 pub fn always_sound()

@@ -1,7 +1,7 @@
 //! Laws of every world that a legal journal leads to.
 //!
-//! The laws hold of any handlers that take back nothing that they sent (`handlers_grow`: the
-//! handlers of images do) and of any legal journal. Whatever fails, the world is *sound*, *tidy*
+//! The laws hold of any handlers that take back nothing that they sent (`replay::handlers_grow`:
+//! the handlers of images do) and of any legal journal. Whatever fails, the world is *sound*, *tidy*
 //! and *gated* (`always_sound`, `always_tidy`, `always_gated`). If failures come one at a time, it
 //! is also *exact* (`always_exact`), and the promises follow from that:
 //!
@@ -27,7 +27,7 @@ mod orphans;
 mod overlap;
 mod recovery;
 
-pub use invariants::{always_exact, always_gated, always_sound, always_tidy, handlers_grow};
+pub use invariants::{always_exact, always_gated, always_sound, always_tidy};
 pub use orphans::{no_orphan, output_once, received_once};
 pub use overlap::overlapping_failures_lose;
 pub use recovery::{recovers, recovers_exactly, run_is_kept, state_is_kept};

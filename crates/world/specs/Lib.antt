@@ -1,7 +1,6 @@
 pub mod History
 pub mod Phases
 pub mod Handlers
-pub mod Fold
 pub mod World
 pub mod Logs
 pub mod Plan

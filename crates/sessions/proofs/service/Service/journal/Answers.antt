@@ -1,8 +1,8 @@
 use Rattle.std.proofs.Common.{length, arith, subst}
-use Rattle.world.specs.Fold.{handlers_of}
+use Rattle.replay.specs.Fold.{handlers_of}
 use Rattle.theorems.specs.Kept.{HasKept}
 use Rattle.theorems.specs.Orphans.{NoOrphan, ShownBegin}
-use Rattle.theorems.proofs.HandlerLemmas.{handlers-grow, single-of}
+use Rattle.replay.proofs.HandlerLemmas.{handlers-grow, single-of}
 use Rattle.theorems.proofs.KeptLemmas.{has-kept}
 use Rattle.theorems.proofs.OrphanLemmas.{no-orphan, output-once}
 use Rattle.sessions.specs.Journal.{TheSession, IsExact, world_at}

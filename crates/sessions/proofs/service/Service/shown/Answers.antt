@@ -1,7 +1,7 @@
 use Rattle.std.proofs.Common.{length, subst}
-use Rattle.world.specs.Fold.{handlers_of}
+use Rattle.replay.specs.Fold.{handlers_of}
 use Rattle.theorems.specs.Orphans.{NoOrphan, ShownBegin}
-use Rattle.theorems.proofs.HandlerLemmas.{single-of}
+use Rattle.replay.proofs.HandlerLemmas.{single-of}
 use Rattle.theorems.proofs.OrphanLemmas.{no-orphan, output-once}
 use Rattle.sessions.specs.Journal.{TheSession, IsExact, world_at}
 use Rattle.sessions.proofs.service.Service.shown.Goals as goal

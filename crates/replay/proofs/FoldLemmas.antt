@@ -7,7 +7,7 @@ use Rattle.handlers.specs.Image.{TheImage}
 use Rattle.handlers.specs.Answer.{Handled, answered}
 use Rattle.world.specs.declared.message.Message.{Message}
 use Rattle.world.specs.History.{nth}
-use Rattle.world.specs.Fold.{Folded, joined, taken_in, folded, unfolded, payloads_to, emitted_to, handlers_of}
+use Rattle.replay.specs.Fold.{Folded, joined, taken_in, folded, unfolded, payloads_to, emitted_to, handlers_of}
 
 pub payloads_to-append : (d : ℕ) (xs ys : List Sent) → payloads_to d (xs ++ ys) ≡ payloads_to d xs ++ payloads_to d ys
 payloads_to-append d [] ys = refl
