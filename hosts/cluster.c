@@ -7,9 +7,8 @@
 #include <stdio.h>
 #include <stdlib.h>
 #include <string.h>
-#include <sys/un.h>
 
-enum { WORD_LIMIT = 5 };
+enum { WORD_LIMIT = 5, FAULT_LIMIT = 20 };
 
 /* What is being read, for sentences about it. */
 struct reading {
@@ -32,31 +31,9 @@ static bool is_name(const char *word) {
     return true;
 }
 
-static bool is_host_and_port(const char *where) {
-    const char *colon = strrchr(where, ':');
-    if (!colon || colon == where || !colon[1] || strlen(colon + 1) > 5) return false;
-    for (const char *at = colon + 1; *at; at++)
-        if (!isdigit((unsigned char)*at)) return false;
-    int port = atoi(colon + 1);
-    return port >= 1 && port <= 65535;
-}
-
 static int read_address(const struct reading *at, const char *word, struct address *address) {
-    static const char *const carriers[] = {"unix:", "tcp:", "nats:"};
-    for (int carrier = CARRIER_UNIX; carrier <= CARRIER_NATS; carrier++) {
-        size_t size = strlen(carriers[carrier]);
-        if (strncmp(word, carriers[carrier], size) != 0) continue;
-        const char *where = word + size;
-        if (!*where) return refused(at, "nothing stands behind the colon", word);
-        if (carrier == CARRIER_UNIX && strlen(where) >= sizeof((struct sockaddr_un *)0)->sun_path)
-            return refused(at, "the path of a socket has at most 107 bytes", where);
-        if (carrier == CARRIER_TCP && !is_host_and_port(where))
-            return refused(at, "an address of tcp is tcp:HOST:PORT", word);
-        address->carrier = (enum carrier)carrier;
-        address->where = strdup(where);
-        return address->where ? STATUS_DONE : STATUS_MEMORY;
-    }
-    return refused(at, "an address begins with unix:, tcp: or nats:", word);
+    const char *why = address_read(word, address);
+    return why ? refused(at, why, word) : STATUS_DONE;
 }
 
 /* An image is named from where the cluster file is. */
@@ -129,7 +106,7 @@ static int judge(const struct reading *at, const struct cluster *cluster) {
 }
 
 int cluster_read(const char *path, struct cluster *cluster) {
-    struct reading at = {.path = path};
+    struct reading at = {.path = path, .line = 1};
     char *line = NULL;
     size_t room = 0;
     FILE *file = fopen(path, "r");
@@ -140,9 +117,10 @@ int cluster_read(const char *path, struct cluster *cluster) {
     memset(cluster, 0, sizeof *cluster);
     strcpy(cluster->processes[0].name, "gateway");
     int status = STATUS_DONE;
-    while (status == STATUS_DONE && getline(&line, &room, file) >= 0) {
-        at.line++;
-        status = read_line(&at, line, cluster);
+    for (int faults = 0; faults < FAULT_LIMIT && getline(&line, &room, file) >= 0; at.line++) {
+        int next = read_line(&at, line, cluster);
+        faults += next != STATUS_DONE;
+        status_first(&status, next);
     }
     if (status == STATUS_DONE && !feof(file)) {
         report_fault("%s", path);

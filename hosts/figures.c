@@ -1,15 +1,12 @@
 #include "figures.h"
 
-#include "report.h"
-#include "unix_path.h"
-
 #include <errno.h>
 #include <inttypes.h>
 #include <stdio.h>
 #include <sys/socket.h>
 #include <unistd.h>
 
-enum { TEXT_LIMIT = 8192, LINE_LIMIT = 1024, REQUEST_LIMIT = 4096, WAITING = 16 };
+enum { TEXT_LIMIT = 8192, LINE_LIMIT = 1024, REQUEST_LIMIT = 4096 };
 
 void figures_line(const char *process, const struct figure *figures, size_t count) {
     char line[LINE_LIMIT];
@@ -22,12 +19,10 @@ void figures_line(const char *process, const struct figure *figures, size_t coun
     fprintf(stderr, "%s\n", line);
 }
 
-int metrics_open(struct metrics *metrics, const char *path) {
-    *metrics = (struct metrics){.path = path, .file = -1};
+int metrics_open(struct metrics *metrics, const struct address *address) {
+    metrics->address = address;
     for (int i = 0; i < READER_LIMIT; i++) metrics->readers[i] = -1;
-    if (!path) return STATUS_DONE;
-    metrics->file = unix_path_take(SOCK_STREAM, path);
-    return metrics->file >= 0 && listen(metrics->file, WAITING) == 0 ? STATUS_DONE : STATUS_IO;
+    return address_listen(address, &metrics->file);
 }
 
 void metrics_watch(const struct metrics *metrics, struct watch *watch) {
@@ -62,6 +57,4 @@ void metrics_serve(struct metrics *metrics, const char *process, const struct fi
     }
 }
 
-void metrics_close(struct metrics *metrics) {
-    if (metrics->file >= 0) unlink(metrics->path);
-}
+void metrics_close(struct metrics *metrics) { address_leave(metrics->address, metrics->file); }

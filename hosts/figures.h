@@ -2,6 +2,7 @@
 #ifndef FIGURES_H
 #define FIGURES_H
 
+#include "address.h"
 #include "watch.h"
 
 #include <stdbool.h>
@@ -22,13 +23,13 @@ enum { READER_LIMIT = 8 };
 
 /* Programs that read figures: each is answered once when it has asked. */
 struct metrics {
-    const char *path;
+    const struct address *address;
     int file; /* -1: none is asked for */
     int readers[READER_LIMIT];
 };
 
-/* Takes the path; a status, and why is reported. */
-int metrics_open(struct metrics *metrics, const char *path);
+/* Takes the address; a status, and why is reported. */
+int metrics_open(struct metrics *metrics, const struct address *address);
 void metrics_watch(const struct metrics *metrics, struct watch *watch);
 void metrics_serve(struct metrics *metrics, const char *process, const struct figure *figures, size_t count);
 void metrics_close(struct metrics *metrics);

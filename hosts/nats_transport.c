@@ -102,6 +102,8 @@ static int nats_open(struct transport *transport, const struct address *own) {
     return STATUS_DONE;
 }
 
+int nats_look(void) { return STATUS_DONE; }
+
 /* While the server is away the client's library keeps what fits its buffer. */
 void nats_serve(struct transport *transport, struct way *way) {
     char subject[SUBJECT_LIMIT];
@@ -119,10 +121,14 @@ void nats_serve(struct transport *transport, struct way *way) {
 
 #else
 
-static int nats_open(struct transport *transport, const struct address *own) {
-    (void)transport, (void)own;
+int nats_look(void) {
     report("nats: this program was built where the NATS client's library isn't");
     return STATUS_IO;
+}
+
+static int nats_open(struct transport *transport, const struct address *own) {
+    (void)transport, (void)own;
+    return nats_look();
 }
 
 void nats_serve(struct transport *transport, struct way *way) {

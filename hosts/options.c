@@ -18,6 +18,7 @@ enum { THOUSAND = 1000, EVERY = 256, USUAL_TICK = 5, TICK_LIMIT = 10000 };
 
 static const char USAGE[] =
     "usage: sblog-node --cluster FILE --me N --store DIR [WORDS]\n"
+    "       sblog-node --inspect DIR\n"
     "\n"
     "Runs process N of a cluster, or its gateway where N is 0.\n"
     "\n"
@@ -30,13 +31,15 @@ static const char USAGE[] =
     "  --listen unix:PATH     the gateway takes lines of programs that connect there\n"
     "  --metrics unix:PATH    figures for Prometheus, by HTTP\n"
     "  --status               a line of figures a second, on standard error\n"
+    "  --check                starts nothing: says whether these words, cluster file, image, store and addresses would do\n"
+    "  --inspect DIR          says what a store holds, and ends\n"
     "  --version              says which version this is, and ends\n"
     "\n"
     "SIGUSR1 prints that line once. SIGTERM and SIGINT end it, a process behind a checkpoint.\n"
     "Statuses: 0; 2 the command line; 3 a refused image; 4 a refused cluster file; 5 want of memory;\n"
     "6 input and output; 7 a store that isn't this process's or its cluster's, or is in use.\n";
 
-enum { CLUSTER = 1, ME, STORE, CHECKPOINT_EVERY, DURABLE, EVERY_TICK, LISTEN, METRICS, STATUS, HELP, VERSION };
+enum { CLUSTER = 1, ME, STORE, CHECKPOINT_EVERY, DURABLE, EVERY_TICK, LISTEN, METRICS, STATUS, CHECK, INSPECT, HELP, VERSION };
 
 static const struct option OPTIONS[] = {
     {"cluster", required_argument, NULL, CLUSTER}, {"me", required_argument, NULL, ME},
@@ -44,7 +47,8 @@ static const struct option OPTIONS[] = {
     {"durable", no_argument, NULL, DURABLE},       {"tick", required_argument, NULL, EVERY_TICK},
     {"listen", required_argument, NULL, LISTEN},   {"metrics", required_argument, NULL, METRICS},
     {"status", no_argument, NULL, STATUS},         {"help", no_argument, NULL, HELP},
-    {"version", no_argument, NULL, VERSION},       {NULL, 0, NULL, 0},
+    {"version", no_argument, NULL, VERSION},       {"check", no_argument, NULL, CHECK},
+    {"inspect", required_argument, NULL, INSPECT}, {NULL, 0, NULL, 0},
 };
 
 /* A number in its range. */
@@ -55,10 +59,9 @@ static bool read_number(const char *text, uint64_t least, uint64_t most, uint64_
     return !*end && *number >= least && *number <= most;
 }
 
-/* The path of unix:PATH. */
-static bool read_path(const char *text, const char **path) {
-    *path = text + strlen("unix:");
-    return !strncmp(text, "unix:", strlen("unix:")) && **path && strlen(*path) < 108;
+/* An address by this carrier, or by unix:. */
+static bool read_address(const char *text, enum carrier carrier, struct address *address) {
+    return !address_read(text, address) && (address->carrier == CARRIER_UNIX || address->carrier == carrier);
 }
 
 static bool read_option(int option, const char *text, struct options *options) {
@@ -69,8 +72,10 @@ static bool read_option(int option, const char *text, struct options *options) {
     case STORE: options->store = text; break;
     case DURABLE: options->durable = true; break;
     case STATUS: options->status = true; break;
-    case LISTEN: return read_path(text, &options->listen);
-    case METRICS: return read_path(text, &options->metrics);
+    case CHECK: options->looks = true; break;
+    case INSPECT: options->inspected = text; break;
+    case LISTEN: return read_address(text, CARRIER_UNIX, &options->listen);
+    case METRICS: return read_address(text, CARRIER_UNIX, &options->metrics);
     case ME:
         is_taken = read_number(text, 0, PROCESS_LIMIT, &number);
         options->me = (int)number;
@@ -85,6 +90,16 @@ static bool read_option(int option, const char *text, struct options *options) {
         break;
     }
     return is_taken;
+}
+
+/* Whether these words go together. */
+static int judge(const struct options *options) {
+    if (options->inspected) return STATUS_DONE;
+    if (!options->cluster || options->me < 0 || !options->store) report("--cluster, --me and --store are needed; see --help");
+    else if (options->listen.where && options->me != 0) report("--listen is of the gateway alone");
+    else if (options->durable && options->me == 0) report("--durable is of processes alone: the gateway always is");
+    else return STATUS_DONE;
+    return STATUS_COMMAND;
 }
 
 int options_read(int argc, char **argv, struct options *options) {
@@ -104,11 +119,8 @@ int options_read(int argc, char **argv, struct options *options) {
         report("--%s doesn't take %s", OPTIONS[at].name, optarg);
         return STATUS_COMMAND;
     }
-    if (optind < argc) report("%s is no option", argv[optind]);
-    else if (!options->cluster || options->me < 0 || !options->store) report("--cluster, --me and --store are needed; see --help");
-    else if (options->listen && options->me != 0) report("--listen is of the gateway alone");
-    else if (options->durable && options->me == 0) report("--durable is of processes alone: the gateway always is");
-    else return STATUS_DONE;
+    if (optind == argc) return judge(options);
+    report("%s is no option", argv[optind]);
     return STATUS_COMMAND;
 }
 

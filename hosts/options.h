@@ -2,16 +2,19 @@
 #ifndef OPTIONS_H
 #define OPTIONS_H
 
+#include "address.h"
+
 #include <signal.h>
 #include <stdbool.h>
 #include <stdint.h>
 
 struct options {
-    const char *cluster, *store, *listen, *metrics;
+    const char *cluster, *store, *inspected;
+    struct address listen, metrics; /* without a place if they weren't asked for */
     int me;
     uint32_t checkpoint_every; /* messages */
     uint64_t tick;             /* microseconds */
-    bool durable, status;
+    bool durable, status, looks;
 };
 
 /* Reads the command line; a status, and what isn't taken is reported. */

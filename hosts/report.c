@@ -34,6 +34,10 @@ void report_fault(const char *format, ...) {
     va_end(arguments);
 }
 
+void status_first(int *status, int next) {
+    if (*status == STATUS_DONE) *status = next;
+}
+
 const char *code_words(uint32_t code) {
     switch (code) {
     case SBLOG_NODE_MEMORY: return "there is no memory";
@@ -53,4 +57,10 @@ enum status code_status(uint32_t code) {
     if (code == SBLOG_NODE_MEMORY) return STATUS_MEMORY;
     if (code == SBLOG_NODE_IMAGE) return STATUS_IMAGE;
     return code == SBLOG_NODE_BYTES ? STATUS_STORE : STATUS_COMMAND;
+}
+
+int code_refused(const char *call, uint32_t code, uint32_t fault) {
+    if (code == SBLOG_NODE_BYTES) report("%s: %s: fault %u", call, code_words(code), fault);
+    else report("%s: %s", call, code_words(code));
+    return code_status(code);
 }

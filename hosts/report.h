@@ -14,6 +14,9 @@ enum status {
     STATUS_STORE = 7 /* the store isn't this process's, or is in use */
 };
 
+/* The status stays the first one that isn't done. */
+void status_first(int *status, int next);
+
 /* Who speaks, once that is known. */
 void report_as(const char *name);
 
@@ -28,5 +31,8 @@ const char *code_words(uint32_t code);
 
 /* The status that a code of the library ends the program with. */
 enum status code_status(uint32_t code);
+
+/* Says why a call of the library that has to be taken isn't; a status. */
+int code_refused(const char *call, uint32_t code, uint32_t fault);
 
 #endif

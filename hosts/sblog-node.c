@@ -2,6 +2,7 @@
    this carries it. Nothing here is proved. */
 #include "cluster.h"
 #include "gateway_host.h"
+#include "inspect.h"
 #include "node_host.h"
 #include "options.h"
 #include "report.h"
@@ -10,6 +11,7 @@ int main(int argc, char **argv) {
     static struct cluster cluster;
     struct options options;
     int status = options_read(argc, argv, &options);
+    if (status == STATUS_DONE && options.inspected) return inspect(options.inspected);
     if (status == STATUS_DONE) status = cluster_read(options.cluster, &cluster);
     if (status != STATUS_DONE) return status;
     if (options.me > cluster.count) {

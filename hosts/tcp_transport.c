@@ -1,72 +1,24 @@
 /* Streams: who sends connects, and each frame comes after its length. */
 #include "bytes.h"
-#include "report.h"
+#include "tcp_address.h"
 #include "transport.h"
 
 #include <errno.h>
-#include <netdb.h>
-#include <netinet/in.h>
-#include <netinet/tcp.h>
-#include <stdio.h>
 #include <stdlib.h>
 #include <string.h>
 #include <sys/socket.h>
 #include <unistd.h>
 
-/* Microseconds until a connection is tried again, and that a guest has for a frame; milliseconds after which a peer is given up
-   that doesn't say that it has what was sent; bytes that a guest may be ahead; frames of one call. */
-enum { AGAIN = 20000, PATIENCE = 10000000, SILENCE = 5000, WAITING = 64, ROOM = 2 * (FRAME_LENGTH + FRAME_LIMIT), PARTS = 16 };
+/* Microseconds until a connection is tried again, and that a guest has for a frame; bytes that a guest may be ahead; frames of one
+   call. */
+enum { AGAIN = 20000, PATIENCE = 10000000, ROOM = 2 * (FRAME_LENGTH + FRAME_LIMIT), PARTS = 16 };
 
-/* Seconds after which a silent connection is tried, and between tries; how many get no answer before it is over. */
-enum { TRIED_AFTER = 5, TRIED_EVERY = 1, TRIES = 5 };
-
-/* The addresses of HOST:PORT or [HOST]:PORT, to be freed. */
-static struct addrinfo *resolve(const char *where, int flags) {
-    char host[256];
-    const char *colon = strrchr(where, ':'), *begin = where;
-    size_t size = (size_t)(colon - where);
-    if (size >= 2 && *begin == '[' && begin[size - 1] == ']') {
-        begin++;
-        size -= 2;
-    }
-    if (size >= sizeof host) return NULL;
-    memcpy(host, begin, size);
-    host[size] = 0;
-    struct addrinfo hints = {.ai_flags = flags, .ai_socktype = SOCK_STREAM}, *found = NULL;
-    return getaddrinfo(host, colon + 1, &hints, &found) == 0 ? found : NULL;
-}
-
-static int tcp_open(struct transport *transport, const struct address *own) {
-    struct addrinfo *found = resolve(own->where, AI_PASSIVE);
-    int on = 1;
-    if (!found) {
-        report("tcp:%s: there is no such host", own->where);
-        return STATUS_IO;
-    }
-    int file = socket(found->ai_family, SOCK_STREAM | SOCK_NONBLOCK | SOCK_CLOEXEC, 0);
-    if (file >= 0) setsockopt(file, SOL_SOCKET, SO_REUSEADDR, &on, sizeof on);
-    bool is_open = file >= 0 && bind(file, found->ai_addr, found->ai_addrlen) == 0 && listen(file, WAITING) == 0;
-    if (!is_open) report_fault("tcp:%s", own->where);
-    freeaddrinfo(found);
-    transport->file = file;
-    return is_open ? STATUS_DONE : STATUS_IO;
-}
+static int tcp_open(struct transport *transport, const struct address *own) { return address_listen(own, &transport->file); }
 
 static void guest_leaves(struct guest *guest) {
     close(guest->file);
     free(guest->bytes);
     *guest = (struct guest){.file = -1, .peer = -1};
-}
-
-static void keep_alive(int file) {
-    int on = 1, after = TRIED_AFTER, every = TRIED_EVERY, tries = TRIES;
-    unsigned silence = SILENCE;
-    setsockopt(file, IPPROTO_TCP, TCP_NODELAY, &on, sizeof on);
-    setsockopt(file, SOL_SOCKET, SO_KEEPALIVE, &on, sizeof on);
-    setsockopt(file, IPPROTO_TCP, TCP_KEEPIDLE, &after, sizeof after);
-    setsockopt(file, IPPROTO_TCP, TCP_KEEPINTVL, &every, sizeof every);
-    setsockopt(file, IPPROTO_TCP, TCP_KEEPCNT, &tries, sizeof tries);
-    setsockopt(file, IPPROTO_TCP, TCP_USER_TIMEOUT, &silence, sizeof silence);
 }
 
 /* A place that is free, or that of whoever has waited longest without a whole packet: each peer has one place at most, so there is
@@ -90,7 +42,7 @@ static void welcome(struct transport *transport) {
             close(file);
             continue;
         }
-        keep_alive(file);
+        tcp_keep_alive(file);
         *guest = (struct guest){.file = file, .peer = -1, .since = clock_now(), .bytes = bytes};
     }
 }
@@ -183,10 +135,10 @@ static bool connects(struct way *way) {
         way->connecting = false;
         return fault == 0;
     }
-    struct addrinfo *found = resolve(way->address->where, 0);
+    struct addrinfo *found = tcp_resolve(way->address->where, 0);
     if (!found) return false;
     way->file = socket(found->ai_family, SOCK_STREAM | SOCK_NONBLOCK | SOCK_CLOEXEC, 0);
-    if (way->file >= 0) keep_alive(way->file);
+    if (way->file >= 0) tcp_keep_alive(way->file);
     bool begun = way->file >= 0 && connect(way->file, found->ai_addr, found->ai_addrlen) == 0;
     way->connecting = !begun && errno == EINPROGRESS;
     freeaddrinfo(found);

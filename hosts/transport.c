@@ -71,6 +71,11 @@ int transport_open(struct transport *transport, const struct cluster *cluster, i
     return transport->inlet->open(transport, own);
 }
 
+int transport_look(const struct cluster *cluster, int me) {
+    const struct address *own = &cluster->processes[me].address;
+    return own->carrier == CARRIER_NATS ? nats_look() : address_look(own, SOCK_DGRAM);
+}
+
 void transport_belongs(struct transport *transport, const struct id *cluster) { transport->id = *cluster; }
 
 /* The way to another process that is there. */

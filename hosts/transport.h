@@ -67,6 +67,9 @@ struct transport {
 /* Takes one's own address; a status, and why is reported. */
 int transport_open(struct transport *transport, const struct cluster *cluster, int me);
 
+/* Whether that would do: nothing is taken. */
+int transport_look(const struct cluster *cluster, int me);
+
 /* Which cluster this process is of: no packet is sent or taken before. */
 void transport_belongs(struct transport *transport, const struct id *cluster);
 
@@ -105,6 +108,9 @@ void way_drop(struct way *way);
 void unix_serve(struct transport *transport, struct way *way);
 void tcp_serve(struct transport *transport, struct way *way);
 void nats_serve(struct transport *transport, struct way *way);
+
+/* Whether this program was built with it; why not is reported. */
+int nats_look(void);
 
 extern const struct inlet unix_inlet, tcp_inlet, nats_inlet;
 

@@ -1,0 +1,43 @@
+#include "gateway_state.h"
+
+#include <string.h>
+
+enum { SECOND = 1000000 };
+
+enum { FIGURES = 11 };
+
+static size_t figures(const struct gateway_host *host, struct figure out[FIGURES]) {
+    uint64_t logged = 0, waiting = 0, shown = 0, clients = 0;
+    for (int p = 1; p <= host->cluster->count; p++) {
+        logged += host->counts.logged[p];
+        waiting += counts_waiting(&host->counts, p);
+        shown += host->counts.shown[p];
+    }
+    for (int i = 0; i < CLIENTS_LIMIT; i++) clients += host->clients.all[i].out >= 0;
+    const struct figure all[FIGURES] = {
+        {"logged", logged, NULL, "SSN of the last inputs, of those processes that had one since it began"},
+        {"waiting", waiting, NULL, "inputs that have no number yet"},
+        {"shown", shown, NULL, "SSN of the last outputs, of those processes that had one since it began"},
+        {"printed", host->outputs, NULL, "outputs that were printed since it began"},
+        {"untaken", host->waiting.count, NULL, "outputs that were handed out, and that nobody has taken"},
+        {"programs", clients, NULL, "programs that hand in inputs or take outputs"},
+        {"behind", host->store.behind, NULL, "bytes of records after the store"},
+        {"refused", host->refused, NULL, "times that bytes came that are no packet"},
+        {"broken", host->transport.broken, NULL, "times that something came that is no bundle"},
+        {"foreign", host->transport.foreign, NULL, "times that a bundle of another cluster came"},
+        {"lost", host->transport.lost, NULL, "packets that found no way"},
+    };
+    memcpy(out, all, sizeof all);
+    return FIGURES;
+}
+
+void gateway_show(struct gateway_host *host, uint64_t now) {
+    struct figure all[FIGURES];
+    size_t count = figures(host, all);
+    bool is_due = host->options->status && now >= host->next_status;
+    metrics_serve(&host->metrics, "gateway", all, count);
+    if (!is_due && !signal_status) return;
+    signal_status = 0;
+    if (is_due) host->next_status = now + SECOND;
+    figures_line("gateway", all, count);
+}
