@@ -6,18 +6,7 @@
 #include <sys/socket.h>
 #include <unistd.h>
 
-enum { TEXT_LIMIT = 8192, LINE_LIMIT = 1024, REQUEST_LIMIT = 4096 };
-
-void figures_line(const char *process, const struct figure *figures, size_t count) {
-    char line[LINE_LIMIT];
-    int size = snprintf(line, sizeof line, "status %s", process);
-    for (size_t i = 0; i < count; i++) {
-        size_t room = sizeof line - (size_t)size;
-        if (figures[i].word) size += snprintf(line + size, room, " %s %s", figures[i].name, figures[i].word);
-        else size += snprintf(line + size, room, " %s %" PRIu64, figures[i].name, figures[i].value);
-    }
-    fprintf(stderr, "%s\n", line);
-}
+enum { TEXT_LIMIT = 8192, REQUEST_LIMIT = 4096 };
 
 int metrics_open(struct metrics *metrics, const struct address *address) {
     metrics->address = address;

@@ -1,23 +1,14 @@
-/* How a program stands, in figures: a line for people, and text for Prometheus by HTTP on a socket. */
+/* How a program stands, in figures: text for Prometheus, by HTTP on a socket. */
 #ifndef FIGURES_H
 #define FIGURES_H
 
 #include "address.h"
+#include "log.h"
 #include "watch.h"
 
 #include <stdbool.h>
 #include <stddef.h>
 #include <stdint.h>
-
-struct figure {
-    const char *name;
-    uint64_t value;
-    const char *word; /* in the line, where a word says more than the value */
-    const char *help;
-};
-
-/* A line on standard error. */
-void figures_line(const char *process, const struct figure *figures, size_t count);
 
 enum { READER_LIMIT = 8 };
 

@@ -1,5 +1,7 @@
 #include "gateway_state.h"
 
+#include "report.h"
+
 #include <string.h>
 
 enum { SECOND = 1000000 };
@@ -39,5 +41,5 @@ void gateway_show(struct gateway_host *host, uint64_t now) {
     if (!is_due && !signal_status) return;
     signal_status = 0;
     if (is_due) host->next_status = now + SECOND;
-    figures_line("gateway", all, count);
+    report_figures("status", NULL, all, count);
 }

@@ -69,7 +69,7 @@ static int receive(struct gateway_host *host) {
         uint32_t fault = 0, code = sblog_gateway_receive(&host->gateway, packet, size, &fault);
         if (code == SBLOG_GATEWAY_DONE) turn_hears(&host->heard, packet, size);
         if (code == SBLOG_GATEWAY_BYTES && host->refused++ == 0)
-            report("bytes came that are no packet: fault %u; more are counted", fault);
+            report_event(LEVEL_WARNING, "refused", "bytes came that are no packet: fault %u; more are counted", fault);
         count++;
     }
     return count;

@@ -1,11 +1,16 @@
-"""What is told of a program that isn't started: whether it would start, and what its store holds."""
+"""What programs tell of themselves: whether one would start, what its store holds, and lines in the form that is asked for."""
+import json
 import os
 import re
+import shlex
 import shutil
+import signal
+import socket
 import subprocess
+import time
 
-from lives import Wrong, program_path
-from listening import begin, connect, works
+from lives import Cluster, Wrong, program_path
+from listening import PROCESSES, begin, connect, works
 
 
 def told(words, status=0):
@@ -66,6 +71,59 @@ def holds(program, *patterns):
     for pattern in patterns:
         if not re.search(rf"(?m)^{pattern}$", text):
             raise Wrong(f"--inspect of {program.name} has no {pattern!r}: {text}")
+
+
+def is_json(line, **wanted):
+    """A line of --log json: these fields, beside those that each has."""
+    read = json.loads(line)
+    if not re.fullmatch(r"\d{4}-\d\d-\d\dT\d\d:\d\d:\d\d\.\d{6}Z", read["time"]) or not wanted.items() <= read.items():
+        raise Wrong(f"{line}, not {wanted}")
+
+
+def logs(folder):
+    """Each line of standard error in the form that was asked for: none is lost, whatever is in it."""
+    os.makedirs(folder)
+    odd, many = os.path.join(folder, "odd\"\\\n\u00fc") + "\udcff", os.path.join(folder, "many")
+    with open(many, "w") as file:
+        file.write("x y\nz\n" + "w" * 5000 + "\n")
+    _, lines = told(["--log", "json", "--cluster", odd, "--me", "1", "--store", folder], 6)
+    is_json(*lines, level="error", event="fault", message=odd.replace("\udcff", "\ufffd") + ": No such file or directory")
+    _, lines = told(["--cluster", many, "--me", "1", "--store", folder, "--log=json"], 4)
+    for number, line in enumerate(lines, 1):
+        if f"many, line {number}: " not in json.loads(line)["message"]:
+            raise Wrong(f"line {number}: {line}")
+    if len(lines) != 3:
+        raise Wrong(f"{len(lines)} lines of 3")
+    _, lines = told(["--me", "16", "--log", "pairs"], 2)
+    if not re.fullmatch(r'time=\S+ level=error event=fault message="--me doesn\'t take 16"', *lines):
+        raise Wrong(lines)
+    cluster = Cluster(os.path.join(folder, "cluster"), "logs", PROCESSES, words=["--log", "json"])
+    cluster.nodes[1].words = ["--log", "pairs"]
+    cluster.start()
+    with socket.socket(socket.AF_UNIX, socket.SOCK_DGRAM) as out:
+        for node in cluster.nodes:
+            out.sendto(b"x", cluster.path(node.number))
+            has_line(node, "broken")
+            node.child.send_signal(signal.SIGUSR1)
+            has_line(node, "status")
+    up, broken, status = (has_line(cluster.nodes[0], event) for event in ("up", "broken", "status"))
+    is_json(up, level="info", process="relay", incarnation=1, length=0, covered=0)
+    is_json(broken, level="warning", process="relay", message="what is no bundle came, and was dropped; more are counted")
+    is_json(status, level="info", process="relay", stage="up", exact="yes", broken=1, length=0)
+    words = dict(word.split("=", 1) for word in shlex.split(has_line(cluster.nodes[1], "status")))
+    if not {"level": "info", "process": "echo", "event": "status", "stage": "up", "broken": "1"}.items() <= words.items():
+        raise Wrong(words)
+
+
+def has_line(node, event):
+    """The line of this event that the node has said."""
+    until = time.monotonic() + 10
+    while time.monotonic() < until:
+        for line in node.said:
+            if f'"event":"{event}"' in line or f" event={event} " in line:
+                return line
+        time.sleep(0.01)
+    raise Wrong(f"{node.name} says no {event}: {node.said}")
 
 
 def looks(folder):

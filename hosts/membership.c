@@ -49,7 +49,7 @@ int membership_join(const struct options *options, const struct owner *owner, co
             if (pause < PAUSE * options->tick) pause *= 2;
         }
         if (now >= late) {
-            report("the gateway doesn't answer yet: a process with a new store waits for it");
+            report_event(LEVEL_WARNING, "waiting", "the gateway doesn't answer yet: a process with a new store waits for it");
             late = UINT64_MAX;
         }
         wait(transport, next);
@@ -69,7 +69,8 @@ static int judge(const struct owner *owner, const struct store *store, struct id
         return store_claim(store, owner, ids);
     }
     greeting->word = WORD_REFUSAL;
-    report("%s came with another store than before: it is refused", owner->cluster->processes[greeting->process].name);
+    report_event(LEVEL_WARNING, "stranger", "%s came with another store than before: it is refused",
+                 owner->cluster->processes[greeting->process].name);
     return STATUS_DONE;
 }
 

@@ -27,7 +27,7 @@ static const char *shown(const char *url) { return strchr(url, '@') ? strchr(url
 /* With it the first connection is made in a thread, too, and the program doesn't wait for a server that is away. */
 static void connected(natsConnection *connection, void *url) {
     (void)connection;
-    report("nats server %s: it answers", shown(url));
+    report_event(LEVEL_INFO, "server", "nats server %s: it answers", shown(url));
 }
 
 static natsStatus connect_to(natsConnection **connection, const char *url) {
@@ -56,7 +56,7 @@ static struct nats_link *link_to(struct transport *transport, const char *url) {
         free(link);
         return NULL;
     }
-    if (status == NATS_NOT_YET_CONNECTED) report("nats server %s: it doesn't answer yet", shown(url));
+    if (status == NATS_NOT_YET_CONNECTED) report_event(LEVEL_WARNING, "server", "nats server %s: it doesn't answer yet", shown(url));
     link->url = url;
     link->next = transport->links;
     transport->links = link;

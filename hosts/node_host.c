@@ -35,7 +35,7 @@ static int keep(struct node_host *host) {
 static void lacks(struct node_host *host, uint32_t code) {
     if (code != SBLOG_NODE_MEMORY || host->wants_memory) return;
     host->wants_memory = true;
-    report("there is no memory: packets are lost, and sent again");
+    report_event(LEVEL_WARNING, "memory", "there is no memory: packets are lost, and sent again");
 }
 
 /* The handler runs for as long as there is something to work on, at most so often. */
@@ -56,7 +56,7 @@ static int receive(struct node_host *host) {
         uint32_t fault = 0, code = sblog_node_receive(&host->node, packet, size, &fault);
         lacks(host, code);
         if (code == SBLOG_NODE_BYTES && host->refused++ == 0)
-            report("bytes came that are no packet: fault %u; more are counted", fault);
+            report_event(LEVEL_WARNING, "refused", "bytes came that are no packet: fault %u; more are counted", fault);
         if (code == SBLOG_NODE_DONE) {
             pace_hear(&host->pace, packet, size, now);
             work(host, 1);
@@ -74,16 +74,25 @@ static void put_out(struct node_host *host) {
         pace_send(&host->pace, to, host->packet, size, now);
 }
 
+static void tell_up(const sblog_standing *now, uint64_t took) {
+    char sentence[256];
+    const struct figure all[] = {
+        {"incarnation", now->incarnation, NULL, NULL}, {"length", now->length, NULL, NULL},
+        {"covered", now->base, NULL, NULL},            {"microseconds", took, NULL, NULL},
+    };
+    snprintf(sentence, sizeof sentence, "up in incarnation %" PRIu64 " with %" PRIu64 " messages, %" PRIu64 " of its checkpoint, after %.1f ms",
+             now->incarnation, now->length, now->base, (double)took / 1000);
+    report_figures("up", sentence, all, sizeof all / sizeof *all);
+}
+
 /* What changed since the last turn, for people. The store keeps the first life that isn't exact: a status. */
 static int tell(struct node_host *host) {
     const sblog_standing *now = &host->standing;
     bool is_up = now->stage <= SBLOG_NODE_FROZEN;
-    if (is_up && !host->was_up)
-        report("up in incarnation %" PRIu64 " with %" PRIu64 " messages, %" PRIu64 " of its checkpoint, after %.1f ms",
-               now->incarnation, now->length, now->base, (double)(clock_now() - host->started) / 1000);
+    if (is_up && !host->was_up) tell_up(now, clock_now() - host->started);
     int status = STATUS_DONE;
     if (host->was_exact && !now->exact) {
-        report("failures met: what was acknowledged may be lost from here on (exact is no)");
+        report_event(LEVEL_WARNING, "inexact", "failures met: what was acknowledged may be lost from here on (exact is no)");
         if (!host->store_is_inexact) status = store_write_inexact(&host->store, now->incarnation);
         host->store_is_inexact = true;
     }
@@ -128,7 +137,7 @@ static void show(struct node_host *host, uint64_t now) {
     if (!is_due && !signal_status) return;
     signal_status = 0;
     if (is_due) host->next_status = now + SECOND;
-    figures_line(name_of(host), all, count);
+    report_figures("status", NULL, all, count);
 }
 
 /* What isn't answered goes again. */

@@ -31,6 +31,7 @@ static const char USAGE[] =
     "  --listen unix:PATH     the gateway takes lines of programs that connect there\n"
     "  --metrics unix:PATH    figures for Prometheus, by HTTP\n"
     "  --status               a line of figures a second, on standard error\n"
+    "  --log json, --log pairs  lines of standard error as JSON, or as key=value\n"
     "  --check                starts nothing: says whether these words, cluster file, image, store and addresses would do\n"
     "  --inspect DIR          says what a store holds, and ends\n"
     "  --version              says which version this is, and ends\n"
@@ -39,7 +40,7 @@ static const char USAGE[] =
     "Statuses: 0; 2 the command line; 3 a refused image; 4 a refused cluster file; 5 want of memory;\n"
     "6 input and output; 7 a store that isn't this process's or its cluster's, or is in use.\n";
 
-enum { CLUSTER = 1, ME, STORE, CHECKPOINT_EVERY, DURABLE, EVERY_TICK, LISTEN, METRICS, STATUS, CHECK, INSPECT, HELP, VERSION };
+enum { CLUSTER = 1, ME, STORE, CHECKPOINT_EVERY, DURABLE, EVERY_TICK, LISTEN, METRICS, STATUS, LOG, CHECK, INSPECT, HELP, VERSION };
 
 static const struct option OPTIONS[] = {
     {"cluster", required_argument, NULL, CLUSTER}, {"me", required_argument, NULL, ME},
@@ -48,7 +49,8 @@ static const struct option OPTIONS[] = {
     {"listen", required_argument, NULL, LISTEN},   {"metrics", required_argument, NULL, METRICS},
     {"status", no_argument, NULL, STATUS},         {"help", no_argument, NULL, HELP},
     {"version", no_argument, NULL, VERSION},       {"check", no_argument, NULL, CHECK},
-    {"inspect", required_argument, NULL, INSPECT}, {NULL, 0, NULL, 0},
+    {"inspect", required_argument, NULL, INSPECT}, {"log", required_argument, NULL, LOG},
+    {NULL, 0, NULL, 0},
 };
 
 /* A number in its range. */
@@ -64,14 +66,22 @@ static bool read_address(const char *text, enum carrier carrier, struct address 
     return !address_read(text, address) && (address->carrier == CARRIER_UNIX || address->carrier == carrier);
 }
 
+static bool read_form(const char *text, enum log_form *form) {
+    *form = !strcmp(text, "json") ? LOG_JSON : LOG_PAIRS;
+    return *form == LOG_JSON || !strcmp(text, "pairs");
+}
+
 static bool read_option(int option, const char *text, struct options *options) {
     uint64_t number = 0;
     bool is_taken = true;
     switch (option) {
+    case '?':
+    case ':': return false;
     case CLUSTER: options->cluster = text; break;
     case STORE: options->store = text; break;
     case DURABLE: options->durable = true; break;
     case STATUS: options->status = true; break;
+    case LOG: return read_form(text, &(enum log_form){LOG_PEOPLE});
     case CHECK: options->looks = true; break;
     case INSPECT: options->inspected = text; break;
     case LISTEN: return read_address(text, CARRIER_UNIX, &options->listen);
@@ -102,10 +112,20 @@ static int judge(const struct options *options) {
     return STATUS_COMMAND;
 }
 
+/* Which form lines are to have: of those about other words, too. */
+static void find_form(int argc, char **argv) {
+    enum log_form form = LOG_PEOPLE;
+    opterr = 0;
+    for (int option; (option = getopt_long(argc, argv, ":", OPTIONS, NULL)) != -1;)
+        if (option == LOG && read_form(optarg, &form)) report_in(form);
+    optind = 0;
+}
+
 int options_read(int argc, char **argv, struct options *options) {
     int option, at;
+    find_form(argc, argv);
     *options = (struct options){.me = -1, .checkpoint_every = EVERY, .tick = USUAL_TICK * THOUSAND};
-    while ((option = getopt_long(argc, argv, "", OPTIONS, &at)) != -1) {
+    while ((option = getopt_long(argc, argv, ":", OPTIONS, &at)) != -1) {
         if (option == HELP) {
             fputs(USAGE, stdout);
             exit(STATUS_DONE);
@@ -114,9 +134,10 @@ int options_read(int argc, char **argv, struct options *options) {
             puts("sblog-node " SBLOG_VERSION);
             exit(STATUS_DONE);
         }
-        if (option == '?') return STATUS_COMMAND;
         if (read_option(option, optarg, options)) continue;
-        report("--%s doesn't take %s", OPTIONS[at].name, optarg);
+        if (option == '?') report("unrecognized option %s", argv[optind - 1]);
+        else if (option == ':') report("%s needs a word after it", argv[optind - 1]);
+        else report("--%s doesn't take %s", OPTIONS[at].name, optarg);
         return STATUS_COMMAND;
     }
     if (optind == argc) return judge(options);

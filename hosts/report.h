@@ -2,6 +2,8 @@
 #ifndef REPORT_H
 #define REPORT_H
 
+#include "log.h"
+
 #include <stdint.h>
 
 enum status {
@@ -17,14 +19,21 @@ enum status {
 /* The status stays the first one that isn't done. */
 void status_first(int *status, int next);
 
-/* Who speaks, once that is known. */
+/* Who speaks, once that is known; and in which form. */
 void report_as(const char *name);
+void report_in(enum log_form form);
 
-/* Writes one sentence behind the name. */
+/* Says a sentence of what ends the program, or makes a call fail. */
 void report(const char *format, ...) __attribute__((format(printf, 1, 2)));
 
 /* The same, and what the system says of the last fault. */
 void report_fault(const char *format, ...) __attribute__((format(printf, 1, 2)));
+
+/* Says that something came to pass, by a word that stays the same, and a sentence. */
+void report_event(enum level level, const char *event, const char *format, ...) __attribute__((format(printf, 3, 4)));
+
+/* The same, by figures: with a sentence for people, or as a line of their own if that is null. */
+void report_figures(const char *event, const char *sentence, const struct figure *figures, size_t count);
 
 /* What a code of the library says, in words. */
 const char *code_words(uint32_t code);

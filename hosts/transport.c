@@ -114,8 +114,8 @@ void transport_greet(struct transport *transport, int to, const struct greeting 
     if (frame) way_put(way, frame);
 }
 
-static void drop(uint64_t *count, const char *what) {
-    if ((*count)++ == 0) report("%s came, and was dropped; more are counted", what);
+static void drop(uint64_t *count, const char *event, const char *what) {
+    if ((*count)++ == 0) report_event(LEVEL_WARNING, event, "%s came, and was dropped; more are counted", what);
 }
 
 /* A greeting is of the process that joins, and goes to the gateway, or comes from it. */
@@ -139,8 +139,8 @@ static void take_frame(struct transport *transport, const uint8_t *frame, size_t
     case KIND_BUNDLE:
         if (transport->inlet->settle) transport->inlet->settle(transport, from);
         return;
-    case KIND_FOREIGN: drop(&transport->foreign, "a bundle of another cluster"); break;
-    default: drop(&transport->broken, "what is no bundle"); break;
+    case KIND_FOREIGN: drop(&transport->foreign, "foreign", "a bundle of another cluster"); break;
+    default: drop(&transport->broken, "broken", "what is no bundle"); break;
     }
 }
 
