@@ -1,8 +1,9 @@
-/* How a program stands, in figures: text for Prometheus, by HTTP on a socket. */
+/* How a program stands, by HTTP on a socket: its figures for Prometheus, whether it lives, and whether it is ready. */
 #ifndef FIGURES_H
 #define FIGURES_H
 
 #include "address.h"
+#include "histogram.h"
 #include "log.h"
 #include "watch.h"
 
@@ -10,19 +11,35 @@
 #include <stddef.h>
 #include <stdint.h>
 
-enum { READER_LIMIT = 8 };
+/* What is told of a program. */
+struct view {
+    const char *process, *stage;
+    bool is_ready;
+    const struct figure *figures;
+    size_t count;
+    const struct histogram *messages, *syncs;
+};
 
-/* Programs that read figures: each is answered once when it has asked. */
+enum { READER_LIMIT = 8, REQUEST_LIMIT = 2048 };
+
+/* A program that has connected: it is answered once when it has asked. */
+struct reader {
+    int file; /* -1: none */
+    uint64_t since;
+    size_t have;
+    char request[REQUEST_LIMIT];
+};
+
 struct metrics {
     const struct address *address;
     int file; /* -1: none is asked for */
-    int readers[READER_LIMIT];
+    struct reader readers[READER_LIMIT];
 };
 
 /* Takes the address; a status, and why is reported. */
 int metrics_open(struct metrics *metrics, const struct address *address);
 void metrics_watch(const struct metrics *metrics, struct watch *watch);
-void metrics_serve(struct metrics *metrics, const char *process, const struct figure *figures, size_t count);
+void metrics_serve(struct metrics *metrics, const struct view *view);
 void metrics_close(struct metrics *metrics);
 
 #endif

@@ -17,17 +17,17 @@ static size_t figures(const struct gateway_host *host, struct figure out[FIGURES
     }
     for (int i = 0; i < CLIENTS_LIMIT; i++) clients += host->clients.all[i].out >= 0;
     const struct figure all[FIGURES] = {
-        {"logged", logged, NULL, "SSN of the last inputs, of those processes that had one since it began"},
-        {"waiting", waiting, NULL, "inputs that have no number yet"},
-        {"shown", shown, NULL, "SSN of the last outputs, of those processes that had one since it began"},
-        {"printed", host->outputs, NULL, "outputs that were printed since it began"},
-        {"untaken", host->waiting.count, NULL, "outputs that were handed out, and that nobody has taken"},
-        {"programs", clients, NULL, "programs that hand in inputs or take outputs"},
-        {"behind", host->store.behind, NULL, "bytes of records after the store"},
-        {"refused", host->refused, NULL, "times that bytes came that are no packet"},
-        {"broken", host->transport.broken, NULL, "times that something came that is no bundle"},
-        {"foreign", host->transport.foreign, NULL, "times that a bundle of another cluster came"},
-        {"lost", host->transport.lost, NULL, "packets that found no way"},
+        {"logged", logged, NULL, "SSN of the last inputs, of those processes that had one since it began", false},
+        {"waiting", waiting, NULL, "inputs that have no number yet", false},
+        {"shown", shown, NULL, "SSN of the last outputs, of those processes that had one since it began", false},
+        {"printed", host->outputs, NULL, "outputs that were printed since it began", true},
+        {"untaken", host->waiting.count, NULL, "outputs that were handed out, and that nobody has taken", false},
+        {"programs", clients, NULL, "programs that hand in inputs or take outputs", false},
+        {"behind", host->store.behind, NULL, "bytes of records after the store", false},
+        {"refused", host->refused, NULL, "times that bytes came that are no packet", true},
+        {"broken", host->transport.broken, NULL, "times that something came that is no bundle", true},
+        {"foreign", host->transport.foreign, NULL, "times that a bundle of another cluster came", true},
+        {"lost", host->transport.lost, NULL, "packets that found no way", true},
     };
     memcpy(out, all, sizeof all);
     return FIGURES;
@@ -37,7 +37,9 @@ void gateway_show(struct gateway_host *host, uint64_t now) {
     struct figure all[FIGURES];
     size_t count = figures(host, all);
     bool is_due = host->options->status && now >= host->next_status;
-    metrics_serve(&host->metrics, "gateway", all, count);
+    const struct histogram syncs = syncer_took(&host->store.syncer);
+    metrics_serve(&host->metrics, &(struct view){.process = "gateway", .stage = "up", .is_ready = true, .figures = all, .count = count,
+                                                 .messages = &host->pace.took, .syncs = &syncs});
     if (!is_due && !signal_status) return;
     signal_status = 0;
     if (is_due) host->next_status = now + SECOND;

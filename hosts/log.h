@@ -2,6 +2,7 @@
 #ifndef LOG_H
 #define LOG_H
 
+#include <stdbool.h>
 #include <stddef.h>
 #include <stdint.h>
 
@@ -16,6 +17,7 @@ struct figure {
     uint64_t value;
     const char *word; /* in a line, where a word says more than the value */
     const char *help;
+    bool is_total; /* it only grows */
 };
 
 struct log_line {

@@ -1,4 +1,5 @@
 """What programs tell of themselves: whether one would start, what its store holds, and lines in the form that is asked for."""
+import http.client
 import json
 import os
 import re
@@ -10,7 +11,9 @@ import subprocess
 import time
 
 from lives import Cluster, Wrong, program_path
-from listening import PROCESSES, begin, connect, works
+from listening import HERE, PROCESSES, begin, connect, works
+
+PORT = 17740  # of figures
 
 
 def told(words, status=0):
@@ -124,6 +127,104 @@ def has_line(node, event):
                 return line
         time.sleep(0.01)
     raise Wrong(f"{node.name} says no {event}: {node.said}")
+
+
+def asked(port, path, word="GET"):
+    """What a program answers over HTTP: status and text."""
+    out = http.client.HTTPConnection("127.0.0.1", port, timeout=20)
+    out.request(word, path)
+    answer = out.getresponse()
+    return answer.status, answer.read().decode()
+
+
+def answers(port, path, status, text):
+    until, found = time.monotonic() + 20, None
+    while found != (status, text):
+        if time.monotonic() > until:
+            raise Wrong(f"{path} is answered by {found}, not {(status, text)}")
+        try:
+            found = asked(port, path)
+        except OSError as away:
+            found = away
+            time.sleep(0.05)
+
+
+def figures(port):
+    """The samples of /metrics, by name and labels without the process; each has a type."""
+    status, text = asked(port, "/metrics")
+    typed = set(re.findall(r"(?m)^# TYPE (\S+) (?:gauge|counter|histogram)$", text))
+    samples = {}
+    for name, labels, value in re.findall(r'(?m)^(\w+)\{process="\w+"(.*?)\} (\S+)$', text):
+        samples[name + labels] = float(value)
+        if name not in typed and re.sub("_(bucket|sum|count)$", "", name) not in typed:
+            raise Wrong(f"{name} has no type")
+    if status != 200 or len(samples) + 2 * len(typed) != len(text.splitlines()):
+        raise Wrong(f"/metrics: {status} {text}")
+    return samples
+
+
+def counts(samples, name):
+    """How often a histogram was added to; its buckets only grow."""
+    buckets = [value for key, value in samples.items() if key.startswith(f"{name}_bucket,le=")]
+    if len(buckets) != 17 or buckets != sorted(buckets) or buckets[-1] != samples[f"{name}_count"]:
+        raise Wrong(f"{name} is {buckets}, {samples}")
+    if (samples[f"{name}_sum"] > 0) != (buckets[-1] > 0):
+        raise Wrong(f"the sum of {name} is {samples[f'{name}_sum']}")
+    return buckets[-1]
+
+
+def are_known(*all_samples):
+    """Dashboard and alerts ask for what is there."""
+    known = {re.sub(",.*", "", key) for samples in all_samples for key in samples}
+    for name in ("grafana.json", "alerts.yaml"):
+        with open(os.path.join(HERE, "examples", name)) as file:
+            text = file.read()
+        if name.endswith("json"):
+            json.loads(text)
+        asked_for = set(re.findall(r"\bsblog_\w+", text))
+        if not asked_for or asked_for - known:
+            raise Wrong(f"{name} asks for {asked_for - known}")
+
+
+def health(folder):
+    """Figures, histograms and health over TCP; also of a program that waits for others, and beside readers that say nothing."""
+    cluster = Cluster(folder, "programs", PROCESSES)
+    cluster.lines = os.path.join(folder, "lines")
+    ports = [PORT + program.number for program in cluster.programs]
+    for program, port in zip(cluster.programs, ports):
+        program.words = ["--metrics", f"tcp:127.0.0.1:{port}", "--checkpoint-every", "2"]
+    cluster.gateway.words += ["--listen", "unix:" + cluster.lines]
+    relay, echo = cluster.nodes
+    relay.start()
+    answers(ports[1], "/readyz", 503, "joining\n")
+    answers(ports[1], "/healthz", 200, "joining\n")
+    for program in (echo, cluster.gateway):
+        program.start()
+    for port in ports:
+        answers(port, "/readyz", 200, "up\n")
+    one = connect(cluster)
+    one.says("outputs")
+    works(cluster, one, *range(1, 6))
+    samples = [figures(port) for port in ports]
+    for sample in samples:
+        if not counts(sample, "sblog_message_seconds") or not counts(sample, "sblog_sync_seconds"):
+            raise Wrong(f"nothing is counted: {sample}")
+    if counts(samples[1], "sblog_sync_seconds") != samples[1]["sblog_checkpoints_total"]:
+        raise Wrong(f"not a sync a checkpoint: {samples[1]}")
+    are_known(*samples)
+    if [asked(ports[0], path, word)[0] for path, word in (("/", "GET"), ("/metricsx", "GET"), ("/metrics", "POST"))] != [404, 404, 400]:
+        raise Wrong("other requests are answered otherwise")
+    silent = [socket.create_connection(("127.0.0.1", ports[1])) for _ in range(9)]
+    silent[8].sendall(b"GET /healthz HTTP/1.0\r\n")
+    cluster.gateway.kill()
+    relay.kill()
+    relay.start()
+    answers(ports[1], "/readyz", 503, "collecting\n")
+    cluster.gateway.start()
+    answers(ports[1], "/readyz", 200, "up\n")
+    silent = [socket.create_connection(("127.0.0.1", ports[1])) for _ in range(9)]
+    silent[8].sendall(b"GET /healthz HTTP/1.0\r\n")
+    answers(ports[1], "/healthz", 200, "up\n")
 
 
 def looks(folder):

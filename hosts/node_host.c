@@ -24,7 +24,9 @@ static int keep(struct node_host *host) {
     uint32_t code = node_freeze(host, &size);
     if (code == SBLOG_NODE_UNREADY || code == SBLOG_NODE_MEMORY) return STATUS_DONE;
     if (code != SBLOG_NODE_DONE) return code_refused("checkpoint", code, 0);
+    uint64_t since = clock_now();
     int status = slots_write(&host->slots, host->bytes, size);
+    histogram_add(&host->syncs, clock_now() - since);
     if (status != STATUS_DONE) return status;
     host->checkpoints++;
     code = sblog_node_saved(&host->node);
@@ -77,8 +79,8 @@ static void put_out(struct node_host *host) {
 static void tell_up(const sblog_standing *now, uint64_t took) {
     char sentence[256];
     const struct figure all[] = {
-        {"incarnation", now->incarnation, NULL, NULL}, {"length", now->length, NULL, NULL},
-        {"covered", now->base, NULL, NULL},            {"microseconds", took, NULL, NULL},
+        {.name = "incarnation", .value = now->incarnation}, {.name = "length", .value = now->length},
+        {.name = "covered", .value = now->base},            {.name = "microseconds", .value = took},
     };
     snprintf(sentence, sizeof sentence, "up in incarnation %" PRIu64 " with %" PRIu64 " messages, %" PRIu64 " of its checkpoint, after %.1f ms",
              now->incarnation, now->length, now->base, (double)took / 1000);
@@ -106,24 +108,24 @@ enum { FIGURES = 18, NO_PEER = 1, FULL, LONG }; /* codes of helpers that refuse 
 static size_t figures(struct node_host *host, struct figure out[FIGURES]) {
     const sblog_standing *now = &host->standing;
     const struct figure all[FIGURES] = {
-        {"length", now->length, NULL, "messages that the state has"},
-        {"covered", now->base, NULL, "messages that the durable checkpoint covers"},
-        {"incarnation", now->incarnation, NULL, "which life this is"},
-        {"stage", now->stage, STAGES[now->stage], "0 up, 1 busy, 2 frozen, 3 collecting, 4 replaying, 5 resuming"},
-        {"exact", now->exact, now->exact ? "yes" : "no", "1 where failures came one at a time as far as it knows"},
-        {"receipts", now->receipts, NULL, "messages behind the checkpoint"},
-        {"kept", now->entries, NULL, "messages kept for their receivers"},
-        {"packets", now->packets, NULL, "packets to be sent"},
-        {"replays", now->replays, NULL, "messages that are still to be replayed"},
-        {"waits", now->waited_for, NULL, "peers waited for, a bit each, 1 the gateway"},
-        {"checkpoints", host->checkpoints, NULL, "checkpoints that this life has stored"},
-        {"effects_no_peer", sblog_node_refused(&host->node, NO_PEER), NULL, "sends of the handler that were refused: to no other process"},
-        {"effects_full", sblog_node_refused(&host->node, FULL), NULL, "its sends and outputs that were refused: more than 8 of a call"},
-        {"effects_long", sblog_node_refused(&host->node, LONG), NULL, "its sends and outputs that were refused: above 256 bytes"},
-        {"refused", host->refused, NULL, "times that bytes came that are no packet"},
-        {"broken", host->transport.broken, NULL, "times that something came that is no bundle"},
-        {"foreign", host->transport.foreign, NULL, "times that a bundle of another cluster came"},
-        {"lost", host->transport.lost, NULL, "packets that found no way"},
+        {"length", now->length, NULL, "messages that the state has", false},
+        {"covered", now->base, NULL, "messages that the durable checkpoint covers", false},
+        {"incarnation", now->incarnation, NULL, "which life this is", false},
+        {"stage", now->stage, STAGES[now->stage], "0 up, 1 busy, 2 frozen, 3 collecting, 4 replaying, 5 resuming", false},
+        {"exact", now->exact, now->exact ? "yes" : "no", "1 where failures came one at a time as far as it knows", false},
+        {"receipts", now->receipts, NULL, "messages behind the checkpoint", false},
+        {"kept", now->entries, NULL, "messages kept for their receivers", false},
+        {"packets", now->packets, NULL, "packets to be sent", false},
+        {"replays", now->replays, NULL, "messages that are still to be replayed", false},
+        {"waits", now->waited_for, NULL, "peers waited for, a bit each, 1 the gateway", false},
+        {"checkpoints", host->checkpoints, NULL, "checkpoints that this life has stored", true},
+        {"effects_no_peer", sblog_node_refused(&host->node, NO_PEER), NULL, "sends of the handler that were refused: to no other process", true},
+        {"effects_full", sblog_node_refused(&host->node, FULL), NULL, "its sends and outputs that were refused: more than 8 of a call", true},
+        {"effects_long", sblog_node_refused(&host->node, LONG), NULL, "its sends and outputs that were refused: above 256 bytes", true},
+        {"refused", host->refused, NULL, "times that bytes came that are no packet", true},
+        {"broken", host->transport.broken, NULL, "times that something came that is no bundle", true},
+        {"foreign", host->transport.foreign, NULL, "times that a bundle of another cluster came", true},
+        {"lost", host->transport.lost, NULL, "packets that found no way", true},
     };
     memcpy(out, all, sizeof all);
     return FIGURES;
@@ -133,7 +135,8 @@ static void show(struct node_host *host, uint64_t now) {
     struct figure all[FIGURES];
     size_t count = figures(host, all);
     bool is_due = host->options->status && now >= host->next_status;
-    metrics_serve(&host->metrics, name_of(host), all, count);
+    metrics_serve(&host->metrics, &(struct view){.process = name_of(host), .stage = STAGES[host->standing.stage], .is_ready = host->was_up,
+                                                 .figures = all, .count = count, .messages = &host->pace.took, .syncs = &host->syncs});
     if (!is_due && !signal_status) return;
     signal_status = 0;
     if (is_due) host->next_status = now + SECOND;

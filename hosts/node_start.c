@@ -136,7 +136,7 @@ int node_begin(struct node_host *host) {
     if (status == STATUS_DONE) pace_begin(&host->pace, &host->transport, options->tick);
     if (status == STATUS_DONE) status = metrics_open(&host->metrics, &options->metrics);
     if (status == STATUS_DONE) status = begin_life(host, &owner, is_new);
-    return status == STATUS_DONE ? membership_join(options, &owner, &host->store, &host->ids, &host->transport) : status;
+    return status == STATUS_DONE ? membership_join(options, &owner, &host->store, &host->ids, &host->transport, &host->metrics) : status;
 }
 
 int node_look(struct node_host *host) {

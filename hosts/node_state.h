@@ -20,6 +20,7 @@ struct node_host {
     struct transport transport;
     struct pace pace;
     struct metrics metrics;
+    struct histogram syncs;
     sblog_node node;
     sblog_standing standing;
     uint8_t *image, *bytes;

@@ -29,7 +29,7 @@ static const char USAGE[] =
     "  --durable              what it sends waits for a checkpoint that covers it\n"
     "  --tick MS              what isn't answered goes again after MS milliseconds or more (1 to 10000; 5)\n"
     "  --listen unix:PATH     the gateway takes lines of programs that connect there\n"
-    "  --metrics unix:PATH    figures for Prometheus, by HTTP\n"
+    "  --metrics unix:PATH    figures for Prometheus, by HTTP: /metrics; /healthz, /readyz; or tcp:HOST:PORT\n"
     "  --status               a line of figures a second, on standard error\n"
     "  --log json, --log pairs  lines of standard error as JSON, or as key=value\n"
     "  --check                starts nothing: says whether these words, cluster file, image, store and addresses would do\n"
@@ -85,7 +85,7 @@ static bool read_option(int option, const char *text, struct options *options) {
     case CHECK: options->looks = true; break;
     case INSPECT: options->inspected = text; break;
     case LISTEN: return read_address(text, CARRIER_UNIX, &options->listen);
-    case METRICS: return read_address(text, CARRIER_UNIX, &options->metrics);
+    case METRICS: return read_address(text, CARRIER_TCP, &options->metrics);
     case ME:
         is_taken = read_number(text, 0, PROCESS_LIMIT, &number);
         options->me = (int)number;
