@@ -1,6 +1,7 @@
 #include "gateway_state.h"
 
 #include "limits.h"
+#include "privileges.h"
 #include "report.h"
 
 #include <stdlib.h>
@@ -88,6 +89,7 @@ int gateway_begin(struct gateway_host *host) {
     if (status == STATUS_DONE) pace_begin(&host->pace, &host->transport, options->tick);
     if (status == STATUS_DONE) status = metrics_open(&host->metrics, &options->metrics);
     if (status == STATUS_DONE) status = clients_open(&host->clients, &options->listen);
+    if (status == STATUS_DONE) status = privileges_drop(options, host->cluster, &host->folder);
     if (status == STATUS_DONE) status = begin_life(host, is_new);
     transport_belongs(&host->transport, &host->ids.cluster);
     return status;
@@ -101,6 +103,7 @@ int gateway_look(struct gateway_host *host) {
     status_first(&status, transport_look(host->cluster, 0));
     status_first(&status, address_look(&options->metrics, SOCK_STREAM));
     status_first(&status, address_look(&options->listen, SOCK_STREAM));
+    status_first(&status, privileges_look(options));
     if (store == STATUS_DONE) status_first(&status, begin_life(host, is_new));
     return status;
 }

@@ -3,6 +3,7 @@
 #include "hash.h"
 #include "limits.h"
 #include "membership.h"
+#include "privileges.h"
 #include "report.h"
 
 #include <inttypes.h>
@@ -135,6 +136,7 @@ int node_begin(struct node_host *host) {
     if (status == STATUS_DONE) status = transport_open(&host->transport, host->cluster, options->me);
     if (status == STATUS_DONE) pace_begin(&host->pace, &host->transport, options->tick);
     if (status == STATUS_DONE) status = metrics_open(&host->metrics, &options->metrics);
+    if (status == STATUS_DONE) status = privileges_drop(options, host->cluster, &host->store);
     if (status == STATUS_DONE) status = begin_life(host, &owner, is_new);
     return status == STATUS_DONE ? membership_join(options, &owner, &host->store, &host->ids, &host->transport, &host->metrics) : status;
 }
@@ -149,6 +151,7 @@ int node_look(struct node_host *host) {
     status_first(&status, store);
     status_first(&status, transport_look(host->cluster, options->me));
     status_first(&status, address_look(&options->metrics, SOCK_STREAM));
+    status_first(&status, privileges_look(options));
     if (image == STATUS_DONE) status_first(&status, store == STATUS_DONE ? begin_life(host, &owner, is_new) : open_new(host, &owner));
     return status;
 }

@@ -31,6 +31,8 @@ static const char USAGE[] =
     "  --listen unix:PATH     the gateway takes lines of programs that connect there\n"
     "  --metrics unix:PATH    figures for Prometheus, by HTTP: /metrics; /healthz, /readyz; or tcp:HOST:PORT\n"
     "  --status               a line of figures a second, on standard error\n"
+    "  --user NAME            becomes this user once all is open\n"
+    "  --sandbox              makes no system call from then on but those that it needs\n"
     "  --log json, --log pairs  lines of standard error as JSON, or as key=value\n"
     "  --check                starts nothing: says whether these words, cluster file, image, store and addresses would do\n"
     "  --inspect DIR          says what a store holds, and ends\n"
@@ -40,7 +42,7 @@ static const char USAGE[] =
     "Statuses: 0; 2 the command line; 3 a refused image; 4 a refused cluster file; 5 want of memory;\n"
     "6 input and output; 7 a store that isn't this process's or its cluster's, or is in use.\n";
 
-enum { CLUSTER = 1, ME, STORE, CHECKPOINT_EVERY, DURABLE, EVERY_TICK, LISTEN, METRICS, STATUS, LOG, CHECK, INSPECT, HELP, VERSION };
+enum { CLUSTER = 1, ME, STORE, CHECKPOINT_EVERY, DURABLE, EVERY_TICK, LISTEN, METRICS, STATUS, LOG, USER, SANDBOX, CHECK, INSPECT, HELP, VERSION };
 
 static const struct option OPTIONS[] = {
     {"cluster", required_argument, NULL, CLUSTER}, {"me", required_argument, NULL, ME},
@@ -50,6 +52,7 @@ static const struct option OPTIONS[] = {
     {"status", no_argument, NULL, STATUS},         {"help", no_argument, NULL, HELP},
     {"version", no_argument, NULL, VERSION},       {"check", no_argument, NULL, CHECK},
     {"inspect", required_argument, NULL, INSPECT}, {"log", required_argument, NULL, LOG},
+    {"user", required_argument, NULL, USER},       {"sandbox", no_argument, NULL, SANDBOX},
     {NULL, 0, NULL, 0},
 };
 
@@ -82,6 +85,8 @@ static bool read_option(int option, const char *text, struct options *options) {
     case DURABLE: options->durable = true; break;
     case STATUS: options->status = true; break;
     case LOG: return read_form(text, &(enum log_form){LOG_PEOPLE});
+    case USER: options->user = text; break;
+    case SANDBOX: options->sandbox = true; break;
     case CHECK: options->looks = true; break;
     case INSPECT: options->inspected = text; break;
     case LISTEN: return read_address(text, CARRIER_UNIX, &options->listen);

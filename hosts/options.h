@@ -9,12 +9,12 @@
 #include <stdint.h>
 
 struct options {
-    const char *cluster, *store, *inspected;
+    const char *cluster, *store, *inspected, *user;
     struct address listen, metrics; /* without a place if they weren't asked for */
     int me;
     uint32_t checkpoint_every; /* messages */
     uint64_t tick;             /* microseconds */
-    bool durable, status, looks;
+    bool durable, status, looks, sandbox;
 };
 
 /* Reads the command line; a status, and what isn't taken is reported. */

@@ -7,6 +7,8 @@
 #include "options.h"
 #include "report.h"
 
+#include <sys/stat.h>
+
 int main(int argc, char **argv) {
     static struct cluster cluster;
     struct options options;
@@ -19,6 +21,7 @@ int main(int argc, char **argv) {
         return STATUS_CLUSTER;
     }
     report_as(cluster.processes[options.me].name);
+    umask(S_IRWXG | S_IRWXO); /* files and sockets are this user's alone */
     signals_take();
     return options.me == 0 ? gateway_run(&options, &cluster) : node_run(&options, &cluster);
 }
