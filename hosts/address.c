@@ -13,7 +13,7 @@
 
 enum { WAITING = 64 };
 
-static const char *const CARRIERS[] = {"unix:", "tcp:", "nats:"};
+static const char *const CARRIERS[] = {"unix:", "tcp:", "tls:", "nats:"};
 enum { CARRIER_COUNT = sizeof CARRIERS / sizeof *CARRIERS };
 
 static bool is_host_and_port(const char *where) {
@@ -34,10 +34,11 @@ const char *address_read(const char *word, struct address *address) {
         if (carrier == CARRIER_UNIX && strlen(where) >= sizeof((struct sockaddr_un *)0)->sun_path)
             return "the path of a socket has at most 107 bytes";
         if (carrier == CARRIER_TCP && !is_host_and_port(where)) return "an address of tcp is tcp:HOST:PORT";
+        if (carrier == CARRIER_TLS && !is_host_and_port(where)) return "an address of tls is tls:HOST:PORT";
         *address = (struct address){.carrier = (enum carrier)carrier, .where = strdup(where)};
         return address->where ? NULL : "there is no memory";
     }
-    return "an address begins with unix:, tcp: or nats:";
+    return "an address begins with unix:, tcp:, tls: or nats:";
 }
 
 int address_listen(const struct address *address, int *file) {

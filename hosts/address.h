@@ -4,7 +4,7 @@
 
 #include <stdbool.h>
 
-enum carrier { CARRIER_UNIX, CARRIER_TCP, CARRIER_NATS };
+enum carrier { CARRIER_UNIX, CARRIER_TCP, CARRIER_TLS, CARRIER_NATS };
 
 struct address {
     enum carrier carrier;

@@ -1,15 +1,17 @@
 #include "clients.h"
 
 #include "report.h"
+#include "tcp_address.h"
+#include "tls.h"
 
 #include <sys/socket.h>
 #include <unistd.h>
 
 int clients_open(struct clients *clients, const struct address *address) {
     clients->address = address;
-    for (int i = 0; i < CLIENTS_LIMIT; i++) client_open(&clients->all[i], -1, -1);
+    for (int i = 0; i < CLIENTS_LIMIT; i++) client_open(&clients->all[i], -1, -1, NULL);
     if (!address->where) {
-        client_open(&clients->all[0], STDIN_FILENO, STDOUT_FILENO);
+        client_open(&clients->all[0], STDIN_FILENO, STDOUT_FILENO, NULL);
         clients->all[0].takes_outputs = true;
     }
     return address_listen(address, &clients->listener);
@@ -22,7 +24,11 @@ void clients_welcome(struct clients *clients) {
         if (client->out >= 0) continue;
         int file = accept4(clients->listener, NULL, NULL, SOCK_NONBLOCK | SOCK_CLOEXEC);
         if (file < 0) return;
-        client_open(client, file, file);
+        bool is_sealed = clients->address->carrier == CARRIER_TLS;
+        struct tls *tls = is_sealed ? tls_accept(file, TLS_PROGRAM) : NULL;
+        if (is_sealed) tcp_keep_alive(file);
+        client_open(client, file, file, tls);
+        if (is_sealed && !tls) client_close(client);
     }
 }
 

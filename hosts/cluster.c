@@ -7,6 +7,7 @@
 #include <stdio.h>
 #include <stdlib.h>
 #include <string.h>
+#include <strings.h>
 
 enum { WORD_LIMIT = 5, FAULT_LIMIT = 20 };
 
@@ -97,7 +98,12 @@ static int judge(const struct reading *at, const struct cluster *cluster) {
     }
     for (int p = 0; p <= cluster->count; p++)
         for (int q = 0; q < p; q++) {
-            const struct address *a = &cluster->processes[p].address, *b = &cluster->processes[q].address;
+            const struct process *one = &cluster->processes[p], *other = &cluster->processes[q];
+            const struct address *a = &one->address, *b = &other->address;
+            if (a->carrier == CARRIER_TLS && !strcasecmp(one->name, other->name)) {
+                report("%s: certificates tell no small letter from a large one: %s", at->path, one->name);
+                return STATUS_CLUSTER;
+            }
             if (a->carrier == CARRIER_NATS || a->carrier != b->carrier || strcmp(a->where, b->where) != 0) continue;
             report("%s: two have the same address: %s", at->path, a->where);
             return STATUS_CLUSTER;
@@ -135,4 +141,10 @@ int cluster_find(const struct cluster *cluster, const char *name) {
     for (int p = 1; p <= cluster->count; p++)
         if (!strcmp(cluster->processes[p].name, name)) return p;
     return 0;
+}
+
+bool cluster_has(const struct cluster *cluster, enum carrier carrier) {
+    for (int p = 0; p <= cluster->count; p++)
+        if (cluster->processes[p].address.carrier == carrier) return true;
+    return false;
 }

@@ -22,6 +22,9 @@ struct cluster {
 /* Reads a file; a status, and each line that isn't taken is reported. */
 int cluster_read(const char *path, struct cluster *cluster);
 
+/* Whether anybody has an address by this carrier. */
+bool cluster_has(const struct cluster *cluster, enum carrier carrier);
+
 /* The number of a process, 0 if there is none of this name. */
 int cluster_find(const struct cluster *cluster, const char *name);
 

@@ -1,12 +1,13 @@
 #include "gateway_state.h"
 
 #include "report.h"
+#include "tls.h"
 
 #include <string.h>
 
 enum { SECOND = 1000000 };
 
-enum { FIGURES = 11 };
+enum { FIGURES = 12 };
 
 static size_t figures(const struct gateway_host *host, struct figure out[FIGURES]) {
     uint64_t logged = 0, waiting = 0, shown = 0, clients = 0;
@@ -27,6 +28,7 @@ static size_t figures(const struct gateway_host *host, struct figure out[FIGURES
         {"refused", host->refused, NULL, "times that bytes came that are no packet", true},
         {"broken", host->transport.broken, NULL, "times that something came that is no bundle", true},
         {"foreign", host->transport.foreign, NULL, "times that a bundle of another cluster came", true},
+        {"strangers", tls_refused(), NULL, "connections by tls that were refused", true},
         {"lost", host->transport.lost, NULL, "packets that found no way", true},
     };
     memcpy(out, all, sizeof all);

@@ -190,6 +190,7 @@ static int give_out(struct gateway_host *host) {
 
 static int turn(struct gateway_host *host, bool *is_more) {
     const struct owner owner = gateway_owner(host);
+    transport_reload(&host->transport);
     clients_welcome(&host->clients);
     for (int i = 0; i < CLIENTS_LIMIT && !signal_stop; i++) read_lines(host, &host->clients.all[i]);
     int received = receive(host);

@@ -29,6 +29,7 @@ static int hear(const struct owner *owner, const struct store *store, struct ids
 static void wait(struct transport *transport, struct metrics *metrics, const char *name, uint64_t until) {
     struct watch watch;
     const uint8_t *packet;
+    transport_reload(transport);
     transport_serve(transport);
     watch_begin(&watch, until);
     transport_watch(transport, &watch);

@@ -3,6 +3,7 @@
 #include "limits.h"
 #include "node_state.h"
 #include "report.h"
+#include "tls.h"
 
 #include <errno.h>
 #include <inttypes.h>
@@ -103,7 +104,7 @@ static int tell(struct node_host *host) {
     return status;
 }
 
-enum { FIGURES = 18, NO_PEER = 1, FULL, LONG }; /* codes of helpers that refuse a send or an output */
+enum { FIGURES = 19, NO_PEER = 1, FULL, LONG }; /* codes of helpers that refuse a send or an output */
 
 static size_t figures(struct node_host *host, struct figure out[FIGURES]) {
     const sblog_standing *now = &host->standing;
@@ -125,6 +126,7 @@ static size_t figures(struct node_host *host, struct figure out[FIGURES]) {
         {"refused", host->refused, NULL, "times that bytes came that are no packet", true},
         {"broken", host->transport.broken, NULL, "times that something came that is no bundle", true},
         {"foreign", host->transport.foreign, NULL, "times that a bundle of another cluster came", true},
+        {"strangers", tls_refused(), NULL, "connections by tls that were refused", true},
         {"lost", host->transport.lost, NULL, "packets that found no way", true},
     };
     memcpy(out, all, sizeof all);
@@ -197,6 +199,7 @@ static int run(struct node_host *host) {
     bool is_more;
     int status;
     do {
+        transport_reload(&host->transport);
         status = turn(host, &is_more);
         watch_begin(&watch, is_more || signal_stop ? 0 : host->next_tick);
         if (host->options->status) watch_time(&watch, host->next_status);

@@ -28,9 +28,10 @@ static const char USAGE[] =
     "  --checkpoint-every K   a checkpoint after K messages (1 to 65536; 256)\n"
     "  --durable              what it sends waits for a checkpoint that covers it\n"
     "  --tick MS              what isn't answered goes again after MS milliseconds or more (1 to 10000; 5)\n"
-    "  --listen unix:PATH     the gateway takes lines of programs that connect there\n"
+    "  --listen unix:PATH     the gateway takes lines of programs that connect there, or at tls:HOST:PORT\n"
     "  --metrics unix:PATH    figures for Prometheus, by HTTP: /metrics; /healthz, /readyz; or tcp:HOST:PORT\n"
     "  --status               a line of figures a second, on standard error\n"
+    "  --tls DIR              its certificate and key, tls.crt and tls.key, and the authority's, ca.crt\n"
     "  --user NAME            becomes this user once all is open\n"
     "  --sandbox              makes no system call from then on but those that it needs\n"
     "  --log json, --log pairs  lines of standard error as JSON, or as key=value\n"
@@ -38,11 +39,12 @@ static const char USAGE[] =
     "  --inspect DIR          says what a store holds, and ends\n"
     "  --version              says which version this is, and ends\n"
     "\n"
-    "SIGUSR1 prints that line once. SIGTERM and SIGINT end it, a process behind a checkpoint.\n"
+    "SIGUSR1 prints that line once. SIGHUP reads the files of --tls again. SIGTERM and SIGINT end it, a process behind a checkpoint.\n"
     "Statuses: 0; 2 the command line; 3 a refused image; 4 a refused cluster file; 5 want of memory;\n"
     "6 input and output; 7 a store that isn't this process's or its cluster's, or is in use.\n";
 
-enum { CLUSTER = 1, ME, STORE, CHECKPOINT_EVERY, DURABLE, EVERY_TICK, LISTEN, METRICS, STATUS, LOG, USER, SANDBOX, CHECK, INSPECT, HELP, VERSION };
+enum { CLUSTER = 1, ME, STORE, CHECKPOINT_EVERY, DURABLE, EVERY_TICK, LISTEN, METRICS, STATUS, LOG, TLS, USER, SANDBOX, CHECK, INSPECT,
+       HELP, VERSION };
 
 static const struct option OPTIONS[] = {
     {"cluster", required_argument, NULL, CLUSTER}, {"me", required_argument, NULL, ME},
@@ -53,7 +55,7 @@ static const struct option OPTIONS[] = {
     {"version", no_argument, NULL, VERSION},       {"check", no_argument, NULL, CHECK},
     {"inspect", required_argument, NULL, INSPECT}, {"log", required_argument, NULL, LOG},
     {"user", required_argument, NULL, USER},       {"sandbox", no_argument, NULL, SANDBOX},
-    {NULL, 0, NULL, 0},
+    {"tls", required_argument, NULL, TLS},         {NULL, 0, NULL, 0},
 };
 
 /* A number in its range. */
@@ -89,7 +91,8 @@ static bool read_option(int option, const char *text, struct options *options) {
     case SANDBOX: options->sandbox = true; break;
     case CHECK: options->looks = true; break;
     case INSPECT: options->inspected = text; break;
-    case LISTEN: return read_address(text, CARRIER_UNIX, &options->listen);
+    case TLS: options->tls = text; break;
+    case LISTEN: return read_address(text, CARRIER_TLS, &options->listen);
     case METRICS: return read_address(text, CARRIER_TCP, &options->metrics);
     case ME:
         is_taken = read_number(text, 0, PROCESS_LIMIT, &number);
@@ -112,6 +115,7 @@ static int judge(const struct options *options) {
     if (options->inspected) return STATUS_DONE;
     if (!options->cluster || options->me < 0 || !options->store) report("--cluster, --me and --store are needed; see --help");
     else if (options->listen.where && options->me != 0) report("--listen is of the gateway alone");
+    else if (options->listen.carrier == CARRIER_TLS && !options->tls) report("--tls is needed by --listen tls:");
     else if (options->durable && options->me == 0) report("--durable is of processes alone: the gateway always is");
     else return STATUS_DONE;
     return STATUS_COMMAND;
@@ -150,7 +154,7 @@ int options_read(int argc, char **argv, struct options *options) {
     return STATUS_COMMAND;
 }
 
-volatile sig_atomic_t signal_stop, signal_status;
+volatile sig_atomic_t signal_stop, signal_status, signal_reload;
 
 static void stop(int signal) {
     (void)signal;
@@ -162,12 +166,19 @@ static void status(int signal) {
     signal_status = 1;
 }
 
-void signals_take(void) {
+static void reload(int signal) {
+    (void)signal;
+    signal_reload = 1;
+}
+
+void signals_take(bool reloads) {
     struct sigaction action = {.sa_handler = stop};
     sigaction(SIGTERM, &action, NULL);
     sigaction(SIGINT, &action, NULL);
     action.sa_handler = status;
     sigaction(SIGUSR1, &action, NULL);
+    action.sa_handler = reload;
+    if (reloads) sigaction(SIGHUP, &action, NULL);
     action.sa_handler = SIG_IGN;
     sigaction(SIGPIPE, &action, NULL);
 }

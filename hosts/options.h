@@ -9,7 +9,7 @@
 #include <stdint.h>
 
 struct options {
-    const char *cluster, *store, *inspected, *user;
+    const char *cluster, *store, *inspected, *user, *tls;
     struct address listen, metrics; /* without a place if they weren't asked for */
     int me;
     uint32_t checkpoint_every; /* messages */
@@ -20,9 +20,9 @@ struct options {
 /* Reads the command line; a status, and what isn't taken is reported. */
 int options_read(int argc, char **argv, struct options *options);
 
-/* Set by SIGTERM or SIGINT, and by SIGUSR1. */
-extern volatile sig_atomic_t signal_stop, signal_status;
+/* Set by SIGTERM or SIGINT, by SIGUSR1, and by SIGHUP, which ends a program that has no certificate. */
+extern volatile sig_atomic_t signal_stop, signal_status, signal_reload;
 
-void signals_take(void);
+void signals_take(bool reloads);
 
 #endif
