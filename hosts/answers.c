@@ -22,6 +22,6 @@ void answer_give(const struct answer *answer, const struct cluster *cluster, boo
     if (client->serial != answer->serial) return;
     client->promised--;
     if (!answer->why) client_answer(client, "logged %s %" PRIu64 "%s%s\n", name, answer->ssn, mark, answer->id);
-    else if (is_pipe) report("line %" PRIu64 ": %s", answer->line, answer->why);
+    else if (is_pipe) report_event(LEVEL_WARNING, "line", "line %" PRIu64 ": %s", answer->line, answer->why);
     else client_answer(client, "refused %" PRIu64 "%s%s %s\n", answer->line, mark, answer->id, answer->why);
 }

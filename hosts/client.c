@@ -1,6 +1,7 @@
 #include "client.h"
 
 #include "report.h"
+#include "tls.h"
 
 #include <errno.h>
 #include <inttypes.h>
@@ -15,11 +16,12 @@
    the longest output; of a line; words of the longest line, and one more. */
 enum { AT_ONCE = 4096, LONGEST_ANSWER = 256, LONGEST_OUTPUT = 640, LINE_LIMIT = 1 << 16, WORDS = 5 };
 
-void client_open(struct client *client, int in, int out) {
+void client_open(struct client *client, int in, int out, struct tls *tls) {
     static uint64_t serial;
     client->serial = ++serial;
     client->in = in;
     client->out = out;
+    client->tls = tls;
     client->is_connection = in >= 0 && in == out;
     client->takes_outputs = client->is_broken = false;
     client->line = 0;
@@ -27,9 +29,10 @@ void client_open(struct client *client, int in, int out) {
 }
 
 void client_close(struct client *client) {
+    tls_end(client->tls);
     if (client->in >= 0 && client->in != client->out) close(client->in);
     if (client->out >= 0) close(client->out);
-    client_open(client, -1, -1);
+    client_open(client, -1, -1, NULL);
 }
 
 static bool is_ready(int file, short events) {
@@ -42,10 +45,12 @@ void client_read(struct client *client) {
     if (client->from > 0) memmove(client->text, client->text + client->from, client->have);
     client->from = 0;
     size_t room = sizeof client->text - client->have;
-    if (room == 0 || !is_ready(client->in, POLLIN)) return;
-    ssize_t size = read(client->in, client->text + client->have, room);
+    char *at = client->text + client->have;
+    if (room == 0 || client->in < 0 || (!client->tls && !is_ready(client->in, POLLIN))) return;
+    ssize_t size = client->tls ? tls_receive(client->tls, at, room) : read(client->in, at, room);
     if (size > 0) client->have += (size_t)size;
     if (size > 0 || (size < 0 && (errno == EINTR || errno == EAGAIN))) return;
+    client->is_broken = client->tls && size < 0;
     client->in = -1; /* no more inputs; outputs may still come */
 }
 
@@ -187,6 +192,7 @@ void client_answer(struct client *client, const char *format, ...) {
 static ssize_t write_some(const struct client *client) {
     const char *from = client->answer + client->written;
     size_t size = client->answers - client->written;
+    if (client->tls) return tls_send(client->tls, from, size);
     if (client->is_connection) return send(client->out, from, size, MSG_DONTWAIT | MSG_NOSIGNAL);
     errno = EAGAIN;
     return is_ready(client->out, POLLOUT) ? write(client->out, from, size < AT_ONCE ? size : AT_ONCE) : -1;
@@ -205,7 +211,8 @@ void client_write(struct client *client) {
     client->written = client->answers = 0;
 }
 
-bool client_is_gone(const struct client *client) { return client->is_broken || is_ready(client->out, 0); }
+/* By tls a program that has said all ends its side of that, and its side of the stream when it goes. */
+bool client_is_gone(const struct client *client) { return client->is_broken || is_ready(client->out, client->tls ? POLLRDHUP : 0); }
 
 bool client_is_over(const struct client *client) {
     return client->out >= 0 && (client->is_broken || (client->in < 0 && client_is_gone(client)));

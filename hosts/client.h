@@ -14,6 +14,7 @@ enum { PAYLOAD_LIMIT = 256, ID_LIMIT = 64, CLIENT_ROOM = 1 << 18, ANSWER_ROOM = 
 struct client {
     int in, out; /* -1: closed */
     bool is_connection, takes_outputs, is_broken;
+    struct tls *tls; /* null for another carrier */
     uint64_t serial; /* which connection it is */
     uint64_t line;
     size_t from, have;       /* where the bytes begin that were read and not taken yet, and where they end */
@@ -35,7 +36,7 @@ struct line {
     const char *why;       /* it is refused */
 };
 
-void client_open(struct client *client, int in, int out);
+void client_open(struct client *client, int in, int out, struct tls *tls);
 void client_close(struct client *client);
 
 /* Reads what is there. */

@@ -1,24 +1,20 @@
 #include "clients.h"
 
 #include "report.h"
-#include "unix_path.h"
+#include "tcp_address.h"
+#include "tls.h"
 
 #include <sys/socket.h>
 #include <unistd.h>
 
-enum { WAITING = 16 };
-
-int clients_open(struct clients *clients, const char *path) {
-    clients->path = path;
-    clients->listener = -1;
-    for (int i = 0; i < CLIENTS_LIMIT; i++) client_open(&clients->all[i], -1, -1);
-    if (!path) {
-        client_open(&clients->all[0], STDIN_FILENO, STDOUT_FILENO);
+int clients_open(struct clients *clients, const struct address *address) {
+    clients->address = address;
+    for (int i = 0; i < CLIENTS_LIMIT; i++) client_open(&clients->all[i], -1, -1, NULL);
+    if (!address->where) {
+        client_open(&clients->all[0], STDIN_FILENO, STDOUT_FILENO, NULL);
         clients->all[0].takes_outputs = true;
-        return STATUS_DONE;
     }
-    clients->listener = unix_path_take(SOCK_STREAM, path);
-    return clients->listener >= 0 && listen(clients->listener, WAITING) == 0 ? STATUS_DONE : STATUS_IO;
+    return address_listen(address, &clients->listener);
 }
 
 void clients_welcome(struct clients *clients) {
@@ -28,7 +24,11 @@ void clients_welcome(struct clients *clients) {
         if (client->out >= 0) continue;
         int file = accept4(clients->listener, NULL, NULL, SOCK_NONBLOCK | SOCK_CLOEXEC);
         if (file < 0) return;
-        client_open(client, file, file);
+        bool is_sealed = clients->address->carrier == CARRIER_TLS;
+        struct tls *tls = is_sealed ? tls_accept(file, TLS_PROGRAM) : NULL;
+        if (is_sealed) tcp_keep_alive(file);
+        client_open(client, file, file, tls);
+        if (is_sealed && !tls) client_close(client);
     }
 }
 
@@ -42,7 +42,7 @@ int clients_serve(struct clients *clients) {
     for (int i = 0; i < CLIENTS_LIMIT; i++) {
         struct client *client = &clients->all[i];
         client_write(client);
-        if (clients->path) {
+        if (clients->address->where) {
             if (client_is_over(client) || client_is_done(client)) client_close(client);
         } else if (client_is_over(client)) {
             report("standard output is closed");
@@ -64,6 +64,4 @@ bool clients_have_lines(const struct clients *clients) {
     return false;
 }
 
-void clients_close(struct clients *clients) {
-    if (clients->listener >= 0) unlink(clients->path);
-}
+void clients_close(struct clients *clients) { address_leave(clients->address, clients->listener); }

@@ -10,13 +10,13 @@
 enum { CLIENTS_LIMIT = 16 };
 
 struct clients {
-    const char *path; /* where they connect; null for standard input and output, which is the first one then */
+    const struct address *address; /* where they connect; none for standard input and output, which is the first one then */
     int listener;
     struct client all[CLIENTS_LIMIT];
 };
 
-/* Takes the path; a status, and why is reported. */
-int clients_open(struct clients *clients, const char *path);
+/* Takes the address; a status, and why is reported. */
+int clients_open(struct clients *clients, const struct address *address);
 
 /* Takes in those that connect. */
 void clients_welcome(struct clients *clients);

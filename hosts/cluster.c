@@ -7,9 +7,9 @@
 #include <stdio.h>
 #include <stdlib.h>
 #include <string.h>
-#include <sys/un.h>
+#include <strings.h>
 
-enum { WORD_LIMIT = 6 };
+enum { WORD_LIMIT = 6, FAULT_LIMIT = 20 };
 
 /* What is being read, for sentences about it. */
 struct reading {
@@ -32,31 +32,9 @@ static bool is_name(const char *word) {
     return true;
 }
 
-static bool is_host_and_port(const char *where) {
-    const char *colon = strrchr(where, ':');
-    if (!colon || colon == where || !colon[1] || strlen(colon + 1) > 5) return false;
-    for (const char *at = colon + 1; *at; at++)
-        if (!isdigit((unsigned char)*at)) return false;
-    int port = atoi(colon + 1);
-    return port >= 1 && port <= 65535;
-}
-
 static int read_address(const struct reading *at, const char *word, struct address *address) {
-    static const char *const carriers[] = {"unix:", "tcp:", "nats:"};
-    for (int carrier = CARRIER_UNIX; carrier <= CARRIER_NATS; carrier++) {
-        size_t size = strlen(carriers[carrier]);
-        if (strncmp(word, carriers[carrier], size) != 0) continue;
-        const char *where = word + size;
-        if (!*where) return refused(at, "nothing stands behind the colon", word);
-        if (carrier == CARRIER_UNIX && strlen(where) >= sizeof((struct sockaddr_un *)0)->sun_path)
-            return refused(at, "the path of a socket has at most 107 bytes", where);
-        if (carrier == CARRIER_TCP && !is_host_and_port(where))
-            return refused(at, "an address of tcp is tcp:HOST:PORT", word);
-        address->carrier = (enum carrier)carrier;
-        address->where = strdup(where);
-        return address->where ? STATUS_DONE : STATUS_MEMORY;
-    }
-    return refused(at, "an address begins with unix:, tcp: or nats:", word);
+    const char *why = address_read(word, address);
+    return why ? refused(at, why, word) : STATUS_DONE;
 }
 
 /* An image is named from where the cluster file is. */
@@ -144,7 +122,12 @@ static int judge(const struct reading *at, const struct cluster *cluster) {
             return STATUS_CLUSTER;
         }
         for (int q = 0; q < p; q++) {
-            const struct address *a = &cluster->processes[p].address, *b = &cluster->processes[q].address;
+            const struct process *one = &cluster->processes[p], *other = &cluster->processes[q];
+            const struct address *a = &one->address, *b = &other->address;
+            if (a->carrier == CARRIER_TLS && !strcasecmp(one->name, other->name)) {
+                report("%s: certificates tell no small letter from a large one: %s", at->path, one->name);
+                return STATUS_CLUSTER;
+            }
             if (a->carrier == CARRIER_NATS || a->carrier != b->carrier || strcmp(a->where, b->where) != 0) continue;
             report("%s: two have the same address: %s", at->path, a->where);
             return STATUS_CLUSTER;
@@ -154,7 +137,7 @@ static int judge(const struct reading *at, const struct cluster *cluster) {
 }
 
 int cluster_read(const char *path, struct cluster *cluster) {
-    struct reading at = {.path = path};
+    struct reading at = {.path = path, .line = 1};
     char *line = NULL;
     size_t room = 0;
     FILE *file = fopen(path, "r");
@@ -165,9 +148,10 @@ int cluster_read(const char *path, struct cluster *cluster) {
     memset(cluster, 0, sizeof *cluster);
     strcpy(cluster->processes[0].name, "gateway");
     int status = STATUS_DONE;
-    while (status == STATUS_DONE && getline(&line, &room, file) >= 0) {
-        at.line++;
-        status = read_line(&at, line, cluster);
+    for (int faults = 0; faults < FAULT_LIMIT && getline(&line, &room, file) >= 0; at.line++) {
+        int next = read_line(&at, line, cluster);
+        faults += next != STATUS_DONE;
+        status_first(&status, next);
     }
     if (status == STATUS_DONE && !feof(file)) {
         report_fault("%s", path);
@@ -182,4 +166,10 @@ int cluster_find(const struct cluster *cluster, const char *name) {
     for (int p = 1; p <= PROCESS_LIMIT; p++)
         if (*name && !strcmp(cluster->processes[p].name, name)) return p;
     return 0;
+}
+
+bool cluster_has(const struct cluster *cluster, enum carrier carrier) {
+    for (int p = 0; p <= cluster->count; p++)
+        if (cluster->processes[p].address.carrier == carrier) return true;
+    return false;
 }

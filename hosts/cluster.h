@@ -2,14 +2,9 @@
 #ifndef CLUSTER_H
 #define CLUSTER_H
 
+#include "address.h"
+
 enum { PROCESS_LIMIT = 15, NAME_LIMIT = 32 };
-
-enum carrier { CARRIER_UNIX, CARRIER_TCP, CARRIER_NATS };
-
-struct address {
-    enum carrier carrier;
-    char *where; /* what stands behind the carrier: PATH, HOST:PORT or URL */
-};
 
 struct process {
     char name[NAME_LIMIT + 1];
@@ -24,8 +19,11 @@ struct cluster {
     struct process processes[PROCESS_LIMIT + 1];
 };
 
-/* Reads a file; a status, and the first line that isn't taken is reported. */
+/* Reads a file; a status, and each line that isn't taken is reported. */
 int cluster_read(const char *path, struct cluster *cluster);
+
+/* Whether anybody has an address by this carrier. */
+bool cluster_has(const struct cluster *cluster, enum carrier carrier);
 
 /* The number of a process, 0 if there is none of this name. */
 int cluster_find(const struct cluster *cluster, const char *name);

@@ -10,7 +10,7 @@ FILES = [
     ("process a a.sbi unix:a\nprocess a b.sbi unix:b\n", "line 2: there are two processes of this name: a"),
     ("process gateway a.sbi unix:a\n", "line 1: no process is called so"),
     ("process a a.sbi\n", "line 1: such a line is: process NAME IMAGE ADDRESS"),
-    ("process a a.sbi udp:x\n", "line 1: an address begins with unix:, tcp: or nats:"),
+    ("process a a.sbi udp:x\n", "line 1: an address begins with unix:, tcp:, tls: or nats:"),
     ("process a a.sbi unix:\n", "line 1: nothing stands behind the colon"),
     ("process a a.sbi unix:" + "x" * 108 + "\n", "line 1: the path of a socket has at most 107 bytes"),
     ("process a a.sbi tcp:here\n", "line 1: an address of tcp is tcp:HOST:PORT"),

@@ -1,67 +1,116 @@
 #include "figures.h"
 
-#include "report.h"
-#include "unix_path.h"
-
 #include <errno.h>
 #include <inttypes.h>
+#include <stdarg.h>
 #include <stdio.h>
+#include <string.h>
 #include <sys/socket.h>
 #include <unistd.h>
 
-enum { TEXT_LIMIT = 8192, LINE_LIMIT = 1024, REQUEST_LIMIT = 4096, WAITING = 16 };
+enum { TEXT_LIMIT = 32768, MILLION = 1000000, PATIENCE = 5 * MILLION }; /* microseconds that a reader has for its request */
 
-void figures_line(const char *process, const struct figure *figures, size_t count) {
-    char line[LINE_LIMIT];
-    int size = snprintf(line, sizeof line, "status %s", process);
-    for (size_t i = 0; i < count; i++) {
-        size_t room = sizeof line - (size_t)size;
-        if (figures[i].word) size += snprintf(line + size, room, " %s %s", figures[i].name, figures[i].word);
-        else size += snprintf(line + size, room, " %s %" PRIu64, figures[i].name, figures[i].value);
-    }
-    fprintf(stderr, "%s\n", line);
+struct text {
+    size_t size;
+    char bytes[TEXT_LIMIT];
+};
+
+static void add(struct text *text, const char *format, ...) {
+    va_list arguments;
+    va_start(arguments, format);
+    size_t room = sizeof text->bytes - text->size;
+    int size = vsnprintf(text->bytes + text->size, room, format, arguments);
+    va_end(arguments);
+    text->size += size < (int)room ? (size_t)size : room - 1;
 }
 
-int metrics_open(struct metrics *metrics, const char *path) {
-    *metrics = (struct metrics){.path = path, .file = -1};
-    for (int i = 0; i < READER_LIMIT; i++) metrics->readers[i] = -1;
-    if (!path) return STATUS_DONE;
-    metrics->file = unix_path_take(SOCK_STREAM, path);
-    return metrics->file >= 0 && listen(metrics->file, WAITING) == 0 ? STATUS_DONE : STATUS_IO;
+/* What only grows is there as a counter, too, by the name that Prometheus has for one. */
+static void add_figure(struct text *text, const char *process, const struct figure *figure) {
+    for (int total = 0; total <= figure->is_total; total++) {
+        const char *end = total ? "_total" : "";
+        add(text, "# HELP sblog_%s%s %s\n# TYPE sblog_%s%s %s\nsblog_%s%s{process=\"%s\"} %" PRIu64 "\n", figure->name, end, figure->help,
+            figure->name, end, total ? "counter" : "gauge", figure->name, end, process, figure->value);
+    }
+}
+
+static void add_histogram(struct text *text, const char *process, const char *name, const char *help, const struct histogram *all) {
+    uint64_t count = 0;
+    if (!all) return;
+    add(text, "# HELP sblog_%s_seconds %s\n# TYPE sblog_%s_seconds histogram\n", name, help, name);
+    for (int i = 0; i < BUCKETS; i++) {
+        count += all->counts[i];
+        add(text, "sblog_%s_seconds_bucket{process=\"%s\",le=\"%g\"} %" PRIu64 "\n", name, process, (double)HISTOGRAM_BOUNDS[i] / MILLION, count);
+    }
+    count += all->counts[BUCKETS];
+    add(text, "sblog_%s_seconds_bucket{process=\"%s\",le=\"+Inf\"} %" PRIu64 "\n", name, process, count);
+    add(text, "sblog_%s_seconds_sum{process=\"%s\"} %" PRIu64 ".%06" PRIu64 "\n", name, process, all->sum / MILLION, all->sum % MILLION);
+    add(text, "sblog_%s_seconds_count{process=\"%s\"} %" PRIu64 "\n", name, process, count);
+}
+
+int metrics_open(struct metrics *metrics, const struct address *address) {
+    metrics->address = address;
+    for (int i = 0; i < READER_LIMIT; i++) metrics->readers[i].file = -1;
+    return address_listen(address, &metrics->file);
 }
 
 void metrics_watch(const struct metrics *metrics, struct watch *watch) {
     watch_file(watch, metrics->file, POLLIN);
-    for (int i = 0; i < READER_LIMIT; i++) watch_file(watch, metrics->readers[i], POLLIN);
+    for (int i = 0; i < READER_LIMIT; i++) watch_file(watch, metrics->readers[i].file, POLLIN);
 }
 
-static void answer(int reader, const char *process, const struct figure *figures, size_t count) {
-    char text[TEXT_LIMIT];
-    int size = snprintf(text, sizeof text, "HTTP/1.0 200 OK\r\nContent-Type: text/plain; version=0.0.4\r\n\r\n");
-    for (size_t i = 0; i < count; i++) {
-        const struct figure *figure = &figures[i];
-        size += snprintf(text + size, sizeof text - (size_t)size,
-                         "# HELP sblog_%s %s\n# TYPE sblog_%s gauge\nsblog_%s{process=\"%s\"} %" PRIu64 "\n", figure->name,
-                         figure->help, figure->name, figure->name, process, figure->value);
-    }
-    send(reader, text, (size_t)size, MSG_NOSIGNAL | MSG_DONTWAIT);
+static void add_head(struct text *text, const char *status) {
+    add(text, "HTTP/1.0 %s\r\nContent-Type: text/plain; version=0.0.4\r\n\r\n", status);
 }
 
-void metrics_serve(struct metrics *metrics, const char *process, const struct figure *figures, size_t count) {
-    char request[REQUEST_LIMIT];
-    if (metrics->file < 0) return;
-    for (int i = 0; i < READER_LIMIT; i++) {
-        int *reader = &metrics->readers[i];
-        if (*reader < 0) *reader = accept4(metrics->file, NULL, NULL, SOCK_NONBLOCK | SOCK_CLOEXEC);
-        if (*reader < 0) continue;
-        ssize_t size = recv(*reader, request, sizeof request, 0);
-        if (size < 0 && errno == EAGAIN) continue;
-        if (size > 0) answer(*reader, process, figures, count);
-        close(*reader);
-        *reader = -1;
+static void answer(const char *request, const struct view *view, struct text *text) {
+    char path[64] = "";
+    bool is_get = sscanf(request, "GET %63[^ ?\r\n]", path) == 1;
+    if (is_get && !strcmp(path, "/metrics")) {
+        add_head(text, "200 OK");
+        for (size_t i = 0; i < view->count; i++) add_figure(text, view->process, &view->figures[i]);
+        add_histogram(text, view->process, "message", "from a message's first sending until its number is known, of one at a time for each peer",
+                      view->messages);
+        add_histogram(text, view->process, "sync", "what the disk takes to make a write durable", view->syncs);
+    } else if (is_get && (!strcmp(path, "/healthz") || !strcmp(path, "/readyz"))) {
+        add_head(text, view->is_ready || path[1] == 'h' ? "200 OK" : "503 Service Unavailable");
+        add(text, "%s\n", view->stage);
+    } else {
+        add_head(text, is_get ? "404 Not Found" : "400 Bad Request");
+        add(text, "GET /metrics, /healthz or /readyz\n");
     }
 }
 
-void metrics_close(struct metrics *metrics) {
-    if (metrics->file >= 0) unlink(metrics->path);
+static void reader_leaves(struct reader *reader) {
+    close(reader->file);
+    reader->file = -1;
 }
+
+/* A request is over with an empty line. One that is too long or too slow goes without an answer. */
+static void serve(struct reader *reader, const struct view *view) {
+    static struct text text;
+    ssize_t size = recv(reader->file, reader->request + reader->have, REQUEST_LIMIT - 1 - reader->have, 0);
+    if (size > 0) reader->have += (size_t)size;
+    reader->request[reader->have] = 0;
+    if (strstr(reader->request, "\r\n\r\n") || strstr(reader->request, "\n\n")) {
+        text.size = 0;
+        answer(reader->request, view, &text);
+        send(reader->file, text.bytes, text.size, MSG_NOSIGNAL | MSG_DONTWAIT);
+        reader_leaves(reader);
+    } else if (size == 0 || (size < 0 && errno != EAGAIN) || clock_now() - reader->since > PATIENCE) {
+        reader_leaves(reader);
+    }
+}
+
+void metrics_serve(struct metrics *metrics, const struct view *view) {
+    for (int i = 0; i < READER_LIMIT && metrics->file >= 0; i++) {
+        struct reader *reader = &metrics->readers[i];
+        if (reader->file < 0) {
+            reader->file = accept4(metrics->file, NULL, NULL, SOCK_NONBLOCK | SOCK_CLOEXEC);
+            reader->since = clock_now();
+            reader->have = 0;
+        }
+        if (reader->file >= 0) serve(reader, view);
+    }
+}
+
+void metrics_close(struct metrics *metrics) { address_leave(metrics->address, metrics->file); }

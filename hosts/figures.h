@@ -1,36 +1,45 @@
-/* How a program stands, in figures: a line for people, and text for Prometheus by HTTP on a socket. */
+/* How a program stands, by HTTP on a socket: its figures for Prometheus, whether it lives, and whether it is ready. */
 #ifndef FIGURES_H
 #define FIGURES_H
 
+#include "address.h"
+#include "histogram.h"
+#include "log.h"
 #include "watch.h"
 
 #include <stdbool.h>
 #include <stddef.h>
 #include <stdint.h>
 
-struct figure {
-    const char *name;
-    uint64_t value;
-    const char *word; /* in the line, where a word says more than the value */
-    const char *help;
+/* What is told of a program. */
+struct view {
+    const char *process, *stage;
+    bool is_ready;
+    const struct figure *figures;
+    size_t count;
+    const struct histogram *messages, *syncs;
 };
 
-/* A line on standard error. */
-void figures_line(const char *process, const struct figure *figures, size_t count);
+enum { READER_LIMIT = 8, REQUEST_LIMIT = 2048 };
 
-enum { READER_LIMIT = 8 };
+/* A program that has connected: it is answered once when it has asked. */
+struct reader {
+    int file; /* -1: none */
+    uint64_t since;
+    size_t have;
+    char request[REQUEST_LIMIT];
+};
 
-/* Programs that read figures: each is answered once when it has asked. */
 struct metrics {
-    const char *path;
+    const struct address *address;
     int file; /* -1: none is asked for */
-    int readers[READER_LIMIT];
+    struct reader readers[READER_LIMIT];
 };
 
-/* Takes the path; a status, and why is reported. */
-int metrics_open(struct metrics *metrics, const char *path);
+/* Takes the address; a status, and why is reported. */
+int metrics_open(struct metrics *metrics, const struct address *address);
 void metrics_watch(const struct metrics *metrics, struct watch *watch);
-void metrics_serve(struct metrics *metrics, const char *process, const struct figure *figures, size_t count);
+void metrics_serve(struct metrics *metrics, const struct view *view);
 void metrics_close(struct metrics *metrics);
 
 #endif

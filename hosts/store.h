@@ -12,6 +12,7 @@
 struct store {
     const char *path;
     int folder, lock;
+    bool is_looked_at; /* nothing is written: what would be counts as written */
 };
 
 /* Who may use a store: all of it has to be as it was in the first life. */
@@ -26,6 +27,12 @@ struct owner {
    name is in it yet, is_new is true; else its ids are read. */
 int store_open(struct store *store, const char *path, const struct owner *owner, struct ids *ids, bool *is_new);
 
+/* The same of a store that is only looked at: nothing is made or kept locked. */
+int store_look(struct store *store, const char *path, const struct owner *owner, struct ids *ids, bool *is_new);
+
+/* Whose the store is, as its file says, to be freed; null if nobody's name is in it. */
+int store_read_identity(const struct store *store, char **text);
+
 /* Writes down whose the store is, with its ids. */
 int store_claim(const struct store *store, const struct owner *owner, const struct ids *ids);
 
@@ -38,5 +45,9 @@ int store_read(const struct store *store, const char *name, uint8_t **bytes, siz
 /* The incarnation that is stored, 0 for none. */
 int store_read_incarnation(const struct store *store, uint64_t *incarnation);
 int store_write_incarnation(const struct store *store, uint64_t incarnation);
+
+/* The first life that wasn't exact, 0 for none. */
+int store_read_inexact(const struct store *store, uint64_t *incarnation);
+int store_write_inexact(const struct store *store, uint64_t incarnation);
 
 #endif

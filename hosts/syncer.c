@@ -1,5 +1,7 @@
 #include "syncer.h"
 
+#include "watch.h"
+
 #include <errno.h>
 #include <signal.h>
 #include <sys/eventfd.h>
@@ -15,8 +17,10 @@ static void *sync_on(void *of) {
         uint64_t asked = syncer->asked;
         int file = syncer->file;
         pthread_mutex_unlock(&syncer->lock);
+        uint64_t since = clock_now();
         int fault = fdatasync(file) == 0 ? 0 : errno;
         pthread_mutex_lock(&syncer->lock);
+        histogram_add(&syncer->took, clock_now() - since);
         if (fault) syncer->fault = fault;
         else if (syncer->synced < asked) syncer->synced = asked;
         eventfd_write(syncer->event, 1);
@@ -61,6 +65,13 @@ uint64_t syncer_synced(struct syncer *syncer, int *fault) {
     *fault = syncer->fault;
     pthread_mutex_unlock(&syncer->lock);
     return synced;
+}
+
+struct histogram syncer_took(struct syncer *syncer) {
+    pthread_mutex_lock(&syncer->lock);
+    struct histogram took = syncer->took;
+    pthread_mutex_unlock(&syncer->lock);
+    return took;
 }
 
 void syncer_end(struct syncer *syncer) {

@@ -2,6 +2,8 @@
 #ifndef SYNCER_H
 #define SYNCER_H
 
+#include "histogram.h"
+
 #include <pthread.h>
 #include <stdbool.h>
 #include <stdint.h>
@@ -13,6 +15,7 @@ struct syncer {
     int file;               /* what is synced */
     uint64_t asked, synced; /* how often that was asked for, and up to where it is done */
     int fault;              /* of the first sync that failed, as errno has it; 0 for none */
+    struct histogram took;  /* each sync */
     bool has_thread, is_over;
     int event; /* can be read when more is synced */
 };
@@ -28,6 +31,9 @@ uint64_t syncer_ask(struct syncer *syncer);
 
 /* Up to where it is done; and the fault, if there is one. */
 uint64_t syncer_synced(struct syncer *syncer, int *fault);
+
+/* How long syncs took. */
+struct histogram syncer_took(struct syncer *syncer);
 
 /* Ends the thread, once all is done that was asked for. */
 void syncer_end(struct syncer *syncer);

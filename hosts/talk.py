@@ -5,9 +5,13 @@ from lives import Wrong
 
 
 class Talk:
-    def __init__(self, path):
-        self.socket = socket.socket(socket.AF_UNIX, socket.SOCK_STREAM)
-        self.socket.connect(path)
+    def __init__(self, place, context=None):
+        """At a path; or at a port, by TLS as the context has it."""
+        if context:
+            self.socket = context.wrap_socket(socket.create_connection(("127.0.0.1", place)), server_hostname="gateway.programs")
+        else:
+            self.socket = socket.socket(socket.AF_UNIX, socket.SOCK_STREAM)
+            self.socket.connect(place)
         self.socket.settimeout(30)
         self.file, self.pen = self.socket.makefile("r", newline="\n"), self.socket.makefile("w", newline="\n")
 

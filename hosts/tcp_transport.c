@@ -1,72 +1,26 @@
-/* Streams: who sends connects, and each frame comes after its length. */
+/* Streams, by tls or not: who sends connects, and each frame comes after its length. */
 #include "bytes.h"
-#include "report.h"
+#include "tcp_address.h"
+#include "tls.h"
 #include "transport.h"
 
 #include <errno.h>
-#include <netdb.h>
-#include <netinet/in.h>
-#include <netinet/tcp.h>
-#include <stdio.h>
 #include <stdlib.h>
 #include <string.h>
 #include <sys/socket.h>
 #include <unistd.h>
 
-/* Microseconds until a connection is tried again, and that a guest has for a frame; milliseconds after which a peer is given up
-   that doesn't say that it has what was sent; bytes that a guest may be ahead; frames of one call. */
-enum { AGAIN = 20000, PATIENCE = 10000000, SILENCE = 5000, WAITING = 64, ROOM = 2 * (FRAME_LENGTH + FRAME_LIMIT), PARTS = 16 };
+/* Microseconds until a connection is tried again, and that a guest has for a frame; bytes that a guest may be ahead; frames of one
+   call. */
+enum { AGAIN = 20000, PATIENCE = 10000000, ROOM = 2 * (FRAME_LENGTH + FRAME_LIMIT), PARTS = 16 };
 
-/* Seconds after which a silent connection is tried, and between tries; how many get no answer before it is over. */
-enum { TRIED_AFTER = 5, TRIED_EVERY = 1, TRIES = 5 };
-
-/* The addresses of HOST:PORT or [HOST]:PORT, to be freed. */
-static struct addrinfo *resolve(const char *where, int flags) {
-    char host[256];
-    const char *colon = strrchr(where, ':'), *begin = where;
-    size_t size = (size_t)(colon - where);
-    if (size >= 2 && *begin == '[' && begin[size - 1] == ']') {
-        begin++;
-        size -= 2;
-    }
-    if (size >= sizeof host) return NULL;
-    memcpy(host, begin, size);
-    host[size] = 0;
-    struct addrinfo hints = {.ai_flags = flags, .ai_socktype = SOCK_STREAM}, *found = NULL;
-    return getaddrinfo(host, colon + 1, &hints, &found) == 0 ? found : NULL;
-}
-
-static int tcp_open(struct transport *transport, const struct address *own) {
-    struct addrinfo *found = resolve(own->where, AI_PASSIVE);
-    int on = 1;
-    if (!found) {
-        report("tcp:%s: there is no such host", own->where);
-        return STATUS_IO;
-    }
-    int file = socket(found->ai_family, SOCK_STREAM | SOCK_NONBLOCK | SOCK_CLOEXEC, 0);
-    if (file >= 0) setsockopt(file, SOL_SOCKET, SO_REUSEADDR, &on, sizeof on);
-    bool is_open = file >= 0 && bind(file, found->ai_addr, found->ai_addrlen) == 0 && listen(file, WAITING) == 0;
-    if (!is_open) report_fault("tcp:%s", own->where);
-    freeaddrinfo(found);
-    transport->file = file;
-    return is_open ? STATUS_DONE : STATUS_IO;
-}
+static int tcp_open(struct transport *transport, const struct address *own) { return address_listen(own, &transport->file); }
 
 static void guest_leaves(struct guest *guest) {
+    tls_end(guest->tls);
     close(guest->file);
     free(guest->bytes);
     *guest = (struct guest){.file = -1, .peer = -1};
-}
-
-static void keep_alive(int file) {
-    int on = 1, after = TRIED_AFTER, every = TRIED_EVERY, tries = TRIES;
-    unsigned silence = SILENCE;
-    setsockopt(file, IPPROTO_TCP, TCP_NODELAY, &on, sizeof on);
-    setsockopt(file, SOL_SOCKET, SO_KEEPALIVE, &on, sizeof on);
-    setsockopt(file, IPPROTO_TCP, TCP_KEEPIDLE, &after, sizeof after);
-    setsockopt(file, IPPROTO_TCP, TCP_KEEPINTVL, &every, sizeof every);
-    setsockopt(file, IPPROTO_TCP, TCP_KEEPCNT, &tries, sizeof tries);
-    setsockopt(file, IPPROTO_TCP, TCP_USER_TIMEOUT, &silence, sizeof silence);
 }
 
 /* A place that is free, or that of whoever has waited longest without a whole packet: each peer has one place at most, so there is
@@ -82,16 +36,19 @@ static struct guest *place(struct transport *transport) {
 }
 
 static void welcome(struct transport *transport) {
+    bool is_sealed = transport->cluster->processes[transport->me].address.carrier == CARRIER_TLS;
     int file;
     while ((file = accept4(transport->file, NULL, NULL, SOCK_NONBLOCK | SOCK_CLOEXEC)) >= 0) {
         struct guest *guest = place(transport);
         uint8_t *bytes = guest ? malloc(ROOM) : NULL;
-        if (!bytes) {
+        struct tls *tls = bytes && is_sealed ? tls_accept(file, TLS_PROCESSES) : NULL;
+        if (!bytes || (is_sealed && !tls)) {
+            free(bytes);
             close(file);
             continue;
         }
-        keep_alive(file);
-        *guest = (struct guest){.file = file, .peer = -1, .since = clock_now(), .bytes = bytes};
+        tcp_keep_alive(file);
+        *guest = (struct guest){.file = file, .tls = tls, .peer = -1, .since = clock_now(), .bytes = bytes};
     }
 }
 
@@ -120,7 +77,8 @@ static bool guest_reads(struct guest *guest) {
     if (guest->from > 0) memmove(guest->bytes, guest->bytes + guest->from, guest->have);
     guest->from = 0;
     size_t room = ROOM - guest->have;
-    ssize_t count = recv(guest->file, guest->bytes + guest->have, room, 0);
+    uint8_t *at = guest->bytes + guest->have;
+    ssize_t count = guest->tls ? tls_receive(guest->tls, at, room) : recv(guest->file, at, room, 0);
     if (count > 0 && guest->have == 0) guest->since = clock_now();
     if (count > 0) guest->have += (size_t)count;
     if (count == 0 || (count < 0 && errno != EAGAIN && errno != EINTR)) guest_leaves(guest);
@@ -152,7 +110,9 @@ static size_t tcp_receive(struct transport *transport, const uint8_t **frame) {
     if (!transport->has_welcomed) welcome(transport);
     transport->has_welcomed = true;
     for (int i = 0; i < TCP_GUESTS; i++) {
-        size_t size = guest_frame(&transport->guests[transport->guest], frame);
+        struct guest *guest = &transport->guests[transport->guest];
+        size_t size = guest_frame(guest, frame);
+        if (guest->tls) transport->speakers = tls_names(guest->tls);
         if (size > 0) return size;
         transport->guest = (transport->guest + 1) % TCP_GUESTS;
     }
@@ -166,37 +126,57 @@ static void tcp_watch(struct transport *transport, struct watch *watch) {
     watch_file(watch, transport->file, POLLIN);
     for (int i = 0; i < TCP_GUESTS; i++) {
         transport->guests[i].is_dry = false;
-        watch_file(watch, transport->guests[i].file, POLLIN);
+        watch_file(watch, transport->guests[i].file, transport->guests[i].tls ? tls_awaits(transport->guests[i].tls) : POLLIN);
     }
 }
 
 const struct inlet tcp_inlet = {tcp_open, tcp_receive, tcp_watch, tcp_settle};
 
+void tcp_renew(struct transport *transport) {
+    for (struct guest *guest = transport->guests; guest < transport->guests + TCP_GUESTS; guest++)
+        if (guest->tls) guest_leaves(guest);
+}
+
+/* A connection by tls is one when both sides have shown who they are; false where that is refused. */
+static bool shakes(struct way *way) {
+    int shaken = tls_shake(way->tls);
+    way->connecting = shaken == 0;
+    way->wants = shaken == 0 ? tls_awaits(way->tls) : POLLOUT;
+    return shaken >= 0;
+}
+
+static bool is_connected(struct transport *transport, struct way *way) {
+    way->connecting = false;
+    if (way->address->carrier != CARRIER_TLS) return true;
+    way->tls = tls_connect(way->file, (int)(way - transport->ways));
+    return way->tls && shakes(way);
+}
+
 /* Begins a connection, or looks how the one that was begun goes on; false where the peer is away. */
-static bool connects(struct way *way) {
+static bool connects(struct transport *transport, struct way *way) {
     if (way->file >= 0) {
         int fault = 0;
         socklen_t size = sizeof fault;
         struct pollfd state = {.fd = way->file, .events = POLLOUT};
+        if (way->connecting && way->tls) return shakes(way);
         if (!way->connecting || poll(&state, 1, 0) == 0) return true;
         getsockopt(way->file, SOL_SOCKET, SO_ERROR, &fault, &size);
-        way->connecting = false;
-        return fault == 0;
+        return fault == 0 && is_connected(transport, way);
     }
-    struct addrinfo *found = resolve(way->address->where, 0);
+    struct addrinfo *found = tcp_resolve(way->address->where, 0);
     if (!found) return false;
     way->file = socket(found->ai_family, SOCK_STREAM | SOCK_NONBLOCK | SOCK_CLOEXEC, 0);
-    if (way->file >= 0) keep_alive(way->file);
+    if (way->file >= 0) tcp_keep_alive(way->file);
     bool begun = way->file >= 0 && connect(way->file, found->ai_addr, found->ai_addrlen) == 0;
     way->connecting = !begun && errno == EINPROGRESS;
     freeaddrinfo(found);
-    return begun || way->connecting;
+    return begun ? is_connected(transport, way) : way->connecting;
 }
 
 /* Nothing comes back on a way; its end does. */
 static bool is_over(const struct way *way) {
     char byte;
-    ssize_t count = recv(way->file, &byte, 1, MSG_PEEK);
+    ssize_t count = way->tls ? tls_receive(way->tls, &byte, 1) : recv(way->file, &byte, 1, MSG_PEEK);
     return count == 0 || (count < 0 && errno != EAGAIN && errno != EINTR);
 }
 
@@ -227,12 +207,22 @@ static bool send_some(struct way *way, bool *is_busy) {
     return true;
 }
 
+/* The same by tls, of the first frame. */
+static bool send_sealed(struct way *way, bool *is_busy) {
+    ssize_t sent = tls_send(way->tls, way->first->bytes + way->sent, way->first->size - way->sent);
+    way->is_begun = *is_busy = sent < 0;
+    way->wants = sent < 0 ? tls_awaits(way->tls) : POLLOUT;
+    if (sent < 0) return errno == EAGAIN;
+    went(way, (size_t)sent);
+    return true;
+}
+
 void tcp_serve(struct transport *transport, struct way *way) {
     bool is_busy = false;
     if (way_waits(transport, way)) return;
-    bool is_there = connects(way);
+    bool is_there = connects(transport, way);
     if (is_there && way->connecting) return;
     is_there = is_there && (way->sent > 0 || !is_over(way));
-    while (is_there && way->first && !is_busy) is_there = send_some(way, &is_busy);
+    while (is_there && way->first && !is_busy) is_there = way->tls ? send_sealed(way, &is_busy) : send_some(way, &is_busy);
     if (!is_there) way_ends(transport, way, AGAIN);
 }

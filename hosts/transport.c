@@ -1,6 +1,8 @@
 #include "transport.h"
 
+#include "options.h"
 #include "report.h"
+#include "tls.h"
 
 #include <stdlib.h>
 #include <string.h>
@@ -10,8 +12,8 @@
 /* Microseconds for what still waits at the end; packets that wait for one peer. */
 enum { CLOSING = 200000, WAITING_LIMIT = 4096 };
 
-static const struct inlet *const INLETS[] = {&unix_inlet, &tcp_inlet, &nats_inlet};
-static void (*const SERVES[])(struct transport *, struct way *) = {unix_serve, tcp_serve, nats_serve};
+static const struct inlet *const INLETS[] = {&unix_inlet, &tcp_inlet, &tcp_inlet, &nats_inlet};
+static void (*const SERVES[])(struct transport *, struct way *) = {unix_serve, tcp_serve, tcp_serve, nats_serve};
 
 size_t datagram_receive(struct transport *transport, const uint8_t **frame) {
     ssize_t size = recv(transport->file, transport->bytes, sizeof transport->bytes, MSG_DONTWAIT);
@@ -44,9 +46,12 @@ static void lose_all(struct transport *transport, struct way *way) {
 }
 
 void way_ends(struct transport *transport, struct way *way, uint64_t again) {
+    tls_end(way->tls);
+    way->tls = NULL;
     if (way->file >= 0) close(way->file);
     way->file = -1;
-    way->connecting = false;
+    way->connecting = way->is_begun = false;
+    way->wants = POLLOUT;
     way->sent = 0;
     way->not_before = clock_now() + again;
     lose_all(transport, way);
@@ -63,12 +68,20 @@ int transport_open(struct transport *transport, const struct cluster *cluster, i
     transport->cluster = cluster;
     transport->me = me;
     transport->file = -1;
+    transport->speakers = UINT32_MAX;
     for (int p = 0; p <= cluster->count; p++)
-        transport->ways[p] = (struct way){.address = &cluster->processes[p].address, .file = -1};
+        transport->ways[p] = (struct way){.address = &cluster->processes[p].address, .file = -1, .wants = POLLOUT};
     for (int i = 0; i < TCP_GUESTS; i++) transport->guests[i].file = transport->guests[i].peer = -1;
     const struct address *own = &cluster->processes[me].address;
     transport->inlet = INLETS[own->carrier];
+    if (own->carrier == CARRIER_TCP)
+        report_event(LEVEL_WARNING, "open", "tcp:%s: anybody who connects may speak; by tls: those with a certificate", own->where);
     return transport->inlet->open(transport, own);
+}
+
+int transport_look(const struct cluster *cluster, int me) {
+    const struct address *own = &cluster->processes[me].address;
+    return own->carrier == CARRIER_NATS ? nats_look() : address_look(own, SOCK_DGRAM);
 }
 
 void transport_belongs(struct transport *transport, const struct id *cluster) { transport->id = *cluster; }
@@ -87,7 +100,7 @@ static void way_put(struct way *way, struct frame *frame) {
 /* Puts a packet into the last bundle that waits, if that is one, has room and isn't under way. */
 static bool joins_last(struct way *way, const uint8_t *packet, size_t size) {
     struct frame *last = way->last;
-    return last && last->count > 0 && !(last == way->first && way->sent > 0) && bundle_add(last, packet, size);
+    return last && last->count > 0 && !(last == way->first && (way->sent > 0 || way->is_begun)) && bundle_add(last, packet, size);
 }
 
 void transport_send(struct transport *transport, int to, const uint8_t *packet, size_t size) {
@@ -109,17 +122,17 @@ void transport_greet(struct transport *transport, int to, const struct greeting 
     if (frame) way_put(way, frame);
 }
 
-static void drop(uint64_t *count, const char *what) {
-    if ((*count)++ == 0) report("%s came, and was dropped; more are counted", what);
+static void drop(uint64_t *count, const char *event, const char *what) {
+    if ((*count)++ == 0) report_event(LEVEL_WARNING, event, "%s came, and was dropped; more are counted", what);
 }
 
 /* A greeting is of the process that joins, and goes to the gateway, or comes from it. */
 static void take_greeting(struct transport *transport, const struct greeting *greeting) {
     bool is_to_gateway = greeting->word == WORD_HELLO || greeting->word == WORD_JOIN;
-    int process = greeting->process;
+    int process = greeting->process, from = is_to_gateway ? process : 0;
     bool is_ours = transport->me == 0 ? is_to_gateway && process >= 1 && process <= transport->cluster->count
                                       : !is_to_gateway && process == transport->me;
-    if (is_ours) transport->greetings[process] = *greeting;
+    if (is_ours && transport->speakers >> from & 1) transport->greetings[process] = *greeting;
 }
 
 static void take_frame(struct transport *transport, const uint8_t *frame, size_t size) {
@@ -132,10 +145,15 @@ static void take_frame(struct transport *transport, const uint8_t *frame, size_t
     if (id_is_none(&transport->id)) return;
     switch (bundle_judge(frame, size, &transport->id, transport->cluster, transport->me, &transport->unread, &from)) {
     case KIND_BUNDLE:
+        if (!(transport->speakers >> from & 1)) {
+            transport->unread = (struct unread){0};
+            drop(&transport->broken, "broken", "a bundle of another process than its certificate names");
+            return;
+        }
         if (transport->inlet->settle) transport->inlet->settle(transport, from);
         return;
-    case KIND_FOREIGN: drop(&transport->foreign, "a bundle of another cluster"); break;
-    default: drop(&transport->broken, "what is no bundle"); break;
+    case KIND_FOREIGN: drop(&transport->foreign, "foreign", "a bundle of another cluster"); break;
+    default: drop(&transport->broken, "broken", "what is no bundle"); break;
     }
 }
 
@@ -163,11 +181,22 @@ bool transport_greeted(struct transport *transport, struct greeting *greeting) {
 void transport_watch(struct transport *transport, struct watch *watch) {
     transport->inlet->watch(transport, watch);
     for (int p = 0; p <= transport->cluster->count; p++)
-        if (transport->ways[p].first) watch_file(watch, transport->ways[p].file, POLLOUT);
+        if (transport->ways[p].first) watch_file(watch, transport->ways[p].file, transport->ways[p].wants);
 }
 
 void transport_serve(struct transport *transport) {
     for (int p = 0; p <= transport->cluster->count; p++) serve_way(transport, &transport->ways[p]);
+}
+
+void transport_reload(struct transport *transport) {
+    if (!signal_reload) return;
+    signal_reload = 0;
+    if (!tls_read_again()) return;
+    report_event(LEVEL_INFO, "reload", "certificates were read again");
+    transport->unread = (struct unread){0};
+    for (int p = 0; p <= transport->cluster->count; p++)
+        if (transport->ways[p].tls) way_ends(transport, &transport->ways[p], 0);
+    tcp_renew(transport);
 }
 
 static bool is_waiting(const struct transport *transport) {
@@ -183,7 +212,7 @@ void transport_close(struct transport *transport) {
         struct watch watch;
         watch_begin(&watch, until);
         for (int p = 0; p <= transport->cluster->count; p++)
-            if (transport->ways[p].first) watch_file(&watch, transport->ways[p].file, POLLOUT);
+            if (transport->ways[p].first) watch_file(&watch, transport->ways[p].file, transport->ways[p].wants);
         watch_wait(&watch);
         transport_serve(transport);
     }

@@ -21,6 +21,9 @@ struct way {
     size_t count;    /* packets that wait */
     size_t sent;     /* bytes of the first frame, by tcp */
     bool connecting; /* by tcp */
+    bool is_begun;   /* by tls: the next bytes of the first frame were handed in, and may not change */
+    short wants;     /* what is waited for while frames wait, as poll has it */
+    struct tls *tls;
     struct nats_link *link;
 };
 
@@ -39,6 +42,7 @@ enum { TCP_GUESTS = 64 };
 /* A program that has connected by tcp, and what came of it and wasn't taken yet. */
 struct guest {
     int file;       /* -1: none */
+    struct tls *tls;
     int peer;       /* who sent its last bundle; -1: none came yet */
     bool is_dry;    /* no more is there for now */
     uint64_t since; /* when it connected, or its next frame began */
@@ -56,6 +60,7 @@ struct transport {
     struct guest guests[TCP_GUESTS];
     bool has_welcomed; /* by tcp */
     int guest;         /* whose turn it is */
+    uint32_t speakers; /* who may have sent the last frame: bit p is process p's; by a carrier that doesn't tell anybody */
     struct nats_link *links;
     struct unread unread;
     struct greeting greetings[PROCESS_LIMIT + 1]; /* the last one that came of each process, without a word where none did */
@@ -66,6 +71,9 @@ struct transport {
 
 /* Takes one's own address; a status, and why is reported. */
 int transport_open(struct transport *transport, const struct cluster *cluster, int me);
+
+/* Whether that would do: nothing is taken. */
+int transport_look(const struct cluster *cluster, int me);
 
 /* Which cluster this process is of: no packet is sent or taken before. */
 void transport_belongs(struct transport *transport, const struct id *cluster);
@@ -79,6 +87,9 @@ size_t transport_receive(struct transport *transport, const uint8_t **packet);
 
 /* Takes a greeting that came while packets were received; false if there is none. */
 bool transport_greeted(struct transport *transport, struct greeting *greeting);
+
+/* After a SIGHUP certificates are read again, and connections by tls begin anew. */
+void transport_reload(struct transport *transport);
 
 /* What is to be waited for, and what is to be done then. */
 void transport_watch(struct transport *transport, struct watch *watch);
@@ -104,7 +115,11 @@ void way_drop(struct way *way);
 /* Of each carrier: what can be sent is sent. */
 void unix_serve(struct transport *transport, struct way *way);
 void tcp_serve(struct transport *transport, struct way *way);
+void tcp_renew(struct transport *transport);
 void nats_serve(struct transport *transport, struct way *way);
+
+/* Whether this program was built with it; why not is reported. */
+int nats_look(void);
 
 extern const struct inlet unix_inlet, tcp_inlet, nats_inlet;
 

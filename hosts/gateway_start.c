@@ -1,0 +1,109 @@
+#include "gateway_state.h"
+
+#include "limits.h"
+#include "privileges.h"
+#include "report.h"
+
+#include <stdlib.h>
+#include <string.h>
+#include <sys/socket.h>
+
+enum { ROOM = 1 << 16 };
+
+static bool has_room(struct gateway_host *host, size_t size) {
+    if (size <= host->room) return true;
+    uint8_t *more = realloc(host->bytes, size + size / 2);
+    if (!more) return false;
+    host->bytes = more;
+    host->room = size + size / 2;
+    return true;
+}
+
+uint32_t gateway_bytes(struct gateway_host *host, uint32_t (*call)(sblog_gateway *, uint8_t *, size_t, size_t *), size_t *size) {
+    uint32_t code;
+    while ((code = call(&host->gateway, host->bytes, host->room, size)) == SBLOG_GATEWAY_ROOM)
+        if (!has_room(host, *size)) return SBLOG_GATEWAY_MEMORY;
+    return code;
+}
+
+int gateway_write_whole(struct gateway_host *host) {
+    size_t size;
+    uint32_t code = gateway_bytes(host, sblog_gateway_changes, &size);
+    if (code == SBLOG_GATEWAY_DONE) code = gateway_bytes(host, sblog_gateway_store, &size);
+    return code == SBLOG_GATEWAY_DONE ? gateway_store_replace(&host->store, host->bytes, size, &host->waiting)
+                                     : code_refused("store", code, 0);
+}
+
+/* If a first life was killed before the store had its name, the store is the one that begins again; any other one lost its name,
+   and stays. */
+static int begin_new(struct gateway_host *host, const struct owner *owner, const struct bytes *whole, const struct bytes *changes) {
+    size_t size;
+    uint32_t code = sblog_gateway_open((uint8_t)host->cluster->count, PAGE, TICK, &host->gateway);
+    if (code != SBLOG_GATEWAY_DONE) return code_refused("open", code, 0);
+    if ((code = gateway_bytes(host, sblog_gateway_store, &size)) != SBLOG_GATEWAY_DONE) return code_refused("store", code, 0);
+    bool is_new = !whole->at || (whole->size == size && !memcmp(whole->at, host->bytes, size));
+    if (!is_new || changes->at || host->waiting.count > 0) {
+        report("%s: a gateway's store is there, and the file identity is missing", host->options->store);
+        return STATUS_STORE;
+    }
+    int status = gateway_write_whole(host);
+    if (status == STATUS_DONE) status = id_draw(&host->ids.cluster);
+    return status == STATUS_DONE ? store_claim(&host->folder, owner, &host->ids) : status;
+}
+
+static int begin_again(struct gateway_host *host, const struct bytes *whole, const struct bytes *changes) {
+    uint32_t fault = 0, code;
+    if (!whole->at) {
+        report("%s: neither gateway.0 nor gateway.1 holds a whole store", host->options->store);
+        return STATUS_STORE;
+    }
+    code = sblog_gateway_revive(whole->at, whole->size, PAGE, TICK, &host->gateway, &fault);
+    if (code != SBLOG_GATEWAY_DONE) return code_refused("the store", code, fault);
+    if (changes->size > 0) code = sblog_gateway_apply(&host->gateway, changes->at, changes->size, &fault);
+    if (code != SBLOG_GATEWAY_DONE) return code_refused("the changes since the store", code, fault);
+    return gateway_write_whole(host);
+}
+
+struct owner gateway_owner(const struct gateway_host *host) {
+    return (struct owner){.cluster = host->cluster, .me = 0, .durable = true};
+}
+
+/* Begins with what is stored. */
+static int begin_life(struct gateway_host *host, bool is_new) {
+    struct bytes whole = {0}, changes = {0};
+    const struct owner owner = gateway_owner(host);
+    int status = gateway_store_open(&host->store, &host->folder, &whole, &changes, &host->waiting);
+    if (status == STATUS_DONE && !has_room(host, ROOM)) status = code_refused("open", SBLOG_GATEWAY_MEMORY, 0);
+    if (status == STATUS_DONE) status = is_new ? begin_new(host, &owner, &whole, &changes) : begin_again(host, &whole, &changes);
+    bytes_end(&whole);
+    bytes_end(&changes);
+    return status;
+}
+
+int gateway_begin(struct gateway_host *host) {
+    bool is_new;
+    const struct options *options = host->options;
+    const struct owner owner = gateway_owner(host);
+    int status = store_open(&host->folder, options->store, &owner, &host->ids, &is_new);
+    if (status == STATUS_DONE) status = transport_open(&host->transport, host->cluster, 0);
+    if (status == STATUS_DONE) pace_begin(&host->pace, &host->transport, options->tick);
+    if (status == STATUS_DONE) status = metrics_open(&host->metrics, &options->metrics);
+    if (status == STATUS_DONE) status = clients_open(&host->clients, &options->listen);
+    if (status == STATUS_DONE) status = privileges_drop(options, host->cluster, &host->folder);
+    if (status == STATUS_DONE) status = begin_life(host, is_new);
+    transport_belongs(&host->transport, &host->ids.cluster);
+    return status;
+}
+
+int gateway_look(struct gateway_host *host) {
+    bool is_new;
+    const struct options *options = host->options;
+    const struct owner owner = gateway_owner(host);
+    int store = store_look(&host->folder, options->store, &owner, &host->ids, &is_new), status = store;
+    status_first(&status, transport_look(host->cluster, 0));
+    status_first(&status, address_look(&options->metrics, SOCK_STREAM));
+    status_first(&status, address_look(&options->listen, SOCK_STREAM));
+    status_first(&status, privileges_look(options));
+    if (store == STATUS_DONE) status_first(&status, begin_life(host, is_new));
+    return status;
+}

@@ -1,0 +1,111 @@
+#include "inspect.h"
+
+#include "gateway_store.h"
+#include "limits.h"
+#include "report.h"
+#include "slots.h"
+#include "store.h"
+
+#include <fcntl.h>
+#include <inttypes.h>
+#include <sblog.h>
+#include <stdio.h>
+#include <stdlib.h>
+#include <string.h>
+
+/* Places in the kept bytes of a process, and in a gateway's store (docs/FORMATS.md, "Kept bytes", "Store"). */
+enum { STATE_SIZE = 6, MESSAGES = 8, KEPT_HEAD = 16, COUNT = 4, STORE_HEAD = 8, PROCESS_SIZE = 17, WORD = 8, HALF = 4, LENGTH = 2 };
+
+static int inspect_process(const struct store *store) {
+    struct slots slots;
+    uint8_t *kept;
+    size_t size;
+    uint64_t incarnation, inexact;
+    int status = store_read_incarnation(store, &incarnation);
+    if (status == STATUS_DONE) status = store_read_inexact(store, &inexact);
+    if (status == STATUS_DONE) status = slots_open(&slots, store, &kept, &size);
+    if (status != STATUS_DONE) return status;
+    printf("incarnation %" PRIu64 "\n", incarnation);
+    if (!kept) puts("no checkpoint");
+    else if (size < KEPT_HEAD) printf("checkpoint %" PRIu64 ": %zu bytes\n", slots.number - 1, size);
+    else printf("checkpoint %" PRIu64 ": %zu bytes, of them %" PRIu64 " the state, after %" PRIu64 " messages\n", slots.number - 1, size,
+                number_at(kept + STATE_SIZE, LENGTH), number_at(kept + MESSAGES, WORD));
+    free(kept);
+    if (inexact == 0) puts("exact yes: no life has stored that it wasn't");
+    else printf("exact no: incarnation %" PRIu64 " was the first that wasn't\n", inexact);
+    return STATUS_DONE;
+}
+
+/* The name of a process, after its number in the line of all. */
+static void print_name(const char *identity, int process) {
+    const char *names = strstr(identity, "\nprocesses "), *name = names ? names + strlen("\nprocesses ") : "";
+    for (int p = 1; p < process; p++) name += strcspn(name, " \n") + (name[strcspn(name, " \n")] == ' ');
+    printf("process %d %.*s: ", process, (int)strcspn(name, " \n"), name);
+}
+
+/* The store of a gateway is whole: the library has written it. */
+static void print_processes(const uint8_t *whole, const char *identity) {
+    int count = whole[COUNT];
+    const uint8_t *first = whole + STORE_HEAD, *at = first + count * PROCESS_SIZE;
+    for (int p = 1; p <= count; p++, first += PROCESS_SIZE) {
+        uint64_t next = number_at(at, WORD), kept = number_at(at + WORD, HALF);
+        print_name(identity, p);
+        printf("%" PRIu64 " inputs logged, %" PRIu64 " of them kept; %" PRIu64 " outputs shown; incarnation %" PRIu64 "\n",
+               next + kept - 1, kept, number_at(first, WORD), number_at(first + WORD, WORD));
+        for (at += WORD + HALF; kept > 0; kept--) at += WORD + LENGTH + number_at(at + WORD, LENGTH);
+    }
+}
+
+/* The store with all that changed since, as the library writes it; to be freed. */
+static int read_whole(const struct bytes *whole, const struct bytes *changes, uint8_t **bytes) {
+    sblog_gateway gateway = {0};
+    uint32_t fault = 0, code = sblog_gateway_revive(whole->at, whole->size, PAGE, TICK, &gateway, &fault);
+    size_t size, room = whole->size + 3 * changes->size + PAGE;
+    *bytes = NULL;
+    if (code == SBLOG_GATEWAY_DONE && changes->size > 0) code = sblog_gateway_apply(&gateway, changes->at, changes->size, &fault);
+    if (code != SBLOG_GATEWAY_DONE) return code_refused("the store", code, fault);
+    *bytes = malloc(room);
+    code = *bytes ? sblog_gateway_store(&gateway, *bytes, room, &size) : SBLOG_GATEWAY_MEMORY;
+    sblog_gateway_close(&gateway);
+    return code == SBLOG_GATEWAY_DONE ? STATUS_DONE : code_refused("the store", code, 0);
+}
+
+static int inspect_gateway(const struct store *folder, const char *identity) {
+    static struct outputs waiting;
+    struct gateway_store store;
+    struct bytes whole = {0}, changes = {0};
+    uint8_t *bytes = NULL;
+    int status = gateway_store_open(&store, folder, &whole, &changes, &waiting);
+    if (status != STATUS_DONE) return status;
+    if (!whole.at) {
+        puts("no store");
+        return STATUS_DONE;
+    }
+    printf("generation %" PRIu64 ": a store of %zu bytes, and %zu bytes of changes since\n", store.generation, whole.size, changes.size);
+    printf("%zu outputs handed out and not taken\n", waiting.count);
+    status = read_whole(&whole, &changes, &bytes);
+    if (status == STATUS_DONE) print_processes(bytes, identity);
+    free(bytes);
+    bytes_end(&whole);
+    bytes_end(&changes);
+    return status;
+}
+
+int inspect(const char *path) {
+    char *identity;
+    const struct store store = {.path = path, .folder = open(path, O_RDONLY | O_DIRECTORY | O_CLOEXEC), .lock = -1, .is_looked_at = true};
+    if (store.folder < 0) {
+        report_fault("%s", path);
+        return STATUS_IO;
+    }
+    int status = store_read_identity(&store, &identity);
+    if (status != STATUS_DONE) return status;
+    if (!identity) {
+        report("%s: the file identity is missing", path);
+        return STATUS_STORE;
+    }
+    fputs(identity, stdout);
+    status = strstr(identity, "\nprocess 0 ") ? inspect_gateway(&store, identity) : inspect_process(&store);
+    free(identity);
+    return status;
+}

@@ -1,0 +1,157 @@
+#include "node_state.h"
+
+#include "hash.h"
+#include "limits.h"
+#include "membership.h"
+#include "privileges.h"
+#include "report.h"
+
+#include <inttypes.h>
+#include <stdio.h>
+#include <stdlib.h>
+#include <string.h>
+#include <sys/socket.h>
+
+enum { ROOM = 4096 }; /* what a checkpoint takes at first */
+
+static const char *const KEPT = "kept";
+
+/* Reads the image, and what tells it from others. */
+static int read_image(struct node_host *host, char hash[HASH_TEXT]) {
+    const char *path = host->cluster->processes[host->options->me].image;
+    FILE *file = fopen(path, "rb");
+    long size = -1;
+    if (file && fseek(file, 0, SEEK_END) == 0) size = ftell(file);
+    host->image = size < 0 ? NULL : malloc((size_t)size + 1);
+    if (host->image) {
+        rewind(file);
+        host->image_size = fread(host->image, 1, (size_t)size, file);
+        hash_text(host->image, host->image_size, hash);
+    }
+    if (!host->image) report_fault("%s", path);
+    if (file) fclose(file);
+    return host->image ? STATUS_DONE : STATUS_IO;
+}
+
+/* More room for a checkpoint; false without memory. */
+static bool has_room(struct node_host *host, size_t size) {
+    if (size <= host->room) return true;
+    uint8_t *more = realloc(host->bytes, size + size / 2);
+    if (!more) return false;
+    host->bytes = more;
+    host->room = size + size / 2;
+    return true;
+}
+
+uint32_t node_freeze(struct node_host *host, size_t *size) {
+    uint32_t code;
+    while ((code = sblog_node_checkpoint(&host->node, host->bytes, host->room, size)) == SBLOG_NODE_ROOM)
+        if (!has_room(host, *size)) return SBLOG_NODE_MEMORY;
+    return code;
+}
+
+/* Whether nothing is kept, or what a first life keeps that was killed before its store had a name: the bytes of one that begins.
+   Any other store lost its name, and stays. */
+static int judge_new(struct node_host *host, size_t size) {
+    uint8_t *kept;
+    size_t kept_size;
+    int status = slots_open(&host->slots, &host->store, &kept, &kept_size);
+    bool is_new = !kept || (kept_size == size && !memcmp(kept, host->bytes, size));
+    free(kept);
+    if (status != STATUS_DONE || is_new) return status;
+    report("%s: the file %s holds messages, and the file identity is missing", host->options->store, KEPT);
+    return STATUS_STORE;
+}
+
+static int open_new(struct node_host *host, const struct owner *owner) {
+    uint32_t code = sblog_node_open(host->image, host->image_size, (uint8_t)owner->me, (uint8_t)host->cluster->count, PAGE, TICK,
+                                    NUMBERS, RECEIPTS, owner->durable, &host->node);
+    return code == SBLOG_NODE_DONE ? STATUS_DONE : code_refused("open", code, 0);
+}
+
+/* The first life: what it begins with is durable, then the incarnation, then whose it is, and the id of the store; and then it
+   begins. */
+static int begin_new(struct node_host *host, const struct owner *owner, uint64_t incarnation) {
+    size_t size;
+    if (incarnation > 1) {
+        report("%s: it had %" PRIu64 " lives, and the file identity is missing", host->options->store, incarnation);
+        return STATUS_STORE;
+    }
+    int status = open_new(host, owner);
+    if (status != STATUS_DONE) return status;
+    uint32_t code = node_freeze(host, &size);
+    if (code != SBLOG_NODE_DONE) return code_refused("checkpoint", code, 0);
+    status = judge_new(host, size);
+    if (status == STATUS_DONE) status = slots_write(&host->slots, host->bytes, size);
+    if (status == STATUS_DONE) status = store_write_incarnation(&host->store, 1);
+    if (status == STATUS_DONE) status = id_draw(&host->ids.stores[owner->me]);
+    if (status == STATUS_DONE) status = store_claim(&host->store, owner, &host->ids);
+    if (status != STATUS_DONE) return status;
+    code = sblog_node_saved(&host->node);
+    return code == SBLOG_NODE_DONE ? STATUS_DONE : code_refused("saved", code, 0);
+}
+
+/* A life after another one: its incarnation is durable first. */
+static int begin_again(struct node_host *host, const struct owner *owner, uint64_t incarnation) {
+    uint8_t *kept;
+    size_t size;
+    uint32_t fault = 0;
+    int status = slots_open(&host->slots, &host->store, &kept, &size);
+    if (status != STATUS_DONE) return status;
+    if (!kept || incarnation == 0) {
+        report("%s: the file %s is missing", host->options->store, kept ? "incarnation" : KEPT);
+        free(kept);
+        return STATUS_STORE;
+    }
+    status = store_write_incarnation(&host->store, incarnation + 1);
+    if (status != STATUS_DONE) return status;
+    uint32_t code = sblog_node_revive(host->image, host->image_size, kept, size, incarnation + 1, PAGE, TICK, NUMBERS, RECEIPTS,
+                                      owner->durable, &host->node, &fault);
+    free(kept);
+    return code == SBLOG_NODE_DONE ? STATUS_DONE : code_refused(KEPT, code, fault);
+}
+
+static int begin_life(struct node_host *host, const struct owner *owner, bool is_new) {
+    uint64_t incarnation;
+    uint64_t inexact = 0;
+    int status = store_read_incarnation(&host->store, &incarnation);
+    if (status == STATUS_DONE) status = store_read_inexact(&host->store, &inexact);
+    if (status != STATUS_DONE) return status;
+    host->store_is_inexact = inexact > 0;
+    if (!has_room(host, ROOM)) return code_refused("open", SBLOG_NODE_MEMORY, 0);
+    return is_new ? begin_new(host, owner, incarnation) : begin_again(host, owner, incarnation);
+}
+
+static struct owner owner_of(const struct node_host *host, const char *hash) {
+    return (struct owner){.cluster = host->cluster, .me = host->options->me, .image = hash, .durable = host->options->durable};
+}
+
+int node_begin(struct node_host *host) {
+    char hash[HASH_TEXT];
+    bool is_new;
+    const struct options *options = host->options;
+    const struct owner owner = owner_of(host, hash);
+    int status = read_image(host, hash);
+    if (status == STATUS_DONE) status = store_open(&host->store, options->store, &owner, &host->ids, &is_new);
+    if (status == STATUS_DONE) status = transport_open(&host->transport, host->cluster, options->me);
+    if (status == STATUS_DONE) pace_begin(&host->pace, &host->transport, options->tick);
+    if (status == STATUS_DONE) status = metrics_open(&host->metrics, &options->metrics);
+    if (status == STATUS_DONE) status = privileges_drop(options, host->cluster, &host->store);
+    if (status == STATUS_DONE) status = begin_life(host, &owner, is_new);
+    return status == STATUS_DONE ? membership_join(options, &owner, &host->store, &host->ids, &host->transport, &host->metrics) : status;
+}
+
+int node_look(struct node_host *host) {
+    char hash[HASH_TEXT];
+    bool is_new;
+    const struct options *options = host->options;
+    const struct owner owner = owner_of(host, hash);
+    int image = read_image(host, hash), status = image;
+    int store = image == STATUS_DONE ? store_look(&host->store, options->store, &owner, &host->ids, &is_new) : image;
+    status_first(&status, store);
+    status_first(&status, transport_look(host->cluster, options->me));
+    status_first(&status, address_look(&options->metrics, SOCK_STREAM));
+    status_first(&status, privileges_look(options));
+    if (image == STATUS_DONE) status_first(&status, store == STATUS_DONE ? begin_life(host, &owner, is_new) : open_new(host, &owner));
+    return status;
+}

@@ -1,0 +1,43 @@
+/* A process as its host has it: its node, and all that it is carried by. */
+#ifndef NODE_STATE_H
+#define NODE_STATE_H
+
+#include "figures.h"
+#include "options.h"
+#include "pace.h"
+#include "slots.h"
+#include "store.h"
+#include "transport.h"
+
+#include <sblog.h>
+
+struct node_host {
+    const struct options *options;
+    const struct cluster *cluster;
+    struct store store;
+    struct ids ids;
+    struct slots slots;
+    struct transport transport;
+    struct pace pace;
+    struct metrics metrics;
+    struct histogram syncs;
+    sblog_node node;
+    sblog_standing standing;
+    uint8_t *image, *bytes;
+    size_t image_size, room;
+    uint64_t started, next_tick, pause, next_status;
+    uint64_t refused, checkpoints;
+    bool was_up, was_exact, store_is_inexact, wants_memory;
+    uint8_t packet[PACKET_LIMIT];
+};
+
+/* Takes all that a life needs, and begins it; a status. */
+int node_begin(struct node_host *host);
+
+/* Whether that would do: nothing is taken or written. The status that it would have, and a line a fault. */
+int node_look(struct node_host *host);
+
+/* The bytes of a checkpoint and how many they are; a code of the library. */
+uint32_t node_freeze(struct node_host *host, size_t *size);
+
+#endif
