@@ -228,7 +228,7 @@ def health(folder):
 
 
 def looks(folder):
-    cluster = begin(folder)
+    cluster = begin(folder, words=["--volatile"])
     one, (relay, echo) = connect(cluster), cluster.nodes
     one.says("outputs")
     works(cluster, one, 1, 2, 3)
