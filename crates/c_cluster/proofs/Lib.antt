@@ -1,2 +1,5 @@
 mod AsBox
 mod Called
+mod HostCalls
+mod Opened
+mod Outcomes

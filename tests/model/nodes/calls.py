@@ -1,4 +1,4 @@
-"""What the calls put out in the tests of `c_cluster` and `embed_node`, by docs/FORMATS.md and the rules of docs/CLUSTER.md.
+"""What the calls put out in the tests of `c_cluster`, by docs/FORMATS.md and the rules of docs/CLUSTER.md.
 
 python3 tests/model/nodes/calls.py prints the bytes as the tests have them."""
 import struct

@@ -1,0 +1,13 @@
+//! A node of a cluster.
+
+mod calls;
+pub mod exports;
+mod fault;
+pub mod handle;
+mod laws;
+mod lifetime;
+mod loose;
+pub mod node_job;
+mod outcome;
+mod results;
+pub mod status;

@@ -1,0 +1,89 @@
+//! Calls of the process of a handle.
+
+ghost use Rattle.c_cluster.specs.Nodes.Answers.{Results};
+ghost use Rattle.c_cluster.specs.Nodes.Calls.{IsClosed, WasClosed, IsReceived, IsUnreceived, HasWorked, HasNotWorked, HasTicked, IsHeldBack, HasSaved, HasNotSaved};
+
+use crate::nodes::fault::NodeFault;
+use crate::nodes::handle::NodeHandle;
+use packets::PacketError;
+use process::Cause;
+use std::alloc::Global;
+
+/// Closes a handle, and gives the memory of its process back.
+pub(crate) fn close(alloc: Global, handle: &mut NodeHandle) -> Result<(), NodeFault>
+    ensures { Results result handle.old.process.value handle.new.process.value IsClosed WasClosed }
+{
+    match handle.take(alloc) {
+        Some(_process) => Ok(()),
+        None => Err(NodeFault::Handle),
+    }
+}
+
+/// Hands the process a packet that arrived.
+pub(crate) fn receive(
+    alloc: Global,
+    handle: &mut NodeHandle,
+    packet: &[u8],
+) -> Result<(), NodeFault>
+    ensures { Results result handle.old.process.value handle.new.process.value (IsReceived packet.now) (IsUnreceived packet.now) }
+{
+    let Some(mut process) = handle.take(alloc) else {
+        return Err(NodeFault::Handle);
+    };
+    let received = process.receive_bytes(alloc, packet);
+    handle.put(process);
+    match received {
+        Ok(()) => Ok(()),
+        Err(PacketError::Memory) => Err(NodeFault::Memory),
+        Err(PacketError::Fault(fault)) => Err(NodeFault::Bytes(fault.number())),
+    }
+}
+
+/// Runs the handler of the process.
+pub(crate) fn work(alloc: Global, handle: &mut NodeHandle) -> Result<(), NodeFault>
+    ensures { Results result handle.old.process.value handle.new.process.value HasWorked HasNotWorked }
+{
+    let Some(mut process) = handle.take(alloc) else {
+        return Err(NodeFault::Handle);
+    };
+    let worked = process.work(alloc);
+    handle.put(process);
+    match worked {
+        Ok(true) => Ok(()),
+        Ok(false) => Err(NodeFault::Absent),
+        Err(_) => Err(NodeFault::Memory),
+    }
+}
+
+/// Sends again what isn't answered, and goes on to the next stage if memory was refused for it
+/// before.
+pub(crate) fn tick(alloc: Global, handle: &mut NodeHandle) -> Result<(), NodeFault>
+    ensures { Results result handle.old.process.value handle.new.process.value HasTicked IsHeldBack }
+{
+    let Some(mut process) = handle.take(alloc) else {
+        return Err(NodeFault::Handle);
+    };
+    let ticked = process.tick(alloc);
+    handle.put(process);
+    match ticked {
+        Ok(()) => Ok(()),
+        Err(Cause::Memory) => Err(NodeFault::Memory),
+        Err(Cause::TooMany) => Err(NodeFault::Limit),
+    }
+}
+
+/// Tells the process that its checkpoint is durable.
+pub(crate) fn saved(alloc: Global, handle: &mut NodeHandle) -> Result<(), NodeFault>
+    ensures { Results result handle.old.process.value handle.new.process.value HasSaved HasNotSaved }
+{
+    let Some(mut process) = handle.take(alloc) else {
+        return Err(NodeFault::Handle);
+    };
+    let saved = process.saved(alloc);
+    handle.put(process);
+    match saved {
+        Ok(true) => Ok(()),
+        Ok(false) => Err(NodeFault::Unready),
+        Err(_) => Err(NodeFault::Memory),
+    }
+}

@@ -1,0 +1,224 @@
+//! The functions for C. Code 0 means done, any other code is the number of a fault; the contracts
+//! say what that means for handle and buffers.
+
+ghost use Rattle.std.specs.Prelude.{◌≡◌};
+ghost use Rattle.c_cluster.specs.Nodes.Answers.{Answers, AnswersOfBytes};
+ghost use Rattle.c_handles.specs.Buffer.{OnFault};
+ghost use Rattle.c_cluster.specs.Nodes.Calls.{IsClosed, WasClosed, IsReceived, IsUnreceived, HasWorked, HasNotWorked, HasTicked, IsHeldBack, HasSaved, HasNotSaved};
+ghost use Rattle.c_cluster.specs.Nodes.Results.{IsTaken, IsUntaken, IsMade, IsUnmade, IsRead, IsUnread};
+ghost use Rattle.c_cluster.specs.Nodes.NodeJob.{ticket_from, IsGiven, IsNotGiven, IsDone, IsNotDone};
+ghost use Rattle.c_cluster.specs.Nodes.Lifetime.{limits_from, AnswersOpening, AnswersRevival};
+ghost use Rattle.c_cluster.specs.Nodes.Status.{IsStanding};
+
+use crate::nodes::fault::{code, code_of_bytes};
+use crate::nodes::handle::NodeHandle;
+use crate::nodes::lifetime::NodeLimits;
+use crate::nodes::node_job::NodeJob;
+use crate::nodes::status::NodeStanding;
+use crate::nodes::{calls, lifetime, node_job, results, status};
+use process::HandlerTicket;
+use std::alloc::Global;
+
+/// Opens the process `me` of `n`, which received nothing, with the image file of its handler. The
+/// handle has to be closed.
+#[unsafe(no_mangle)]
+pub extern "C" fn sblog_node_open(
+    alloc: Global,
+    image: &[u8],
+    me: u8,
+    n: u8,
+    page: u32,
+    tick: u32,
+    numbers: u32,
+    receipts: u32,
+    durable: u32,
+    node: &mut NodeHandle,
+) -> u32
+    ensures { AnswersOpening image.now me n (limits_from page tick numbers receipts durable) result node.old.process.value node.new.process.value }
+{
+    let limits = NodeLimits {
+        page,
+        tick,
+        numbers,
+        receipts,
+        durable,
+    };
+    code(lifetime::open(alloc, image, me, n, limits, node))
+}
+
+/// Opens a process with the image file of its handler, from its kept state, in this incarnation. If
+/// the kept bytes are refused, writes the number of their fault.
+#[unsafe(no_mangle)]
+pub extern "C" fn sblog_node_revive(
+    alloc: Global,
+    image: &[u8],
+    kept: &[u8],
+    incarnation: u64,
+    page: u32,
+    tick: u32,
+    numbers: u32,
+    receipts: u32,
+    durable: u32,
+    node: &mut NodeHandle,
+    fault: &mut u32,
+) -> u32
+    ensures { AnswersRevival image.now kept.now incarnation (limits_from page tick numbers receipts durable) result node.old.process.value node.new.process.value fault.old fault.new }
+{
+    let limits = NodeLimits {
+        page,
+        tick,
+        numbers,
+        receipts,
+        durable,
+    };
+    let done = lifetime::revive(alloc, image, kept, incarnation, limits, node);
+    code_of_bytes(done, fault)
+}
+
+/// Closes a handle, and gives the memory of its process back.
+#[unsafe(no_mangle)]
+pub extern "C" fn sblog_node_close(alloc: Global, node: &mut NodeHandle) -> u32
+    ensures { Answers result node.old.process.value node.new.process.value IsClosed WasClosed }
+{
+    code(calls::close(alloc, node))
+}
+
+/// Hands the process a packet that arrived. If the bytes are not a packet, writes the number of
+/// their fault.
+#[unsafe(no_mangle)]
+pub extern "C" fn sblog_node_receive(
+    alloc: Global,
+    node: &mut NodeHandle,
+    packet: &[u8],
+    fault: &mut u32,
+) -> u32
+    ensures { AnswersOfBytes result node.old.process.value node.new.process.value fault.old fault.new (IsReceived packet.now) (IsUnreceived packet.now) }
+{
+    code_of_bytes(calls::receive(alloc, node, packet), fault)
+}
+
+/// Takes the first packet that waits: writes its bytes, its length, and its receiver.
+#[unsafe(no_mangle)]
+pub extern "C" fn sblog_node_take(
+    alloc: Global,
+    node: &mut NodeHandle,
+    out: &mut [u8],
+    size: &mut usize,
+    to: &mut u8,
+) -> u32
+    ensures taken { Answers result node.old.process.value node.new.process.value (IsTaken out.old out.new size.new to.new) (IsUntaken out.old out.new size.old size.new) }
+    ensures kept { OnFault result (to.new ≡ to.old) }
+{
+    code(results::take(alloc, node, out, size, to))
+}
+
+/// Runs the handler on the message that was received, or on the next one of the replay.
+#[unsafe(no_mangle)]
+pub extern "C" fn sblog_node_work(alloc: Global, node: &mut NodeHandle) -> u32
+    ensures { Answers result node.old.process.value node.new.process.value HasWorked HasNotWorked }
+{
+    code(calls::work(alloc, node))
+}
+
+/// Gives out the next call of the handler, to be made outside: writes its array, the length of
+/// that, and the words of the call. It stays the next call until `sblog_node_done` takes its
+/// answer.
+#[unsafe(no_mangle)]
+pub extern "C" fn sblog_node_job(
+    alloc: Global,
+    node: &mut NodeHandle,
+    array: &mut [u8],
+    size: &mut usize,
+    job: &mut NodeJob,
+) -> u32
+    ensures given { Answers result node.old.process.value node.new.process.value (IsGiven array.old array.new size.new job.new) (IsNotGiven array.old array.new size.old size.new) }
+    ensures kept { OnFault result (job.new ≡ job.old) }
+{
+    code(node_job::job(alloc, node, array, size, job))
+}
+
+/// Takes what that call left in its array and its record, whatever made the call.
+#[unsafe(no_mangle)]
+pub extern "C" fn sblog_node_done(
+    alloc: Global,
+    node: &mut NodeHandle,
+    incarnation: u64,
+    received: u64,
+    array: &[u8],
+    left: &[u8],
+) -> u32
+    ensures { Answers result node.old.process.value node.new.process.value (IsDone (ticket_from incarnation received) array.now left.now) (IsNotDone (ticket_from incarnation received) array.now left.now) }
+{
+    let ticket = HandlerTicket {
+        incarnation,
+        received,
+    };
+    code(node_job::done(alloc, node, ticket, array, left))
+}
+
+/// Sends again what isn't answered. If the process couldn't go on to its next stage, it tries
+/// again; as long as it can't, the code is that of memory or of a limit.
+#[unsafe(no_mangle)]
+pub extern "C" fn sblog_node_tick(alloc: Global, node: &mut NodeHandle) -> u32
+    ensures { Answers result node.old.process.value node.new.process.value HasTicked IsHeldBack }
+{
+    code(calls::tick(alloc, node))
+}
+
+/// Makes a checkpoint: writes its bytes, and their number. The node then waits until
+/// `sblog_node_saved`.
+#[unsafe(no_mangle)]
+pub extern "C" fn sblog_node_checkpoint(
+    alloc: Global,
+    node: &mut NodeHandle,
+    out: &mut [u8],
+    size: &mut usize,
+) -> u32
+    ensures { Answers result node.old.process.value node.new.process.value (IsMade out.old out.new size.new) (IsUnmade out.old out.new size.old size.new) }
+{
+    code(results::checkpoint(alloc, node, out, size))
+}
+
+/// Tells the process that its checkpoint is durable.
+#[unsafe(no_mangle)]
+pub extern "C" fn sblog_node_saved(alloc: Global, node: &mut NodeHandle) -> u32
+    ensures { Answers result node.old.process.value node.new.process.value HasSaved HasNotSaved }
+{
+    code(calls::saved(alloc, node))
+}
+
+/// Writes the status of the process.
+#[unsafe(no_mangle)]
+pub extern "C" fn sblog_node_standing(
+    alloc: Global,
+    node: &mut NodeHandle,
+    out: &mut NodeStanding,
+) -> u32
+    ensures standing { Answers result node.old.process.value node.new.process.value (IsStanding out.new) WasClosed }
+    ensures kept { OnFault result (out.new ≡ out.old) }
+{
+    code(status::standing(alloc, node, out))
+}
+
+/// How many sends and outputs of its handler helpers refused in this incarnation with this code: 1
+/// for no other process, 2 for more than 8 in a call, 3 for more than 256 bytes. It is 0 for any
+/// other code, and for a closed handle. No contract says how many.
+#[unsafe(no_mangle)]
+pub extern "C" fn sblog_node_refused(alloc: Global, node: &mut NodeHandle, code: u32) -> u64
+    ensures { node.new.process.value ≡ node.old.process.value }
+{
+    status::refused(alloc, node, code)
+}
+
+/// Writes the state that its handler left last, and its length in bytes.
+#[unsafe(no_mangle)]
+pub extern "C" fn sblog_node_state(
+    alloc: Global,
+    node: &mut NodeHandle,
+    out: &mut [u8],
+    size: &mut usize,
+) -> u32
+    ensures { Answers result node.old.process.value node.new.process.value (IsRead out.old out.new size.new) (IsUnread out.old out.new size.old size.new) }
+{
+    code(results::state(alloc, node, out, size))
+}

@@ -1,4 +1,0 @@
-mod AsBox
-mod HostCalls
-mod Opened
-mod Outcomes
