@@ -1,5 +1,13 @@
 -- Why code comes to no file.
-use Rattle.std.proofs.Common.{◌≡◌, ◌<◌, ◌≤◌, ◌*◌, ◌⊎◌, ℕ, List, length, sym, subst, arith, inl, inr}
+use Rattle.std.proofs.Common.{◌≡◌, ◌<◌, ◌≤◌, ◌*◌, ◌⊎◌, ℕ, Bool, true, false, List, Option, length, refl, sym, subst, arith, inl, inr}
+use Rattle.elf.specs.Function.{IsFunction}
+use Rattle.elf.specs.Object.{is_elf}
+use Rattle.elf.specs.Refusal.{IsFaultOf}
+use Rattle.elf.specs.declared.fault.ObjectFault.{ObjectFault}
+use Rattle.elf.specs.declared.fault.ObjectFault.TheVariants.{Kind, ByteOrder, Processor, Linked, Damaged, NoFunction, NoSuchFunction, Several, Outside, Reference, Call, Slots, State}
+use Rattle.verifier.specs.declared.fault.HeaderFault.TheVariants.{SlotCount}
+use Rattle.image_commands.specs.declared.fault.Fault.TheVariants.{Usage, Header, Decode, Verify, Assemble, Object, NoState, Scenario, Memory, InputOutput}
+use Rattle.image_commands.specs.declared.pack.TheConstants.{OBJECT_BYTES}
 use Rattle.limits.specs.declared.TheConstants.{SLOTS}
 use Rattle.decode.specs.Refusal as decoding
 use Rattle.decode.specs.Slots.{slots}
@@ -10,7 +18,7 @@ use Rattle.verifier.specs.ImageFile.{IsUnwritten}
 use Rattle.verifier.specs.declared.fault.ImageError.{ImageError}
 use Rattle.verifier.specs.declared.fault.ImageError.TheVariants as image
 use Rattle.image_commands.specs.Fault.{fault_of_code, fault_of_image}
-use Rattle.image_commands.specs.Pack.{IsUnpacked}
+use Rattle.image_commands.specs.Pack.{IsObjectFault, IsUnfiledBy, IsUnmade, IsUnpacked}
 use Rattle.image_commands.specs.declared.fault.Fault.{Fault}
 
 -- bytes that are no encoding
@@ -29,3 +37,60 @@ code_unwritten bytes insns (image.Header fault) f size why is = subst (IsUnpacke
     many (inr more) = inr (omega (arith, more, size))
 code_unwritten bytes insns (image.Decode rule slot) f size why is = absurd why
 code_unwritten bytes insns (image.Verify rule slot) f size why is = absurd why
+
+-- what is wrong with an object file stays, where the length of its state isn't asked for
+pub object_refused : (state : Option ℕ) (name : Option (List ℕ)) (source : List ℕ) (f : ObjectFault) → IsFaultOf source name f
+    → IsObjectFault state name source f
+object_refused state name source (State length) why = absurd why
+object_refused state name source Kind why = why
+object_refused state name source ByteOrder why = why
+object_refused state name source (Processor number) why = why
+object_refused state name source Linked why = why
+object_refused state name source Damaged why = why
+object_refused state name source NoFunction why = why
+object_refused state name source NoSuchFunction why = why
+object_refused state name source Several why = why
+object_refused state name source Outside why = why
+object_refused state name source (Reference slot is_call table symbol) why = why
+object_refused state name source (Call slot) why = why
+object_refused state name source (Slots slots) why = why
+
+-- a function whose code has no file
+pub function_unpacked : (state : Option ℕ) (name : Option (List ℕ)) (source code : List ℕ) (f : Fault) → IsFunction source name code
+    → IsUnpacked code f → IsUnfiledBy true state name source f
+function_unpacked state name source code (Usage usage) found why = absurd why
+function_unpacked state name source code (Header fault) found why = inr (code, found, why)
+function_unpacked state name source code (Decode rule slot) found why = (code, found, why)
+function_unpacked state name source code (Verify rule slot) found why = absurd why
+function_unpacked state name source code (Assemble rule line) found why = absurd why
+function_unpacked state name source code (Object fault) found why = absurd why
+function_unpacked state name source code NoState found why = absurd why
+function_unpacked state name source code (Scenario line) found why = absurd why
+function_unpacked state name source code Memory found why = tt
+function_unpacked state name source code InputOutput found why = absurd why
+
+-- and bare code that has none
+pub code_unpacked : (state : Option ℕ) (name : Option (List ℕ)) (source : List ℕ) (f : Fault) → is_elf source ≡ false
+    → IsUnpacked source f → IsUnmade state name source f
+code_unpacked state name source f bare why = subst (λ b. IsUnfiledBy b state name source f) (sym bare) (by f why)
+  where
+    by : (g : Fault) → IsUnpacked source g → IsUnfiledBy false state name source g
+    by (Usage usage) w = absurd w
+    by (Header fault) w = w
+    by (Decode rule slot) w = w
+    by (Verify rule slot) w = absurd w
+    by (Assemble rule line) w = absurd w
+    by (Object fault) w = absurd w
+    by NoState w = absurd w
+    by (Scenario line) w = absurd w
+    by Memory w = tt
+    by InputOutput w = absurd w
+
+-- a source that is too long, of either kind
+pub too_long : (state : Option ℕ) (name : Option (List ℕ)) (source : List ℕ) → OBJECT_BYTES < length source
+    → IsUnmade state name source (Header SlotCount)
+too_long state name source long = by (is_elf source)
+  where
+    by : (b : Bool) → IsUnfiledBy b state name source (Header SlotCount)
+    by false = (refl, inr (omega arith))
+    by true = inl (refl, long)
