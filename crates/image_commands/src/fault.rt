@@ -15,7 +15,7 @@ use std::fmt;
 use verifier::{HeaderFault, ImageError};
 
 /// What is said of a command line of `pack` that lacks an option, in the words in which `clap` says it.
-const NO_STATE: &str = "error: the following required arguments were not provided:
+pub const NO_STATE: &str = "error: the following required arguments were not provided:
   --state <N>
 
 Usage: sblog pack --state <N> <CODE> <OUT>

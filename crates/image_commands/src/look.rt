@@ -46,10 +46,25 @@ fn is_c(line: &str) -> bool {
     line.starts_with("#include ") || line.starts_with("/*") || line.starts_with("u64 ")
 }
 
+/// Whether a path looks like a rule of the verifier.
+fn is_rule(path: &str) -> bool {
+    match path.strip_prefix('V') {
+        Some(number) => number.len() <= 2
+            && number.starts_with(|letter: char| letter.is_ascii_digit()),
+        None => false,
+    }
+}
+
 /// A line that says what a path that leads to nothing may be meant for.
 pub fn lost_words(path: &str, is_of_process: bool) -> &'static str {
     if path == "-" {
         return "the standard input is /dev/stdin\n";
+    }
+    if is_rule(path) {
+        return "explain --why tells of a rule, as explain --why V6\n";
+    }
+    if path.ends_with(".o") {
+        return "clang -c writes it, if it finds nothing wrong (docs/HANDLERS.md)\n";
     }
     if !is_of_process || path.starts_with('/') {
         return "";
