@@ -3,7 +3,7 @@
 ghost use Rattle.std.specs.Prelude.{◌≡◌, IfOk, codes, false, true};
 ghost use Rattle.clap.specs.Words.{App, Rule, app_of, rule_of, with_rule, with_subcommand};
 ghost use Rattle.clap.specs.declared.builder.Command.TheViews.{out-Command as fields_of};
-ghost use Rattle.cli.specs.Program.{asm_app, check_app, dis_app, draw_app, explain_app, flag_rule, live_app, native_app, number_rule, pack_app, required_rule, run_app, sblog_app, top_app};
+ghost use Rattle.cli.specs.Program.{asm_app, check_app, dis_app, draw_app, explain_app, flag_rule, live_app, native_app, number_rule, pack_app, required_rule, run_app, sblog_app, text_rule, top_app};
 
 use clap::builder::ValueParser;
 use clap::{Arg, ArgAction, Command};
@@ -60,6 +60,25 @@ fn flag<'a>(alloc: Global, id: &'a str, help: &'a str) -> Arg<'a>
         .long(id)
         .action(ArgAction::SetTrue)
         .help(help)
+}
+
+/// An option whose value is a text.
+fn text<'a>(alloc: Global, id: &'a str, name: &'a str, help: &'a str) -> Arg<'a>
+    ensures rule { rule_of result ≡ text_rule id.entry.now }
+    ensures local { result.global ≡ false }
+{
+    required(alloc, id, help)
+        .required(false)
+        .long(id)
+        .value_name(name)
+}
+
+/// The option `--state` of an image that may have a length without it.
+fn state<'a>(alloc: Global, help: &'a str) -> Arg<'a>
+    ensures rule { rule_of result ≡ number_rule (codes "state") false 0 STATE_BYTES }
+    ensures local { result.global ≡ false }
+{
+    number(alloc, "state", "N", 0, STATE_BYTES as u64, help).required(false)
 }
 
 /// The option `--form` of an image: 1, 2 or 3.
@@ -195,15 +214,13 @@ fn pack<'a>(alloc: Global) -> Result<Command<'a>, AllocError>
     let help = "Object file (clang --target=bpf -c), or bytes of the code alone";
     let code = with(bare, required(alloc, "CODE", help));
     let image = with(code, required(alloc, "OUT", WRITTEN));
-    let bytes =
+    let help =
         "Bytes of state, 0 to 1024 [default: those of the type that the second argument points to]";
-    let state = number(alloc, "state", "N", 0, STATE_BYTES as u64, bytes).required(false);
-    let with_state = with(image, state);
+    let with_state = with(image, state(alloc, help));
     let help = "Form of the image, 1, 2 or 3 [default: 3 of an object file, else 1]";
     let with_form = with(with_state, form(alloc, help));
     let help = "Function of the object file, if it has several";
-    let name = required(alloc, "function", help).required(false);
-    with(with_form, name.long("function").value_name("NAME"))
+    with(with_form, text(alloc, "function", "NAME", help))
 }
 
 fn dis<'a>(alloc: Global) -> Result<Command<'a>, AllocError>

@@ -137,8 +137,8 @@ fn reference_words(
 fn called(functions: &[Symbol], caller: &Symbol, bytes: &[u8], slot: usize) -> Option<Symbol> {
     let code = bytes_at(bytes, caller.value, caller.size)?;
     let row = bytes_at(code, slot.checked_mul(8)?, 8)?;
-    let slots = (slot + 1 + u32_at(row, 4)) % 0x1_0000_0000;
-    let place = caller.value.checked_add(slots.checked_mul(8)?)?;
+    // The distance is one of 32 bits, backward too.
+    let place = (caller.value / 8 + slot + 1 + u32_at(row, 4)) % 0x1_0000_0000 * 8;
     let mut found = functions
         .iter()
         .filter(|it| it.section == caller.section && it.value == place);
