@@ -296,13 +296,23 @@ fn is_negative(word: &str) -> bool {
     }
 }
 
-/// A line that says what the value of an option is, if it was given with a sign, which `clap` takes for an option; else empty.
+/// Whether a word is a longer state than there is.
+fn is_long_state(word: &str) -> bool {
+    match word.parse::<u64>() {
+        Ok(number) => number > STATE_BYTES as u64,
+        Err(_) => false,
+    }
+}
+
+/// A line that says what the value of an option is, if it was given with a sign, which `clap` takes for an option, or is too long a
+/// state; else empty.
 fn range_words<S: AsStr>(words: &[S]) -> &'static str {
     let mut before = "";
     for word in words {
         let word = word.as_str();
         match before {
-            "--state" if is_negative(word) => return "--state is a number from 0 to 1024\n",
+            "--state" if is_negative(word) || is_long_state(word) =>
+                return "--state is a number from 0 to 1024\n",
             "--form" if is_negative(word) => return "--form is 1, 2 or 3\n",
             "--workers" if is_negative(word) => return "--workers is a number from 1 to 16\n",
             "--budget" if is_negative(word) => return "--budget is a number from 1 to 1000000\n",

@@ -46,11 +46,10 @@ fn is_c(line: &str) -> bool {
     line.starts_with("#include ") || line.starts_with("/*") || line.starts_with("u64 ")
 }
 
-/// Whether a path looks like a rule of the verifier.
+/// Whether a path looks like the name of a rule.
 fn is_rule(path: &str) -> bool {
     match path.strip_prefix('V') {
-        Some(number) => number.len() <= 2
-            && number.starts_with(|letter: char| letter.is_ascii_digit()),
+        Some(number) => number.starts_with(|letter: char| letter.is_ascii_digit()),
         None => false,
     }
 }

@@ -8,6 +8,9 @@ use listing::explain_file;
 use std::alloc::{AllocError, Global};
 use verifier::HeaderFault;
 
+/// The opcode of a call.
+const CALL: u8 = 0x85;
+
 /// What a file is that is no image.
 fn magic_words(kind: FileKind) -> &'static str {
     match kind {
@@ -118,11 +121,27 @@ fn refused_line(alloc: Global, image: &[u8]) -> Result<String, AllocError> {
     Ok(String::new(alloc))
 }
 
+/// A line that says what a call forgets, if the reason is that a register of its arguments isn't set, in code with a call; else empty.
+fn call_words(why: &str, image: &[u8]) -> &'static str {
+    let Some(register) = why.strip_prefix("refused by V3: r") else {
+        return "";
+    };
+    let is_argument = register.starts_with(|digit: char| matches!(digit, '1'..='5'))
+        && register.contains(" is read and isn't set");
+    for (place, byte) in image.iter().enumerate() {
+        if is_argument && place >= 8 && place % 8 == 0 && *byte == CALL {
+            return "a call forgets r1 to r5: what is needed after it stands in r6 to r9\n";
+        }
+    }
+    ""
+}
+
 /// An image that the verifier refuses and the reason, as lines of text.
 fn refused_lines(alloc: Global, rule: regtypes::Rule, site: &Site) -> Result<String, AllocError> {
     let words = rule_words(site.kind, rule);
     let why = refused_line(alloc, site.image.as_slice())?;
-    format!(in alloc; "{site}: {words}\n{why}")
+    let called = call_words(why.as_str(), site.image.as_slice());
+    format!(in alloc; "{site}: {words}\n{why}{called}")
 }
 
 /// The file and what is wrong with it, as lines of text; or empty.
