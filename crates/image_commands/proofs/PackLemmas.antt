@@ -1,8 +1,14 @@
 -- Why code comes to no file.
-use Rattle.std.proofs.Common.{◌≡◌, ◌<◌, ◌≤◌, ◌*◌, ◌⊎◌, ℕ, Bool, true, false, List, Option, length, refl, sym, subst, arith, inl, inr}
+use Rattle.std.proofs.Common.{◌≡◌, ◌<◌, ◌≤◌, ◌*◌, ◌⊎◌, ℕ, Bool, true, false, List, Option, None, Some, length, refl, sym, subst, arith, inl, inr}
+use Rattle.std.specs.Option.{unwrap_or}
+use Rattle.images.specs.declared.file_form.FileForm.{FileForm}
+use Rattle.images.specs.declared.file_form.FileForm.TheVariants.{Sbi1, Sbi3}
+use Rattle.block_order.specs.declared.blocks.Blocks.{Blocks}
 use Rattle.elf.specs.Function.{IsFunction}
 use Rattle.elf.specs.Object.{is_elf}
-use Rattle.elf.specs.Refusal.{IsFaultOf}
+use Rattle.elf.specs.Refusal.{IsFaultOf, IsRefusal}
+use Rattle.elf.specs.declared.fault.ObjectError.{ObjectError}
+use Rattle.elf.specs.declared.fault.ObjectError.TheVariants as object
 use Rattle.elf.specs.declared.fault.ObjectFault.{ObjectFault}
 use Rattle.elf.specs.declared.fault.ObjectFault.TheVariants.{Kind, ByteOrder, Processor, Linked, Damaged, NoFunction, NoSuchFunction, Several, Outside, Reference, Call, Slots, State}
 use Rattle.verifier.specs.declared.fault.HeaderFault.TheVariants.{SlotCount}
@@ -17,8 +23,8 @@ use Rattle.decode.specs.declared.insn.Insn.{Insn}
 use Rattle.verifier.specs.ImageFile.{IsUnwritten}
 use Rattle.verifier.specs.declared.fault.ImageError.{ImageError}
 use Rattle.verifier.specs.declared.fault.ImageError.TheVariants as image
-use Rattle.image_commands.specs.Fault.{fault_of_code, fault_of_image}
-use Rattle.image_commands.specs.Pack.{IsObjectFault, IsUnfiledBy, IsUnmade, IsUnpacked}
+use Rattle.image_commands.specs.Fault.{fault_of_code, fault_of_image, fault_of_object}
+use Rattle.image_commands.specs.Pack.{IsFileBy, IsLength, IsMade, IsObjectFault, IsPacked, IsUnfiledBy, IsUnmade, IsUnpacked}
 use Rattle.image_commands.specs.declared.fault.Fault.{Fault}
 
 -- bytes that are no encoding
@@ -54,6 +60,36 @@ object_refused state name source Outside why = why
 object_refused state name source (Reference slot is_call table symbol) why = why
 object_refused state name source (Call slot) why = why
 object_refused state name source (Slots slots) why = why
+
+-- an object file without the function
+pub object_unfiled : (state : Option ℕ) (name : Option (List ℕ)) (source : List ℕ) (e : ObjectError) (f : Fault) → IsRefusal source name e
+    → f ≡ fault_of_object e → IsUnfiledBy true state name source f
+object_unfiled state name source object.Memory f why is = subst (IsUnfiledBy true state name source) (sym is) tt
+object_unfiled state name source (object.Fault fault) f why is =
+    subst (IsUnfiledBy true state name source) (sym is) (object_refused state name source fault why)
+
+-- the file of a function
+pub function_packed : (state : Option ℕ) (form : Option FileForm) (name : Option (List ℕ)) (source code : List ℕ) (length : ℕ) (chosen : FileForm)
+    (bytes : List ℕ) (blocks : Blocks) → IsLength state length → IsFunction source name code → chosen ≡ unwrap_or form Sbi3
+    → IsPacked code length chosen bytes blocks → IsFileBy true state form name source bytes blocks
+function_packed state form name source code length chosen bytes blocks fits found is packed =
+    (length, fits, code, found, subst (λ f. IsPacked code length f bytes blocks) is packed)
+
+-- and that of bare code
+pub code_packed : (state : Option ℕ) (form : Option FileForm) (name : Option (List ℕ)) (source : List ℕ) (length : ℕ) (chosen : FileForm)
+    (bytes : List ℕ) (blocks : Blocks) → is_elf source ≡ false → state ≡ Some length → chosen ≡ unwrap_or form Sbi1
+    → IsPacked source length chosen bytes blocks → IsMade state form name source bytes blocks
+code_packed state form name source length chosen bytes blocks bare known is packed =
+    subst (λ b. IsFileBy b state form name source bytes blocks) (sym bare)
+    (length, known, subst (λ f. IsPacked source length f bytes blocks) is packed)
+
+-- no length is known, of either kind
+pub no_length : (state : Option ℕ) (name : Option (List ℕ)) (source : List ℕ) → state ≡ None → IsUnmade state name source NoState
+no_length state name source none = by (is_elf source)
+  where
+    by : (b : Bool) → IsUnfiledBy b state name source NoState
+    by false = none
+    by true = none
 
 -- a function whose code has no file
 pub function_unpacked : (state : Option ℕ) (name : Option (List ℕ)) (source code : List ℕ) (f : Fault) → IsFunction source name code

@@ -1,5 +1,6 @@
 -- The command `pack` (docs/FORMATS.md, "Commands").
 use Rattle.std.specs.Prelude.{◌≡◌, ◌<◌, ◌≤◌, ◌*◌, ◌⊎◌, ℕ, Bool, true, false, List, Option, None, Some, length}
+use Rattle.std.specs.Option.{unwrap_or}
 use Rattle.limits.specs.declared.TheConstants.{SLOTS, STATE_BYTES}
 use Rattle.elf.specs.Function.{IsFunction}
 use Rattle.elf.specs.Object.{is_elf}
@@ -40,11 +41,6 @@ IsUnpacked code (Verify rule slot) = ⊥
 
 -- ---- the command
 
--- the form that is asked for, or this one
-abbrev pub form_or : Option FileForm → FileForm → FileForm
-form_or None form = form
-form_or (Some asked) form = asked
-
 -- the state has the length that is asked for, if one is
 abbrev pub IsLength : Option ℕ → ℕ → Type 0
 IsLength None length = Unit {0}
@@ -54,9 +50,9 @@ IsLength (Some asked) length = length ≡ asked
 -- length of its state, and is of form 1 if no other is asked for; an object file's is of form 3
 abbrev pub IsFileBy : Bool → Option ℕ → Option FileForm → Option (List ℕ) → List ℕ → List ℕ → Blocks → Type 0
 IsFileBy false state form name source bytes blocks =
-    (length : ℕ) × (state ≡ Some length) × IsPacked source length (form_or form Sbi1) bytes blocks
+    (length : ℕ) × (state ≡ Some length) × IsPacked source length (unwrap_or form Sbi1) bytes blocks
 IsFileBy true state form name source bytes blocks =
-    (length : ℕ) × IsLength state length × (code : List ℕ) × IsFunction source name code × IsPacked code length (form_or form Sbi3) bytes blocks
+    (length : ℕ) × IsLength state length × (code : List ℕ) × IsFunction source name code × IsPacked code length (unwrap_or form Sbi3) bytes blocks
 
 -- the same; an object file is known by its first bytes
 abbrev pub IsMade : Option ℕ → Option FileForm → Option (List ℕ) → List ℕ → List ℕ → Blocks → Type 0

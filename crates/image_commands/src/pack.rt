@@ -15,7 +15,7 @@ use crate::site::Site;
 use block_order::{Ordered, ordered_file};
 use cli::Packing;
 use decode::decode;
-use elf::{ObjectError, ObjectFault, is_object, read_object};
+use elf::{ObjectFault, is_object, read_object};
 use images::FileForm;
 use limits::{SLOTS, STATE_BYTES};
 use std::alloc::Global;
@@ -64,15 +64,8 @@ fn pack_object(alloc: Global, file: &[u8], asked: Packing<'_>) -> Result<Ordered
     ensures refused { IfErr result (IsUnfiledBy true asked.entry.state (option_map (λ n. n.now) asked.entry.function) file.now) }
     ensures kind { IfErr result IsNoUsage }
 {
-    let found = match read_object(alloc, file, asked.function) {
-        Ok(found) => found,
-        Err(ObjectError::Memory) => return Err(Fault::Memory),
-        Err(ObjectError::Fault(fault)) => return Err(Fault::Object(fault)),
-    };
-    let form = match asked.form {
-        Some(form) => form,
-        None => FileForm::Sbi3,
-    };
+    let found = read_object(alloc, file, asked.function)?;
+    let form = asked.form.unwrap_or(FileForm::Sbi3);
     match state_of(asked.state, found.state) {
         Ok(state) => pack_code(alloc, found.code, state, form),
         Err(Some(length)) => Err(Fault::Object(ObjectFault::State { length })),
@@ -90,14 +83,11 @@ fn pack_source(alloc: Global, file: &[u8], asked: Packing<'_>) -> Result<Ordered
     if is_object(file) {
         return pack_object(alloc, file, asked);
     }
-    let Some(state) = asked.state else {
-        return Err(Fault::NoState);
-    };
-    let form = match asked.form {
-        Some(form) => form,
-        None => FileForm::Sbi1,
-    };
-    pack_code(alloc, file, state, form)
+    let form = asked.form.unwrap_or(FileForm::Sbi1);
+    match asked.state {
+        Some(state) => pack_code(alloc, file, state, form),
+        None => Err(Fault::NoState),
+    }
 }
 
 /// The image file of a source, of which these are the first bytes.

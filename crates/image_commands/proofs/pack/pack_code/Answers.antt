@@ -1,4 +1,4 @@
-use Rattle.std.proofs.Common.{◌≡◌, ◌≤◌, arith, inr, length, refl, rules, subst}
+use Rattle.std.proofs.Common.{◌≡◌, ◌≤◌, arith, length, rules, subst}
 use Rattle.block_order.specs.Ordered.{IsFileOf}
 use Rattle.verifier.specs.ImageFile.{IsUnwritten}
 use Rattle.decode.specs.Encoding.{encoding}
