@@ -1,6 +1,7 @@
 -- What the matches of `clap` give a request.
-use Rattle.std.proofs.Common.{◌≡◌, ◌≢◌, ◌^◌, ◌<◌, ◌≤◌, ◌∙◌, ℕ, List, [], true, refl, sym, ap, subst, arith, slice_index, inl, inr, codes, Option, Some, None, Result, Ok, Err}
+use Rattle.std.proofs.Common.{◌≡◌, ◌≢◌, ◌^◌, ◌<◌, ◌≤◌, ◌∙◌, ℕ, List, [], true, refl, sym, ap, subst, arith, slice_index, inl, inr, IfSome, codes, Option, Some, None, Result, Ok, Err}
 use Rattle.std.specs.Str.Parse.{ParsesUnsigned}
+use Rattle.limits.specs.declared.TheConstants.{STATE_BYTES}
 use Rattle.clap.specs.Words.{App, HasMatchesOf, ReadsOne, first_of, Row, Text, fault_of, found_of, is_simple, one_text, rows_of, subcommand_of, subcommand_rows_of}
 use Rattle.clap.specs.Words.{HasKind, IsAmong, is_simple_and_free, kind_of}
 use Rattle.clap.specs.declared.error.Error.{Error}
@@ -10,7 +11,7 @@ use Rattle.clap.proofs.WalkLemmas.{one_text-rows}
 use Rattle.images.specs.FileForm.{file_form_number}
 use Rattle.images.specs.declared.file_form.FileForm.{FileForm}
 use Rattle.images.specs.declared.file_form.FileForm.TheVariants.{Sbi1, Sbi2, Sbi3}
-use Rattle.cli.specs.Asks.{AsksBy, AsksIn, Explains, HasBudget, HasForm, HasNumber, HasState, HasWorkers, IsInRange, IsRefusal, Order}
+use Rattle.cli.specs.Asks.{AsksBy, AsksIn, Explains, HasBudget, HasForm, HasNumber, HasState, HasWorkers, IsInRange, IsRefusal, MayHaveForm, MayHaveState, Order}
 use Rattle.cli.specs.Asks as order
 use Rattle.cli.specs.declared.refusal.UsageRefusal.{UsageRefusal}
 use Rattle.cli.specs.declared.refusal.UsageRefusal.TheVariants as refusal
@@ -52,23 +53,39 @@ module _ {E : Type 0} (G : Text → Result ℕ E → Type 0) (m : ArgMatches) (i
 
 -- if `--form` was given, and as no number, there is no form
 pub no_form : (rows : List Row) (path : Text) → Some path ≡ first_of (codes "form") rows → ((n : ℕ) → HasNumber (codes "form") 1 3 rows n → ⊥)
-    → (form : FileForm) → HasForm rows form → ⊥
-no_form rows path given none form (inl h) = none (file_form_number form) h
-no_form rows path given none form (inr h) = some≢none path (given ∙ h.0)
+    → (form : Option FileForm) → MayHaveForm rows form → ⊥
+no_form rows path given none None h = some≢none path (given ∙ h)
+no_form rows path given none (Some form) h = none (file_form_number form) h
+
+-- the same of `--state`
+pub no_state : (rows : List Row) (path : Text) → Some path ≡ first_of (codes "state") rows → ((n : ℕ) → HasState rows n → ⊥)
+    → (state : Option ℕ) → MayHaveState rows state → ⊥
+no_state rows path given none None h = some≢none path (given ∙ h)
+no_state rows path given none (Some n) h = none n h
+
+-- with no form that may be given there is none
+pub no_form_at_all : (rows : List Row) → ((form : Option FileForm) → MayHaveForm rows form → ⊥) → (form : FileForm) → HasForm rows form → ⊥
+no_form_at_all rows none form (inl h) = none (Some form) h
+no_form_at_all rows none form (inr h) = none None h.0
 
 -- the number that is neither 1 nor 2 is 3
-pub third_form : (rows : List Row) (n : ℕ) → n ≢ 1 → n ≢ 2 → HasNumber (codes "form") 1 3 rows n → HasForm rows Sbi3
+pub third_form : (rows : List Row) (n : ℕ) → n ≢ 1 → n ≢ 2 → HasNumber (codes "form") 1 3 rows n → MayHaveForm rows (Some Sbi3)
 third_form rows n other another h =
     let three : n ≡ 3 = omega (arith, other, another, h.2.least, h.2.most) in
-    inl (subst (HasNumber (codes "form") 1 3 rows) three h)
+    subst (HasNumber (codes "form") 1 3 rows) three h
 
 -- the number 2 is that of form 2
-pub second_form : (rows : List Row) (n : ℕ) → n ≡ 2 → HasNumber (codes "form") 1 3 rows n → HasForm rows Sbi2
-second_form rows n two h = inl (subst (HasNumber (codes "form") 1 3 rows) two h)
+pub second_form : (rows : List Row) (n : ℕ) → n ≡ 2 → HasNumber (codes "form") 1 3 rows n → MayHaveForm rows (Some Sbi2)
+second_form rows n two h = subst (HasNumber (codes "form") 1 3 rows) two h
 
 -- and the number 1 is that of form 1
-pub first_form : (rows : List Row) (n : ℕ) → n ≡ 1 → HasNumber (codes "form") 1 3 rows n → HasForm rows Sbi1
-first_form rows n one h = inl (subst (HasNumber (codes "form") 1 3 rows) one h)
+pub first_form : (rows : List Row) (n : ℕ) → n ≡ 1 → HasNumber (codes "form") 1 3 rows n → MayHaveForm rows (Some Sbi1)
+first_form rows n one h = subst (HasNumber (codes "form") 1 3 rows) one h
+
+-- the length of a state that was given is in range
+state_in_range : (rows : List Row) (state : Option ℕ) → MayHaveState rows state → IfSome state (λ n. n ≤ STATE_BYTES)
+state_in_range rows None h = tt
+state_in_range rows (Some n) h = h.2.most
 
 -- what is asked for is in range
 pub asked_in_range : (used : Option (Text × List Row)) (o : Order) → AsksBy used o → IsInRange o
@@ -81,7 +98,7 @@ asked_in_range (Some used) (order.Tell scenario json names) asks = tt
 asked_in_range (Some used) (order.Live scenario workers budget) asks = (asks.2.2.least, asks.2.2.most, asks.3.2.least, asks.3.2.most)
 asked_in_range (Some used) (order.Draw scenario picture only) asks = tt
 asked_in_range (Some used) (order.Asm source image state form) asks = asks.3.2.most
-asked_in_range (Some used) (order.Pack code image state form) asks = asks.3.2.most
+asked_in_range (Some used) (order.Pack code image state form function) asks = state_in_range used.1 state asks.3
 asked_in_range (Some used) (order.Dis image) asks = tt
 asked_in_range (Some used) (order.Native image code) asks = tt
 
@@ -100,12 +117,12 @@ no_asm rows none (order.Check image) h = unlike (codes "asm") (codes "check") (�
 no_asm rows none (order.Explain image) h = unlike (codes "asm") (codes "explain") (λ (e : ◌≡◌ {A = ℕ} 97 101). omega arith) h.0
 no_asm rows none (order.Why rule) h = unlike (codes "asm") (codes "explain") (λ (e : ◌≡◌ {A = ℕ} 97 101). omega arith) h.0
 no_asm rows none (order.Asm source image state form) h = none state form h.3 h.4
-no_asm rows none (order.Pack code image state form) h = unlike (codes "asm") (codes "pack") (λ (e : ◌≡◌ {A = ℕ} 97 112). omega arith) h.0
+no_asm rows none (order.Pack code image state form function) h = unlike (codes "asm") (codes "pack") (λ (e : ◌≡◌ {A = ℕ} 97 112). omega arith) h.0
 no_asm rows none (order.Dis image) h = unlike (codes "asm") (codes "dis") (λ (e : ◌≡◌ {A = ℕ} 97 100). omega arith) h.0
 no_asm rows none (order.Native image code) h = unlike (codes "asm") (codes "native") (λ (e : ◌≡◌ {A = ℕ} 97 110). omega arith) h.0
 
 -- the same of `pack`
-pub no_pack : (rows : List Row) → ((n : ℕ) (form : FileForm) → HasState rows n → HasForm rows form → ⊥)
+pub no_pack : (rows : List Row) → ((state : Option ℕ) (form : Option FileForm) → MayHaveState rows state → MayHaveForm rows form → ⊥)
     → (o : Order) → AsksIn (codes "pack") rows o → ⊥
 no_pack rows none (order.Run scenario) h = unlike (codes "pack") (codes "run") (λ (e : ◌≡◌ {A = ℕ} 112 114). omega arith) h.0
 no_pack rows none (order.Tell scenario json names) h = unlike (codes "pack") (codes "run") (λ (e : ◌≡◌ {A = ℕ} 112 114). omega arith) h.0
@@ -115,7 +132,7 @@ no_pack rows none (order.Check image) h = unlike (codes "pack") (codes "check") 
 no_pack rows none (order.Explain image) h = unlike (codes "pack") (codes "explain") (λ (e : ◌≡◌ {A = ℕ} 112 101). omega arith) h.0
 no_pack rows none (order.Why rule) h = unlike (codes "pack") (codes "explain") (λ (e : ◌≡◌ {A = ℕ} 112 101). omega arith) h.0
 no_pack rows none (order.Asm source image state form) h = unlike (codes "pack") (codes "asm") (λ (e : ◌≡◌ {A = ℕ} 112 97). omega arith) h.0
-no_pack rows none (order.Pack code image state form) h = none state form h.3 h.4
+no_pack rows none (order.Pack code image state form function) h = none state form h.3 h.4
 no_pack rows none (order.Dis image) h = unlike (codes "pack") (codes "dis") (λ (e : ◌≡◌ {A = ℕ} 112 100). omega arith) h.0
 no_pack rows none (order.Native image code) h = unlike (codes "pack") (codes "native") (λ (e : ◌≡◌ {A = ℕ} 112 110). omega arith) h.0
 
@@ -130,7 +147,7 @@ no_live rows none (order.Check image) h = unlike (codes "live") (codes "check") 
 no_live rows none (order.Explain image) h = unlike (codes "live") (codes "explain") (λ (e : ◌≡◌ {A = ℕ} 108 101). omega arith) h.0
 no_live rows none (order.Why rule) h = unlike (codes "live") (codes "explain") (λ (e : ◌≡◌ {A = ℕ} 108 101). omega arith) h.0
 no_live rows none (order.Asm source image state form) h = unlike (codes "live") (codes "asm") (λ (e : ◌≡◌ {A = ℕ} 108 97). omega arith) h.0
-no_live rows none (order.Pack code image state form) h = unlike (codes "live") (codes "pack") (λ (e : ◌≡◌ {A = ℕ} 108 112). omega arith) h.0
+no_live rows none (order.Pack code image state form function) h = unlike (codes "live") (codes "pack") (λ (e : ◌≡◌ {A = ℕ} 108 112). omega arith) h.0
 no_live rows none (order.Dis image) h = unlike (codes "live") (codes "dis") (λ (e : ◌≡◌ {A = ℕ} 108 100). omega arith) h.0
 no_live rows none (order.Native image code) h = unlike (codes "live") (codes "native") (λ (e : ◌≡◌ {A = ℕ} 108 110). omega arith) h.0
 

@@ -8,7 +8,7 @@ use Rattle.std.specs.Str.Parse.{digits_value, without_leading_plus}
 use Rattle.std.proofs.lemmas.Bool.{eqb-true}
 use Rattle.std.proofs.lemmas.Slice.Eq.{bytes_eq-Decides}
 use Rattle.limits.specs.declared.TheConstants.{STATE_BYTES, WORKERS}
-use Rattle.clap.specs.Words.{App, Row, Rule, Text, fault_of, one_of, read_as}
+use Rattle.clap.specs.Words.{App, Row, Rule, Text, fault_of, first_of, one_of, read_as}
 use Rattle.clap.specs.Kinds.{check_kinds, or_else, range_kinds, value_kinds}
 use Rattle.clap.specs.Facts.{explicit_source, parser_of_value}
 use Rattle.clap.specs.Simple.{Shape, built, entered, help_rule, names_of, rows_at}
@@ -21,7 +21,7 @@ use Rattle.clap.specs.declared.error.ErrorKind.TheVariants.{ArgumentConflict, In
 use Rattle.clap.specs.declared.parser.matches.ValueSource.{ValueSource}
 use Rattle.clap.specs.declared.parser.matches.ValueSource.TheVariants.{CommandLine, DefaultValue}
 use Rattle.clap.proofs.ValueTestLemmas.{accepts-Accepts}
-use Rattle.cli.specs.Asks.{AsksBy, AsksFor, AsksIn, HasBudget, HasForm, HasImage, HasNumber, HasPath, HasScenario, HasState, HasWorkers, Order, is_set}
+use Rattle.cli.specs.Asks.{AsksBy, AsksFor, AsksIn, HasBudget, HasForm, HasImage, HasNumber, HasPath, HasScenario, HasState, HasWorkers, MayHaveForm, MayHaveState, Order, is_set}
 use Rattle.cli.specs.Asks as order
 use Rattle.images.specs.declared.file_form.FileForm.{FileForm}
 use Rattle.images.specs.declared.file_form.FileForm.TheVariants.{Sbi1, Sbi2, Sbi3}
@@ -329,7 +329,10 @@ pack_keeps = (
     set_keeps IsSound (rule_in pack_leaf 1) (λ v fits. path_sound (rule_in pack_leaf 1) refl refl refl refl v),
     (
       set_keeps IsSound (rule_in pack_leaf 2) (λ v fits. state_sound v fits),
-      (set_keeps IsSound (rule_in pack_leaf 3) (λ v fits. form_sound v fits), (help_keeps, tt)),
+      (
+        set_keeps IsSound (rule_in pack_leaf 3) (λ v fits. form_sound v fits),
+        (set_keeps IsSound (rule_in pack_leaf 4) (λ v fits. path_sound (rule_in pack_leaf 4) refl refl refl refl v), (help_keeps, tt)),
+      ),
     ),
   ),
 )
@@ -378,22 +381,40 @@ number_given id low high rows all numbered given =
     let row = given_row id rows given in
     number_found id low high rows all numbered row.0 row.1
 
-form_named : (rows : List Row) (n : ℕ) → HasNumber (codes "form") 1 3 rows n → (form : FileForm) × HasForm rows form
+form_named : (rows : List Row) (n : ℕ) → HasNumber (codes "form") 1 3 rows n → (form : Option FileForm) × MayHaveForm rows form
 form_named rows zero h = absurd (omega (arith, h.2.least))
-form_named rows (suc zero) h = (Sbi1, inl h)
-form_named rows (suc (suc zero)) h = (Sbi2, inl h)
-form_named rows (suc (suc (suc zero))) h = (Sbi3, inl h)
+form_named rows (suc zero) h = (Some Sbi1, h)
+form_named rows (suc (suc zero)) h = (Some Sbi2, h)
+form_named rows (suc (suc (suc zero))) h = (Some Sbi3, h)
 form_named rows (suc (suc (suc (suc n)))) h = absurd (omega (arith, h.2.most))
 
--- an image that is to be written has a form
-form_given : (rows : List Row) → AllByRecursion IsSound rows → (form : FileForm) × HasForm rows form
-form_given rows all = go (find (λ r. bytes_eq r.id (codes "form")) rows) refl
+-- the length of a state may be given
+state_maybe : (rows : List Row) → AllByRecursion IsSound rows → (state : Option ℕ) × MayHaveState rows state
+state_maybe rows all = go (find (λ r. bytes_eq r.id (codes "state")) rows) refl
   where
-    go : (o : Option Row) → find (λ r. bytes_eq r.id (codes "form")) rows ≡ o → (form : FileForm) × HasForm rows form
-    go None is = (Sbi1, inr (ap (option_and_then (λ (r : Row). slice_get r.values 0)) is, refl))
+    go : (o : Option Row) → find (λ r. bytes_eq r.id (codes "state")) rows ≡ o → (state : Option ℕ) × MayHaveState rows state
+    go None is = (None, ap (option_and_then (λ (r : Row). slice_get r.values 0)) is)
+    go (Some r) is =
+        let number = number_found (codes "state") 0 STATE_BYTES rows all (λ r s. s.state) r is in
+        (Some number.0, number.1)
+
+-- and so may a form
+form_maybe : (rows : List Row) → AllByRecursion IsSound rows → (form : Option FileForm) × MayHaveForm rows form
+form_maybe rows all = go (find (λ r. bytes_eq r.id (codes "form")) rows) refl
+  where
+    go : (o : Option Row) → find (λ r. bytes_eq r.id (codes "form")) rows ≡ o → (form : Option FileForm) × MayHaveForm rows form
+    go None is = (None, ap (option_and_then (λ (r : Row). slice_get r.values 0)) is)
     go (Some r) is =
         let number = number_found (codes "form") 1 3 rows all (λ r s. s.form) r is in
         form_named rows number.0 number.1
+
+-- an image of a text has a form
+form_given : (rows : List Row) → AllByRecursion IsSound rows → (form : FileForm) × HasForm rows form
+form_given rows all = go (form_maybe rows all)
+  where
+    go : (form : Option FileForm) × MayHaveForm rows form → (form : FileForm) × HasForm rows form
+    go (None, h) = (Sbi1, inr (h, refl))
+    go (Some form, h) = (form, inl h)
 
 one_required : (g : Bool) → cond (not g || false) (MissingRequiredArgument ∷ []) [] ≡ [] → g ≡ true
 one_required true e = refl
@@ -467,12 +488,13 @@ asm_given words none =
 pack_given : (words : List Text) → level_fault pack_leaf [] nothing_held words false [] ≡ []
     → ((path : Text) × HasPath (codes "CODE") (rows_after pack_leaf.rules [] words) path)
     × ((path : Text) × HasPath (codes "OUT") (rows_after pack_leaf.rules [] words) path)
-    × ((n : ℕ) × HasState (rows_after pack_leaf.rules [] words) n) × ((form : FileForm) × HasForm (rows_after pack_leaf.rules [] words) form)
+    × ((state : Option ℕ) × MayHaveState (rows_after pack_leaf.rules [] words) state)
+    × ((form : Option FileForm) × MayHaveForm (rows_after pack_leaf.rules [] words) form)
 pack_given words none =
-    let fine = level_fine IsSound pack_leaf (λ p a is. find_all (Keeps IsSound false) p pack_leaf.rules a pack_keeps is) [] words false [] (refl, (refl, (refl, (refl, (refl, tt))))) none in
+    let fine = level_fine IsSound pack_leaf (λ p a is. find_all (Keeps IsSound false) p pack_leaf.rules a pack_keeps is) [] words false [] (refl, (refl, (refl, (refl, (refl, (refl, tt)))))) none in
     let rows = rows_after pack_leaf.rules [] words in
-    let all = three_required (is_given (codes "CODE") rows) (is_given (codes "OUT") rows) (is_given (codes "state") rows) fine.3 in
-    (path_given (codes "CODE") rows fine.0 all.0, path_given (codes "OUT") rows fine.0 all.1, number_given (codes "state") 0 STATE_BYTES rows fine.0 (λ r s. s.state) all.2, form_given rows fine.0)
+    let all = two_required (is_given (codes "CODE") rows) (is_given (codes "OUT") rows) fine.3 in
+    (path_given (codes "CODE") rows fine.0 all.0, path_given (codes "OUT") rows fine.0 all.1, state_maybe rows fine.0, form_maybe rows fine.0)
 
 dis_given : (words : List Text) → level_fault dis_leaf [] nothing_held words false [] ≡ [] → (path : Text) × HasImage (rows_after dis_leaf.rules [] words) path
 dis_given words none =
@@ -531,7 +553,7 @@ order_by false false false false false true pack dis native help words no_help n
     (order.Asm given.0.0 given.1.0 given.2.0 given.3.0, (refl, given.0.1, given.1.1, given.2.1, given.3.1))
 order_by false false false false false false true dis native help words no_help none has =
     let given = pack_given words none in
-    (order.Pack given.0.0 given.1.0 given.2.0 given.3.0, (refl, given.0.1, given.1.1, given.2.1, given.3.1))
+    (order.Pack given.0.0 given.1.0 given.2.0 given.3.0 (first_of (codes "function") (rows_after pack_leaf.rules [] words)), (refl, given.0.1, given.1.1, given.2.1, given.3.1, refl))
 order_by false false false false false false false true native help words no_help none has =
     let given = dis_given words none in
     (order.Dis given.0, (refl, given.1))

@@ -1,6 +1,6 @@
 -- The request of a command line. The words decide it, by the rules of clap for sblog_app.
-use Rattle.std.specs.Prelude.{◌≡◌, ◌≢◌, ◌≤◌, ◌⊎◌, ◌||◌, ℕ, Bool, false, true, List, [], Option, Some, None, codes}
-use Rattle.std.specs.Option.{option_map_or}
+use Rattle.std.specs.Prelude.{◌≡◌, ◌≢◌, ◌≤◌, ◌⊎◌, ◌||◌, ℕ, Bool, false, true, List, [], Option, Some, None, IfSome, codes}
+use Rattle.std.specs.Option.{option_map, option_map_or}
 use Rattle.std.specs.Str.{bytes_eq}
 use Rattle.std.specs.Str.Parse.{IsNumeral, digits_value, without_leading_plus}
 use Rattle.std.specs.String.{string_bytes}
@@ -33,6 +33,11 @@ HasNumber id low high rows n = (text : Text) × (one_of id rows ≡ Some text) �
 abbrev pub HasState : List Row → ℕ → Type 0
 HasState rows n = HasNumber (codes "state") 0 STATE_BYTES rows n
 
+-- the same if the option was given
+abbrev pub MayHaveState : List Row → Option ℕ → Type 0
+MayHaveState rows None = first_of (codes "state") rows ≡ None
+MayHaveState rows (Some n) = HasState rows n
+
 -- the option --workers was given as the number n
 abbrev pub HasWorkers : List Row → ℕ → Type 0
 HasWorkers rows n = HasNumber (codes "workers") 1 WORKERS rows n
@@ -41,9 +46,14 @@ HasWorkers rows n = HasNumber (codes "workers") 1 WORKERS rows n
 abbrev pub HasBudget : List Row → ℕ → Type 0
 HasBudget rows n = HasNumber (codes "budget") 1 BUDGET rows n
 
--- the option --form was given as the number of this form. Without the option it is form 1
+-- the option --form was given as the number of this form, if it was given
+abbrev pub MayHaveForm : List Row → Option FileForm → Type 0
+MayHaveForm rows None = first_of (codes "form") rows ≡ None
+MayHaveForm rows (Some form) = HasNumber (codes "form") 1 3 rows (file_form_number form)
+
+-- the same; without the option it is form 1
 abbrev pub HasForm : List Row → FileForm → Type 0
-HasForm rows form = HasNumber (codes "form") 1 3 rows (file_form_number form) ⊎ ((first_of (codes "form") rows ≡ None) × (form ≡ Sbi1))
+HasForm rows form = MayHaveForm rows (Some form) ⊎ (MayHaveForm rows None × (form ≡ Sbi1))
 
 -- the argument of this name was given as this path
 abbrev pub HasPath : Text → List Row → Text → Type 0
@@ -71,7 +81,7 @@ pub data Order : Type 0 where
   Explain : Text → Order
   Why : Text → Order
   Asm : Text → Text → ℕ → FileForm → Order
-  Pack : Text → Text → ℕ → FileForm → Order
+  Pack : Text → Text → Option ℕ → Option FileForm → Option Text → Order
   Dis : Text → Order
   Native : Text → Text → Order
 
@@ -85,7 +95,7 @@ order_of (request.Check image) = Check image.now
 order_of (request.Explain image) = Explain image.now
 order_of (request.Why rule) = Why rule.now
 order_of (request.Asm source image state form) = Asm source.now image.now state form
-order_of (request.Pack code image state form) = Pack code.now image.now state form
+order_of (request.Pack code image asked) = Pack code.now image.now asked.state asked.form (option_map (λ s. s.now) asked.function)
 order_of (request.Dis image) = Dis image.now
 order_of (request.Native image code) = Native image.now code.now
 
@@ -93,7 +103,7 @@ order_of (request.Native image code) = Native image.now code.now
 abbrev pub IsInRange : Order → Type 0
 IsInRange (Live scenario workers budget) = (1 ≤ workers) × (workers ≤ WORKERS) × (1 ≤ budget) × (budget ≤ BUDGET)
 IsInRange (Asm source image state form) = state ≤ STATE_BYTES
-IsInRange (Pack code image state form) = state ≤ STATE_BYTES
+IsInRange (Pack code image state form function) = IfSome state (λ n. n ≤ STATE_BYTES)
 IsInRange order = Unit {0}
 
 -- the command of this name, with these arguments, makes this request
@@ -111,8 +121,9 @@ AsksIn name rows (Explain image) = (name ≡ codes "explain") × HasImage rows i
 AsksIn name rows (Why rule) = (name ≡ codes "explain") × HasImage rows rule × (is_set (codes "why") rows ≡ true)
 AsksIn name rows (Asm source image state form) = (name ≡ codes "asm")
     × HasPath (codes "SRC") rows source × HasPath (codes "OUT") rows image × HasState rows state × HasForm rows form
-AsksIn name rows (Pack code image state form) = (name ≡ codes "pack")
-    × HasPath (codes "CODE") rows code × HasPath (codes "OUT") rows image × HasState rows state × HasForm rows form
+AsksIn name rows (Pack code image state form function) = (name ≡ codes "pack")
+    × HasPath (codes "CODE") rows code × HasPath (codes "OUT") rows image × MayHaveState rows state × MayHaveForm rows form
+    × (first_of (codes "function") rows ≡ function)
 AsksIn name rows (Dis image) = (name ≡ codes "dis") × HasImage rows image
 AsksIn name rows (Native image code) = (name ≡ codes "native") × HasImage rows image × HasPath (codes "OUT") rows code
 

@@ -21,6 +21,10 @@ number_rule id required low high = record (new_rule id) {
   parser = Some (parser.Unsigned low high);
 }
 
+-- an option whose value is a text. It isn't required
+abbrev pub text_rule : Text → Rule
+text_rule id = record (new_rule id) { action = Some Set; long = Some id; value_names = 1 }
+
 -- an option without a value. It isn't required
 abbrev pub flag_rule : Text → Rule
 flag_rule id = record (new_rule id) { long = Some id; action = Some SetTrue }
@@ -48,18 +52,16 @@ check_app = with_rule (new_app (codes "check")) (required_rule (codes "IMAGE"))
 abbrev pub explain_app : App
 explain_app = with_rule (with_rule (new_app (codes "explain")) (required_rule (codes "IMAGE"))) (flag_rule (codes "why"))
 
--- `NAME SOURCE OUT --state N [--form F]`
-abbrev pub writer_app : Text → Text → App
-writer_app name source = with_rule (with_rule (with_rule (with_rule (new_app name) (required_rule source))
-    (required_rule (codes "OUT"))) (number_rule (codes "state") true 0 STATE_BYTES)) (number_rule (codes "form") false 1 3)
-
 -- `asm SRC OUT --state N [--form F]`
 abbrev pub asm_app : App
-asm_app = writer_app (codes "asm") (codes "SRC")
+asm_app = with_rule (with_rule (with_rule (with_rule (new_app (codes "asm")) (required_rule (codes "SRC")))
+    (required_rule (codes "OUT"))) (number_rule (codes "state") true 0 STATE_BYTES)) (number_rule (codes "form") false 1 3)
 
--- `pack CODE OUT --state N [--form F]`
+-- `pack CODE OUT [--state N] [--form F] [--function NAME]`
 abbrev pub pack_app : App
-pack_app = writer_app (codes "pack") (codes "CODE")
+pack_app = with_rule (with_rule (with_rule (with_rule (with_rule (new_app (codes "pack")) (required_rule (codes "CODE")))
+    (required_rule (codes "OUT"))) (number_rule (codes "state") false 0 STATE_BYTES)) (number_rule (codes "form") false 1 3))
+    (text_rule (codes "function"))
 
 -- `dis IMAGE`
 abbrev pub dis_app : App

@@ -3,7 +3,7 @@
 ghost use Rattle.std.specs.Prelude.{◌≡◌, IfOk, codes, false, true};
 ghost use Rattle.clap.specs.Words.{App, Rule, app_of, rule_of, with_rule, with_subcommand};
 ghost use Rattle.clap.specs.declared.builder.Command.TheViews.{out-Command as fields_of};
-ghost use Rattle.cli.specs.Program.{asm_app, check_app, dis_app, draw_app, explain_app, flag_rule, live_app, native_app, number_rule, pack_app, required_rule, run_app, sblog_app, top_app, writer_app};
+ghost use Rattle.cli.specs.Program.{asm_app, check_app, dis_app, draw_app, explain_app, flag_rule, live_app, native_app, number_rule, pack_app, required_rule, run_app, sblog_app, text_rule, top_app};
 
 use clap::builder::ValueParser;
 use clap::{Arg, ArgAction, Command};
@@ -18,6 +18,9 @@ const ORDERS: &str = "Text that declares processes and gives orders";
 
 /// The help of an image.
 const IMAGE: &str = "Image file";
+
+/// The help of an image that is made.
+const WRITTEN: &str = "Image file to write";
 
 /// A required argument with one value.
 fn required<'a>(alloc: Global, id: &'a str, help: &'a str) -> Arg<'a>
@@ -59,12 +62,30 @@ fn flag<'a>(alloc: Global, id: &'a str, help: &'a str) -> Arg<'a>
         .help(help)
 }
 
+/// An option whose value is a text.
+fn text<'a>(alloc: Global, id: &'a str, name: &'a str, help: &'a str) -> Arg<'a>
+    ensures rule { rule_of result ≡ text_rule id.entry.now }
+    ensures local { result.global ≡ false }
+{
+    required(alloc, id, help)
+        .required(false)
+        .long(id)
+        .value_name(name)
+}
+
+/// The option `--state` of an image that may have a length without it.
+fn state<'a>(alloc: Global, help: &'a str) -> Arg<'a>
+    ensures rule { rule_of result ≡ number_rule (codes "state") false 0 STATE_BYTES }
+    ensures local { result.global ≡ false }
+{
+    number(alloc, "state", "N", 0, STATE_BYTES as u64, help).required(false)
+}
+
 /// The option `--form` of an image: 1, 2 or 3.
-fn form<'a>(alloc: Global) -> Arg<'a>
+fn form<'a>(alloc: Global, help: &'a str) -> Arg<'a>
     ensures rule { rule_of result ≡ number_rule (codes "form") false 1 3 }
     ensures local { result.global ≡ false }
 {
-    let help = "Form of the image, 1, 2 or 3 [default: 1]";
     number(alloc, "form", "F", 1, 3, help).required(false)
 }
 
@@ -165,42 +186,41 @@ fn explain<'a>(alloc: Global) -> Result<Command<'a>, AllocError>
     with(image, flag(alloc, "why", help))
 }
 
-/// A command that makes an image of a source.
-fn writer<'a>(
-    alloc: Global,
-    name: &'a str,
-    about: &'a str,
-    source: &'a str,
-    help: &'a str,
-) -> Result<Command<'a>, AllocError>
-    ensures shape { IfOk result (λ c. app_of c ≡ writer_app name.entry.now source.entry.now) }
+fn asm<'a>(alloc: Global) -> Result<Command<'a>, AllocError>
+    ensures shape { IfOk result (λ c. app_of c ≡ asm_app) }
     ensures local { IfOk result (λ c. (fields_of c).has_globals ≡ false) }
 {
-    let bare = Ok(Command::new(alloc, name).about(about));
-    let with_source = with(bare, required(alloc, source, help));
-    let image = with(with_source, required(alloc, "OUT", "Image file to write"));
+    let bare = Ok(Command::new(alloc, "asm").about(
+        "Writes the image of an assembler text, with N bytes of state",
+    ));
+    let source = with(bare, required(alloc, "SRC", "Assembler text"));
+    let image = with(source, required(alloc, "OUT", WRITTEN));
     let bytes = "Bytes of state, 0 to 1024";
     let state = with(
         image,
         number(alloc, "state", "N", 0, STATE_BYTES as u64, bytes),
     );
-    with(state, form(alloc))
-}
-
-fn asm<'a>(alloc: Global) -> Result<Command<'a>, AllocError>
-    ensures shape { IfOk result (λ c. app_of c ≡ asm_app) }
-    ensures local { IfOk result (λ c. (fields_of c).has_globals ≡ false) }
-{
-    let about = "Writes the image of an assembler text, with N bytes of state";
-    writer(alloc, "asm", about, "SRC", "Assembler text")
+    let help = "Form of the image, 1, 2 or 3 [default: 1]";
+    with(state, form(alloc, help))
 }
 
 fn pack<'a>(alloc: Global) -> Result<Command<'a>, AllocError>
     ensures shape { IfOk result (λ c. app_of c ≡ pack_app) }
     ensures local { IfOk result (λ c. (fields_of c).has_globals ≡ false) }
 {
-    let about = "Writes the image of the bytes of its code, with N bytes of state";
-    writer(alloc, "pack", about, "CODE", "Bytes of the code alone")
+    let bare = Ok(Command::new(alloc, "pack").about(
+        "Writes the image of a function of an object file, or of the bytes of its code",
+    ));
+    let help = "Object file (clang --target=bpf -c), or bytes of the code alone";
+    let code = with(bare, required(alloc, "CODE", help));
+    let image = with(code, required(alloc, "OUT", WRITTEN));
+    let help =
+        "Bytes of state, 0 to 1024 [default: those of the type that the second argument points to]";
+    let with_state = with(image, state(alloc, help));
+    let help = "Form of the image, 1, 2 or 3 [default: 3 of an object file, else 1]";
+    let with_form = with(with_state, form(alloc, help));
+    let help = "Function of the object file, if it has several";
+    with(with_form, text(alloc, "function", "NAME", help))
 }
 
 fn dis<'a>(alloc: Global) -> Result<Command<'a>, AllocError>

@@ -16,4 +16,4 @@ mod refusal;
 mod request;
 
 pub use refusal::{Usage, UsageRefusal};
-pub use request::{Request, parse_words};
+pub use request::{Packing, Request, parse_words};

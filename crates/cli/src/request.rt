@@ -2,7 +2,7 @@
 
 ghost use Rattle.std.specs.Prelude.{◌≡◌, ◌≢◌, IfErr, IfOk, [], codes, map, option_map, string_bytes};
 ghost use Rattle.clap.specs.Words.{first_of, found_of, kind_of, rows_of, subcommand_rows_of};
-ghost use Rattle.cli.specs.Asks.{AsksBy, AsksFor, AsksIn, Explains, Gives, GivesOrder, HasForm, HasNumber, IsInRange, IsRefusal, is_set, order_of};
+ghost use Rattle.cli.specs.Asks.{AsksBy, AsksFor, AsksIn, Explains, Gives, GivesOrder, HasForm, HasNumber, IsInRange, IsRefusal, MayHaveForm, MayHaveState, is_set, order_of};
 
 use crate::command::{BUDGET, sblog};
 use crate::refusal::{Usage, UsageRefusal};
@@ -12,6 +12,15 @@ use images::FileForm;
 use limits::{STATE_BYTES, WORKERS};
 use std::alloc::{AllocError, Global};
 use std::convert::AsStr;
+
+/// How an image is asked for. Each may be missing: the length of its state, at most 1,024, its form, and the name of an object file's
+/// function.
+#[derive(Clone, Copy, Debug, PartialEq, Eq)]
+pub struct Packing<'a> {
+    pub state: Option<u16>,
+    pub form: Option<FileForm>,
+    pub function: Option<&'a str>,
+}
 
 /// What a command line asks for, a variant for each command. Paths are as given.
 #[derive(Clone, Copy, Debug, PartialEq, Eq)]
@@ -57,12 +66,11 @@ pub enum Request<'a> {
         state: u16,
         form: FileForm,
     },
-    /// `pack CODE OUT --state N --form F`, as `asm`.
+    /// `pack CODE OUT --state N --form F --function NAME`.
     Pack {
         code: &'a str,
         image: &'a str,
-        state: u16,
-        form: FileForm,
+        asked: Packing<'a>,
     },
     /// `dis IMAGE`.
     Dis {
@@ -104,22 +112,46 @@ fn is_set(matches: &ArgMatches<'_>, id: &str) -> bool
     }
 }
 
+/// The length of the state, if it was given.
+fn state_in(matches: &ArgMatches<'_>) -> Option<Option<u16>>
+    ensures { Gives (MayHaveState (rows_of (found_of matches.now))) result }
+{
+    match path_in(matches, "state") {
+        None => Some(None),
+        Some(_) => {
+            let number = number_in(matches, "state", 0, STATE_BYTES as u64)?;
+            Some(Some(number as u16))
+        }
+    }
+}
+
+/// The form of the image to write, if it was given.
+fn given_form_in(matches: &ArgMatches<'_>) -> Option<Option<FileForm>>
+    ensures { Gives (MayHaveForm (rows_of (found_of matches.now))) result }
+{
+    match path_in(matches, "form") {
+        None => Some(None),
+        Some(_) => {
+            let number = number_in(matches, "form", 1, 3)?;
+            if number == 1 {
+                Some(Some(FileForm::Sbi1))
+            } else if number == 2 {
+                Some(Some(FileForm::Sbi2))
+            } else {
+                Some(Some(FileForm::Sbi3))
+            }
+        }
+    }
+}
+
 /// The form of the image to write.
 fn form_in(matches: &ArgMatches<'_>) -> Option<FileForm>
     ensures { Gives (HasForm (rows_of (found_of matches.now))) result }
 {
-    match path_in(matches, "form") {
-        None => Some(FileForm::Sbi1),
-        Some(_) => {
-            let number = number_in(matches, "form", 1, 3)?;
-            if number == 1 {
-                Some(FileForm::Sbi1)
-            } else if number == 2 {
-                Some(FileForm::Sbi2)
-            } else {
-                Some(FileForm::Sbi3)
-            }
-        }
+    match given_form_in(matches) {
+        Some(Some(form)) => Some(form),
+        Some(None) => Some(FileForm::Sbi1),
+        None => None,
     }
 }
 
@@ -204,14 +236,15 @@ fn pack_in<'a>(matches: &ArgMatches<'a>) -> Option<Request<'a>>
 {
     let code = path_in(matches, "CODE")?;
     let image = path_in(matches, "OUT")?;
-    let state = number_in(matches, "state", 0, STATE_BYTES as u64)? as u16;
-    let form = form_in(matches)?;
-    Some(Request::Pack {
-        code,
-        image,
+    let state = state_in(matches)?;
+    let form = given_form_in(matches)?;
+    let function = path_in(matches, "function");
+    let asked = Packing {
         state,
         form,
-    })
+        function,
+    };
+    Some(Request::Pack { code, image, asked })
 }
 
 fn dis_in<'a>(matches: &ArgMatches<'a>) -> Option<Request<'a>>
@@ -302,6 +335,7 @@ fn option_words<S: AsStr>(words: &[S]) -> &'static str {
             "--state" | "--form" if !matches!(command, "asm" | "pack") => {
                 return "asm and pack take --state and --form: an image has both in it (./sblog explain --source takes them, of an object file)\n";
             }
+            "--function" if command != "pack" => return "pack takes --function\n",
             "--workers" | "--budget" if command != "live" => {
                 return "live takes --workers and --budget\n";
             }

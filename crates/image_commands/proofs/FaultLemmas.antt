@@ -6,15 +6,17 @@ use Rattle.assemble.specs.declared.fault.AsmError.{AsmError}
 use Rattle.assemble.specs.declared.fault.AsmError.TheVariants as text
 use Rattle.decode.specs.declared.fault.DecodeError.{DecodeError}
 use Rattle.decode.specs.declared.fault.DecodeError.TheVariants as code
+use Rattle.elf.specs.declared.fault.ObjectError.{ObjectError}
+use Rattle.elf.specs.declared.fault.ObjectError.TheVariants as object
 use Rattle.images.specs.ImageFile as any
 use Rattle.verifier.specs.declared.fault.ImageError.{ImageError}
 use Rattle.verifier.specs.declared.fault.ImageError.TheVariants as image
-use Rattle.image_commands.specs.Fault.{FaultOf, fault_of_code, fault_of_failure, fault_of_image, fault_of_text}
+use Rattle.image_commands.specs.Fault.{FaultOf, fault_of_code, fault_of_failure, fault_of_image, fault_of_object, fault_of_text}
 use Rattle.image_commands.specs.Files.{Content}
 use Rattle.image_commands.specs.Inside.{HandlerFault, IsNoUsage, IsPlainFault}
 use Rattle.image_commands.specs.OwnInput.{IsOwnInput}
 use Rattle.image_commands.specs.declared.fault.Fault.{Fault}
-use Rattle.image_commands.specs.declared.fault.Fault.TheVariants.{Usage, Header, Decode, Verify, Assemble, Scenario, Memory, InputOutput}
+use Rattle.image_commands.specs.declared.fault.Fault.TheVariants.{Usage, Header, Decode, Verify, Assemble, Object, NoState, Scenario, Memory, InputOutput}
 use Rattle.image_commands.specs.declared.files.Failure.{Failure}
 use Rattle.image_commands.specs.declared.files.Failure.TheVariants as failure
 use Rattle.image_commands.proofs.HeadLemmas.{any_refusal}
@@ -32,6 +34,8 @@ own_input_of P Q (Header h) step own = absurd own
 own_input_of P Q (Decode rule slot) step own = absurd own
 own_input_of P Q (Verify rule slot) step own = absurd own
 own_input_of P Q (Assemble rule line) step own = absurd own
+own_input_of P Q (Object fault) step own = absurd own
+own_input_of P Q NoState step own = absurd own
 own_input_of P Q (Scenario line) step own = absurd own
 own_input_of P Q Memory step own = tt
 own_input_of P Q InputOutput step own = absurd own
@@ -77,6 +81,8 @@ reading_fault content failed path refused (Header h) kind why = why
 reading_fault content failed path refused (Decode rule slot) kind why = why
 reading_fault content failed path refused (Verify rule slot) kind why = why
 reading_fault content failed path refused (Assemble rule line) kind why = why
+reading_fault content failed path refused (Object fault) kind why = why
+reading_fault content failed path refused NoState kind why = why
 reading_fault content failed path refused (Scenario line) kind why = why
 reading_fault content failed path refused Memory kind why = tt
 reading_fault content failed path refused InputOutput kind why = inr why
@@ -89,6 +95,10 @@ no_usage_text (text.Fault rule line) f is = subst IsNoUsage (sym is) tt
 pub no_usage_code : (e : DecodeError) (f : Fault) → f ≡ fault_of_code e → IsNoUsage f
 no_usage_code code.Memory f is = subst IsNoUsage (sym is) tt
 no_usage_code (code.Fault rule slot) f is = subst IsNoUsage (sym is) tt
+
+pub no_usage_object : (e : ObjectError) (f : Fault) → f ≡ fault_of_object e → IsNoUsage f
+no_usage_object object.Memory f is = subst IsNoUsage (sym is) tt
+no_usage_object (object.Fault fault) f is = subst IsNoUsage (sym is) tt
 
 pub no_usage_image : (e : ImageError) (f : Fault) → f ≡ fault_of_image e → IsNoUsage f
 no_usage_image image.Memory f is = subst IsNoUsage (sym is) tt

@@ -146,6 +146,8 @@ scenario_fault content failed allowed path bytes e (fault.Header _) read why is 
 scenario_fault content failed allowed path bytes e (fault.Decode _ _) read why is = elim is [ ]
 scenario_fault content failed allowed path bytes e (fault.Verify _ _) read why is = elim is [ ]
 scenario_fault content failed allowed path bytes e (fault.Assemble _ _) read why is = elim is [ ]
+scenario_fault content failed allowed path bytes e (fault.Object _) read why is = elim is [ ]
+scenario_fault content failed allowed path bytes e fault.NoState read why is = elim is [ ]
 scenario_fault content failed allowed path bytes error.Memory (fault.Scenario n) read why is = elim is [ ]
 scenario_fault content failed allowed path bytes e fault.InputOutput read why is = elim is [ ]
 

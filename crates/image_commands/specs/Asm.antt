@@ -9,7 +9,7 @@ use Rattle.images.specs.ImageFile.{IsFile}
 use Rattle.verifier.specs.declared.fault.HeaderFault.TheVariants.{SlotCount}
 use Rattle.image_commands.specs.Judged.{IsJudged}
 use Rattle.image_commands.specs.declared.fault.Fault.{Fault}
-use Rattle.image_commands.specs.declared.fault.Fault.TheVariants.{Usage, Header, Decode, Verify, Assemble, Scenario, Memory, InputOutput}
+use Rattle.image_commands.specs.declared.fault.Fault.TheVariants.{Usage, Header, Decode, Verify, Assemble, Object, NoState, Scenario, Memory, InputOutput}
 use Rattle.image_commands.specs.declared.judged.TheConstants.{TEXT_LIMIT}
 
 -- the source is the text of code of which these bytes are the file of this form, with a state of this length
@@ -34,6 +34,8 @@ IsUnassembled source (Assemble rule line) = assembling.IsFault source rule line
 IsUnassembled source (Header fault) = (fault ≡ SlotCount) × ((spoken (lines_of source) ≡ []) ⊎ IsTooLong source)
 IsUnassembled source InputOutput = (head : List ℕ) × IsJudged source head × ¬ IsUtf8 head
 IsUnassembled source Memory = Unit {0}
+IsUnassembled source (Object fault) = ⊥
+IsUnassembled source NoState = ⊥
 IsUnassembled source (Scenario line) = ⊥
 IsUnassembled source (Usage usage) = ⊥
 IsUnassembled source (Decode rule slot) = ⊥

@@ -1,5 +1,5 @@
 -- What a fault shows and how the program ends with it (docs/FORMATS.md, "Faults").
-use Rattle.std.specs.Prelude.{◌≡◌, ◌⊎◌, ℕ, Bool, true, false, List, ◌++◌, Option, Some, codes, decimal}
+use Rattle.std.specs.Prelude.{◌≡◌, ◌⊎◌, ℕ, Bool, true, false, List, [], ◌++◌, Option, Some, codes, decimal}
 use Rattle.std.specs.Io.KnownBytes.{Appends}
 use Rattle.std.specs.String.{string_bytes}
 use Rattle.assemble.specs.Refusal as assembling
@@ -10,6 +10,12 @@ use Rattle.cli.specs.declared.refusal.UsageRefusal.TheVariants as refusal
 use Rattle.decode.specs.Refusal.{rule_number}
 use Rattle.decode.specs.declared.fault.DecodeError.{DecodeError}
 use Rattle.decode.specs.declared.fault.DecodeError.TheVariants as code
+use Rattle.elf.specs.Refusal.{fault_number}
+use Rattle.elf.specs.declared.fault.ObjectError.{ObjectError}
+use Rattle.elf.specs.declared.fault.ObjectError.TheVariants as object
+use Rattle.elf.specs.declared.fault.ObjectFault.{ObjectFault}
+use Rattle.elf.specs.declared.fault.ObjectFault.TheVariants.{Reference, Call}
+use Rattle.image_commands.specs.declared.fault.TheConstants.{NO_STATE}
 use Rattle.regtypes.specs.Rules as rules
 use Rattle.scenario.specs.declared.scenario.ScenarioError.{ScenarioError}
 use Rattle.scenario.specs.declared.scenario.ScenarioError.TheVariants as scenario
@@ -18,7 +24,7 @@ use Rattle.verifier.specs.declared.fault.ImageError.{ImageError}
 use Rattle.verifier.specs.declared.fault.ImageError.TheVariants as image
 use Rattle.image_commands.specs.Files.{Content}
 use Rattle.image_commands.specs.declared.fault.Fault.{Fault}
-use Rattle.image_commands.specs.declared.fault.Fault.TheVariants.{Usage, Header, Decode, Verify, Assemble, Scenario, Memory, InputOutput}
+use Rattle.image_commands.specs.declared.fault.Fault.TheVariants.{Usage, Header, Decode, Verify, Assemble, Object, NoState, Scenario, Memory, InputOutput}
 use Rattle.image_commands.specs.declared.files.Failure.{Failure}
 use Rattle.image_commands.specs.declared.files.Failure.TheVariants as failure
 
@@ -29,9 +35,17 @@ status_of (Header fault) = 3
 status_of (Decode rule slot) = 3
 status_of (Verify rule slot) = 3
 status_of (Assemble rule line) = 3
+status_of (Object fault) = 3
+status_of NoState = 2
 status_of (Scenario line) = 4
 status_of Memory = 5
 status_of InputOutput = 6
+
+-- the slot that a fault of an object file names
+abbrev pub slot_text : ObjectFault → List ℕ
+slot_text (Reference slot is_call table symbol) = codes " at slot " ++ decimal slot
+slot_text (Call slot) = codes " at slot " ++ decimal slot
+slot_text fault = []
 
 -- the text on standard error: one line, or the text on usage
 abbrev pub fault_text : Fault → List ℕ
@@ -43,6 +57,8 @@ fault_text (Verify rule slot) =
     codes "verify refused V" ++ decimal (rules.rule_number rule) ++ codes " at slot " ++ decimal slot ++ codes "\n"
 fault_text (Assemble rule line) =
     codes "asm refused " ++ decimal (assembling.rule_number rule) ++ codes " at line " ++ decimal line ++ codes "\n"
+fault_text (Object fault) = codes "object refused " ++ decimal (fault_number fault) ++ slot_text fault ++ codes "\n"
+fault_text NoState = NO_STATE.now
 fault_text (Scenario line) = codes "scenario refused at line " ++ decimal line ++ codes "\n"
 fault_text Memory = codes "memory\n"
 fault_text InputOutput = codes "input or output\n"
@@ -70,6 +86,11 @@ fault_of_image (image.Verify rule slot) = Verify rule slot
 abbrev pub fault_of_code : DecodeError → Fault
 fault_of_code code.Memory = Memory
 fault_of_code (code.Fault rule slot) = Decode rule slot
+
+-- the fault of an object file, or want of memory
+abbrev pub fault_of_object : ObjectError → Fault
+fault_of_object object.Memory = Memory
+fault_of_object (object.Fault fault) = Object fault
 
 -- the fault of an assembler text: the least rule that its first faulty line breaks, or want of memory
 abbrev pub fault_of_text : AsmError → Fault

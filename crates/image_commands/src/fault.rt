@@ -1,7 +1,7 @@
 //! Why a command line was not carried out.
 
 ghost use Rattle.std.specs.Prelude.{◌≡◌, ◌++◌, Some};
-ghost use Rattle.image_commands.specs.Fault.{fault_of_code, fault_of_failure, fault_of_image, fault_of_refusal, fault_of_text, fault_text, status_of, TellsText};
+ghost use Rattle.image_commands.specs.Fault.{fault_of_code, fault_of_failure, fault_of_image, fault_of_object, fault_of_refusal, fault_of_text, fault_text, status_of, TellsText};
 ghost use Rattle.image_commands.specs.declared.fault.Fault.TheVariants.{Memory};
 
 use crate::files::Failure;
@@ -9,9 +9,19 @@ use crate::stream::Stream;
 use assemble::AsmError;
 use cli::{Usage, UsageRefusal};
 use decode::DecodeError;
+use elf::{ObjectError, ObjectFault};
 use std::alloc::{AllocError, AllocFailed};
 use std::fmt;
 use verifier::{HeaderFault, ImageError};
+
+/// What is said of a command line of `pack` that lacks an option, in the words in which `clap` says it.
+pub const NO_STATE: &str = "error: the following required arguments were not provided:
+  --state <N>
+
+Usage: sblog pack --state <N> <CODE> <OUT>
+
+For more information, try '--help'.
+";
 
 /// Why a command line was not carried out. It prints as its line on standard error, or as the text on usage.
 #[derive(Debug, Drop)]
@@ -35,6 +45,10 @@ pub enum Fault {
         rule: assemble::TextRule,
         line: usize,
     },
+    /// An object file, or the function that is asked for.
+    Object(ObjectFault),
+    /// Nothing says how long the state of an image is.
+    NoState,
     /// This line of a scenario, counted from 1, is the first faulty one; line 0 if there is no process.
     Scenario {
         line: usize,
@@ -50,9 +64,9 @@ impl Fault {
         ensures { result ≡ status_of self.now }
     {
         match self {
-            Fault::Usage(_) => 2,
+            Fault::Usage(_) | Fault::NoState => 2,
             Fault::Header(_) | Fault::Decode { .. } | Fault::Verify { .. } => 3,
-            Fault::Assemble { .. } => 3,
+            Fault::Assemble { .. } | Fault::Object(_) => 3,
             Fault::Scenario { .. } => 4,
             Fault::Memory => 5,
             Fault::InputOutput => 6,
@@ -118,6 +132,17 @@ impl fmt::Display for Fault {
                 let number = rule.number();
                 writeln!(f, "asm refused {number} at line {line}")
             }
+            Fault::Object(fault) => match fault {
+                ObjectFault::Reference { slot, .. } | ObjectFault::Call { slot } => {
+                    let number = fault.number();
+                    writeln!(f, "object refused {number} at slot {slot}")
+                }
+                _ => {
+                    let number = fault.number();
+                    writeln!(f, "object refused {number}")
+                }
+            },
+            Fault::NoState => f.write_str(NO_STATE),
             Fault::Scenario { line } => writeln!(f, "scenario refused at line {line}"),
             Fault::Memory => writeln!(f, "memory"),
             Fault::InputOutput => writeln!(f, "input or output"),
@@ -183,6 +208,17 @@ impl From<DecodeError> for Fault {
         match e {
             DecodeError::Memory => Fault::Memory,
             DecodeError::Fault { rule, slot } => Fault::Decode { rule, slot },
+        }
+    }
+}
+
+impl From<ObjectError> for Fault {
+    ghost from_gives = { λ e f. f ≡ fault_of_object e };
+
+    fn from(e: ObjectError) -> Fault {
+        match e {
+            ObjectError::Memory => Fault::Memory,
+            ObjectError::Fault(fault) => Fault::Object(fault),
         }
     }
 }

@@ -28,6 +28,7 @@ mod look;
 mod machine_code;
 mod own_input;
 mod pack;
+mod packing;
 mod place;
 mod said;
 mod site;
@@ -37,7 +38,7 @@ mod system;
 
 pub use asm::write_image;
 pub use check::{Accepted, check_image};
-pub use cli::Usage;
+pub use cli::{Packing, Usage};
 pub use dis::disassemble_image;
 pub use end::print_or_tell;
 pub use explanation::explain_image;

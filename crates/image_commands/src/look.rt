@@ -62,6 +62,9 @@ pub fn lost_words(path: &str, is_of_process: bool) -> &'static str {
     if is_rule(path) {
         return "explain --why tells of a rule, as explain --why V6\n";
     }
+    if path.ends_with(".o") {
+        return "clang -c writes it, if it finds nothing wrong (docs/HANDLERS.md)\n";
+    }
     if !is_of_process || path.starts_with('/') {
         return "";
     }

@@ -150,6 +150,14 @@ fn lines_of(alloc: Global, fault: &Fault, site: &Site) -> Result<String, AllocEr
     let (words, below) = match fault {
         Fault::Memory => return Ok(String::new(alloc)),
         Fault::Usage(_) | Fault::Scenario { .. } => return String::from_str(alloc, below),
+        Fault::Object(_) | Fault::NoState => {
+            return if below.is_empty() {
+                Ok(String::new(alloc))
+            } else {
+                format!(in alloc; "{site}: {below}")
+            };
+        }
+        Fault::Decode { rule, .. } if site.kind == FileKind::Object => (code_words(*rule), below),
         Fault::Header(header) => (header_words(site.kind, *header), below),
         Fault::Decode { rule, .. } => (code_words(*rule), ""),
         Fault::Verify { rule, .. } => return refused_lines(alloc, *rule, site),

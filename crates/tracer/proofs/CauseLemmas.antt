@@ -7,7 +7,7 @@ use Rattle.cli.specs.declared.refusal.UsageRefusal.TheVariants as refusal
 use Rattle.image_commands.specs.Fault.{fault_of_refusal}
 use Rattle.image_commands.specs.Files.{Content, Sameness}
 use Rattle.image_commands.specs.declared.fault.Fault.{Fault}
-use Rattle.image_commands.specs.declared.fault.Fault.TheVariants.{Usage, Header, Decode, Verify, Assemble, Scenario, Memory, InputOutput}
+use Rattle.image_commands.specs.declared.fault.Fault.TheVariants.{Usage, Header, Decode, Verify, Assemble, Object, NoState, Scenario, Memory, InputOutput}
 use Rattle.tracer.specs.Inside.{EndsShort, IsWriteFault}
 use Rattle.tracer.specs.Program.{IsCause}
 
@@ -30,6 +30,10 @@ fault_is_cause words content one failed order (Verify rule slot) asked (inl faul
 fault_is_cause words content one failed order (Verify rule slot) asked (inr own) = absurd own
 fault_is_cause words content one failed order (Assemble rule line) asked (inl fault) = (order, asked, fault)
 fault_is_cause words content one failed order (Assemble rule line) asked (inr own) = absurd own
+fault_is_cause words content one failed order (Object o) asked (inl fault) = (order, asked, fault)
+fault_is_cause words content one failed order (Object o) asked (inr own) = absurd own
+fault_is_cause words content one failed order NoState asked (inl fault) = (order, asked, fault)
+fault_is_cause words content one failed order NoState asked (inr own) = absurd own
 fault_is_cause words content one failed order (Scenario line) asked (inl fault) = (order, asked, fault)
 fault_is_cause words content one failed order (Scenario line) asked (inr own) = absurd own
 fault_is_cause words content one failed order Memory asked fault = tt
@@ -52,6 +56,8 @@ cause_beside words content one failed stream (Header h) cause = cause
 cause_beside words content one failed stream (Decode rule slot) cause = cause
 cause_beside words content one failed stream (Verify rule slot) cause = cause
 cause_beside words content one failed stream (Assemble rule line) cause = cause
+cause_beside words content one failed stream (Object o) cause = cause
+cause_beside words content one failed stream NoState cause = cause
 cause_beside words content one failed stream (Scenario line) cause = cause
 cause_beside words content one failed stream Memory cause = tt
 cause_beside words content one failed stream InputOutput (order, asked, inl is) = (order, asked, inl (first failed stream is))

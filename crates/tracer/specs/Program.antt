@@ -17,7 +17,7 @@ use Rattle.image_commands.specs.Fault.{FaultOf, Tells}
 use Rattle.image_commands.specs.Files.{Content, IsWritten, Sameness}
 use Rattle.image_commands.specs.Hints.{command_in, has_hints}
 use Rattle.image_commands.specs.Native.{IsMachineCode}
-use Rattle.image_commands.specs.Pack.{IsPacked, IsUnpacked}
+use Rattle.image_commands.specs.Pack.{IsMade, IsUnmade}
 use Rattle.image_commands.specs.Loads.{IsImagePath, IsUnloadable}
 use Rattle.image_commands.specs.declared.fault.Fault.{Fault}
 use Rattle.image_commands.specs.declared.fault.Fault.TheVariants.{Usage, Memory, InputOutput}
@@ -37,8 +37,8 @@ SparesImages content scenario place = (bytes : List ℕ) → content scenario �
 abbrev pub Leaves : Order → Content → Content → Type 0
 Leaves (Asm source image state form) content content' =
     IsWritten source image (λ bytes file. IsAssembled bytes state form file) content content'
-Leaves (Pack code image state form) content content' =
-    IsWritten code image (λ bytes file. (blocks : Blocks) × IsPacked bytes state form file blocks) content content'
+Leaves (Pack source image state form name) content content' =
+    IsWritten source image (λ bytes file. (blocks : Blocks) × IsMade state form name bytes file blocks) content content'
 Leaves (Native image code) content content' = IsWritten image code (λ bytes file. IsMachineCode bytes file) content content'
 Leaves (Draw scenario picture only) content content' =
     IsWritten scenario picture (λ bytes file. IsDrawn content bytes only file) content content'
@@ -75,7 +75,7 @@ IsRefused content (Check image) bytes f = IsUnaccepted bytes f
 IsRefused content (Asm source image state form) bytes f = IsUnassembled bytes f
 IsRefused content (Explain image) bytes f = IsUnexplained bytes f
 IsRefused content (Why rule) bytes f = ⊥
-IsRefused content (Pack code image state form) bytes f = IsUnpacked bytes f
+IsRefused content (Pack source image state form name) bytes f = IsUnmade state name bytes f
 IsRefused content (Dis image) bytes f = IsUnlisted bytes f
 IsRefused content (Native image code) bytes f = IsUnaccepted bytes f
 
@@ -86,7 +86,7 @@ IsFault content failed order f = FaultOf content failed (path_of order) (IsRefus
 -- the order's OUT may be a file that it reads
 abbrev pub WritesOver : Sameness → Content → Order → Type 0
 WritesOver one content (Asm source image state form) = one source image ≡ true
-WritesOver one content (Pack code image state form) = one code image ≡ true
+WritesOver one content (Pack source image state form name) = one source image ≡ true
 WritesOver one content (Native image code) = one image code ≡ true
 WritesOver one content (Draw scenario picture only) = (one scenario picture ≡ true) ⊎ ((bytes : List ℕ) → content scenario ≡ Some bytes
     → (s : Scenario) × IsScenario All bytes s × (path : List ℕ) × IsImagePath s.processes.entries path × (one path picture ≡ true))

@@ -9,7 +9,7 @@ use Rattle.image_commands.specs.Check.{IsAccepted, accepted_text}
 use Rattle.image_commands.specs.Dis.{IsListing}
 use Rattle.image_commands.specs.Files.{Content}
 use Rattle.image_commands.specs.Native.{IsMachineCode}
-use Rattle.image_commands.specs.Pack.{IsPacked}
+use Rattle.image_commands.specs.Pack.{IsMade}
 use Rattle.tracer.specs.Draw.{IsDrawn}
 use Rattle.tracer.specs.Live.{IsLiveText}
 use Rattle.tracer.specs.Run.{IsRunText}
@@ -25,7 +25,7 @@ path_of (Check image) = image
 path_of (Asm source image state form) = source
 path_of (Explain image) = image
 path_of (Why rule) = rule
-path_of (Pack code image state form) = code
+path_of (Pack source image state form name) = source
 path_of (Dis image) = image
 path_of (Native image code) = image
 
@@ -39,7 +39,7 @@ IsReport content (Check image) bytes text = (count : ℕ) × IsAccepted bytes co
 IsReport content (Asm source image state form) bytes text = ((file : List ℕ) × IsAssembled bytes state form file) × (text ≡ [])
 IsReport content (Explain image) bytes text = IsFileExplained bytes text
 IsReport content (Why rule) bytes text = text ≡ page_text rule
-IsReport content (Pack code image state form) bytes text = ((file : List ℕ) × (blocks : Blocks) × IsPacked bytes state form file blocks)
+IsReport content (Pack source image state form name) bytes text = ((file : List ℕ) × (blocks : Blocks) × IsMade state form name bytes file blocks)
     × (text ≡ [])
 IsReport content (Dis image) bytes text = IsListing bytes text
 IsReport content (Native image code) bytes text = ((file : List ℕ) × IsMachineCode bytes file) × (text ≡ [])

@@ -100,12 +100,9 @@ fn answer_alone<F: Files>(
             *text = String::from_str(alloc, page_of(rule))?;
             Ok(())
         }
-        Request::Pack {
-            code,
-            image,
-            state,
-            form,
-        } => write_packed(alloc, code, image, state, form, files, site),
+        Request::Pack { code, image, asked } => write_packed(
+            alloc, code, image, asked, files, site,
+        ),
         Request::Dis { image } => {
             *text = disassemble_image(alloc, image, files, site)?;
             Ok(())

@@ -1,11 +1,6 @@
-use Rattle.std.proofs.Common.{ap, subst, sym, ◌∙◌}
-use Rattle.std.specs.Option.{option_map}
 use Rattle.clap.specs.Words.{found_of, rows_of}
-use Rattle.cli.specs.Asks.{Gives, HasForm}
-use Rattle.cli.proofs.RequestLemmas.{no_form}
+use Rattle.cli.proofs.RequestLemmas.{no_form_at_all}
 use Rattle.cli.proofs.request.form_in.Goals as goal
 
-pub returns-in_err-number-in-Some : goal.returns-in_err-number-in-Some
-returns-in_err-number-in-Some c =
-    subst (Gives (HasForm (rows_of (found_of c.args.matches.now)))) (sym c.from_residual.ensures)
-    (no_form (rows_of (found_of c.args.matches.now)) _ (ap (option_map (λ s. s.now)) (sym c.in-Some.is) ∙ c.path_in.ensures) c.in_err-number-in-Some.ensures)
+pub returns-in-None : goal.returns-in-None
+returns-in-None c = no_form_at_all (rows_of (found_of c.args.matches.now)) c.in-None.ensures

@@ -1,41 +1,27 @@
-use Rattle.std.proofs.Common.{◌≡◌, ◌≤◌, arith, inr, length, refl, rules, subst}
-use Rattle.block_order.specs.Ordered.{IsFileOf}
-use Rattle.verifier.specs.ImageFile.{IsUnwritten}
-use Rattle.decode.specs.Encoding.{encoding}
-use Rattle.image_commands.specs.Pack.{IsPacked, IsUnpacked}
-use Rattle.image_commands.proofs.FaultLemmas.{becomes}
+use Rattle.std.proofs.Common.{◌≤◌, arith, length, subst}
+use Rattle.std.proofs.lemmas.Result.{IfErr-weaker, IfOk-weaker}
+use Rattle.std.specs.Option.{option_map}
+use Rattle.image_commands.specs.Pack.{IsMade, IsUnmade}
 use Rattle.image_commands.proofs.JudgedLemmas.{longer, read_whole}
-use Rattle.image_commands.proofs.PackLemmas.{bytes_refused, code_unwritten}
+use Rattle.image_commands.proofs.PackLemmas.{too_long}
 use Rattle.image_commands.proofs.pack.pack.Goals as goal
 
-pub returns-then-code-ge-CODE_LIMIT-clause-refused : goal.returns-then-code-ge-CODE_LIMIT-clause-refused
-returns-then-code-ge-CODE_LIMIT-clause-refused c = λ whole read.
-    (refl, inr (longer 8192 c.args.code.now whole read (omega arith)))
-
-pub returns-in_err-insns-clause-refused : goal.returns-in_err-insns-clause-refused
-returns-in_err-insns-clause-refused c =
-    let short : length c.args.code.now ≤ 8192 = omega arith in
-    becomes c.from_residual.result _ _ c.from_residual.ensures.1
-    (λ f is whole read. subst (λ code. IsUnpacked code f) (read_whole 8192 c.args.code.now whole read short)
-    (bytes_refused c.args.code.now c.in_err-insns.field-0.0 f short c.in_err-insns.ensures.refused is))
-
-pub returns-in_err-packed-clause-refused : goal.returns-in_err-packed-clause-refused
-returns-in_err-packed-clause-refused c =
-    let short : length c.args.code.now ≤ 8192 = omega arith in
-    let code : c.as_slice.result.now ≡ c.in_ok-insns.insns.items = search rules in
-    becomes c.from_residual-in_err-packed.result _ _ c.from_residual-in_err-packed.ensures.1
-    (λ f is whole read. subst (λ code. IsUnpacked code f) (read_whole 8192 c.args.code.now whole read short)
-    (code_unwritten c.args.code.now c.in_ok-insns.insns.items c.in_err-packed.field-0.0 f c.in_ok-insns.ensures.slots
-    (subst (λ is. IsUnwritten is c.in_err-packed.field-0.0) code c.in_err-packed.ensures.refused) is))
+pub returns-then-file-gt-OBJECT_BYTES-clause-refused : goal.returns-then-file-gt-OBJECT_BYTES-clause-refused
+returns-then-file-gt-OBJECT_BYTES-clause-refused c = λ whole read.
+    too_long c.args.asked.state (option_map (λ n. n.now) c.args.asked.function) whole (longer 16777216 c.args.file.now whole read (omega arith))
 
 pub returns-clause-written : goal.returns-clause-written
-returns-clause-written c = λ whole read.
-    let short : length c.args.code.now ≤ 8192 = omega arith in
-    let code : c.as_slice.result.now ≡ c.in_ok-insns.insns.items = search rules in
-    let encoded : c.args.code.now ≡ encoding c.in_ok-insns.insns.items = search rules in
-    subst (λ code. IsPacked code c.args.state c.args.form c.in_ok-packed.packed.bytes.items c.in_ok-packed.packed.blocks) (read_whole 8192 c.args.code.now whole read short)
-    record {
-      insns = c.in_ok-insns.insns.items;
-      encoded = encoded;
-      file = subst (λ is. IsFileOf c.args.form is c.args.state c.in_ok-packed.packed.bytes.items c.in_ok-packed.packed.blocks) code c.in_ok-packed.ensures.written;
-    }
+returns-clause-written c =
+    let short : length c.args.file.now ≤ 16777216 = omega arith in
+    IfOk-weaker c.pack_source.result _ _
+    (λ o made whole read. subst (λ bytes. IsMade c.args.asked.state c.args.asked.form (option_map (λ n. n.now) c.args.asked.function) bytes o.bytes.items o.blocks)
+    (read_whole 16777216 c.args.file.now whole read short) made)
+    c.pack_source.ensures.written
+
+pub returns-clause-refused : goal.returns-clause-refused
+returns-clause-refused c =
+    let short : length c.args.file.now ≤ 16777216 = omega arith in
+    IfErr-weaker c.pack_source.result _ _
+    (λ f why whole read. subst (λ bytes. IsUnmade c.args.asked.state (option_map (λ n. n.now) c.args.asked.function) bytes f)
+    (read_whole 16777216 c.args.file.now whole read short) why)
+    c.pack_source.ensures.refused

@@ -1,11 +1,11 @@
-use Rattle.std.proofs.Common.{rules, ◌≡◌}
+use Rattle.std.proofs.Common.{rules, ◌≡◌, codes}
 use Rattle.clap.specs.Words.{app_of, new_app}
-use Rattle.cli.proofs.command.writer.Goals as goal
+use Rattle.cli.proofs.command.asm.Goals as goal
 
 pub returns-clause-shape : goal.returns-clause-shape
 returns-clause-shape c =
-    let bare : app_of c.about.result ≡ new_app c.args.name.now = search rules in
+    let bare : app_of c.about.result ≡ new_app (codes "asm") = search rules in
     c.with.ensures.shape _ _ c.form.ensures.local c.form.ensures.rule
     (c.with-state.ensures.shape _ _ c.number.ensures.local c.number.ensures.rule
     (c.with-image.ensures.shape _ _ c.required-2.ensures.local c.required-2.ensures.rule
-    (c.with-with_source.ensures.shape _ _ c.required.ensures.local c.required.ensures.rule bare)))
+    (c.with-source.ensures.shape _ _ c.required.ensures.local c.required.ensures.rule bare)))

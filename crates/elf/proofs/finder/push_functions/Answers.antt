@@ -1,0 +1,11 @@
+use Rattle.std.proofs.Common.{ap, rules}
+use Rattle.elf.proofs.ObjectLemmas.{first_row, more_rows}
+use Rattle.elf.proofs.finder.push_functions.Goals as goal
+
+pub loop-row-init : goal.loop-row-init
+loop-row-init c = first_row c.args.file.now c.args.table.now c.args.functions.now.items
+
+pub loop-row-preserved : goal.loop-row-preserved
+loop-row-preserved c =
+    more_rows c.args.file.now c.args.table.now c.loop-row.row c.args.functions.now.items c.loop-row.functions.items c.push_function.new.functions.items
+    c.in-Some-Some.names.offset c.split_at-in-loop-row.result.0.now c.loop-row.invariant (search rules) (ap (λ s. s.offset) c.in-Some-Some.ensures') (search rules)

@@ -1,0 +1,31 @@
+-- What the functions of this crate say to one another.
+use Rattle.std.specs.Prelude.{◌≡◌, ◌/◌, ◌-◌, ℕ, List, Some, slice_get}
+use Rattle.elf.specs.Function.{IsCall, IsReference, IsText}
+use Rattle.elf.specs.Object.{relocation_at}
+use Rattle.elf.specs.declared.fault.ObjectError.{ObjectError}
+use Rattle.elf.specs.declared.fault.ObjectError.TheVariants.{Fault, Memory}
+use Rattle.elf.specs.declared.fault.ObjectFault.{ObjectFault}
+use Rattle.elf.specs.declared.fault.ObjectFault.TheVariants.{Damaged, Call, Reference}
+use Rattle.elf.specs.declared.section.Section.{Section}
+use Rattle.elf.specs.declared.symbol.Symbol.{Symbol}
+
+-- memory ran out, or the file is damaged
+abbrev pub IsUnread : ObjectError → Type 0
+IsUnread Memory = Unit {0}
+IsUnread (Fault fault) = fault ≡ Damaged
+
+-- no symbol of these has the name
+abbrev pub IsUnnamed : List ℕ → List ℕ → List Symbol → Type 0
+IsUnnamed file name symbols = (k : ℕ) (other : Symbol) → slice_get symbols k ≡ Some other → ¬ IsText file other.name name
+
+-- the file is damaged, or a row of the section refers to a symbol from within this one
+abbrev pub HasReference : List ℕ → Symbol → Section → ObjectFault → Type 0
+HasReference file symbol section Damaged = Unit {0}
+HasReference file symbol section (Reference slot is_call table number) =
+    (row : ℕ) × IsReference file symbol section row × (slot ≡ (relocation_at file section row - symbol.value) / 8)
+HasReference file symbol section fault = ⊥
+
+-- a slot calls a function of the file
+abbrev pub CallsAt : List ℕ → ObjectFault → Type 0
+CallsAt code (Call slot) = IsCall code slot
+CallsAt code fault = ⊥

@@ -1,0 +1,4 @@
+pub mod Function
+pub mod Inside
+pub mod Object
+pub mod Refusal
