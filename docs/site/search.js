@@ -6,6 +6,6 @@ box.addEventListener("input", () => {
   const found = words.length ? INDEX.filter(([, , text]) => has(text)) : [];
   found.sort((one, other) => has(other[1].toLowerCase()) - has(one[1].toLowerCase()));
   document.getElementById("found").replaceChildren(
-    ...found.slice(0, 20).map(([link, title]) => Object.assign(document.createElement("a"), { href: TOP + link, textContent: title })),
+    ...found.slice(0, 20).map(([link, title]) => Object.assign(document.createElement("a"), { href: TOP + link, textContent: `${title} (${link.replace(/.*\/|\.html.*/g, "")})` })),
   );
 });
