@@ -6,7 +6,7 @@ use Rattle.verifier.specs.Typed.{Typed}
 use Rattle.interp.specs.Flat.{part, IsSpent}
 use Rattle.images.specs.declared.any_image.AnyImage.TheVariants.{Flat as AnyFlat, Span as AnySpan}
 use Rattle.images.specs.Typed as span
-use Rattle.span_interp.specs.CallArray as span_array
+use Rattle.handlers.specs.CallArray as span_array
 use Rattle.handlers.specs.Image.{TheImage, as_image}
 use Rattle.handlers.specs.declared.handler.Handler.{Handler}
 use Rattle.handlers.specs.declared.handler.Handler.TheVariants.{Flat, Span}

@@ -1,15 +1,15 @@
 //! Calls of form 3, one after another in one array.
 
 ghost use Rattle.std.specs.Prelude.{◌≡◌, ◌≤◌, ◌+◌, ◌*◌, ◌/◌, ◌%◌, length, slice_range};
-ghost use Rattle.span_interp.specs.CallArray.{HoldsEntry, IsLeft, state_in};
+ghost use Rattle.handlers.specs.CallArray.{HoldsEntry, IsLeft, state_in};
 ghost use Rattle.c_images.specs.Arrays.{IsReportedAfter, span_image};
 ghost use Rattle.c_images.specs.Calls.{AreReported, IsSeat};
 
 use crate::calls::MESSAGE;
 use crate::message::message_at;
 use crate::report::{REPORT_LIMIT, put_report};
+use handlers::{Program, call_flat, fill, refill, take};
 use helpers::{Effects, Who};
-use span_interp::{Program, call_flat, fill, refill, take};
 
 /// Calls the handler with the message in the array, and writes its report at `at`. Answers the
 /// place after it. Drops what an earlier call emitted.

@@ -8,8 +8,7 @@
 //! Files of form 3 begin with `SBI3`, and the rest has the format of forms 1 and 2. [`load_span`], [`span_parts`] and
 //! [`span_file`] take only form 3; there a refused file has one cause ([`file_refusals_are_one`]). The type of a
 //! [`SpanImage`] keeps that its code is typable and that its bytes are its code. [`SpanImage::frames`] computes what is
-//! known at each slot when it is called; the image keeps no memory for that. `span_interp` calls the handler of a
-//! `SpanImage`.
+//! known at each slot when it is called; the image keeps no memory for that. `handlers` calls what it is the image of.
 //!
 //! Form 3 takes all that forms 1 and 2 take (`span_verifier`), so a file that loads does so with a 3 in its fourth byte
 //! ([`files_are_subsumed`], which does nothing: it is there for what it promises).

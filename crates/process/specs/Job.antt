@@ -10,7 +10,7 @@ use Rattle.images.specs.AnyImage.{form_of, code_of, state_of as image_state}
 use Rattle.interp.specs.HandlerCall.{Handled}
 use Rattle.interp.specs.Configuration.{entry}
 use Rattle.interp.specs.Flat.{Holds}
-use Rattle.span_interp.specs.CallArray.{HoldsEntry, state_in}
+use Rattle.handlers.specs.CallArray.{HoldsEntry, state_in}
 use Rattle.handlers.specs.Answer.{MayRunAs, shown, answer_by}
 use Rattle.node.specs.declared.job.OpenJob.{OpenJob}
 use Rattle.node.specs.declared.job.Given.{Given}

@@ -7,10 +7,10 @@ ghost use Rattle.interp.specs.Configuration.{IsLong};
 ghost use Rattle.handlers.specs.Answer.{shown};
 ghost use Rattle.process.specs.Job.{IsLaid};
 
+use handlers::Program;
 use helpers::Payload;
 use limits::MEMORY_BYTES;
 use regtypes::ImageForm;
-use span_interp::Program;
 use span_steps::ARRAY_BYTES;
 use verifier::Image;
 
@@ -43,6 +43,6 @@ pub(crate) fn lay_span(program: &Program, state: &[u8], payload: &Payload, array
     ensures { IsLaid (AnySpan program.now) state.now payload.now array.new }
 {
     let mut mem = [0; ARRAY_BYTES];
-    span_interp::fill(program, &mut mem, payload.as_slice(), state);
+    handlers::fill(program, &mut mem, payload.as_slice(), state);
     array.copy_from_slice(&mem);
 }

@@ -42,11 +42,11 @@ use Rattle.span_steps.specs.Machine.{machine}
 use Rattle.span_steps.specs.Mirrors.{Mirrors}
 use Rattle.span_steps.specs.Replies.{replies}
 use Rattle.span_steps.proofs.Steps.{performed}
-use Rattle.span_interp.specs.CallArray.{HoldsEntry, IsLeft, state_in}
-use Rattle.span_interp.specs.SpanCall.{called}
-use Rattle.span_interp.proofs.Replies.{replies-few}
-use Rattle.span_interp.proofs.Entries.{called-is, ended_leaves, entry_behind, entry_between, same_slices}
-use Rattle.span_interp.proofs.Progress.{EndsBy, Going, Over, ends_by, going_entry, going_next, over, run, some_left, within}
+use Rattle.handlers.specs.CallArray.{HoldsEntry, IsLeft, state_in}
+use Rattle.handlers.specs.SpanCall.{called}
+use Rattle.handlers.proofs.Replies.{replies-few}
+use Rattle.handlers.proofs.Entries.{called-is, ended_leaves, entry_behind, entry_between, same_slices}
+use Rattle.handlers.proofs.Progress.{EndsBy, Going, Over, ends_by, going_entry, going_next, over, run, some_left, within}
 use Rattle.native.specs.Tasks.{task_act, is_eligible}
 use Rattle.native.proofs.Successors.{Call}
 use Rattle.span_native.specs.SpanTasks.{task_in, tasks_in}

@@ -6,8 +6,8 @@ use Rattle.operations.specs.Bytes.{le_bytes}
 use Rattle.helpers.specs.declared.effects.Who.{Who}
 use Rattle.helpers.specs.Effects.{Emitted}
 use Rattle.x86.specs.Machine.{State, Word, Runs, value}
-use Rattle.span_interp.specs.CallArray.{HoldsEntry, IsLeft, state_in}
-use Rattle.span_interp.specs.SpanCall.{AnswersIn}
+use Rattle.handlers.specs.CallArray.{HoldsEntry, IsLeft, state_in}
+use Rattle.handlers.specs.SpanCall.{AnswersIn}
 use Rattle.native.specs.Correct.{IsCalled, Keeps}
 
 -- the call leaves what the handler's call in the array leaves: r0 in rax, the steps at 16 in the record, the sends and

@@ -1,6 +1,6 @@
 use Rattle.std.proofs.Common.{◌≡◌, sym, subst, ap, ◌∙◌}
 use Rattle.std.specs.Prelude.{slice_range}
-use Rattle.span_interp.specs.CallArray.{HoldsEntry, state_in}
+use Rattle.handlers.specs.CallArray.{HoldsEntry, state_in}
 use Rattle.c_images.specs.Arrays.{span_image}
 use Rattle.c_images.specs.Calls.{IsReported, AreReported}
 use Rattle.c_images.proofs.CallLemmas.{Reported, none_reported, reported_more, all_reported}
