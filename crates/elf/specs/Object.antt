@@ -35,9 +35,13 @@ section_in row = record {
   info = number_at 4 44 row;
 }
 
--- the section of this number: the table begins at e_shoff, and a row is e_shentsize after the one before
+-- where the row of this number begins: the table begins at e_shoff, and a row is e_shentsize after the one before
+abbrev pub row_place : List ℕ → ℕ → ℕ
+row_place file index = number_at 8 40 file + index * number_at 2 58 file
+
+-- the section of this number
 unfoldable pub section_at : List ℕ → ℕ → Section
-section_at file index = section_in (bytes_at (number_at 8 40 file + index * number_at 2 58 file) 64 file)
+section_at file index = section_in (bytes_at (row_place file index) 64 file)
 
 -- it has code: the program's [SHT_PROGBITS], that is run [SHF_EXECINSTR]
 abbrev pub is_code : Section → Bool
@@ -46,6 +50,15 @@ is_code section = (section.kind == 1) && (section.flags / 4 % 2 == 1)
 -- its bytes
 abbrev pub contents_of : Section → List ℕ → List ℕ
 contents_of section file = bytes_at section.offset section.size file
+
+-- how many bytes it has in the file: one of a kind has none [SHT_NOBITS]
+abbrev pub stored_size : Section → ℕ
+stored_size section = cond (section.kind == 8) 0 section.size
+
+-- how many bytes the first sections have in the file, one after the other
+unfoldable pub sizes_below : List ℕ → ℕ → ℕ
+sizes_below file zero = 0
+sizes_below file (suc index) = sizes_below file index + stored_size (section_at file index)
 
 -- ---- symbols
 

@@ -1,17 +1,17 @@
 //! The functions of an object file, and which of them is asked for.
 
-ghost use Rattle.std.specs.Prelude.{◌≡◌, ◌≤◌, ◌/◌, ◌++◌, ◌↔◌, ◌⊎◌, ◌≢◌, ◌∷◌, [], IfErr, IfOk, IfSome, IsTrue, MatchOption, OnOk, length, option_map};
+ghost use Rattle.std.specs.Prelude.{◌≡◌, ◌≤◌, ◌/◌, ◌++◌, ◌↔◌, ◌⊎◌, ◌≢◌, ◌∷◌, [], IfErr, IfNone, IfOk, IfSome, IsTrue, MatchOption, OnOk, length, option_map};
 ghost use Rattle.elf.specs.Function.{IsChosen, IsNamed, IsOnly, globals};
-ghost use Rattle.elf.specs.Inside.{IsUnnamed, IsUnread};
+ghost use Rattle.elf.specs.Inside.{IsUnnamed, IsUnread, IsUnreadRow, IsUnreadTable};
 ghost use Rattle.elf.specs.Object.{functions_of, functions_of_table, if_function, is_function, symbol_in};
-ghost use Rattle.elf.specs.Refusal.{IsRefusal};
+ghost use Rattle.elf.specs.Refusal.{IsDamaged, IsRefusal};
 ghost use Rattle.elf.specs.declared.symbol.Symbol.{Symbol};
 ghost use Rattle.elf.specs.declared.fault.ObjectError.TheVariants.{Fault, Memory};
 ghost use Rattle.elf.specs.declared.fault.ObjectFault.TheVariants.{Damaged, NoSuchFunction, Several};
 
 use crate::fault::{ObjectError, ObjectFault};
 use crate::number::is_text;
-use crate::section::{NO_BYTES, SYMBOLS, Section, section_at, section_count};
+use crate::section::{SYMBOLS, Section, section_at, section_count};
 use crate::symbol::{FUNCTION, SYMBOL_ROW, Symbol, symbol_in};
 use std::alloc::{AllocError, Global};
 
@@ -19,7 +19,8 @@ use std::alloc::{AllocError, Global};
 #[tactic(auto, unfolding(crate::specs::Object::is_function))]
 fn is_function(file: &[u8], symbol: &Symbol) -> Option<bool>
     requires { 64 ≤ length file.now }
-    ensures { IfSome result (λ is. is ≡ is_function file.now symbol.now) }
+    ensures is { IfSome result (λ is. is ≡ is_function file.now symbol.now) }
+    ensures damaged { IfNone result (IsDamaged file.now) }
 {
     if symbol.kind != FUNCTION || symbol.section == 0 || symbol.section >= section_count(file) {
         return Some(false);
@@ -38,7 +39,7 @@ fn push_function(
     requires long { 64 ≤ length file.now }
     requires row { 24 ≤ length row.now }
     ensures found { OnOk result (functions.new.items ≡ functions.old.items ++ if_function file.now (symbol_in names row.now)) }
-    ensures fault { IfErr result IsUnread }
+    ensures fault { IfErr result (IsUnreadRow file.now names row.now) }
 {
     let Some(symbol) = symbol_in(names, row) else {
         return Err(ObjectError::Fault(ObjectFault::Damaged));
@@ -61,7 +62,7 @@ fn push_functions(
 ) -> Result<(), ObjectError>
     requires { 64 ≤ length file.now }
     ensures found { OnOk result (functions.new.items ≡ functions.old.items ++ functions_of_table file.now table.now) }
-    ensures fault { IfErr result IsUnread }
+    ensures fault { IfErr result (IsUnreadTable file.now table.now) }
 {
     if table.kind != SYMBOLS {
         return Ok(());
@@ -82,7 +83,7 @@ fn push_functions(
 pub fn functions(alloc: Global, file: &[u8]) -> Result<Vec<Symbol>, ObjectError>
     requires { 64 ≤ length file.now }
     ensures found { IfOk result (λ v. v.items ≡ functions_of file.now) }
-    ensures fault { IfErr result IsUnread }
+    ensures fault { IfErr result (IsUnread file.now) }
 {
     let mut functions = Vec::new(alloc);
     let mut total = 0usize;
@@ -90,9 +91,7 @@ pub fn functions(alloc: Global, file: &[u8]) -> Result<Vec<Symbol>, ObjectError>
         let Some(section) = section_at(file, index) else {
             return Err(ObjectError::Fault(ObjectFault::Damaged));
         };
-        if section.kind != NO_BYTES {
-            total = total.saturating_add(section.size);
-        }
+        total = total.saturating_add(section.stored_size());
         if total > file.len() {
             return Err(ObjectError::Fault(ObjectFault::Damaged));
         }

@@ -19,10 +19,10 @@ mod object;
 mod section;
 mod symbol;
 mod types;
-mod wording;
+mod words;
 
 pub use fault::{ObjectError, ObjectFault};
 pub use object::{FunctionCode, is_object, read_object};
 pub use section::Section;
 pub use symbol::Symbol;
-pub use wording::object_words;
+pub use words::object_words;

@@ -1,7 +1,8 @@
 //! The sections of an object file.
 
-ghost use Rattle.std.specs.Prelude.{◌≡◌, ◌≤◌, IfSome, length};
-ghost use Rattle.elf.specs.Object.{contents_of, is_code, section_at, section_count};
+ghost use Rattle.std.specs.Prelude.{◌≡◌, ◌≤◌, IfNone, IfSome, length};
+ghost use Rattle.elf.specs.Object.{contents_of, is_code, section_at, section_count, stored_size};
+ghost use Rattle.elf.specs.Refusal.{AreBytesOutside, IsRowOutside};
 
 use crate::number::{bytes_at, u16_at, u32_at, u64_at};
 
@@ -15,7 +16,7 @@ pub const SYMBOLS: usize = 2;
 
 pub const ADDEND_RELOCATIONS: usize = 4;
 
-pub const NO_BYTES: usize = 8;
+const NO_BYTES: usize = 8;
 
 pub const RELOCATIONS: usize = 9;
 
@@ -42,10 +43,18 @@ impl Section {
         self.kind == PROGRAM && self.flags / 4 % 2 == 1
     }
 
+    /// How many bytes it has in the file.
+    pub fn stored_size(&self) -> usize
+        ensures { result ≡ stored_size self.now }
+    {
+        if self.kind == NO_BYTES { 0 } else { self.size }
+    }
+
     /// The bytes of the section.
     pub fn bytes<'a>(&self, file: &'a [u8]) -> Option<&'a [u8]>
         ensures bytes { IfSome result (λ bytes. bytes.now ≡ contents_of self.now file.entry.now) }
         ensures size { IfSome result (λ bytes. length bytes.now ≡ self.now.size) }
+        ensures outside { IfNone result (AreBytesOutside file.entry.now self.now) }
     {
         bytes_at(file, self.offset, self.size)
     }
@@ -63,7 +72,8 @@ pub fn section_count(file: &[u8]) -> usize
 #[tactic(auto, unfolding(crate::specs::Object::section_at))]
 pub fn section_at(file: &[u8], index: usize) -> Option<Section>
     requires { 64 ≤ length file.now }
-    ensures { IfSome result (λ section. section ≡ section_at file.now index) }
+    ensures section { IfSome result (λ section. section ≡ section_at file.now index) }
+    ensures outside { IfNone result (IsRowOutside file.now index) }
 {
     let before = index.checked_mul(u16_at(file, 58))?;
     let row = bytes_at(file, u64_at(file, 40).checked_add(before)?, ROW)?;

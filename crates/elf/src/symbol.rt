@@ -1,6 +1,6 @@
 //! The symbols of an object file.
 
-ghost use Rattle.std.specs.Prelude.{◌≡◌, ◌≤◌, IfSome, length};
+ghost use Rattle.std.specs.Prelude.{◌≡◌, ◌≤◌, ◌^◌, IfNone, IfSome, length};
 ghost use Rattle.elf.specs.Object.{symbol_in};
 
 use crate::number::{u16_at, u32_at, u64_at};
@@ -32,7 +32,8 @@ pub struct Symbol {
 #[tactic(auto, unfolding(crate::specs::Object::symbol_in))]
 pub fn symbol_in(names: usize, row: &[u8]) -> Option<Symbol>
     requires { 24 ≤ length row.now }
-    ensures { IfSome result (λ symbol. symbol ≡ symbol_in names row.now) }
+    ensures symbol { IfSome result (λ symbol. symbol ≡ symbol_in names row.now) }
+    ensures nameless { IfNone result (2 ^ 64 ≤ (symbol_in names row.now).name) }
 {
     Some(Symbol {
         name: names.checked_add(u32_at(row, 0))?,

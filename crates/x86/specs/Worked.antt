@@ -1,5 +1,5 @@
 -- Rows of what instructions did on a processor, stored by examples/native/forms.
-use Rattle.std.specs.Prelude.{◌≡◌, ℕ, ◌-◌, ◌^◌, ◌==◌, List, [], ◌∷◌, ◌++◌, map, slice_set, if◌then◌else◌}
+use Rattle.std.specs.Prelude.{◌≡◌, ℕ, zero, suc, ◌-◌, ◌/◌, ◌%◌, ◌^◌, ◌==◌, List, [], ◌∷◌, ◌++◌, map, slice_set, if◌then◌else◌}
 use Rattle.std.specs.Int.{bit_at}
 use Rattle.operations.specs.Bits.{word_of_bits}
 use Rattle.operations.specs.Bytes.{overwritten}
@@ -14,6 +14,11 @@ use Rattle.decode.specs.declared.insn.Width.TheVariants.{W32, W64}
 use Rattle.decode.specs.declared.insn.Size.TheVariants as size
 use Rattle.x86.specs.Encoding.{bytes_of}
 use Rattle.x86.specs.Machine.{Value, Word, At, Array, Record, Flags, Unknown, State, Outcome, Goes, Stuck, and_on, asks, act, Runs}
+
+-- so many bytes of a number, the highest first
+abbrev pub octets : ℕ → ℕ → List ℕ
+octets zero n = []
+octets (suc k) n = n / 256 ^ k % 256 ∷ octets k n
 
 -- a change of a state: a register, bytes from a position of the array or the record on, xmm0, what was pushed, the
 -- flags
