@@ -1,6 +1,7 @@
 /* What the gateway keeps: a store, the changes since, and the outputs that nobody has taken. Two files of its folder, which are written
    in turn, have a head, the store, and a record for each turn since (docs/FORMATS.md, "Log of the gateway"). What was written outlives
-   a kill of the program, and a loss of power once it is synced, which a thread waits for. */
+   a kill of the program, and a loss of power once it is synced, which a thread waits for. Elsewhere than in a folder it is one file, to
+   which that thread puts the records; what it hasn't put is lost by a kill. */
 #ifndef GATEWAY_STORE_H
 #define GATEWAY_STORE_H
 
@@ -36,6 +37,10 @@ int gateway_store_append(struct gateway_store *store, const uint8_t *changes, si
 /* A whole store and the outputs that nobody has taken, in place of all before. It is durable when this answers, and so is all that
    was appended. */
 int gateway_store_replace(struct gateway_store *store, const uint8_t *whole, size_t size, const struct outputs *outputs);
+
+/* Which sync is to be waited for by what goes out. Elsewhere than in a folder, where another life may have followed, it is one that is
+   yet to come, if anything goes out. */
+uint64_t gateway_store_confirm(struct gateway_store *store, bool goes_out);
 
 /* Up to which sync all is durable; a status. */
 int gateway_store_synced(struct gateway_store *store, uint64_t *synced);
