@@ -103,13 +103,14 @@ int gateway_store_append(struct gateway_store *store, const uint8_t *changes, si
     number_put(record->at + HALF, record_checksum(store->generation, store->at, record->at + RECORD, items), HALF);
     if (store_is_remote(store->folder)) {
         if (!syncer_add(&store->syncer, record->at, record->size)) return store_lacks_memory(store->folder);
+        store->waits = true;
     } else if (!has_room(store, which, store->at + record->size) ||
                !write_at(store->files[which], record->at, record->size, store->at)) {
         return failed(store, which);
     }
     store->at += record->size;
     store->behind += record->size;
-    if (synced || store_is_remote(store->folder)) store->asked = syncer_ask(&store->syncer);
+    if (synced && !store_is_remote(store->folder)) store->asked = syncer_ask(&store->syncer);
     return STATUS_DONE;
 }
 
@@ -141,7 +142,8 @@ int gateway_store_replace(struct gateway_store *store, const uint8_t *whole, siz
     int which = (int)(generation % 2);
     struct bytes *all = &store->record;
     all->size = 0;
-    if (!bytes_add(all, zeros, BLOCK) || !bytes_add(all, whole, size) || !add_outputs(all, outputs, 0)) return store_lacks_memory(store->folder);
+    bool is_there = bytes_add(all, zeros, BLOCK) && bytes_add(all, whole, size) && add_outputs(all, outputs, 0);
+    if (!is_there) return store_lacks_memory(store->folder);
     memcpy(all->at, MAGIC, CHECKSUM);
     number_put(all->at + GENERATION, generation, WORD);
     number_put(all->at + STORE, size, WORD);
@@ -264,8 +266,9 @@ int gateway_store_open(struct gateway_store *store, const struct store *folder, 
 }
 
 uint64_t gateway_store_confirm(struct gateway_store *store, bool goes_out) {
-    if (!goes_out || !store_is_remote(store->folder)) return store->asked;
+    if (!store_is_remote(store->folder) || (!goes_out && !store->waits)) return store->asked;
     store->behind += BLOCK; /* it is one more piece there */
+    store->waits = false;
     return store->asked = syncer_ask(&store->syncer);
 }
 

@@ -22,6 +22,7 @@ struct gateway_store {
     uint64_t at;          /* where its next record goes */
     size_t whole, behind; /* bytes of the store, and of the records after it */
     uint64_t asked;       /* the last sync that was asked for */
+    bool waits;           /* elsewhere: a record does, for which none was */
     struct syncer syncer;
     struct bytes record;
 };
@@ -31,15 +32,15 @@ int gateway_store_open(struct gateway_store *store, const struct store *folder, 
                        struct outputs *outputs);
 
 /* One record: changes, outputs that weren't in one yet, and which are taken. If it is to be synced, that is done once store->asked syncs
-   are; else it may be lost with the power. */
+   are; else it may be lost with the power. Elsewhere than in a folder gateway_store_confirm asks. */
 int gateway_store_append(struct gateway_store *store, const uint8_t *changes, size_t size, const struct outputs *outputs, bool synced);
 
 /* A whole store and the outputs that nobody has taken, in place of all before. It is durable when this answers, and so is all that
    was appended. */
 int gateway_store_replace(struct gateway_store *store, const uint8_t *whole, size_t size, const struct outputs *outputs);
 
-/* Which sync is to be waited for by what goes out. Elsewhere than in a folder, where another life may have followed, it is one that is
-   yet to come, if anything goes out. */
+/* Which sync is to be waited for by what goes out. Elsewhere than in a folder, where another life may have followed, that is one that is
+   asked for here, if anything goes out or records wait. */
 uint64_t gateway_store_confirm(struct gateway_store *store, bool goes_out);
 
 /* Up to which sync all is durable; a status. */

@@ -94,8 +94,8 @@ class Program:
         self.ups = []  # seconds from the start of a life to the line that says so
         self.environment, self.home = None, None  # home: the folder that it runs in
 
-    def command(self):
-        file = self.cluster.file_of(self.number)
+    def command(self, file=None):
+        file = file or self.cluster.file_of(self.number)
         words = [self.cluster.program, "--cluster", file, "--me", str(self.number), "--store", self.store]
         if self.cluster.places and self.cluster.places[self.number][0]:
             words = ["ip", "netns", "exec", self.cluster.places[self.number][0], *words]
@@ -105,7 +105,7 @@ class Program:
 
     def start(self):
         self.is_up.clear()
-        self.lives += 1
+        self.lives, self.shown = self.lives + 1, {}
         self.started = time.monotonic()
         stream = subprocess.PIPE if self.number == 0 else subprocess.DEVNULL
         environment = {**os.environ, **self.environment} if self.environment else None
@@ -114,7 +114,7 @@ class Program:
         running.add(self.child)
         self.readers = [self.reads(self.child.stderr, self.hear)]
         if self.number == 0:
-            self.readers.append(self.reads(self.child.stdout, self.cluster.hear))
+            self.readers.append(self.reads(self.child.stdout, self.answer))
 
     def reads(self, stream, hear):
         def read():
@@ -124,6 +124,17 @@ class Program:
         reader = threading.Thread(target=read, daemon=True)
         reader.start()
         return reader
+
+    def answer(self, line):
+        """Of a gateway that another one followed outputs alone are heard, of which some come again then. None does in one life."""
+        if line.startswith("output "):
+            _, process, ssn, _ = line.split()
+            if int(ssn) <= self.shown.get(process, 0):
+                self.cluster.fault = f"{line} comes again in one life"
+            self.shown[process] = int(ssn)
+        elif self.cluster.gateway is not self:
+            return
+        self.cluster.hear(line)
 
     def hear(self, line):
         if line.startswith("status "):
@@ -253,9 +264,8 @@ class Cluster:
             so_far.append(payload)
         elif ssn == len(so_far) and so_far[-1] == payload and self.heard_in != self.gateway.lives:
             self.repeated += 1  # the one line that a gateway which was killed may print again
-        elif so_far[ssn - 1:ssn] == [payload] and not os.path.isdir(self.gateway.store) and self.heard_in != self.gateway.lives:
+        elif so_far[ssn - 1:ssn] == [payload] and not os.path.isdir(self.gateway.store):
             self.repeated += 1  # several, if its store is elsewhere
-            return
         else:
             self.fault = f"output {process} {ssn} behind {len(so_far)} outputs"
         self.heard_in = self.gateway.lives

@@ -87,7 +87,8 @@ static int postgres_read(const struct store *store, const char *name, uint8_t **
     int rows = PQntuples(result);
     bool has_memory = true;
     for (int row = 0; row < rows && has_memory; row++) {
-        table->last = strtoull(PQgetvalue(result, row, 0), NULL, 10);
+        uint64_t number = strtoull(PQgetvalue(result, row, 0), NULL, 10);
+        if (number > table->last) table->last = number;
         has_memory = bytes_add(&all, PQgetvalue(result, row, 1), (size_t)PQgetlength(result, row, 1));
     }
     PQclear(result);

@@ -1,5 +1,5 @@
-"""Nodes whose stores lie elsewhere go on on another machine, when theirs is cut off, stands still or is gone. A life that was left behind
-and wakes up ends by itself, with status 7, and has written nothing."""
+"""Nodes whose stores lie elsewhere go on on another machine, when theirs is cut off, stands still or is gone; the storage's server dies
+now and then. A life that was left behind and wakes up ends by itself, with status 7, and has written nothing."""
 import collections
 import copy
 import os
@@ -46,9 +46,10 @@ class Moves:
         return heir, old[0]
 
     def move(self, program):
-        """By one of the ways at random: a gateway, whose lines go through pipes, is killed."""
+        """By one of the ways at random."""
         way = self.campaign.chance.choice(("cut", "stop", "kill") if self.lan.is_there else ("stop", "kill"))
-        way = way if program.number else "kill"
+        if not program.number:
+            self.campaign.feed.is_away.set()
         heir, machine = self.leave(program)
         if way == "cut":
             self.lan.cuts(machine, True)
@@ -99,11 +100,14 @@ class Moves:
     def run(self, count):
         for number in range(count):
             self.reap(LEFT)
+            if number % 25 == 20:
+                self.storage.fails()
+                self.ways["server"] += 1
             programs = self.cluster.nodes if number % 10 else [self.cluster.gateway]
             self.move(self.campaign.chance.choice(programs))
-            if self.storage.fault:
-                raise Wrong(self.storage.fault)
         self.reap(0)
+        if self.storage.fault:
+            raise Wrong(self.storage.fault)
         self.campaign.notes += self.ways.items()
 
 

@@ -27,7 +27,14 @@ CREATE TRIGGER judge BEFORE INSERT OR UPDATE ON sblog FOR EACH ROW EXECUTE FUNCT
 
 
 class Storage:
-    """`word` is what --store says."""
+    """`word` is what --store says, `needs` what it can't be without."""
+
+    @classmethod
+    def is_here(cls):
+        if shutil.which(cls.needs) or glob.glob(cls.needs):
+            return True
+        print(f"not tried, since there is no {cls.needs}: {cls.__doc__.split('.')[0].lower()}", flush=True)
+        return False
 
     def takes(self, program):
         """It keeps what the program stores, from its next life on."""
@@ -48,15 +55,12 @@ class Bucket(Storage):
 
     def __enter__(self):
         self.server.__enter__()
-        self.socket = socket.create_connection((self.host, self.port))
-        self.stream = self.socket.makefile("rb")
+        self.is_made = threading.Event()
+        self.connect()
         config = {"name": "KV_bank", "subjects": ["$KV.bank.>"], "max_msgs_per_subject": 1, "discard": "new", "storage": "file",
                   "allow_rollup_hdrs": True, "republish": {"src": ">", "dest": "taken.>"}}
         text = json.dumps(config)
-        self.socket.sendall(f'CONNECT {{"verbose":false,"headers":true}}\r\nSUB taken.> 1\r\nSUB made 2\r\n'
-                            f"PUB $JS.API.STREAM.CREATE.KV_bank made {len(text)}\r\n{text}\r\n".encode())
-        self.is_made = threading.Event()
-        threading.Thread(target=self.look, daemon=True).start()
+        self.socket.sendall(f"PUB $JS.API.STREAM.CREATE.KV_bank made {len(text)}\r\n{text}\r\n".encode())
         if not self.is_made.wait(10):
             raise Wrong("NATS makes no bucket")
         return self
@@ -64,30 +68,43 @@ class Bucket(Storage):
     def __exit__(self, *_):
         self.server.__exit__()
 
-    def look(self):
-        for line in self.stream:
+    def connect(self):
+        self.socket = socket.create_connection((self.host, self.port))
+        self.socket.sendall(b'CONNECT {"verbose":false,"headers":true}\r\nSUB taken.> 1\r\nSUB made 2\r\n')
+        threading.Thread(target=self.look, args=[self.socket, self.socket.makefile("rb")], daemon=True).start()
+
+    def fails(self):
+        """The server dies, and is there again after a while."""
+        self.server.kill()
+        time.sleep(0.2)
+        self.server.__enter__()
+        self.connect()
+
+    def look(self, out, stream):
+        for line in stream:
             words = line.split()
             if words[0] == b"PING":
-                self.socket.sendall(b"PONG\r\n")
+                out.sendall(b"PONG\r\n")
             elif words[0] in (b"MSG", b"HMSG"):
                 head = int(words[-2]) if words[0] == b"HMSG" else 0
-                self.take(words[1].decode(), self.stream.read(int(words[-1]) + 2)[head:-2])
+                self.take(words[1].decode(), stream.read(int(words[-1]) + 2)[head:-2])
 
     def take(self, subject, value):
         if subject == "made":
             self.is_made.set()
             return
-        store = int(subject.split(".")[4])
+        store, *piece = subject.split(".")[4:]
+        place = (store, *piece[:1])  # the files, or pieces of a life, which may go on until another one has put a stone behind them
         claim = struct.unpack_from("<Q", value)[0]
-        if claim < self.claims.get(store, 0):
-            self.fault = f"life {claim} of process {store} writes {subject} after life {self.claims[store]}"
-        self.claims[store] = claim
-        if subject.endswith(f"bank.{store}"):
-            self.last[store] = value
+        if claim < self.claims.get(place, 0):
+            self.fault = f"life {claim} of process {store} writes {subject} after life {self.claims[place]}"
+        self.claims[place] = claim
+        if not piece:
+            self.last[int(store)] = value
 
     def kept(self, number):
         """What the process keeps under the name `kept`, as its last write has it."""
-        value, at = self.last[number], 24
+        value, at = self.last[number], 32
         while at < len(value):
             name, size = value[at:at + 12].rstrip(b"\0"), struct.unpack_from("<I", value, at + 12)[0]
             if name == b"kept":
@@ -120,19 +137,26 @@ class Table(Storage):
         self.run("initdb", "-D", data, "-U", "bank", "-A", "trust", "--no-sync", **self.user)
         with open(os.path.join(data, "pg_hba.conf"), "a") as file:
             file.write("host all all samenet trust\n")
-        words = [os.path.join(self.bin, "postgres"), "-D", data, "-h", self.host, "-p", str(self.port), "-k", self.folder]
-        self.child = subprocess.Popen(words, stdout=subprocess.DEVNULL, stderr=subprocess.DEVNULL, cwd="/", **self.user)
+        self.start()
+        self.query(TABLE)
+        return self
+
+    def start(self):
+        words = [os.path.join(self.bin, "postgres"), "-D", os.path.join(self.folder, "data"), "-h", self.host, "-p", str(self.port)]
+        self.child = subprocess.Popen([*words, "-k", self.folder], stdout=subprocess.DEVNULL, stderr=subprocess.DEVNULL, cwd="/", **self.user)
         lives.running.add(self.child)
         until = time.monotonic() + 60
         while subprocess.run([os.path.join(self.bin, "pg_isready"), "-h", self.host, "-p", str(self.port)], capture_output=True).returncode:
             if time.monotonic() > until:
                 raise Wrong("PostgreSQL doesn't answer")
             time.sleep(0.1)
-        self.query(TABLE)
-        return self
+
+    def fails(self):
+        self.__exit__()
+        self.start()
 
     def __exit__(self, *_):
-        self.child.send_signal(signal.SIGINT)  # it waits for nobody
+        self.child.send_signal(signal.SIGQUIT)  # as by a kill, but for the processes that it started
         self.child.wait()
 
     def query(self, text):
