@@ -101,7 +101,7 @@ static void take_packets(struct gateway_host *host, struct turn *turn) {
 /* What depends on this turn waits until that is durable. */
 static int wait_for_disk(struct gateway_host *host) {
     struct answers *answers = &host->answers;
-    struct turn *turn = turn_new(host->store.asked);
+    struct turn *turn = turn_new(0);
     if (!turn || !bytes_add(&turn->answers, answers->all, answers->count * sizeof *answers->all))
         return code_refused("turn", SBLOG_GATEWAY_MEMORY, 0);
     answers->count = 0;
@@ -110,6 +110,7 @@ static int wait_for_disk(struct gateway_host *host) {
     turn->outputs = host->waiting.count - host->waiting.written;
     host->waiting.written = host->waiting.count;
     take_packets(host, turn);
+    turn->until = gateway_store_confirm(&host->store, !turn_is_empty(turn));
     if (turn_is_empty(turn)) turn_end(turn);
     else turns_put(&host->turns, turn);
     return STATUS_DONE;
@@ -172,11 +173,12 @@ static int print_outputs(struct gateway_host *host) {
 
 /* What isn't answered goes again: inputs among it that may not be durable yet. */
 static void tick(struct gateway_host *host, uint64_t now) {
-    struct turn *turn = host->has_tick || now < pace_due(&host->pace) ? NULL : turn_new(host->store.asked);
+    struct turn *turn = host->has_tick || now < pace_due(&host->pace) ? NULL : turn_new(0);
     if (!turn) return;
     turn->is_tick = host->has_tick = true;
     sblog_gateway_tick(&host->gateway);
     take_packets(host, turn);
+    turn->until = gateway_store_confirm(&host->store, turn->packets.size > 0);
     turns_put(&host->turns, turn);
 }
 
@@ -230,9 +232,10 @@ int gateway_run(const struct options *options, const struct cluster *cluster) {
     }
     gateway_store_rest(&host.store);
     if (status == STATUS_DONE) status = give_out(&host);
-    transport_close(&host.transport);
+    transport_close(&host.transport, status != STATUS_STORE);
     metrics_close(&host.metrics);
     gateway_store_close(&host.store);
+    store_close(&host.folder);
     clients_close(&host.clients);
     return status;
 }

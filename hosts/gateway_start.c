@@ -43,18 +43,18 @@ static int begin_new(struct gateway_host *host, const struct owner *owner, const
     if ((code = gateway_bytes(host, sblog_gateway_store, &size)) != SBLOG_GATEWAY_DONE) return code_refused("store", code, 0);
     bool is_new = !whole->at || (whole->size == size && !memcmp(whole->at, host->bytes, size));
     if (!is_new || changes->at || host->waiting.count > 0) {
-        report("%s: a gateway's store is there, and the file identity is missing", host->options->store);
+        report("%s: a gateway's store is there, and the file identity is missing", host->folder.path);
         return STATUS_STORE;
     }
     int status = gateway_write_whole(host);
     if (status == STATUS_DONE) status = id_draw(&host->ids.cluster);
-    return status == STATUS_DONE ? store_claim(&host->folder, owner, &host->ids) : status;
+    return status == STATUS_DONE ? store_write_identity(&host->folder, owner, &host->ids) : status;
 }
 
 static int begin_again(struct gateway_host *host, const struct bytes *whole, const struct bytes *changes) {
     uint32_t fault = 0, code;
     if (!whole->at) {
-        report("%s: neither gateway.0 nor gateway.1 holds a whole store", host->options->store);
+        report("%s: neither gateway.0 nor gateway.1 holds a whole store", host->folder.path);
         return STATUS_STORE;
     }
     code = sblog_gateway_revive(whole->at, whole->size, PAGE, TICK, &host->gateway, &fault);
@@ -84,7 +84,7 @@ int gateway_begin(struct gateway_host *host) {
     bool is_new;
     const struct options *options = host->options;
     const struct owner owner = gateway_owner(host);
-    int status = store_open(&host->folder, options->store, &owner, &host->ids, &is_new);
+    int status = store_open(&host->folder, options->store, &owner, false, &host->ids, &is_new);
     if (status == STATUS_DONE) status = transport_open(&host->transport, host->cluster, 0);
     if (status == STATUS_DONE) pace_begin(&host->pace, &host->transport, options->tick);
     if (status == STATUS_DONE) status = metrics_open(&host->metrics, &options->metrics);
@@ -99,7 +99,7 @@ int gateway_look(struct gateway_host *host) {
     bool is_new;
     const struct options *options = host->options;
     const struct owner owner = gateway_owner(host);
-    int store = store_look(&host->folder, options->store, &owner, &host->ids, &is_new), status = store;
+    int store = store_open(&host->folder, options->store, &owner, true, &host->ids, &is_new), status = store;
     status_first(&status, transport_look(host->cluster, 0));
     status_first(&status, address_look(&options->metrics, SOCK_STREAM));
     status_first(&status, address_look(&options->listen, SOCK_STREAM));

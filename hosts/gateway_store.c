@@ -13,6 +13,7 @@
 enum { BLOCK = 4096, AHEAD = 1 << 20 };
 
 static const char *const NAMES[2] = {"gateway.0", "gateway.1"}, *const BEFORE = "gateway.sqlite", MAGIC[] = "SBL1";
+static const char *const LOG = "gateway"; /* elsewhere than in a folder: a file that ends with its last record */
 
 /* A head: MAGIC, the checksum of all after it and of what it is the head of, the generation, bytes of the store, bytes of the items
    after it. */
@@ -28,11 +29,6 @@ enum { CHANGES_HEAD = 5, OUTPUT_HEAD = 12, TAKEN_SIZE = 10, OUTPUT_SIZE = 2 };
 static int failed(const struct gateway_store *store, int which) {
     report_fault("%s/%s", store->folder->path, NAMES[which]);
     return STATUS_IO;
-}
-
-static int lacks_memory(const struct gateway_store *store) {
-    report("%s: there is no memory", store->folder->path);
-    return STATUS_MEMORY;
 }
 
 static bool write_at(int file, const uint8_t *bytes, size_t size, uint64_t at) {
@@ -100,16 +96,21 @@ int gateway_store_append(struct gateway_store *store, const uint8_t *changes, si
     record->size = 0;
     bool is_there = bytes_add(record, zeros, RECORD) && add_changes(record, changes, size) &&
                     add_outputs(record, outputs, outputs->written) && add_taken(record, outputs);
-    if (!is_there) return lacks_memory(store);
+    if (!is_there) return store_lacks_memory(store->folder);
     if (record->size == RECORD) return STATUS_DONE;
     size_t items = record->size - RECORD;
     number_put(record->at, items, HALF);
     number_put(record->at + HALF, record_checksum(store->generation, store->at, record->at + RECORD, items), HALF);
-    uint64_t end = store->at + record->size;
-    if (!has_room(store, which, end) || !write_at(store->files[which], record->at, record->size, store->at)) return failed(store, which);
-    store->at = end;
+    if (store_is_remote(store->folder)) {
+        if (!syncer_add(&store->syncer, record->at, record->size)) return store_lacks_memory(store->folder);
+        store->waits = true;
+    } else if (!has_room(store, which, store->at + record->size) ||
+               !write_at(store->files[which], record->at, record->size, store->at)) {
+        return failed(store, which);
+    }
+    store->at += record->size;
     store->behind += record->size;
-    if (synced) store->asked = syncer_ask(&store->syncer);
+    if (synced && !store_is_remote(store->folder)) store->asked = syncer_ask(&store->syncer);
     return STATUS_DONE;
 }
 
@@ -117,32 +118,41 @@ static uint32_t head_checksum(const uint8_t *head, const uint8_t *body, size_t s
     return checksum(checksum(0, head + GENERATION, HEAD - GENERATION), body, size);
 }
 
-/* Body, then head, each durable before what follows. */
-static bool write_file(struct gateway_store *store, int which, const uint8_t *head, const struct bytes *body) {
+/* What follows the block of the head, then the head, each durable before what follows. */
+static int write_file(struct gateway_store *store, int which, const struct bytes *all) {
     bool is_new = store->files[which] < 0;
     if (is_new) store->files[which] = openat(store->folder->folder, NAMES[which], O_RDWR | O_CREAT | O_TRUNC | O_CLOEXEC, 0600);
     int file = store->files[which];
-    return file >= 0 && has_room(store, which, BLOCK + body->size) && write_at(file, body->at, body->size, BLOCK) &&
-           fdatasync(file) == 0 && write_at(file, head, HEAD, 0) && fdatasync(file) == 0 &&
-           (!is_new || fsync(store->folder->folder) == 0);
+    bool is_durable = file >= 0 && has_room(store, which, all->size) && write_at(file, all->at + BLOCK, all->size - BLOCK, BLOCK) &&
+                      fdatasync(file) == 0 && write_at(file, all->at, HEAD, 0) && fdatasync(file) == 0 &&
+                      (!is_new || fsync(store->folder->folder) == 0);
+    return is_durable ? STATUS_DONE : failed(store, which);
+}
+
+/* What waited is in it. */
+static int write_log(struct gateway_store *store, const struct bytes *all) {
+    syncer_drop(&store->syncer);
+    return store_write(store->folder, LOG, all->at, all->size);
 }
 
 int gateway_store_replace(struct gateway_store *store, const uint8_t *whole, size_t size, const struct outputs *outputs) {
+    static const uint8_t zeros[BLOCK];
     if (store->folder->is_looked_at) return STATUS_DONE;
     uint64_t generation = store->generation + 1;
     int which = (int)(generation % 2);
-    uint8_t head[HEAD];
-    struct bytes *body = &store->record;
-    body->size = 0;
-    if (!bytes_add(body, whole, size) || !add_outputs(body, outputs, 0)) return lacks_memory(store);
-    memcpy(head, MAGIC, CHECKSUM);
-    number_put(head + GENERATION, generation, WORD);
-    number_put(head + STORE, size, WORD);
-    number_put(head + ITEMS, body->size - size, WORD);
-    number_put(head + CHECKSUM, head_checksum(head, body->at, body->size), HALF);
-    if (!write_file(store, which, head, body)) return failed(store, which);
+    struct bytes *all = &store->record;
+    all->size = 0;
+    bool is_there = bytes_add(all, zeros, BLOCK) && bytes_add(all, whole, size) && add_outputs(all, outputs, 0);
+    if (!is_there) return store_lacks_memory(store->folder);
+    memcpy(all->at, MAGIC, CHECKSUM);
+    number_put(all->at + GENERATION, generation, WORD);
+    number_put(all->at + STORE, size, WORD);
+    number_put(all->at + ITEMS, all->size - BLOCK - size, WORD);
+    number_put(all->at + CHECKSUM, head_checksum(all->at, all->at + BLOCK, all->size - BLOCK), HALF);
+    int status = store_is_remote(store->folder) ? write_log(store, all) : write_file(store, which, all);
+    if (status != STATUS_DONE) return status;
     store->generation = generation;
-    store->at = BLOCK + body->size;
+    store->at = all->size;
     store->whole = size;
     store->behind = 0;
     syncer_turns_to(&store->syncer, store->files[which]);
@@ -218,11 +228,12 @@ static int read_last(struct gateway_store *store, uint8_t *const all[2], const s
     outputs->written = outputs->count;
     outputs_are_stored(outputs, outputs->count);
     if (is_read) return STATUS_DONE;
-    report("%s/%s holds what no gateway wrote", store->folder->path, NAMES[last]);
+    report("%s/%s holds what no gateway wrote", store->folder->path, store_is_remote(store->folder) ? LOG : NAMES[last]);
     return STATUS_STORE;
 }
 
 static int open_files(struct gateway_store *store, uint8_t *all[2], size_t lengths[2]) {
+    if (store_is_remote(store->folder)) return store_read(store->folder, LOG, &all[0], &lengths[0]);
     if (faccessat(store->folder->folder, BEFORE, F_OK, 0) == 0) {
         report("%s/%s is of another version of this program", store->folder->path, BEFORE);
         return STATUS_STORE;
@@ -248,15 +259,23 @@ int gateway_store_open(struct gateway_store *store, const struct store *folder, 
     if (status == STATUS_DONE) status = read_last(store, all, lengths, whole, changes, outputs);
     free(all[0]);
     free(all[1]);
-    if (status != STATUS_DONE || folder->is_looked_at || syncer_begin(&store->syncer)) return status;
+    const struct store *remote = store_is_remote(folder) ? folder : NULL;
+    if (status != STATUS_DONE || folder->is_looked_at || syncer_begin(&store->syncer, remote, LOG)) return status;
     report_fault("%s: there is no thread", folder->path);
     return STATUS_MEMORY;
+}
+
+uint64_t gateway_store_confirm(struct gateway_store *store, bool goes_out) {
+    if (!store_is_remote(store->folder) || (!goes_out && !store->waits)) return store->asked;
+    store->behind += BLOCK; /* it is one more piece there */
+    store->waits = false;
+    return store->asked = syncer_ask(&store->syncer);
 }
 
 int gateway_store_synced(struct gateway_store *store, uint64_t *synced) {
     int fault;
     *synced = syncer_synced(&store->syncer, &fault);
-    if (!fault) return STATUS_DONE;
+    if (!fault || store_is_remote(store->folder)) return fault;
     errno = fault;
     return failed(store, (int)(store->generation % 2));
 }

@@ -1,6 +1,7 @@
 /* What the gateway keeps: a store, the changes since, and the outputs that nobody has taken. Two files of its folder, which are written
    in turn, have a head, the store, and a record for each turn since (docs/FORMATS.md, "Log of the gateway"). What was written outlives
-   a kill of the program, and a loss of power once it is synced, which a thread waits for. */
+   a kill of the program, and a loss of power once it is synced, which a thread waits for. Elsewhere than in a folder it is one file, to
+   which that thread puts the records; what it hasn't put is lost by a kill. */
 #ifndef GATEWAY_STORE_H
 #define GATEWAY_STORE_H
 
@@ -21,6 +22,7 @@ struct gateway_store {
     uint64_t at;          /* where its next record goes */
     size_t whole, behind; /* bytes of the store, and of the records after it */
     uint64_t asked;       /* the last sync that was asked for */
+    bool waits;           /* elsewhere: a record does, for which none was */
     struct syncer syncer;
     struct bytes record;
 };
@@ -30,12 +32,16 @@ int gateway_store_open(struct gateway_store *store, const struct store *folder, 
                        struct outputs *outputs);
 
 /* One record: changes, outputs that weren't in one yet, and which are taken. If it is to be synced, that is done once store->asked syncs
-   are; else it may be lost with the power. */
+   are; else it may be lost with the power. Elsewhere than in a folder gateway_store_confirm asks. */
 int gateway_store_append(struct gateway_store *store, const uint8_t *changes, size_t size, const struct outputs *outputs, bool synced);
 
 /* A whole store and the outputs that nobody has taken, in place of all before. It is durable when this answers, and so is all that
    was appended. */
 int gateway_store_replace(struct gateway_store *store, const uint8_t *whole, size_t size, const struct outputs *outputs);
+
+/* Which sync is to be waited for by what goes out. Elsewhere than in a folder, where another life may have followed, that is one that is
+   asked for here, if anything goes out or records wait. */
+uint64_t gateway_store_confirm(struct gateway_store *store, bool goes_out);
 
 /* Up to which sync all is durable; a status. */
 int gateway_store_synced(struct gateway_store *store, uint64_t *synced);

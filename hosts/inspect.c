@@ -6,7 +6,6 @@
 #include "slots.h"
 #include "store.h"
 
-#include <fcntl.h>
 #include <inttypes.h>
 #include <sblog.h>
 #include <stdio.h>
@@ -91,17 +90,19 @@ static int inspect_gateway(const struct store *folder, const char *identity) {
     return status;
 }
 
-int inspect(const char *path) {
+int inspect(const char *where, const char *cluster, int me) {
     char *identity;
-    const struct store store = {.path = path, .folder = open(path, O_RDONLY | O_DIRECTORY | O_CLOEXEC), .lock = -1, .is_looked_at = true};
-    if (store.folder < 0) {
-        report_fault("%s", path);
+    struct store store;
+    int status = store_find(&store, where, cluster, me, true);
+    if (status == STATUS_DONE && !store_is_remote(&store) && store.folder < 0) {
+        report_fault("%s", where);
         return STATUS_IO;
     }
-    int status = store_read_identity(&store, &identity);
+    if (status == STATUS_DONE && store_is_remote(&store)) status = store.storage->claim(&store);
+    if (status == STATUS_DONE) status = store_read_identity(&store, &identity);
     if (status != STATUS_DONE) return status;
     if (!identity) {
-        report("%s: the file identity is missing", path);
+        report("%s: the file identity is missing", store.path);
         return STATUS_STORE;
     }
     fputs(identity, stdout);

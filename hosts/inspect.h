@@ -2,7 +2,8 @@
 #ifndef INSPECT_H
 #define INSPECT_H
 
-/* Prints it on standard output, and changes nothing, also beside a program that has the store; a status. */
-int inspect(const char *path);
+/* Prints the store of a process, whose cluster may be null of a folder, on standard output, and changes nothing, also beside a program
+   that has the store; a status. */
+int inspect(const char *where, const char *cluster, int me);
 
 #endif

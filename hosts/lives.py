@@ -41,10 +41,10 @@ def slot(number, data, room=1 << 16):
 
 
 def last_of(kept):
-    """The bytes of the last whole slot."""
+    """The bytes of the last whole slot: of two, or of the one that a store elsewhere has."""
     found = {}
     for at in (0, len(kept) // 2):
-        number, size = struct.unpack_from("<QQ", kept, at + 8)
+        number, size = struct.unpack_from("<QQ", kept.ljust(at + 24), at + 8)
         data = kept[at + 24:at + 24 + size]
         if slot(number, data, 0) == kept[at:at + 24 + size]:
             found[number] = data
@@ -92,12 +92,12 @@ class Program:
         self.child, self.readers, self.said, self.lives, self.kills = None, [], [], 0, 0
         self.is_up, self.exact, self.status = threading.Event(), True, None
         self.ups = []  # seconds from the start of a life to the line that says so
-        self.environment = None
+        self.environment, self.home = None, None  # home: the folder that it runs in
 
-    def command(self):
-        file = self.cluster.file_of(self.number)
+    def command(self, file=None):
+        file = file or self.cluster.file_of(self.number)
         words = [self.cluster.program, "--cluster", file, "--me", str(self.number), "--store", self.store]
-        if self.cluster.places:
+        if self.cluster.places and self.cluster.places[self.number][0]:
             words = ["ip", "netns", "exec", self.cluster.places[self.number][0], *words]
         if self.cluster.authority:
             words += ["--tls", self.cluster.certificate(self.number)]
@@ -105,15 +105,16 @@ class Program:
 
     def start(self):
         self.is_up.clear()
-        self.lives += 1
+        self.lives, self.shown = self.lives + 1, {}
         self.started = time.monotonic()
         stream = subprocess.PIPE if self.number == 0 else subprocess.DEVNULL
         environment = {**os.environ, **self.environment} if self.environment else None
-        self.child = subprocess.Popen(self.command(), stdin=stream, stdout=stream, stderr=subprocess.PIPE, env=environment)
+        self.child = subprocess.Popen(self.command(), stdin=stream, stdout=stream, stderr=subprocess.PIPE, env=environment,
+                                      cwd=self.home)
         running.add(self.child)
         self.readers = [self.reads(self.child.stderr, self.hear)]
         if self.number == 0:
-            self.readers.append(self.reads(self.child.stdout, self.cluster.hear))
+            self.readers.append(self.reads(self.child.stdout, self.answer))
 
     def reads(self, stream, hear):
         def read():
@@ -123,6 +124,17 @@ class Program:
         reader = threading.Thread(target=read, daemon=True)
         reader.start()
         return reader
+
+    def answer(self, line):
+        """Of a gateway that another one followed outputs alone are heard, of which some come again then. None does in one life."""
+        if line.startswith("output "):
+            _, process, ssn, _ = line.split()
+            if int(ssn) <= self.shown.get(process, 0):
+                self.cluster.fault = f"{line} comes again in one life"
+            self.shown[process] = int(ssn)
+        elif self.cluster.gateway is not self:
+            return
+        self.cluster.hear(line)
 
     def hear(self, line):
         if line.startswith("status "):
@@ -166,10 +178,13 @@ class Program:
             found = re.search(rf"(?m)^{line} ([0-9a-f]{{32}})$", file.read())
         return bytes.fromhex(found[1]) if found else None
 
+    def slots(self):
+        with open(os.path.join(self.store, "kept"), "rb") as file:
+            return file.read()
+
     def kept(self):
         """State and number of messages of the stored checkpoint (docs/FORMATS.md)."""
-        with open(os.path.join(self.store, "kept"), "rb") as file:
-            data = last_of(file.read())
+        data = last_of(self.slots())
         count, size = data[5], struct.unpack_from("<H", data, 6)[0]
         at = 16 + 8 * count
         return data[at:at + size], struct.unpack_from("<Q", data, 8)[0]
@@ -179,12 +194,13 @@ class Cluster:
     """All programs; what was handed in, and what came out."""
 
     def __init__(self, folder, name, processes, transport="unix", program=None, words=(), port=7600, proxied=False, places=None):
-        """processes: pairs of a name and an image; places: of each program a network namespace, and its address there."""
+        """processes: pairs of a name and an image; places: of each program a network namespace, if it has one, and its address there, or
+        by nats the server's."""
         self.folder, self.name, self.proxied, self.places = folder, name, proxied, places
         self.program = program or program_path()
         self.names = ["gateway"] + [process for process, image in processes]
         self.images = [None] + [os.path.realpath(image) for process, image in processes]
-        self.transport, self.port = transport, port
+        self.transport, self.port, self.host = transport, port, places[0][1] if places else "127.0.0.1"
         os.makedirs(folder, exist_ok=True)
         for number in range(len(self.names)):
             with open(self.file_of(number), "w") as file:
@@ -206,7 +222,7 @@ class Cluster:
         if self.transport in ("tcp", "tls"):
             return f"{self.transport}:{self.places[number][1] if self.places else '127.0.0.1'}:{self.port + number}"
         if self.transport == "nats":
-            return f"nats:nats://127.0.0.1:{self.port}"
+            return f"nats:nats://{self.host}:{self.port}"
         return f"unix:{self.path(number, through)}"
 
     def path(self, number, through=False):
@@ -248,6 +264,8 @@ class Cluster:
             so_far.append(payload)
         elif ssn == len(so_far) and so_far[-1] == payload and self.heard_in != self.gateway.lives:
             self.repeated += 1  # the one line that a gateway which was killed may print again
+        elif so_far[ssn - 1:ssn] == [payload] and not os.path.isdir(self.gateway.store):
+            self.repeated += 1  # several, if its store is elsewhere
         else:
             self.fault = f"output {process} {ssn} behind {len(so_far)} outputs"
         self.heard_in = self.gateway.lives

@@ -18,7 +18,7 @@ static int hear(const struct owner *owner, const struct store *store, struct ids
     if (greeting.word == WORD_REFUSAL) return refused(owner, store);
     if (greeting.word == WORD_WELCOME) {
         ids->cluster = greeting.cluster;
-        return store_claim(store, owner, ids);
+        return store_write_identity(store, owner, ids);
     }
     greeting.word = WORD_JOIN;
     transport_greet(transport, 0, &greeting);
@@ -69,7 +69,7 @@ static int judge(const struct owner *owner, const struct store *store, struct id
     if (id_is(known, &greeting->store)) return STATUS_DONE;
     if (id_is_none(known)) {
         *known = greeting->store;
-        return store_claim(store, owner, ids);
+        return store_write_identity(store, owner, ids);
     }
     greeting->word = WORD_REFUSAL;
     report_event(LEVEL_WARNING, "stranger", "%s came with another store than before: it is refused",

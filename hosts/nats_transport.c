@@ -1,12 +1,12 @@
 /* Subjects of a NATS server, which does routing, reconnection and TLS. A thread of the client's library hands what comes to a
    pair of sockets, from which it is taken like any other frame. */
+#include "nats_connection.h"
 #include "report.h"
 #include "transport.h"
 
 #ifdef WITH_NATS
 
 #include <errno.h>
-#include <nats/nats.h>
 #include <stdio.h>
 #include <stdlib.h>
 #include <string.h>
@@ -21,16 +21,15 @@ struct nats_link {
     natsConnection *connection;
 };
 
-/* A server's address without name and password. */
-static const char *shown(const char *url) { return strchr(url, '@') ? strchr(url, '@') + 1 : url; }
+const char *nats_shown(const char *url) { return strchr(url, '@') ? strchr(url, '@') + 1 : url; }
 
 /* With it the first connection is made in a thread, too, and the program doesn't wait for a server that is away. */
 static void connected(natsConnection *connection, void *url) {
     (void)connection;
-    report_event(LEVEL_INFO, "server", "nats server %s: it answers", shown(url));
+    report_event(LEVEL_INFO, "server", "nats server %s: it answers", nats_shown(url));
 }
 
-static natsStatus connect_to(natsConnection **connection, const char *url) {
+natsStatus nats_connect(natsConnection **connection, const char *url) {
     natsOptions *options = NULL;
     natsStatus status = natsOptions_Create(&options);
     if (status == NATS_OK) status = natsOptions_SetURL(options, url);
@@ -50,13 +49,13 @@ static struct nats_link *link_to(struct transport *transport, const char *url) {
         if (!strcmp(link->url, url)) return link;
     struct nats_link *link = calloc(1, sizeof *link);
     if (!link) return NULL;
-    natsStatus status = connect_to(&link->connection, url);
+    natsStatus status = nats_connect(&link->connection, url);
     if (status != NATS_OK && status != NATS_NOT_YET_CONNECTED) {
-        report("nats server %s: %s", shown(url), natsStatus_GetText(status));
+        report("nats server %s: %s", nats_shown(url), natsStatus_GetText(status));
         free(link);
         return NULL;
     }
-    if (status == NATS_NOT_YET_CONNECTED) report_event(LEVEL_WARNING, "server", "nats server %s: it doesn't answer yet", shown(url));
+    if (status == NATS_NOT_YET_CONNECTED) report_event(LEVEL_WARNING, "server", "nats server %s: it doesn't answer yet", nats_shown(url));
     link->url = url;
     link->next = transport->links;
     transport->links = link;
@@ -89,14 +88,14 @@ static int nats_open(struct transport *transport, const struct address *own) {
     if (!link) return STATUS_IO;
     transport->file = pair_open(&end);
     if (transport->file < 0) {
-        report_fault("nats server %s", shown(own->where));
+        report_fault("nats server %s", nats_shown(own->where));
         return STATUS_IO;
     }
     snprintf(subject, sizeof subject, "sblog.%s.%d", transport->cluster->name, transport->me);
     void *closure = (void *)(intptr_t)end;
     natsStatus status = natsConnection_Subscribe(&subscription, link->connection, subject, arrived, closure);
     if (status != NATS_OK) {
-        report("nats server %s: %s: %s", shown(own->where), subject, natsStatus_GetText(status));
+        report("nats server %s: %s: %s", nats_shown(own->where), subject, natsStatus_GetText(status));
         return STATUS_IO;
     }
     return STATUS_DONE;

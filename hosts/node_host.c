@@ -29,6 +29,7 @@ static int keep(struct node_host *host) {
     int status = slots_write(&host->slots, host->bytes, size);
     histogram_add(&host->syncs, clock_now() - since);
     if (status != STATUS_DONE) return status;
+    host->has_written = true;
     host->checkpoints++;
     code = sblog_node_saved(&host->node);
     return code == SBLOG_NODE_DONE ? STATUS_DONE : code_refused("saved", code, 0);
@@ -182,6 +183,15 @@ static bool is_time_to_keep(const struct node_host *host) {
     return host->standing.stage == SBLOG_NODE_UP && host->standing.receipts >= most;
 }
 
+/* No packet goes out by a life that another one has followed, which a store elsewhere tells by refusing a write: it takes one first,
+   if it took none in this turn. */
+static int confirm(struct node_host *host) {
+    bool is_due = store_is_remote(&host->store) && host->transport.queued != host->confirmed && !host->has_written;
+    host->confirmed = host->transport.queued;
+    host->has_written = false;
+    return is_due ? store_confirm(&host->store) : STATUS_DONE;
+}
+
 /* One turn; whether there is more to do at once. */
 static int turn(struct node_host *host, bool *is_more) {
     int received = receive(host), status = STATUS_DONE;
@@ -189,7 +199,7 @@ static int turn(struct node_host *host, bool *is_more) {
     sblog_node_standing(&host->node, &host->standing);
     if (is_time_to_keep(host)) {
         put_out(host); /* what doesn't wait for it */
-        transport_serve(&host->transport);
+        if (!store_is_remote(&host->store)) transport_serve(&host->transport);
         status = keep(host);
         sblog_node_standing(&host->node, &host->standing);
     }
@@ -197,6 +207,8 @@ static int turn(struct node_host *host, bool *is_more) {
     put_out(host);
     uint64_t now = clock_now();
     tick(host, now, received);
+    status = confirm(host);
+    if (status != STATUS_DONE) return status;
     transport_serve(&host->transport);
     status = tell(host);
     show(host, now);
@@ -230,7 +242,8 @@ int node_run(const struct options *options, const struct cluster *cluster) {
     int status = options->looks ? node_look(&host) : node_begin(&host);
     if (status != STATUS_DONE || options->looks) return status;
     status = run(&host);
-    transport_close(&host.transport);
+    transport_close(&host.transport, status != STATUS_STORE);
     metrics_close(&host.metrics);
+    store_close(&host.store);
     return status;
 }

@@ -59,7 +59,7 @@ static int judge_new(struct node_host *host, size_t size) {
     bool is_new = !kept || (kept_size == size && !memcmp(kept, host->bytes, size));
     free(kept);
     if (status != STATUS_DONE || is_new) return status;
-    report("%s: the file %s holds messages, and the file identity is missing", host->options->store, KEPT);
+    report("%s: the file %s holds messages, and the file identity is missing", host->store.path, KEPT);
     return STATUS_STORE;
 }
 
@@ -74,7 +74,7 @@ static int open_new(struct node_host *host, const struct owner *owner) {
 static int begin_new(struct node_host *host, const struct owner *owner, uint64_t incarnation) {
     size_t size;
     if (incarnation > 1) {
-        report("%s: it had %" PRIu64 " lives, and the file identity is missing", host->options->store, incarnation);
+        report("%s: it had %" PRIu64 " lives, and the file identity is missing", host->store.path, incarnation);
         return STATUS_STORE;
     }
     int status = open_new(host, owner);
@@ -85,7 +85,7 @@ static int begin_new(struct node_host *host, const struct owner *owner, uint64_t
     if (status == STATUS_DONE) status = slots_write(&host->slots, host->bytes, size);
     if (status == STATUS_DONE) status = store_write_incarnation(&host->store, 1);
     if (status == STATUS_DONE) status = id_draw(&host->ids.stores[owner->me]);
-    if (status == STATUS_DONE) status = store_claim(&host->store, owner, &host->ids);
+    if (status == STATUS_DONE) status = store_write_identity(&host->store, owner, &host->ids);
     if (status != STATUS_DONE) return status;
     code = sblog_node_saved(&host->node);
     return code == SBLOG_NODE_DONE ? STATUS_DONE : code_refused("saved", code, 0);
@@ -99,7 +99,7 @@ static int begin_again(struct node_host *host, const struct owner *owner, uint64
     int status = slots_open(&host->slots, &host->store, &kept, &size);
     if (status != STATUS_DONE) return status;
     if (!kept || incarnation == 0) {
-        report("%s: the file %s is missing", host->options->store, kept ? "incarnation" : KEPT);
+        report("%s: the file %s is missing", host->store.path, kept ? "incarnation" : KEPT);
         free(kept);
         return STATUS_STORE;
     }
@@ -132,7 +132,7 @@ int node_begin(struct node_host *host) {
     const struct options *options = host->options;
     const struct owner owner = owner_of(host, hash);
     int status = read_image(host, hash);
-    if (status == STATUS_DONE) status = store_open(&host->store, options->store, &owner, &host->ids, &is_new);
+    if (status == STATUS_DONE) status = store_open(&host->store, options->store, &owner, false, &host->ids, &is_new);
     if (status == STATUS_DONE) status = transport_open(&host->transport, host->cluster, options->me);
     if (status == STATUS_DONE) pace_begin(&host->pace, &host->transport, options->tick);
     if (status == STATUS_DONE) status = metrics_open(&host->metrics, &options->metrics);
@@ -147,7 +147,7 @@ int node_look(struct node_host *host) {
     const struct options *options = host->options;
     const struct owner owner = owner_of(host, hash);
     int image = read_image(host, hash), status = image;
-    int store = image == STATUS_DONE ? store_look(&host->store, options->store, &owner, &host->ids, &is_new) : image;
+    int store = image == STATUS_DONE ? store_open(&host->store, options->store, &owner, true, &host->ids, &is_new) : image;
     status_first(&status, store);
     status_first(&status, transport_look(host->cluster, options->me));
     status_first(&status, address_look(&options->metrics, SOCK_STREAM));

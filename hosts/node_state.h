@@ -27,6 +27,8 @@ struct node_host {
     size_t image_size, room;
     uint64_t started, next_tick, pause, next_status;
     uint64_t refused, checkpoints;
+    uint64_t confirmed; /* packets that were queued while the store was this life's */
+    bool has_written;   /* in this turn */
     bool was_up, was_exact, store_is_inexact, wants_memory;
     uint8_t packet[PACKET_LIMIT];
 };

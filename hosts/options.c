@@ -17,14 +17,14 @@ enum { THOUSAND = 1000, EVERY = 256, USUAL_TICK = 5, TICK_LIMIT = 10000 };
 #endif
 
 static const char USAGE[] =
-    "usage: sblog-node --cluster FILE --me N --store DIR [WORDS]\n"
-    "       sblog-node --inspect DIR\n"
+    "usage: sblog-node --cluster FILE --me N --store STORE [WORDS]\n"
+    "       sblog-node --inspect STORE [--cluster FILE --me N]\n"
     "\n"
     "Runs process N of a cluster, or its gateway where N is 0.\n"
     "\n"
     "  --cluster FILE         who there is, with which image, and where\n"
     "  --me N                 the process's number in the file, 1 to 15, or 0\n"
-    "  --store DIR            its store, which is made where it isn't there\n"
+    "  --store STORE          its store: a folder, which is made where it isn't there; nats:URL/BUCKET, or postgres:CONNINFO\n"
     "  --durable              what a process sends waits for a checkpoint that covers it, as it does anyway\n"
     "  --volatile             it doesn't wait: messages may be lost if two such processes are down at once\n"
     "  --checkpoint-every K   of a volatile process: a checkpoint after K messages (1 to 65536; 256)\n"
@@ -37,12 +37,12 @@ static const char USAGE[] =
     "  --sandbox              makes no system call from then on but those that it needs\n"
     "  --log json, --log pairs  lines of standard error as JSON, or as key=value\n"
     "  --check                starts nothing: says whether these words, cluster file, image, store and addresses would do\n"
-    "  --inspect DIR          says what a store holds, and ends\n"
+    "  --inspect STORE        says what a store holds, and ends\n"
     "  --version              says which version this is, and ends\n"
     "\n"
     "SIGUSR1 prints that line once. SIGHUP reads the files of --tls again. SIGTERM and SIGINT end it, a process behind a checkpoint.\n"
     "Statuses: 0; 2 the command line; 3 a refused image; 4 a refused cluster file; 5 want of memory;\n"
-    "6 input and output; 7 a store that isn't this process's or its cluster's, or is in use.\n";
+    "6 input and output; 7 a store that isn't this process's or its cluster's, is in use, or was claimed by another life.\n";
 
 enum { CLUSTER = 1, ME, STORE, CHECKPOINT_EVERY, DURABLE, VOLATILE, EVERY_TICK, LISTEN, METRICS, STATUS, LOG, TLS, USER, SANDBOX, CHECK,
        INSPECT, HELP, VERSION };

@@ -28,6 +28,7 @@ static const struct passwd *find(const char *name) {
 
 /* The store's files are the user's, who replaces them. */
 static bool gives_store(const struct store *store, const struct passwd *user) {
+    if (store_is_remote(store)) return true;
     DIR *files = fdopendir(openat(store->folder, ".", O_RDONLY | O_DIRECTORY | O_CLOEXEC));
     bool is_given = files && fchown(store->folder, user->pw_uid, user->pw_gid) == 0;
     for (const struct dirent *file; is_given && (file = readdir(files));) {

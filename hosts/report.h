@@ -13,7 +13,7 @@ enum status {
     STATUS_CLUSTER = 4, /* a refused cluster file */
     STATUS_MEMORY = 5,
     STATUS_IO = 6,   /* input and output: files, sockets, the store */
-    STATUS_STORE = 7 /* the store isn't this process's, or is in use */
+    STATUS_STORE = 7 /* the store isn't this process's, is in use, or was claimed by another life */
 };
 
 /* The status stays the first one that isn't done. */

@@ -14,9 +14,10 @@ int main(int argc, char **argv) {
     static struct cluster cluster;
     struct options options;
     int status = options_read(argc, argv, &options);
-    if (status == STATUS_DONE && options.inspected) return inspect(options.inspected);
+    if (status == STATUS_DONE && options.inspected && !options.cluster) return inspect(options.inspected, NULL, options.me);
     if (status == STATUS_DONE) status = cluster_read(options.cluster, &cluster);
     if (status != STATUS_DONE) return status;
+    if (options.inspected) return inspect(options.inspected, cluster.name, options.me);
     if (options.me > cluster.count) {
         report("%s has %d processes, and none of the number %d", options.cluster, cluster.count, options.me);
         return STATUS_CLUSTER;

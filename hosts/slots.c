@@ -51,10 +51,7 @@ static int begin_file(struct slots *slots, const uint8_t *bytes, size_t size) {
     size_t room = LEAST;
     while (room < 2 * (HEAD + size)) room *= 2;
     uint8_t *all = calloc(2, room);
-    if (!all) {
-        report("%s/%s: there is no memory", slots->store->path, KEPT);
-        return STATUS_MEMORY;
-    }
+    if (!all) return store_lacks_memory(slots->store);
     uint8_t *slot = all + slots->number % 2 * room;
     write_head(slot, slots->number, bytes, size);
     memcpy(slot + HEAD, bytes, size);
@@ -66,6 +63,18 @@ static int begin_file(struct slots *slots, const uint8_t *bytes, size_t size) {
     slots->room = room;
     slots->number++;
     return slots->file < 0 ? failed(slots) : STATUS_DONE;
+}
+
+/* Elsewhere than in a folder there is one slot, which is replaced whole. */
+static int replace(struct slots *slots, const uint8_t *bytes, size_t size) {
+    struct bytes slot = {0};
+    uint8_t head[HEAD];
+    write_head(head, slots->number, bytes, size);
+    bool has_memory = bytes_add(&slot, head, HEAD) && bytes_add(&slot, bytes, size);
+    int status = has_memory ? store_write(slots->store, KEPT, slot.at, slot.size) : store_lacks_memory(slots->store);
+    bytes_end(&slot);
+    if (status == STATUS_DONE) slots->number++;
+    return status;
 }
 
 /* Writes a slot, head and bytes at once, and waits for the disk. */
@@ -80,6 +89,7 @@ static bool write_slot(const struct slots *slots, uint64_t number, const uint8_t
 
 int slots_write(struct slots *slots, const uint8_t *bytes, size_t size) {
     if (slots->store->is_looked_at) return STATUS_DONE;
+    if (store_is_remote(slots->store)) return replace(slots, bytes, size);
     if (slots->file < 0 || HEAD + size > slots->room) return begin_file(slots, bytes, size);
     if (!write_slot(slots, slots->number, bytes, size)) return failed(slots);
     slots->number++;
@@ -93,7 +103,8 @@ int slots_open(struct slots *slots, const struct store *store, uint8_t **bytes, 
     *bytes = NULL;
     int status = store_read(store, KEPT, &all, &length);
     if (status != STATUS_DONE || !all) return status;
-    size_t room = length / 2, sizes[2] = {whole_in(all, room), whole_in(all + room, room)};
+    bool is_rewritten = !store->is_looked_at && !store_is_remote(store);
+    size_t room = store_is_remote(store) ? length : length / 2, sizes[2] = {whole_in(all, room), whole_in(all + room, length - room)};
     uint64_t numbers[2] = {sizes[0] ? number_at(all + NUMBER, WORD) : 0, sizes[1] ? number_at(all + room + NUMBER, WORD) : 0};
     int last = !sizes[0] || (sizes[1] && numbers[1] > numbers[0]) ? 1 : 0;
     if (!sizes[last]) {
@@ -101,12 +112,12 @@ int slots_open(struct slots *slots, const struct store *store, uint8_t **bytes, 
         free(all);
         return STATUS_STORE;
     }
-    if (!store->is_looked_at) slots->file = openat(store->folder, KEPT, O_RDWR | O_CLOEXEC);
+    if (is_rewritten) slots->file = openat(store->folder, KEPT, O_RDWR | O_CLOEXEC);
     slots->room = room;
     slots->number = numbers[last] + 1;
     memmove(all, all + (size_t)last * room + HEAD, sizes[last]);
     /* the life that wrote it may have been killed before it was durable */
-    if (!store->is_looked_at && (slots->file < 0 || !write_slot(slots, numbers[last], all, sizes[last]))) {
+    if (is_rewritten && (slots->file < 0 || !write_slot(slots, numbers[last], all, sizes[last]))) {
         free(all);
         return failed(slots);
     }

@@ -1,6 +1,6 @@
 /* The bytes of a node's checkpoint in the file `kept`: two slots, which are written in turn, so that one of them holds the last
    bytes that were durable (docs/FORMATS.md, "Slots"). The file was written whole when it was made, so a sync has no more to write
-   than the bytes. */
+   than the bytes. Elsewhere than in a folder there is one slot. */
 #ifndef SLOTS_H
 #define SLOTS_H
 

@@ -3,17 +3,12 @@
 #include "report.h"
 
 #include <errno.h>
-#include <fcntl.h>
 #include <inttypes.h>
-#include <libgen.h>
 #include <stdio.h>
 #include <stdlib.h>
 #include <string.h>
-#include <sys/file.h>
-#include <sys/stat.h>
-#include <unistd.h>
 
-enum { IDENTITY_LIMIT = 1024, NUMBER_TEXT = 32, MODE = 0600 };
+enum { IDENTITY_LIMIT = 1024, NUMBER_TEXT = 32 };
 
 static const char *const IDENTITY = "identity", *const INCARNATION = "incarnation", *const INEXACT = "inexact";
 static const char *const CLUSTER_ID = "cluster-id", *const STORE_ID = "store-id";
@@ -96,45 +91,13 @@ static char *write_ids(char *at, const struct ids *ids) {
     return at;
 }
 
-int store_claim(const struct store *store, const struct owner *owner, const struct ids *ids) {
+int store_write_identity(const struct store *store, const struct owner *owner, const struct ids *ids) {
     static char lines[LINE_COUNT][IDENTITY_LIMIT], text[2 * LINE_COUNT * IDENTITY_LIMIT];
     identity_of(owner, lines);
     char *at = text;
     for (int i = 0; i < LINE_COUNT; i++) at += sprintf(at, "%s %s\n", LINES[i].word, lines[i]);
     at = write_ids(at, ids);
     return store_write(store, IDENTITY, text, (size_t)(at - text));
-}
-
-/* A folder that was made is there after a loss of power, too. */
-static int make_folder(const char *path) {
-    if (mkdir(path, 0700) != 0) {
-        if (errno == EEXIST) return STATUS_DONE;
-        report_fault("%s", path);
-        return STATUS_IO;
-    }
-    int made = open(path, O_RDONLY | O_DIRECTORY | O_CLOEXEC);
-    int above = made < 0 ? -1 : openat(made, "..", O_RDONLY | O_DIRECTORY | O_CLOEXEC);
-    bool synced = above >= 0 && fsync(above) == 0;
-    if (!synced) report_fault("%s", path);
-    if (above >= 0) close(above);
-    if (made >= 0) close(made);
-    return synced ? STATUS_DONE : STATUS_IO;
-}
-
-static int take_lock(struct store *store, int makes) {
-    store->lock = openat(store->folder, "lock", O_RDWR | makes | O_CLOEXEC, MODE);
-    if (store->lock < 0 && errno == ENOENT && !makes) return STATUS_DONE;
-    if (store->lock < 0) {
-        report_fault("%s/lock", store->path);
-        return STATUS_IO;
-    }
-    if (flock(store->lock, LOCK_EX | LOCK_NB) == 0) return STATUS_DONE;
-    if (errno == EWOULDBLOCK) {
-        report("%s: another life of this process has the store", store->path);
-        return STATUS_STORE;
-    }
-    report_fault("%s/lock", store->path);
-    return STATUS_IO;
 }
 
 int store_read_identity(const struct store *store, char **text) {
@@ -155,93 +118,59 @@ static int judge(const struct store *store, const struct owner *owner, struct id
     return status;
 }
 
-int store_open(struct store *store, const char *path, const struct owner *owner, struct ids *ids, bool *is_new) {
-    *store = (struct store){.path = path, .folder = -1, .lock = -1};
-    int status = make_folder(path);
-    if (status != STATUS_DONE) return status;
-    store->folder = open(path, O_RDONLY | O_DIRECTORY | O_CLOEXEC);
-    if (store->folder < 0) {
-        report_fault("%s", path);
-        return STATUS_IO;
+/* The words of --store before a place that is no folder. */
+static const char *const NATS = "nats:", *const POSTGRES = "postgres:";
+
+bool store_is_remote(const struct store *store) { return store->storage != &folder_storage; }
+
+int store_find(struct store *store, const char *where, const char *cluster, int me, bool looks) {
+    *store = (struct store){.storage = &folder_storage, .path = where, .folder = -1, .lock = -1, .is_looked_at = looks};
+    if (!strncmp(where, NATS, strlen(NATS))) store->storage = &nats_storage;
+    if (!strncmp(where, POSTGRES, strlen(POSTGRES))) store->storage = &postgres_storage;
+    if (!store_is_remote(store)) return store->storage->open(store, where);
+    store->path = "the store"; /* until it has a name without a password */
+    if (!cluster || me < 0) {
+        report("--cluster and --me are needed: other processes' stores lie there, too");
+        return STATUS_COMMAND;
     }
-    status = take_lock(store, O_CREAT);
-    return status == STATUS_DONE ? judge(store, owner, ids, is_new) : status;
+    if (!store->storage->open) {
+        report("%.*s: this program was built where the library for it isn't", (int)strcspn(where, ":"), where);
+        return STATUS_COMMAND;
+    }
+    snprintf(store->key, sizeof store->key, "%s.%d", cluster, me);
+    return store->storage->open(store, strchr(where, ':') + 1);
 }
 
-/* Whether a folder can be written to: the store's, or the one that it would be made in. */
-static bool is_writable(const struct store *store) {
-    char above[4096];
-    snprintf(above, sizeof above, "%s", store->path);
-    return access(store->folder < 0 ? dirname(above) : store->path, W_OK | X_OK) == 0;
-}
-
-int store_look(struct store *store, const char *path, const struct owner *owner, struct ids *ids, bool *is_new) {
-    *store = (struct store){.path = path, .folder = open(path, O_RDONLY | O_DIRECTORY | O_CLOEXEC), .lock = -1, .is_looked_at = true};
+int store_open(struct store *store, const char *where, const struct owner *owner, bool looks, struct ids *ids, bool *is_new) {
     *is_new = true;
-    if ((store->folder < 0 && errno != ENOENT) || !is_writable(store)) {
-        report_fault("%s", path);
-        return STATUS_IO;
-    }
-    int status = store->folder < 0 ? STATUS_DONE : take_lock(store, 0);
-    if (store->lock >= 0) close(store->lock);
+    int status = store_find(store, where, owner->cluster->name, owner->me, looks);
+    if (status == STATUS_DONE) status = store->storage->claim(store);
     return status == STATUS_DONE ? judge(store, owner, ids, is_new) : status;
-}
-
-static bool write_all(int file, const uint8_t *bytes, size_t size) {
-    while (size > 0) {
-        ssize_t count = write(file, bytes, size);
-        if (count < 0 && errno == EINTR) continue;
-        if (count <= 0) return false;
-        bytes += count;
-        size -= (size_t)count;
-    }
-    return true;
 }
 
 int store_write(const struct store *store, const char *name, const void *bytes, size_t size) {
-    char beside[64];
-    if (store->is_looked_at) return STATUS_DONE;
-    snprintf(beside, sizeof beside, "%s.new", name);
-    int file = openat(store->folder, beside, O_WRONLY | O_CREAT | O_TRUNC | O_CLOEXEC, MODE);
-    bool stored = file >= 0 && write_all(file, bytes, size) && fsync(file) == 0;
-    if (file >= 0 && close(file) != 0) stored = false;
-    stored = stored && renameat(store->folder, beside, store->folder, name) == 0 && fsync(store->folder) == 0;
-    if (stored) return STATUS_DONE;
-    report_fault("%s/%s can't be written", store->path, name);
-    return STATUS_IO;
-}
-
-static bool read_all(int file, uint8_t *bytes, size_t size) {
-    while (size > 0) {
-        ssize_t count = read(file, bytes, size);
-        if (count < 0 && errno == EINTR) continue;
-        if (count <= 0) return false;
-        bytes += count;
-        size -= (size_t)count;
-    }
-    return true;
+    return store->is_looked_at ? STATUS_DONE : store->storage->write(store, name, bytes, size);
 }
 
 int store_read(const struct store *store, const char *name, uint8_t **bytes, size_t *size) {
-    struct stat about;
     *bytes = NULL;
     *size = 0;
-    int file = openat(store->folder, name, O_RDONLY | O_CLOEXEC);
-    if (file < 0 && (errno == ENOENT || store->folder < 0)) return STATUS_DONE;
-    bool is_there = file >= 0 && fstat(file, &about) == 0;
-    uint8_t *room = is_there ? malloc((size_t)about.st_size + 1) : NULL;
-    if (room && read_all(file, room, (size_t)about.st_size)) {
-        room[about.st_size] = 0;
-        *bytes = room;
-        *size = (size_t)about.st_size;
-        close(file);
-        return STATUS_DONE;
-    }
-    report_fault("%s/%s can't be read", store->path, name);
-    free(room);
-    if (file >= 0) close(file);
-    return STATUS_IO;
+    return store->storage->read(store, name, bytes, size);
 }
+
+int store_confirm(const struct store *store) { return store_write(store, "confirmed", "", 0); }
+
+int store_is_lost(const struct store *store) {
+    report("%s: another life of this process has claimed the store: this one writes nothing more", store->path);
+    return STATUS_STORE;
+}
+
+int store_lacks_memory(const struct store *store) {
+    report("%s: there is no memory", store->path);
+    return STATUS_MEMORY;
+}
+
+void store_close(struct store *store) { store->storage->close(store); }
 
 static int read_number(const struct store *store, const char *name, uint64_t *number) {
     uint8_t *text;

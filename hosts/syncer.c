@@ -7,6 +7,12 @@
 #include <sys/eventfd.h>
 #include <unistd.h>
 
+/* Syncs the file, or puts what waited, nothing too, to its store, which tells whether it is this life's still; a fault. */
+static int make_durable(const struct syncer *syncer, int file, const struct bytes *going) {
+    if (!syncer->store) return fdatasync(file) == 0 ? 0 : errno;
+    return syncer->store->storage->append(syncer->store, syncer->name, going->at, going->size);
+}
+
 /* All that was asked for meanwhile is one sync. */
 static void *sync_on(void *of) {
     struct syncer *syncer = of;
@@ -16,10 +22,16 @@ static void *sync_on(void *of) {
         if (syncer->synced >= syncer->asked || syncer->fault) break;
         uint64_t asked = syncer->asked;
         int file = syncer->file;
+        struct bytes going = syncer->waiting;
+        syncer->waiting = (struct bytes){0};
+        syncer->is_busy = true;
         pthread_mutex_unlock(&syncer->lock);
         uint64_t since = clock_now();
-        int fault = fdatasync(file) == 0 ? 0 : errno;
+        int fault = make_durable(syncer, file, &going);
+        bytes_end(&going);
         pthread_mutex_lock(&syncer->lock);
+        syncer->is_busy = false;
+        pthread_cond_signal(&syncer->rests);
         histogram_add(&syncer->took, clock_now() - since);
         if (fault) syncer->fault = fault;
         else if (syncer->synced < asked) syncer->synced = asked;
@@ -29,17 +41,33 @@ static void *sync_on(void *of) {
     return NULL;
 }
 
-bool syncer_begin(struct syncer *syncer) {
+bool syncer_begin(struct syncer *syncer, const struct store *store, const char *name) {
     sigset_t all, before; /* signals are for the main thread */
-    *syncer = (struct syncer){.file = -1};
+    *syncer = (struct syncer){.file = -1, .store = store, .name = name};
     pthread_mutex_init(&syncer->lock, NULL);
     pthread_cond_init(&syncer->wanted, NULL);
+    pthread_cond_init(&syncer->rests, NULL);
     syncer->event = eventfd(0, EFD_NONBLOCK | EFD_CLOEXEC);
     sigfillset(&all);
     pthread_sigmask(SIG_SETMASK, &all, &before);
     syncer->has_thread = syncer->event >= 0 && pthread_create(&syncer->thread, NULL, sync_on, syncer) == 0;
     pthread_sigmask(SIG_SETMASK, &before, NULL);
     return syncer->has_thread;
+}
+
+bool syncer_add(struct syncer *syncer, const void *bytes, size_t size) {
+    pthread_mutex_lock(&syncer->lock);
+    bool is_added = bytes_add(&syncer->waiting, bytes, size);
+    pthread_mutex_unlock(&syncer->lock);
+    return is_added;
+}
+
+void syncer_drop(struct syncer *syncer) {
+    pthread_mutex_lock(&syncer->lock);
+    bytes_end(&syncer->waiting);
+    syncer->synced = syncer->asked;
+    while (syncer->is_busy) pthread_cond_wait(&syncer->rests, &syncer->lock);
+    pthread_mutex_unlock(&syncer->lock);
 }
 
 void syncer_turns_to(struct syncer *syncer, int file) {

@@ -112,8 +112,12 @@ void transport_send(struct transport *transport, int to, const uint8_t *packet, 
         is_full = !bundle;
         if (bundle && bundle_add(bundle, packet, size)) way_put(way, bundle);
     }
-    if (is_full) transport->lost++;
-    else way->count++;
+    if (is_full) {
+        transport->lost++;
+        return;
+    }
+    way->count++;
+    transport->queued++;
 }
 
 void transport_greet(struct transport *transport, int to, const struct greeting *greeting) {
@@ -205,10 +209,10 @@ static bool is_waiting(const struct transport *transport) {
     return false;
 }
 
-void transport_close(struct transport *transport) {
+void transport_close(struct transport *transport, bool sends) {
     uint64_t until = clock_now() + CLOSING;
-    transport_serve(transport);
-    while (is_waiting(transport) && clock_now() < until) {
+    if (sends) transport_serve(transport);
+    while (sends && is_waiting(transport) && clock_now() < until) {
         struct watch watch;
         watch_begin(&watch, until);
         for (int p = 0; p <= transport->cluster->count; p++)

@@ -64,7 +64,7 @@ struct transport {
     struct nats_link *links;
     struct unread unread;
     struct greeting greetings[PROCESS_LIMIT + 1]; /* the last one that came of each process, without a word where none did */
-    uint64_t lost;                                /* packets that weren't sent */
+    uint64_t queued, lost;                        /* packets that were put to others, and that weren't sent */
     uint64_t broken, foreign;                     /* frames that aren't whole, and those of another cluster */
     uint8_t bytes[FRAME_LIMIT];
 };
@@ -95,8 +95,8 @@ void transport_reload(struct transport *transport);
 void transport_watch(struct transport *transport, struct watch *watch);
 void transport_serve(struct transport *transport);
 
-/* Sends what it can of what waits, for at most so long. */
-void transport_close(struct transport *transport);
+/* Sends what it can of what waits, for at most so long, if it may. */
+void transport_close(struct transport *transport, bool sends);
 
 /* The next datagram of the transport's file. */
 size_t datagram_receive(struct transport *transport, const uint8_t **frame);

@@ -1,5 +1,7 @@
-"""Two network namespaces in place of two machines. The link between them delays packets and loses some, where the kernel has
+"""Network namespaces in place of machines. Of two the link between delays packets and loses some, where the kernel has
 netem; else it is slow, and drops what waits too long."""
+import os
+import shutil
 import subprocess
 
 NAMES = ("sblog-one", "sblog-two")
@@ -37,3 +39,38 @@ class Machines:
     def __exit__(self, *_):
         for name in NAMES:
             subprocess.run(["ip", "netns", "del", name], check=False, stderr=subprocess.DEVNULL)
+
+
+class Lan:
+    """Machines on one network, with this one, whose address is `host`. Each may be cut off. Without root it is this machine alone."""
+
+    def __init__(self, count):
+        self.is_there = os.geteuid() == 0 and shutil.which("ip") is not None
+        self.host = "10.78.0.254" if self.is_there else "127.0.0.1"
+        self.names = [f"sblog-{number}" if self.is_there else None for number in range(count)]
+
+    def __enter__(self):
+        self.__exit__()
+        if not self.is_there:
+            return self
+        run("ip link add sblog-lan type bridge")
+        run(f"ip addr add {self.host}/24 dev sblog-lan")
+        run("ip link set sblog-lan up")
+        for number, name in enumerate(self.names):
+            run(f"ip netns add {name}")
+            run(f"ip -n {name} link set lo up")
+            run(f"ip link add {name} type veth peer name eth0 netns {name}")
+            run(f"ip link set {name} master sblog-lan up")
+            run(f"ip -n {name} addr add 10.78.0.{number + 1}/24 dev eth0")
+            run(f"ip -n {name} link set eth0 up")
+        return self
+
+    def cuts(self, name, is_off):
+        run(f"ip link set {name} {'down' if is_off else 'up'}")
+
+    def __exit__(self, *_):
+        for name in self.names if self.is_there else ():
+            for words in ("link", "netns"):
+                subprocess.run(["ip", words, "del", name], check=False, stderr=subprocess.DEVNULL)
+        if self.is_there:
+            subprocess.run(["ip", "link", "del", "sblog-lan"], check=False, stderr=subprocess.DEVNULL)

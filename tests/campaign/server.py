@@ -9,11 +9,14 @@ import lives
 class Server:
     """It runs in the `with`, if one is wanted."""
 
-    def __init__(self, is_wanted, port):
-        self.is_wanted, self.port = is_wanted, port
+    def __init__(self, is_wanted, port, host="127.0.0.1", streams=None):
+        """streams: the folder of JetStream, if that is wanted."""
+        self.is_wanted, self.port, self.host, self.streams = is_wanted, port, host, streams
 
     def start(self):
-        words = ["nats-server", "-a", "127.0.0.1", "-p", str(self.port)]
+        words = ["nats-server", "-a", self.host, "-p", str(self.port)]
+        if self.streams:
+            words += ["-js", "-sd", self.streams]
         self.child = subprocess.Popen(words, stdout=subprocess.DEVNULL, stderr=subprocess.DEVNULL)
         lives.running.add(self.child)
 
@@ -23,7 +26,7 @@ class Server:
 
     def answers(self):
         with socket.socket() as out:
-            return out.connect_ex(("127.0.0.1", self.port)) == 0
+            return out.connect_ex((self.host, self.port)) == 0
 
     def __enter__(self):
         if self.is_wanted:

@@ -250,7 +250,7 @@ static void try_gaps(void) {
 
 int main(int argc, char **argv) {
     if (argc != 2) return 2;
-    folder = (struct store){.path = argv[1], .folder = open(argv[1], O_RDONLY | O_DIRECTORY), .lock = -1};
+    folder = (struct store){.storage = &folder_storage, .path = argv[1], .folder = open(argv[1], O_RDONLY | O_DIRECTORY), .lock = -1};
     must(folder.folder >= 0, argv[1], 0);
     try_slots();
     try_log();

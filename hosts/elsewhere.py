@@ -1,0 +1,93 @@
+"""Stores that aren't in a folder. `tests/campaign/run moves` has lives on several machines."""
+import os
+import pwd
+import subprocess
+import tempfile
+import time
+
+import lives
+from lives import Cluster, Wrong
+from listening import PROCESSES, connect, payload, works
+from looks import told
+from storage import Bucket, Table
+
+PORT = 17790
+
+
+def holds(cluster, program):
+    return told(["--cluster", cluster.file_of(0), "--me", str(program.number), "--inspect", program.store])[0]
+
+
+def follows(cluster, program, one, line):
+    """Another life of a program claims its store, at an address where nobody looks for it. The first one ends when it would send on what
+    comes of this line."""
+    file, before = os.path.join(cluster.folder, "moved"), holds(cluster, program)
+    with open(cluster.file_of(program.number)) as old, open(file, "w") as new:
+        new.write(old.read().replace(f":{cluster.path(program.number)}\n", f":{cluster.path(program.number)}.moved\n"))
+    words = [word + ".moved" if word.startswith("unix:") else word for word in program.command(file)]
+    heir = subprocess.Popen(words, stdin=subprocess.DEVNULL, stdout=subprocess.DEVNULL, stderr=subprocess.DEVNULL)
+    lives.running.add(heir)
+    while holds(cluster, program) == before:
+        time.sleep(0.01)
+    one.says(line)
+    if program.ends() != 7 or "has claimed the store" not in program.said[-1]:
+        raise Wrong(f"{program.name} ended otherwise behind another life: {program.said[-2:]}")
+    heir.kill()
+    heir.wait()
+    program.start()
+
+
+def tries(word, program, file):
+    """What is told of a store: before there is one, of one that isn't the process's, and of places that aren't there."""
+    words = ["--cluster", file, "--me", str(program.number)]
+    told([*words, "--store", word, "--check"])
+    for wrong, status in ((word.replace("bank", "none"), 6), (word.split(":")[0] + ":", 2 if word.startswith("nats") else 6)):
+        told([*words, "--store", wrong, "--check"], status)
+    told(["--inspect", word], 2)
+    told([*words, "--inspect", word], 7)
+
+
+def lives_on(folder, storage):
+    """As another user, with few system calls: a first life, kills of all, and lives that follow others."""
+    cluster = Cluster(folder, "bank", PROCESSES)
+    os.chmod(os.path.dirname(folder), 0o711)
+    os.chmod(folder, 0o777)
+    cluster.lines = os.path.join(folder, "lines")
+    for program in cluster.programs:
+        program.home = tempfile.mkdtemp(dir=folder)
+        storage.takes(program)
+        tries(storage.word, program, cluster.file_of(0))
+    if subprocess.run([*cluster.nodes[0].command(), "--check", "--sandbox"], capture_output=True).returncode == 0:
+        user = pwd.getpwnam("nobody") if os.geteuid() == 0 else pwd.getpwuid(os.geteuid())
+        for program in cluster.programs:
+            program.words = ["--sandbox", "--user", user.pw_name]
+    cluster.gateway.words += ["--listen", "unix:" + cluster.lines]
+    cluster.start()
+    one, (relay, echo) = connect(cluster), cluster.nodes
+    one.says("outputs")
+    works(cluster, one, 1, 2, 3)
+    for program in cluster.programs:
+        wanted = "process 1 relay: 3 inputs logged" if program is cluster.gateway else "after 3 messages"
+        if wanted not in holds(cluster, program):
+            raise Wrong(f"--inspect of {program.name} says {holds(cluster, program)}")
+    echo.kill()
+    echo.start()
+    echo.wait_up()
+    works(cluster, one, 4)
+    follows(cluster, relay, one, "input relay 5")
+    one.hears("logged relay 5", f"output echo 5 {payload(5)}")
+    follows(cluster, cluster.gateway, one, "input relay 6")
+    one = connect(cluster)
+    one.says("outputs")
+    one.hears(*(f"output echo {number} {payload(number)}" for number in range(1, 6)))
+    works(cluster, one, 6)
+    cluster.stop()
+
+
+def elsewhere(folder):
+    for kind in (Bucket, Table):
+        if kind.is_here():
+            place = os.path.join(folder, kind.__name__)
+            os.makedirs(place)
+            with kind(place, "127.0.0.1", PORT) as storage:
+                lives_on(os.path.join(place, "cluster"), storage)

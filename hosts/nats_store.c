@@ -1,0 +1,268 @@
+/* A store in a bucket of NATS JetStream: all files under the key CLUSTER.PROCESS, and under CLUSTER.PROCESS.CLAIM.N what the life of this
+   claim put behind the gateway's log, piece by piece. JetStream takes a value only where the last one under its key has the revision that
+   the writer tells (docs/FORMATS.md, "Stores elsewhere"). A life claims a store when it writes the key of the files, and in the place of
+   the next piece of the life before a stone that stays: then no earlier life knows the revision of what it would write next. */
+#include "report.h"
+#include "store.h"
+
+#ifdef WITH_NATS
+
+#include "files.h"
+#include "id.h"
+#include "nats_connection.h"
+#include "watch.h"
+
+#include <inttypes.h>
+#include <stdio.h>
+#include <stdlib.h>
+#include <string.h>
+
+/* A value's head: the claim and the mark of the life that wrote it; of the files whose pieces follow, and the last one that they cover. */
+enum { MARK = 8, WRITER = 16, BASE = 24, HEAD = 32, WORD = 8 };
+
+/* Microseconds that a server may be away; milliseconds of a try, and between two; another life wrote meanwhile. */
+enum { AWAY = 30000000, TRY = 2000, AGAIN = 100, MOVED = -1, TEXT = 512 };
+
+static const char STREAM[] = "KV_"; /* before a bucket's name */
+
+struct bucket {
+    natsConnection *connection;
+    jsCtx *jet;
+    char url[TEXT], path[TEXT], stream[TEXT];
+    struct id mark;
+    uint64_t claim, last;           /* this life's, and its last piece */
+    uint64_t revision;              /* of the files */
+    uint64_t writer, base, stone;   /* whose pieces follow them, the last one that they cover, the revision of the stone behind those */
+    struct bytes files;
+};
+
+/* Which key: of a life's piece, or for 0 of the files. */
+struct key {
+    uint64_t writer, piece;
+};
+
+static const struct key FILES = {0, 0};
+
+static const char *subject_of(const struct store *store, struct key key, char text[TEXT]) {
+    const struct bucket *bucket = store->place;
+    int size = snprintf(text, TEXT, "$KV.%s.%s", bucket->stream + sizeof STREAM - 1, store->key);
+    if (key.piece > 0) snprintf(text + size, TEXT - (size_t)size, ".%" PRIu64 ".%" PRIu64, key.writer, key.piece);
+    return text;
+}
+
+static int failed(const struct store *store, natsStatus status, jsErrCode code) {
+    if (code == JSStreamNotFoundErr) report("%s: there is no such bucket; its owner makes it (nats kv add)", store->path);
+    else report("%s: %s (%d)", store->path, natsStatus_GetText(status), (int)code);
+    return STATUS_IO;
+}
+
+/* Whether it has to be tried again, since the server is away, or its replicas choose a leader. */
+static bool is_away(natsStatus status, jsErrCode code, uint64_t until) {
+    bool is_silent = status == NATS_TIMEOUT || status == NATS_NO_RESPONDERS || status == NATS_CONNECTION_DISCONNECTED ||
+                     status == NATS_NOT_YET_CONNECTED || code == JSClusterNotAvailErr;
+    if (!is_silent || clock_now() >= until) return false;
+    nats_Sleep(AGAIN);
+    return true;
+}
+
+/* The last value under a key, as the leader has it, and its revision; no bytes and 0 for none. */
+static int get(const struct store *store, struct key key, struct bytes *value, uint64_t *revision) {
+    const struct bucket *bucket = store->place;
+    uint64_t until = clock_now() + AWAY;
+    char subject[TEXT];
+    natsMsg *found = NULL;
+    natsStatus status;
+    jsErrCode code;
+    *value = (struct bytes){0};
+    *revision = 0;
+    do {
+        code = 0;
+        status = js_GetLastMsg(&found, bucket->jet, bucket->stream, subject_of(store, key, subject), NULL, &code);
+    } while (status != NATS_OK && is_away(status, code, until));
+    if (status != NATS_OK) return code == JSNoMessageFoundErr ? STATUS_DONE : failed(store, status, code);
+    size_t size = (size_t)natsMsg_GetDataLength(found);
+    *revision = natsMsg_GetSequence(found);
+    bool has_memory = size < HEAD || bytes_add(value, natsMsg_GetData(found), size); /* a key that was emptied by hand has none */
+    natsMsg_Destroy(found);
+    return has_memory ? STATUS_DONE : store_lacks_memory(store);
+}
+
+/* Another value is there: a try before, whose answer was lost, may have put this one there. */
+static int judge_moved(const struct store *store, struct key key, const struct bytes *value, uint64_t *revision) {
+    struct bytes found;
+    int status = get(store, key, &found, revision);
+    bool is_own = found.size == value->size && !memcmp(found.at, value->at, value->size);
+    bytes_end(&found);
+    return status != STATUS_DONE || is_own ? status : MOVED;
+}
+
+/* Puts a value over the one of this revision, which becomes its own; MOVED where another life wrote meanwhile. */
+static int put_value(const struct store *store, struct key key, const struct bytes *value, uint64_t *revision) {
+    const struct bucket *bucket = store->place;
+    const uint64_t until = clock_now() + AWAY;
+    char subject[TEXT];
+    jsPubOptions options = {.MaxWait = TRY, .ExpectLastSubjectSeq = *revision, .ExpectNoMessage = *revision == 0};
+    jsPubAck *taken;
+    natsStatus status;
+    jsErrCode code;
+    do {
+        code = 0;
+        status = js_Publish(&taken, bucket->jet, subject_of(store, key, subject), value->at, (int)value->size, &options, &code);
+    } while (status != NATS_OK && is_away(status, code, until));
+    if (code == JSStreamWrongLastSequenceErr) return judge_moved(store, key, value, revision);
+    if (status != NATS_OK) return failed(store, status, code);
+    *revision = taken->Sequence;
+    jsPubAck_Destroy(taken);
+    return STATUS_DONE;
+}
+
+/* Puts bytes there in this life's name. */
+static int put(const struct store *store, struct key key, struct key covered, const void *bytes, size_t size, uint64_t *revision) {
+    const struct bucket *bucket = store->place;
+    struct bytes value = {0};
+    uint8_t head[HEAD];
+    number_put(head, bucket->claim, WORD);
+    memcpy(head + MARK, bucket->mark.bytes, WRITER - MARK);
+    number_put(head + WRITER, covered.writer, WORD);
+    number_put(head + BASE, covered.piece, WORD);
+    bool has_memory = bytes_add(&value, head, HEAD) && bytes_add(&value, bytes, size);
+    int status = has_memory ? put_value(store, key, &value, revision) : store_lacks_memory(store);
+    bytes_end(&value);
+    return status;
+}
+
+/* Reads the files, and claims them, unless the store is only looked at. */
+static int claim_files(const struct store *store) {
+    struct bucket *bucket = store->place;
+    struct bytes value, *files = &bucket->files;
+    int status = get(store, FILES, &value, &bucket->revision);
+    files->size = 0;
+    bucket->claim = value.at ? number_at(value.at, WORD) + 1 : 1;
+    bucket->writer = value.at ? number_at(value.at + WRITER, WORD) : 0;
+    bucket->base = value.at ? number_at(value.at + BASE, WORD) : 0;
+    bool has_memory = !value.at || bytes_add(files, value.at + HEAD, value.size - HEAD);
+    bytes_end(&value);
+    if (status != STATUS_DONE || store->is_looked_at) return status;
+    const struct key covered = {bucket->writer, bucket->base};
+    return has_memory ? put(store, FILES, covered, files->at, files->size, &bucket->revision) : store_lacks_memory(store);
+}
+
+/* A piece of the life whose pieces follow the files; no bytes where another life put a stone, or there is nothing. */
+static int get_piece(const struct store *store, uint64_t piece, struct bytes *value, uint64_t *revision) {
+    const struct bucket *bucket = store->place;
+    int status = get(store, (struct key){bucket->writer, piece}, value, revision);
+    if (value->at && number_at(value->at, WORD) != bucket->writer) bytes_end(value);
+    return status;
+}
+
+/* Puts a stone where an earlier life would put its next piece; MOVED where it put one there meanwhile. */
+static int claim_end(const struct store *store) {
+    struct bucket *bucket = store->place;
+    struct bytes value = {0};
+    uint64_t piece = bucket->base;
+    int status;
+    do {
+        bytes_end(&value);
+        status = get_piece(store, ++piece, &value, &bucket->stone);
+    } while (status == STATUS_DONE && value.at);
+    if (status != STATUS_DONE || bucket->stone > 0) return status;
+    return put(store, (struct key){bucket->writer, piece}, FILES, "", 0, &bucket->stone);
+}
+
+static int nats_claim(struct store *store) {
+    struct bucket *bucket = store->place;
+    int status = id_draw(&bucket->mark);
+    if (status == STATUS_DONE) status = MOVED;
+    while (status == MOVED) status = claim_files(store);
+    if (status == STATUS_DONE && bucket->writer > 0 && !store->is_looked_at) status = MOVED;
+    while (status == MOVED) status = claim_end(store);
+    return status;
+}
+
+/* Pieces follow what a gateway has put there whole. */
+static int nats_read(const struct store *store, const char *name, uint8_t **bytes, size_t *size) {
+    const struct bucket *bucket = store->place;
+    struct bytes all = {0}, piece = {0};
+    uint64_t number = bucket->base, revision;
+    const uint8_t *found = files_find(&bucket->files, name, size);
+    bool is_log = !strcmp(name, "gateway"), has_memory = bytes_add(&all, found, *size);
+    int status = found && is_log ? get_piece(store, ++number, &piece, &revision) : STATUS_DONE;
+    while (status == STATUS_DONE && piece.at) {
+        has_memory = has_memory && bytes_add(&all, piece.at + HEAD, piece.size - HEAD);
+        bytes_end(&piece);
+        status = get_piece(store, ++number, &piece, &revision);
+    }
+    *size = all.size;
+    has_memory = has_memory && bytes_add(&all, "", 1);
+    *bytes = found ? all.at : NULL;
+    return status == STATUS_DONE && !has_memory ? store_lacks_memory(store) : status;
+}
+
+/* A life's pieces that are older than this revision go; those that can't go now do so the next time. */
+static void drop_pieces(const struct store *store, uint64_t writer, uint64_t revision) {
+    const struct bucket *bucket = store->place;
+    char subject[TEXT];
+    jsOptions options;
+    jsOptions_Init(&options);
+    size_t size = strlen(subject_of(store, FILES, subject));
+    snprintf(subject + size, TEXT - size, ".%" PRIu64 ".*", writer);
+    options.Stream.Purge.Subject = subject;
+    options.Stream.Purge.Sequence = revision;
+    js_PurgeStream(bucket->jet, bucket->stream, &options, NULL);
+}
+
+static int nats_write(const struct store *store, const char *name, const void *bytes, size_t size) {
+    struct bucket *bucket = store->place;
+    struct bytes anew = {0};
+    bool is_log = !strcmp(name, "gateway");
+    const struct key covered = {is_log ? bucket->claim : bucket->writer, is_log ? bucket->last : bucket->base};
+    bool has_memory = files_with(&bucket->files, name, bytes, size, &anew);
+    int status = has_memory ? put(store, FILES, covered, anew.at, anew.size, &bucket->revision) : store_lacks_memory(store);
+    bytes_end(status == STATUS_DONE ? &bucket->files : &anew);
+    if (status != STATUS_DONE) return status == MOVED ? store_is_lost(store) : status;
+    bucket->files = anew;
+    if (is_log) drop_pieces(store, bucket->writer, bucket->writer == bucket->claim ? bucket->revision : bucket->stone);
+    bucket->writer = covered.writer;
+    bucket->base = covered.piece;
+    return STATUS_DONE;
+}
+
+/* This life has put the log there whole before. */
+static int nats_append(const struct store *store, const char *name, const void *bytes, size_t size) {
+    struct bucket *bucket = store->place;
+    uint64_t revision = 0;
+    (void)name; /* the gateway's log alone is put to */
+    int status = put(store, (struct key){bucket->claim, bucket->last + 1}, FILES, bytes, size, &revision);
+    if (status == STATUS_DONE) bucket->last++;
+    return status == MOVED ? store_is_lost(store) : status;
+}
+
+/* URL/BUCKET. */
+static int nats_open(struct store *store, const char *where) {
+    struct bucket *bucket = calloc(1, sizeof *bucket);
+    const char *slash = strrchr(where, '/');
+    store->place = bucket;
+    if (!bucket) return store_lacks_memory(store);
+    if (!slash || slash == where || slash[-1] == '/' || !slash[1] || strlen(where) > TEXT / 2) {
+        report("--store nats: needs URL/BUCKET");
+        return STATUS_COMMAND;
+    }
+    snprintf(bucket->path, TEXT, "nats:%s", nats_shown(where));
+    snprintf(bucket->url, TEXT, "%.*s", (int)(slash - where), where);
+    snprintf(bucket->stream, TEXT, "%s%s", STREAM, slash + 1);
+    store->path = bucket->path;
+    natsStatus status = nats_connect(&bucket->connection, bucket->url);
+    if (status == NATS_NOT_YET_CONNECTED) status = NATS_OK;
+    if (status == NATS_OK) status = natsConnection_JetStream(&bucket->jet, bucket->connection, NULL);
+    return status == NATS_OK ? STATUS_DONE : failed(store, status, 0);
+}
+
+static void nats_close(struct store *store) { natsConnection_Close(((struct bucket *)store->place)->connection); }
+
+const struct storage nats_storage = {nats_open, nats_claim, nats_read, nats_write, nats_append, nats_close};
+
+#else
+
+const struct storage nats_storage = {0};
+
+#endif
