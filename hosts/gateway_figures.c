@@ -7,7 +7,7 @@
 
 enum { SECOND = 1000000 };
 
-enum { FIGURES = 12 };
+enum { FIGURES = 13 };
 
 static size_t figures(const struct gateway_host *host, struct figure out[FIGURES]) {
     uint64_t logged = 0, waiting = 0, shown = 0, clients = 0;
@@ -26,6 +26,7 @@ static size_t figures(const struct gateway_host *host, struct figure out[FIGURES
         {"programs", clients, NULL, "programs that hand in inputs or take outputs", false},
         {"behind", host->store.behind, NULL, "bytes of records after the store", false},
         {"refused", host->refused, NULL, "times that bytes came that are no packet", true},
+        {"faulty", host->faulty, NULL, "times that a program sent what is no frame", true},
         {"broken", host->transport.broken, NULL, "times that something came that is no bundle", true},
         {"foreign", host->transport.foreign, NULL, "times that a bundle of another cluster came", true},
         {"strangers", tls_refused(), NULL, "connections by tls that were refused", true},

@@ -3,6 +3,7 @@
 #include "limits.h"
 #include "privileges.h"
 #include "report.h"
+#include "stored.h"
 
 #include <stdlib.h>
 #include <string.h>
@@ -68,6 +69,12 @@ struct owner gateway_owner(const struct gateway_host *host) {
     return (struct owner){.cluster = host->cluster, .me = 0, .durable = true};
 }
 
+/* The store that was written tells the SSN of each process's last input. */
+static void learn_last(struct gateway_host *host) {
+    struct stored all[PROCESS_LIMIT + 1];
+    for (int p = stored_read(host->bytes, all); p > 0; p--) host->last[p] = all[p].logged;
+}
+
 /* Begins with what is stored. */
 static int begin_life(struct gateway_host *host, bool is_new) {
     struct bytes whole = {0}, changes = {0};
@@ -77,6 +84,7 @@ static int begin_life(struct gateway_host *host, bool is_new) {
     if (status == STATUS_DONE) status = is_new ? begin_new(host, &owner, &whole, &changes) : begin_again(host, &whole, &changes);
     bytes_end(&whole);
     bytes_end(&changes);
+    if (status == STATUS_DONE) learn_last(host);
     return status;
 }
 

@@ -35,7 +35,8 @@ struct gateway_host {
     bool has_tick; /* whether the packets of one wait */
     uint8_t *bytes;
     size_t room;
-    uint64_t next_status, refused, outputs;
+    uint64_t last[PROCESS_LIMIT + 1]; /* the SSN of each process's last input */
+    uint64_t next_status, refused, faulty, outputs;
     uint8_t packet[PACKET_LIMIT];
 };
 
