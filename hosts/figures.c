@@ -8,7 +8,7 @@
 #include <sys/socket.h>
 #include <unistd.h>
 
-enum { TEXT_LIMIT = 32768, MILLION = 1000000, PATIENCE = 5 * MILLION }; /* microseconds that a reader has for its request */
+enum { TEXT_LIMIT = 32768, PATIENCE = 5 * SECOND }; /* microseconds that a reader has for its request */
 
 struct text {
     size_t size;
@@ -39,11 +39,11 @@ static void add_histogram(struct text *text, const char *process, const char *na
     add(text, "# HELP sblog_%s_seconds %s\n# TYPE sblog_%s_seconds histogram\n", name, help, name);
     for (int i = 0; i < BUCKETS; i++) {
         count += all->counts[i];
-        add(text, "sblog_%s_seconds_bucket{process=\"%s\",le=\"%g\"} %" PRIu64 "\n", name, process, (double)HISTOGRAM_BOUNDS[i] / MILLION, count);
+        add(text, "sblog_%s_seconds_bucket{process=\"%s\",le=\"%g\"} %" PRIu64 "\n", name, process, (double)HISTOGRAM_BOUNDS[i] / SECOND, count);
     }
     count += all->counts[BUCKETS];
     add(text, "sblog_%s_seconds_bucket{process=\"%s\",le=\"+Inf\"} %" PRIu64 "\n", name, process, count);
-    add(text, "sblog_%s_seconds_sum{process=\"%s\"} %" PRIu64 ".%06" PRIu64 "\n", name, process, all->sum / MILLION, all->sum % MILLION);
+    add(text, "sblog_%s_seconds_sum{process=\"%s\"} %" PRIu64 ".%06" PRIu64 "\n", name, process, all->sum / SECOND, all->sum % SECOND);
     add(text, "sblog_%s_seconds_count{process=\"%s\"} %" PRIu64 "\n", name, process, count);
 }
 

@@ -5,8 +5,6 @@
 
 #include <string.h>
 
-enum { SECOND = 1000000 };
-
 enum { FIGURES = 13 };
 
 static size_t figures(const struct gateway_host *host, struct figure out[FIGURES]) {

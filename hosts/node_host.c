@@ -12,8 +12,7 @@
 #include <stdlib.h>
 #include <string.h>
 
-/* Messages of a turn; microseconds of a second; the longest pause between ticks, in ticks. */
-enum { TURN = 512, REPLAYS = 1024, SECOND = 1000000, PAUSE = 32 };
+enum { TURN = 512, REPLAYS = 1024 }; /* messages of a turn */
 
 static const char *const STAGES[] = {"up", "busy", "frozen", "collecting", "replaying", "resuming"};
 
@@ -170,11 +169,11 @@ static void tick(struct node_host *host, uint64_t now, int received) {
     bool is_up = host->standing.stage <= SBLOG_NODE_FROZEN, was_up = host->was_up;
     if (received > 0) host->pause = host->options->tick;
     if (is_up) host->next_tick = was_up ? pace_due(&host->pace) : now;
-    else if (host->next_tick > now + host->pause) host->next_tick = now + host->pause;
+    else if (received > 0 && host->next_tick > now + host->pause) host->next_tick = now + host->pause;
     if (now < host->next_tick) return;
     send_again(host, now);
-    if (host->pause < PAUSE * host->options->tick) host->pause *= 2;
-    host->next_tick = is_up ? pace_due(&host->pace) : now + host->pause;
+    if (host->pause < LONGEST_PAUSE * host->options->tick) host->pause *= 2;
+    host->next_tick = is_up ? pace_due(&host->pace) : now + pace_spread(&host->pace, host->pause);
 }
 
 static bool is_time_to_keep(const struct node_host *host) {

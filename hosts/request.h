@@ -8,7 +8,7 @@
 #include <stddef.h>
 #include <stdint.h>
 
-enum { PAYLOAD_LIMIT = 256, ID_LIMIT = 64 };
+enum { PAYLOAD_LIMIT = SBLOG_PAYLOAD_LIMIT, ID_LIMIT = 64 };
 
 /* Those of frames are their kinds. */
 enum verb { VERB_NONE, VERB_INPUT, VERB_LOGGED, VERB_REFUSED, VERB_OUTPUT, VERB_TAKEN };
