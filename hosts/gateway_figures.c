@@ -1,6 +1,5 @@
 #include "gateway_state.h"
 
-#include "report.h"
 #include "tls.h"
 
 #include <string.h>
@@ -34,15 +33,10 @@ static size_t figures(const struct gateway_host *host, struct figure out[FIGURES
     return FIGURES;
 }
 
-void gateway_show(struct gateway_host *host, uint64_t now) {
+void gateway_show(struct gateway_host *host) {
     struct figure all[FIGURES];
     size_t count = figures(host, all);
-    bool is_due = host->options->status && now >= host->next_status;
     const struct histogram syncs = syncer_took(&host->store.syncer);
-    metrics_serve(&host->metrics, &(struct view){.process = "gateway", .stage = "up", .is_ready = true, .figures = all, .count = count,
-                                                 .messages = &host->pace.took, .syncs = &syncs});
-    if (!is_due && !signal_status) return;
-    signal_status = 0;
-    if (is_due) host->next_status = now + SECOND;
-    report_figures("status", NULL, all, count);
+    metrics_show(&host->metrics, &(struct view){.process = "gateway", .stage = "up", .is_ready = true, .figures = all, .count = count,
+                                                .messages = &host->pace.took, .syncs = &syncs});
 }

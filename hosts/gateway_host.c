@@ -211,10 +211,9 @@ static int turn(struct gateway_host *host, bool *is_more) {
     bool is_cut = hand_out(host);
     if (status == STATUS_DONE) status = commit(host);
     if (status != STATUS_DONE) return status;
-    uint64_t now = clock_now();
-    tick(host, now);
+    tick(host, clock_now());
     status = give_out(host);
-    gateway_show(host, now);
+    gateway_show(host);
     *is_more = received == TURN || (may_read(host) && clients_have_requests(&host->clients)) || (is_cut && !outputs_are_full(&host->waiting));
     return status;
 }
@@ -223,7 +222,6 @@ static void wait(struct gateway_host *host, bool is_more) {
     struct watch watch;
     watch_begin(&watch, is_more ? 0 : host->has_tick ? UINT64_MAX : pace_due(&host->pace));
     watch_file(&watch, host->store.syncer.event, POLLIN);
-    if (host->options->status) watch_time(&watch, host->next_status);
     if (host->turns.count < TURNS_LIMIT) transport_watch(&host->transport, &watch);
     metrics_watch(&host->metrics, &watch);
     clients_watch(&host->clients, may_read(host), host->waiting.printed < host->waiting.stored, &watch);
@@ -237,6 +235,7 @@ int gateway_run(const struct options *options, const struct cluster *cluster) {
     host.cluster = cluster;
     int status = options->looks ? gateway_look(&host) : gateway_begin(&host);
     if (status != STATUS_DONE || options->looks) return status;
+    host.metrics.has_lines = options->status;
     while (status == STATUS_DONE && !signal_stop) {
         status = turn(&host, &is_more);
         if (status == STATUS_DONE && !signal_stop) wait(&host, is_more);

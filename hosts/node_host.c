@@ -141,16 +141,11 @@ static size_t figures(struct node_host *host, struct figure out[FIGURES]) {
     return FIGURES;
 }
 
-static void show(struct node_host *host, uint64_t now) {
+static void show(struct node_host *host) {
     struct figure all[FIGURES];
     size_t count = figures(host, all);
-    bool is_due = host->options->status && now >= host->next_status;
-    metrics_serve(&host->metrics, &(struct view){.process = name_of(host), .stage = STAGES[host->standing.stage], .is_ready = host->was_up,
-                                                 .figures = all, .count = count, .messages = &host->pace.took, .syncs = &host->syncs});
-    if (!is_due && !signal_status) return;
-    signal_status = 0;
-    if (is_due) host->next_status = now + SECOND;
-    report_figures("status", NULL, all, count);
+    metrics_show(&host->metrics, &(struct view){.process = name_of(host), .stage = STAGES[host->standing.stage], .is_ready = host->was_up,
+                                                .figures = all, .count = count, .messages = &host->pace.took, .syncs = &host->syncs});
 }
 
 /* What isn't answered goes again. */
@@ -194,11 +189,10 @@ static int turn(struct node_host *host, bool *is_more) {
     }
     if (status != STATUS_DONE) return status;
     put_out(host);
-    uint64_t now = clock_now();
-    tick(host, now, received);
+    tick(host, clock_now(), received);
     transport_serve(&host->transport);
     status = tell(host);
-    show(host, now);
+    show(host);
     return status;
 }
 
@@ -210,7 +204,6 @@ static int run(struct node_host *host) {
         transport_reload(&host->transport);
         status = turn(host, &is_more);
         watch_begin(&watch, is_more || signal_stop ? 0 : host->next_tick);
-        if (host->options->status) watch_time(&watch, host->next_status);
         transport_watch(&host->transport, &watch);
         metrics_watch(&host->metrics, &watch);
         watch_wait(&watch);
@@ -228,6 +221,7 @@ int node_run(const struct options *options, const struct cluster *cluster) {
     host.was_exact = true;
     int status = options->looks ? node_look(&host) : node_begin(&host);
     if (status != STATUS_DONE || options->looks) return status;
+    host.metrics.has_lines = options->status;
     status = run(&host);
     transport_close(&host.transport);
     metrics_close(&host.metrics);

@@ -25,7 +25,7 @@ struct node_host {
     sblog_standing standing;
     uint8_t *image, *bytes;
     size_t image_size, room;
-    uint64_t started, next_tick, pause, next_status;
+    uint64_t started, next_tick, pause;
     uint64_t refused, checkpoints;
     bool was_up, was_exact, store_is_inexact, wants_memory;
     uint8_t packet[PACKET_LIMIT];
