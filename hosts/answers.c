@@ -7,7 +7,8 @@
 
 struct answer *answers_add(struct answers *answers, struct client *client, const struct request *request, uint32_t why) {
     struct answer *answer = &answers->all[answers->count++];
-    *answer = (struct answer){.client = client, .serial = client->serial, .why = why, .process = request->process, .number = client->requests};
+    *answer = (struct answer){.client = client, .serial = client->serial, .number = client->requests, .why = why,
+                              .process = request->process};
     strcpy(answer->id, request->id);
     return answer;
 }

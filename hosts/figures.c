@@ -11,7 +11,7 @@
 #include <sys/socket.h>
 #include <unistd.h>
 
-enum { PATIENCE = 5 * SECOND }; /* microseconds that a reader has for its request */
+enum { PATIENCE = 5 * SECOND }; /* that a reader has for its request */
 
 /* What only grows is there as a counter, too, by the name that Prometheus has for one. */
 static void add_figure(struct text *text, const char *process, const struct figure *figure) {

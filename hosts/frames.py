@@ -9,6 +9,7 @@ import time
 
 from listening import PROCESSES, begin, connect, tells
 from lives import Wrong
+from talk import Talk
 
 INPUT, LOGGED, REFUSED, OUTPUT, TAKEN = range(1, 6)
 VERSION, LENGTH, KIND, FIELD, PROCESS, SSN, OTHER, NO_CONSUMER, NO_OUTPUT = range(1, 10)
@@ -20,21 +21,13 @@ def frame(kind, process=0, ssn=0, payload=b""):
     return struct.pack("<IBBQ", 10 + len(payload), kind, process, ssn) + payload
 
 
-def message(number):
-    """What comes out of relay and echo for the input of this number."""
-    return number.to_bytes(8, "little") + bytes(56)
-
-
-class Framed:
+class Framed(Talk):
     """A program that connects to the gateway, and begins with these bytes."""
 
-    def __init__(self, cluster, begins=b"SBF1"):
-        connect(cluster).goes()
-        self.socket = socket.socket(socket.AF_UNIX, socket.SOCK_STREAM)
-        self.socket.connect(cluster.lines)
-        self.socket.settimeout(30)
+    def __init__(self, place, begins=b"SBF1", context=None):
+        super().__init__(place, context)
         self.file = self.socket.makefile("rb")
-        self.socket.sendall(begins)
+        self.says(begins)
 
     def says(self, *frames):
         self.socket.sendall(b"".join(frames))
@@ -58,12 +51,18 @@ class Framed:
             raise Wrong(f"{rest!r} before the end")
 
 
+def framed(cluster, begins=b"SBF1"):
+    connect(cluster).goes()
+    return Framed(cluster.lines, begins)
+
+
 def frames(folder):
-    """Requests of one write are answered in their order; an input that is sent again under its SSN is logged once, also by the next life."""
+    """Requests of one write are answered in their order; an input that is sent again under its SSN is logged once, by the next life too."""
     cluster = begin(folder)
-    one, two = Framed(cluster), Framed(cluster)
+    one, two = framed(cluster), framed(cluster)
     one.says(frame(LOGGED, RELAY), frame(INPUT, RELAY, 1, b"a"), frame(INPUT, RELAY, 0, b""), frame(INPUT, RELAY, 4, b"d"),
-             frame(INPUT, RELAY, 3, bytes(256)), frame(INPUT, RELAY, 2, b"x"), frame(INPUT, 3, 0, b"x"), frame(TAKEN, ECHO, 1), frame(LOGGED, RELAY))
+             frame(INPUT, RELAY, 3, bytes(256)), frame(INPUT, RELAY, 2, b"x"), frame(INPUT, 3, 0, b"x"), frame(TAKEN, ECHO, 1),
+             frame(LOGGED, RELAY))
     one.hears(frame(LOGGED, RELAY, 0), frame(LOGGED, RELAY, 1), frame(LOGGED, RELAY, 2), frame(REFUSED, RELAY, 4, bytes([SSN])),
               frame(LOGGED, RELAY, 3), frame(LOGGED, RELAY, 2), frame(REFUSED, 3, 7, bytes([PROCESS])),
               frame(REFUSED, ECHO, 8, bytes([NO_CONSUMER])), frame(LOGGED, RELAY, 3))
@@ -76,7 +75,7 @@ def frames(folder):
     two.hears(frame(REFUSED, ECHO, 3, bytes([NO_OUTPUT])))
     cluster.gateway.kill()
     cluster.gateway.start()
-    one = Framed(cluster)
+    one = framed(cluster)
     one.says(frame(OUTPUT), frame(INPUT, RELAY, 3, b"x"), frame(LOGGED, RELAY), frame(LOGGED, ECHO))
     answers, heard = [frame(LOGGED, RELAY, 3), frame(LOGGED, RELAY, 3), frame(LOGGED, ECHO, 0)], [one.heard() for _ in range(4)]
     heard.remove(outputs[2])
@@ -86,18 +85,18 @@ def frames(folder):
 
 
 def cut(folder):
-    """Frames and their beginning that come in two pieces, cut at each place, byte by byte, and many at once, on connections of their own."""
+    """Frames, and what a connection begins with, that come in two pieces, cut at each place; byte by byte; and many at once."""
     cluster = begin(folder)
     text = b"SBF1" + frame(INPUT, RELAY, 0, b"some bytes") + frame(LOGGED, ECHO)
     last = 0
     for cut_at in range(1, len(text)):
-        one = Framed(cluster, text[:cut_at])
+        one = framed(cluster, text[:cut_at])
         time.sleep(0.002)
         one.says(text[cut_at:])
         last += 1
         one.hears(frame(LOGGED, RELAY, last), frame(LOGGED, ECHO, 0))
         one.socket.close()
-    one = Framed(cluster, b"")
+    one = framed(cluster, b"")
     for byte in text:
         one.says(bytes([byte]))
         time.sleep(0.001)
@@ -122,11 +121,11 @@ FAULTY = [
 def faulty(folder):
     """What is no frame is refused with a number, is counted, and ends that connection: others go on, and the next may take the outputs."""
     cluster = begin(folder)
-    other, lines = Framed(cluster), connect(cluster)
+    other, lines = framed(cluster), connect(cluster)
     lines.says("# its first bytes are of a line")
     for count, (text, why) in enumerate(FAULTY, 1):
         before = [] if text[3:4] != b"1" else [frame(INPUT, RELAY, count, b"x"), frame(OUTPUT)]
-        one = Framed(cluster, b"".join((text[:4], *before, text[4:], frame(INPUT, RELAY, 0, b"no more"))))
+        one = framed(cluster, b"".join((text[:4], *before, text[4:], frame(INPUT, RELAY, 0, b"no more"))))
         heard = [frame(LOGGED, RELAY, count)] if before else []
         one.hears(*heard, frame(REFUSED, text[9] if len(text) > 9 and why > LENGTH else 0, len(before) + 1, bytes([why])))
         one.ends()
@@ -136,7 +135,7 @@ def faulty(folder):
         lines.says("SBF is no line")
         lines.hears(f"refused {count + 1} a line is: bytes NAME HEX, input NAME WORD, outputs, or: took NAME SSN")
     for begins in (b"", b"S", b"SBF", b"SBF1", b"SBF1\x0a"):
-        one = Framed(cluster, begins)
+        one = framed(cluster, begins)
         one.socket.shutdown(socket.SHUT_WR)
         one.ends()
     tells(cluster.gateway, faulty=len(FAULTY), logged=len(FAULTY))
@@ -148,8 +147,9 @@ def compiled(folder):
     """The commands of the clients of hosts/examples/clients."""
     os.makedirs(folder, exist_ok=True)
     yield ["python3", os.path.join(CLIENTS, "client.py")]
-    for words in (["cc", "-std=c11", "-D_GNU_SOURCE", "-Wall", "-Wextra", "-Werror", "-O2"], ["rustc", "--edition", "2021", "-O", "-D", "warnings"]):
-        source = os.path.join(CLIENTS, "client." + ("c" if words[0] == "cc" else "rs"))
+    for name, words in (("client.c", ["cc", "-std=c11", "-D_GNU_SOURCE", "-Wall", "-Wextra", "-Werror", "-O2"]),
+                        ("client.rs", ["rustc", "--edition", "2021", "-O", "-D", "warnings"])):
+        source = os.path.join(CLIENTS, name)
         program = os.path.join(folder, words[0])
         if shutil.which(words[0]):
             subprocess.run([*words, "-o", program, source], check=True)
@@ -178,7 +178,7 @@ def clients(folder):
             time.sleep(0.02)
         client.kill()
         reader.join()
-        wanted = [f"{ECHO} {ssn} {message(ssn).hex()}\n" for ssn in range(1, count + 1)]
+        wanted = [f"{ECHO} {ssn} {ssn}\n" for ssn in range(1, count + 1)]
         if client.wait() or said != wanted:
             at = next((place for place, pair in enumerate(zip(said, wanted)) if pair[0] != pair[1]), min(len(said), len(wanted)))
             raise Wrong(f"{command[0]}: status {client.returncode}, {len(said)} outputs, and at {at} {said[at:at + 2]}")

@@ -103,8 +103,8 @@ def killed(client, program, transport, words):
 def redis(program):
     with tempfile.TemporaryDirectory(prefix="hosts.") as folder:
         path = os.path.join(folder, "socket")
-        server = ["redis-server", "--port", "0", "--unixsocket", path, "--dir", folder, "--appendonly", "yes", "--appendfsync", "always",
-                  "--save", ""]
+        server = ["redis-server", "--port", "0", "--unixsocket", path, "--dir", folder, "--appendonly", "yes",
+                  "--appendfsync", "always", "--save", ""]
         with ended(server):
             while not os.path.exists(path):
                 time.sleep(0.01)
@@ -145,7 +145,8 @@ def bare(program):
     """A request that two programs answer by NATS; nothing is kept. It goes one by one."""
     def run(count, _):
         words = [program, f"nats://127.0.0.1:{PORT}", str(count)]
-        times = sorted(int(line) / 1e3 for line in subprocess.run(words, check=True, capture_output=True, text=True).stdout.split())
+        said = subprocess.run(words, check=True, capture_output=True, text=True).stdout
+        times = sorted(int(line) / 1e3 for line in said.split())
         return [0, times[count // 2], times[count * 99 // 100]]
     with Server(True, PORT):
         yield run
@@ -153,8 +154,8 @@ def bare(program):
 
 def rows_of(folder, client, words):
     """Names of rows, and what each is measured by; what can't be measured here is said."""
-    kinds = [("Unix sockets", "unix", ["--volatile"]), ("Unix sockets, durable nodes", "unix", []), ("TCP on loopback", "tcp", ["--volatile"]),
-             ("NATS on loopback", "nats", ["--volatile"])]
+    kinds = [("Unix sockets", "unix", ["--volatile"]), ("Unix sockets, durable nodes", "unix", []),
+             ("TCP on loopback", "tcp", ["--volatile"]), ("NATS on loopback", "nats", ["--volatile"])]
     has_nats, has_redis = shutil.which("nats-server"), shutil.which("redis-server")
     for program in words.programs:
         for name, transport, more in kinds if has_nats else kinds[:3]:
@@ -188,7 +189,7 @@ def print_table(found):
     wide = max(map(len, found)) + 3
     print(f"{'Over':{wide}}{'One by one':13}{'256 ahead, a second':22}2,048 ahead, a second")
     for name, rounds in found.items():
-        median, *rates = ([statistics.median(column) if None not in column else None for column in zip(*rounds)])
+        median, *rates = (statistics.median(column) if None not in column else None for column in zip(*rounds))
         cells = [f"{rate:,.0f}" if rate else "" for rate in rates]
         print(f"{name:{wide}}{f'{median:.2f} ms':13}{cells[0]:22}{cells[1]}".rstrip())
 
@@ -210,7 +211,8 @@ def starts(client, program):
             node.start()
             node.wait_up()
         times = sorted(1000 * wall for wall, _ in node.ups[1:])
-        print(f"from a start to up, {BEHIND:,} messages after the checkpoint: median {times[4]:.1f} ms, worst {times[-1]:.1f} ms", flush=True)
+        middle, worst = times[len(times) // 2], times[-1]
+        print(f"from a start to up, {BEHIND:,} messages after the checkpoint: median {middle:.1f} ms, worst {worst:.1f} ms", flush=True)
 
 
 def grows(client, program, count):

@@ -7,7 +7,8 @@
 #include <sys/un.h>
 #include <unistd.h>
 
-enum { LOGGED = 2, OUTPUT = 4, TAKEN = 5, LENGTH = 4, HEAD = 14, ROOM = 1 << 20, EVERY = 128, PATIENCE = 60000, TRIES = 500, PAUSE = 20000 };
+enum { INPUT = 1, LOGGED, OUTPUT = 4, TAKEN, PROCESS = 1, LENGTH = 4, HEAD = 14, EVERY = 128 };
+enum { ROOM = 1 << 20, PATIENCE = 60000, TRIES = 500, PAUSE = 20000 };
 
 struct passes {
     int file;
@@ -45,7 +46,7 @@ static uint8_t *put_frame(struct passes *all, uint8_t kind, uint8_t process, uin
 
 static void put_inputs(struct passes *all) {
     while (times_may_send(&all->times) && all->to + 2 * (HEAD + SIZE) < ROOM) {
-        times_send(&all->times, put_frame(all, 1, 1, 0, SIZE));
+        times_send(&all->times, put_frame(all, INPUT, PROCESS, 0, SIZE));
         all->unlogged++;
     }
 }
@@ -65,7 +66,7 @@ static void take_output(struct passes *all, uint8_t process, uint64_t ssn, const
     bool is_over = times_are_over(&all->times);
     if (all->times.shown % EVERY == 0 || is_over) put_frame(all, TAKEN, process, ssn, 0);
     if (!is_over) return;
-    put_frame(all, LOGGED, 1, 0, 0);
+    put_frame(all, LOGGED, PROCESS, 0, 0);
     all->unlogged++;
 }
 

@@ -67,5 +67,6 @@ static inline void times_print(struct times *times) {
     long last = times->count - 1;
     double seconds = times->began[last] + times->took[last] - times->began[0];
     qsort(times->took, (size_t)times->count, sizeof *times->took, by_size);
-    printf("%.0f %.3f %.3f\n", (double)times->count / seconds, 1e3 * times->took[times->count / 2], 1e3 * times->took[times->count * 99 / 100]);
+    double median = times->took[times->count / 2], late = times->took[times->count * 99 / 100];
+    printf("%.0f %.3f %.3f\n", (double)times->count / seconds, 1e3 * median, 1e3 * late);
 }

@@ -1,5 +1,5 @@
-/* Hands COUNT inputs in for process 1 of a cluster, and prints as many outputs: client SOCKET COUNT. It reconnects, sends again what isn't
-   logged, and drops outputs that it had (docs/FORMATS.md, "Frames of a program"). Numbers are as on x86: the lowest byte comes first. */
+/* Hands COUNT words in for process 1 of a cluster, and prints the words of as many outputs: client SOCKET COUNT. It reconnects, sends
+   again what isn't logged, and drops outputs that it had (docs/FORMATS.md, "Frames of a program"). Numbers are as on x86. */
 #include <inttypes.h>
 #include <stdio.h>
 #include <stdlib.h>
@@ -13,43 +13,38 @@ enum { INPUT = 1, LOGGED, REFUSED, OUTPUT, TAKEN, PROCESS = 1, AHEAD = 256, HEAD
 struct frame {
     uint32_t length;
     uint8_t kind, process;
-    uint64_t ssn;
-    uint8_t payload[256];
+    uint64_t ssn, word;
+    uint8_t more[248];
 } __attribute__((packed));
 
 static uint64_t first = UINT64_MAX, shown, had[256]; /* the SSN before its inputs; outputs, and the last one of each process */
 
 /* What a broken connection loses is said again. */
-static void say(int file, struct frame it, uint64_t word) {
-    it.length = HEAD + (it.kind == INPUT ? sizeof word : 0);
-    memcpy(it.payload, &word, sizeof word);
+static void say(int file, struct frame it) {
+    it.length = HEAD + (it.kind == INPUT ? sizeof it.word : 0);
     send(file, &it, LENGTH + it.length, MSG_NOSIGNAL);
-}
-
-static void show(const struct frame *it) {
-    printf("%d %" PRIu64 " ", it->process, it->ssn);
-    for (uint32_t i = 0; i < it->length - HEAD; i++) printf("%02x", it->payload[i]);
-    puts("");
-    had[it->process] = it->ssn;
-    shown++;
 }
 
 static void talk(int file, uint64_t count) {
     struct frame it;
     uint64_t sent = 0;
     send(file, "SBF1", 4, MSG_NOSIGNAL);
-    say(file, (struct frame){.kind = OUTPUT}, 0);
-    say(file, (struct frame){.kind = LOGGED, .process = PROCESS}, 0);
+    say(file, (struct frame){.kind = OUTPUT});
+    say(file, (struct frame){.kind = LOGGED, .process = PROCESS});
     while (shown < count && recv(file, &it, LENGTH, MSG_WAITALL) == LENGTH && it.length <= sizeof it - LENGTH &&
            recv(file, &it.kind, it.length, MSG_WAITALL) == (ssize_t)it.length) {
-        if (it.kind == REFUSED) exit(it.payload[0]);
+        if (it.kind == REFUSED) exit(1);
         if (it.kind == LOGGED) {
             if (first == UINT64_MAX) first = it.ssn;
             for (sent = sent > it.ssn ? sent : it.ssn; sent < first + count && sent < it.ssn + AHEAD; sent++)
-                say(file, (struct frame){.kind = INPUT, .process = PROCESS, .ssn = sent + 1}, sent + 1 - first);
+                say(file, (struct frame){.kind = INPUT, .process = PROCESS, .ssn = sent + 1, .word = sent + 1 - first});
         } else {
-            if (it.ssn > had[it.process]) show(&it);
-            say(file, (struct frame){.kind = TAKEN, .process = it.process, .ssn = it.ssn}, 0);
+            if (it.ssn > had[it.process]) {
+                printf("%d %" PRIu64 " %" PRIu64 "\n", it.process, it.ssn, it.word);
+                had[it.process] = it.ssn;
+                shown++;
+            }
+            say(file, (struct frame){.kind = TAKEN, .process = it.process, .ssn = it.ssn});
         }
     }
 }

@@ -1,5 +1,5 @@
-"""Hands COUNT inputs in for process 1 of a cluster, and prints as many outputs: client.py SOCKET COUNT. It reconnects, sends again
-what isn't logged, and drops outputs that it had (docs/FORMATS.md, "Frames of a program")."""
+"""Hands COUNT words in for process 1 of a cluster, and prints the words of as many outputs: client.py SOCKET COUNT. It reconnects,
+sends again what isn't logged, and drops outputs that it had (docs/FORMATS.md, "Frames of a program")."""
 import socket
 import struct
 import sys
@@ -37,7 +37,7 @@ def main(path, count):
                         sent = max(sent, last)
                     else:
                         if ssn > had.get(process, 0):
-                            print(process, ssn, payload.hex())
+                            print(process, ssn, int.from_bytes(payload[:8], "little"))
                             had[process], shown = ssn, shown + 1
                         it.sendall(frame(TAKEN, process, ssn))
                     if shown == count:

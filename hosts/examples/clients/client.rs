@@ -1,5 +1,5 @@
-//! Hands COUNT inputs in for process 1 of a cluster, and prints as many outputs: client SOCKET COUNT. It reconnects, sends again what
-//! isn't logged, and drops outputs that it had (docs/FORMATS.md, "Frames of a program").
+//! Hands COUNT words in for process 1 of a cluster, and prints the words of as many outputs: client SOCKET COUNT. It reconnects, sends
+//! again what isn't logged, and drops outputs that it had (docs/FORMATS.md, "Frames of a program").
 use std::io::{self, BufReader, Read, Write};
 use std::os::unix::net::UnixStream;
 use std::{collections::HashMap, env, process, thread, time::Duration};
@@ -42,7 +42,7 @@ fn talk(path: &str, count: u64, progress: &mut Progress) -> io::Result<()> {
         } else {
             let had = progress.had.entry(process).or_default();
             if ssn > *had {
-                println!("{process} {ssn} {}", payload.iter().map(|byte| format!("{byte:02x}")).collect::<String>());
+                println!("{process} {ssn} {}", u64::from_le_bytes(payload[..8].try_into().unwrap()));
                 *had = ssn;
                 progress.shown += 1;
             }
