@@ -205,11 +205,12 @@ static uint64_t due(const struct pace *pace, const struct flow *flow) {
     if (!is_open(flow)) return UINT64_MAX;
     if (pause < pace->shortest) pause = pace->shortest;
     pause <<= flow->tries;
+    if (pause > pace->longest) pause = pace->longest;
     return flow->since + pause + pause * flow->spread / WHOLE;
 }
 
 uint64_t pace_due(const struct pace *pace) {
-    uint64_t first = pace->last + pace->longest;
+    uint64_t first = pace->last + pace->longest + pace->longest / 4;
     for (int p = 0; p <= pace->transport->cluster->count; p++) {
         uint64_t one = due(pace, &pace->flows[p]);
         if (one < first) first = one;
