@@ -7,7 +7,7 @@ import subprocess
 import threading
 import time
 
-from listening import PROCESSES, begin, connect, tells
+from listening import begin, connect, tells
 from lives import Wrong
 from talk import Talk
 
