@@ -1,4 +1,4 @@
-/* The answers of lines, in the order of the lines: of an input once it is durable. */
+/* The answers of requests, in the order of these: of an input once it is durable. */
 #ifndef ANSWERS_H
 #define ANSWERS_H
 
@@ -13,10 +13,10 @@ enum { ANSWERS_LIMIT = 1024 }; /* of a turn */
 
 struct answer {
     struct client *client;
-    uint64_t serial, line, ssn;
+    uint64_t serial, number; /* the SSN; of a refused request which one it was */
+    uint32_t why;            /* a refusal, or a code of the library */
     int process;
     char id[ID_LIMIT + 1];
-    const char *why; /* the line is refused */
 };
 
 struct answers {
@@ -24,8 +24,8 @@ struct answers {
     size_t count;
 };
 
-/* The answer of the line that a program wrote last, after the others; there has to be room. Its SSN is still to be told. */
-struct answer *answers_add(struct answers *answers, struct client *client, const struct line *line, const char *why);
+/* The answer of a program's last request, after the others; there has to be room. If it isn't refused, its SSN is still to be told. */
+struct answer *answers_add(struct answers *answers, struct client *client, const struct request *request, uint32_t why);
 
 /* It is given, if the program is still there. What is refused is told the program that wrote it, or of standard input,
    standard error. */

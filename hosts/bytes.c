@@ -15,14 +15,18 @@ void number_put(uint8_t *at, uint64_t number, int size) {
     for (int i = 0; i < size; i++) at[i] = (uint8_t)(number >> 8 * i);
 }
 
+bool bytes_fit(uint8_t **at, size_t *room, size_t size) {
+    if (size <= *room) return true;
+    size_t wider = size + size / 2 + LEAST;
+    uint8_t *more = realloc(*at, wider);
+    if (!more) return false;
+    *at = more;
+    *room = wider;
+    return true;
+}
+
 bool bytes_add(struct bytes *bytes, const void *more, size_t size) {
-    if (size > bytes->room - bytes->size) {
-        size_t room = 2 * (bytes->size + size) + LEAST;
-        uint8_t *at = realloc(bytes->at, room);
-        if (!at) return false;
-        bytes->at = at;
-        bytes->room = room;
-    }
+    if (!bytes_fit(&bytes->at, &bytes->room, bytes->size + size)) return false;
     if (size > 0) memcpy(bytes->at + bytes->size, more, size);
     bytes->size += size;
     return true;

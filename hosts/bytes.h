@@ -9,6 +9,9 @@
 uint64_t number_at(const uint8_t *at, int size);
 void number_put(uint8_t *at, uint64_t number, int size);
 
+/* Makes room for so many bytes; false without memory, and nothing changes. */
+bool bytes_fit(uint8_t **at, size_t *room, size_t size);
+
 struct bytes {
     uint8_t *at;
     size_t size, room;

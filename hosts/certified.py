@@ -9,6 +9,7 @@ import time
 
 import lives
 from certificates import Authority, context
+from frames import LOGGED, Framed, frame
 from listening import PROCESSES, payload, tells, works
 from lives import Cluster, Wrong
 from looks import told
@@ -187,6 +188,10 @@ def tls(folder):
     one = Talk(LINES, context(os.path.join(folder, "program")))
     one.says("outputs")
     works(cluster, one, 1, 2, 3)
+    framed = Framed(LINES, context=context(os.path.join(folder, "program")))
+    framed.says(frame(LOGGED, 1))
+    framed.hears(frame(LOGGED, 1, 3))
+    framed.goes()
     forgers(cluster)
     impostor(cluster, one, folder)
     one.goes()

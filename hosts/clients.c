@@ -58,9 +58,9 @@ void clients_watch(const struct clients *clients, bool reads, bool prints, struc
         client_watch(&clients->all[i], reads, prints && clients->all[i].takes_outputs, watch);
 }
 
-bool clients_have_lines(const struct clients *clients) {
+bool clients_have_requests(const struct clients *clients) {
     for (int i = 0; i < CLIENTS_LIMIT; i++)
-        if (client_has_line(&clients->all[i])) return true;
+        if (client_has_request(&clients->all[i])) return true;
     return false;
 }
 

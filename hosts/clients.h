@@ -27,11 +27,11 @@ struct client *clients_consumer(struct clients *clients);
 /* Writes what waits; those whose connection is over go. The loss of standard output ends the gateway: a status. */
 int clients_serve(struct clients *clients);
 
-/* What is to be waited for: lines, if they may be read, and a consumer that can take more. */
+/* What is to be waited for: requests, if they may be read, and a consumer that can take more. */
 void clients_watch(const struct clients *clients, bool reads, bool prints, struct watch *watch);
 
-/* Whether lines were left that can be taken. */
-bool clients_have_lines(const struct clients *clients);
+/* Whether requests were left that can be taken. */
+bool clients_have_requests(const struct clients *clients);
 
 void clients_close(struct clients *clients);
 

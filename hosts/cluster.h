@@ -4,7 +4,9 @@
 
 #include "address.h"
 
-enum { PROCESS_LIMIT = 15, NAME_LIMIT = 32 };
+#include <sblog.h>
+
+enum { PROCESS_LIMIT = SBLOG_PROCESS_LIMIT, NAME_LIMIT = 32 };
 
 struct process {
     char name[NAME_LIMIT + 1];

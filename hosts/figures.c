@@ -1,34 +1,23 @@
 #include "figures.h"
 
+#include "options.h"
+#include "report.h"
+#include "text.h"
+
 #include <errno.h>
 #include <inttypes.h>
-#include <stdarg.h>
 #include <stdio.h>
 #include <string.h>
 #include <sys/socket.h>
 #include <unistd.h>
 
-enum { TEXT_LIMIT = 32768, MILLION = 1000000, PATIENCE = 5 * MILLION }; /* microseconds that a reader has for its request */
-
-struct text {
-    size_t size;
-    char bytes[TEXT_LIMIT];
-};
-
-static void add(struct text *text, const char *format, ...) {
-    va_list arguments;
-    va_start(arguments, format);
-    size_t room = sizeof text->bytes - text->size;
-    int size = vsnprintf(text->bytes + text->size, room, format, arguments);
-    va_end(arguments);
-    text->size += size < (int)room ? (size_t)size : room - 1;
-}
+enum { PATIENCE = 5 * SECOND }; /* that a reader has for its request */
 
 /* What only grows is there as a counter, too, by the name that Prometheus has for one. */
 static void add_figure(struct text *text, const char *process, const struct figure *figure) {
     for (int total = 0; total <= figure->is_total; total++) {
         const char *end = total ? "_total" : "";
-        add(text, "# HELP sblog_%s%s %s\n# TYPE sblog_%s%s %s\nsblog_%s%s{process=\"%s\"} %" PRIu64 "\n", figure->name, end, figure->help,
+        text_add(text, "# HELP sblog_%s%s %s\n# TYPE sblog_%s%s %s\nsblog_%s%s{process=\"%s\"} %" PRIu64 "\n", figure->name, end, figure->help,
             figure->name, end, total ? "counter" : "gauge", figure->name, end, process, figure->value);
     }
 }
@@ -36,15 +25,15 @@ static void add_figure(struct text *text, const char *process, const struct figu
 static void add_histogram(struct text *text, const char *process, const char *name, const char *help, const struct histogram *all) {
     uint64_t count = 0;
     if (!all) return;
-    add(text, "# HELP sblog_%s_seconds %s\n# TYPE sblog_%s_seconds histogram\n", name, help, name);
+    text_add(text, "# HELP sblog_%s_seconds %s\n# TYPE sblog_%s_seconds histogram\n", name, help, name);
     for (int i = 0; i < BUCKETS; i++) {
         count += all->counts[i];
-        add(text, "sblog_%s_seconds_bucket{process=\"%s\",le=\"%g\"} %" PRIu64 "\n", name, process, (double)HISTOGRAM_BOUNDS[i] / MILLION, count);
+        text_add(text, "sblog_%s_seconds_bucket{process=\"%s\",le=\"%g\"} %" PRIu64 "\n", name, process, (double)HISTOGRAM_BOUNDS[i] / SECOND, count);
     }
     count += all->counts[BUCKETS];
-    add(text, "sblog_%s_seconds_bucket{process=\"%s\",le=\"+Inf\"} %" PRIu64 "\n", name, process, count);
-    add(text, "sblog_%s_seconds_sum{process=\"%s\"} %" PRIu64 ".%06" PRIu64 "\n", name, process, all->sum / MILLION, all->sum % MILLION);
-    add(text, "sblog_%s_seconds_count{process=\"%s\"} %" PRIu64 "\n", name, process, count);
+    text_add(text, "sblog_%s_seconds_bucket{process=\"%s\",le=\"+Inf\"} %" PRIu64 "\n", name, process, count);
+    text_add(text, "sblog_%s_seconds_sum{process=\"%s\"} %" PRIu64 ".%06" PRIu64 "\n", name, process, all->sum / SECOND, all->sum % SECOND);
+    text_add(text, "sblog_%s_seconds_count{process=\"%s\"} %" PRIu64 "\n", name, process, count);
 }
 
 int metrics_open(struct metrics *metrics, const struct address *address) {
@@ -55,11 +44,12 @@ int metrics_open(struct metrics *metrics, const struct address *address) {
 
 void metrics_watch(const struct metrics *metrics, struct watch *watch) {
     watch_file(watch, metrics->file, POLLIN);
+    if (metrics->has_lines) watch_time(watch, metrics->next_line);
     for (int i = 0; i < READER_LIMIT; i++) watch_file(watch, metrics->readers[i].file, POLLIN);
 }
 
 static void add_head(struct text *text, const char *status) {
-    add(text, "HTTP/1.0 %s\r\nContent-Type: text/plain; version=0.0.4\r\n\r\n", status);
+    text_add(text, "HTTP/1.0 %s\r\nContent-Type: text/plain; version=0.0.4\r\n\r\n", status);
 }
 
 static void answer(const char *request, const struct view *view, struct text *text) {
@@ -73,10 +63,10 @@ static void answer(const char *request, const struct view *view, struct text *te
         add_histogram(text, view->process, "sync", "what the disk takes to make a write durable", view->syncs);
     } else if (is_get && (!strcmp(path, "/healthz") || !strcmp(path, "/readyz"))) {
         add_head(text, view->is_ready || path[1] == 'h' ? "200 OK" : "503 Service Unavailable");
-        add(text, "%s\n", view->stage);
+        text_add(text, "%s\n", view->stage);
     } else {
         add_head(text, is_get ? "404 Not Found" : "400 Bad Request");
-        add(text, "GET /metrics, /healthz or /readyz\n");
+        text_add(text, "GET /metrics, /healthz or /readyz\n");
     }
 }
 
@@ -111,6 +101,16 @@ void metrics_serve(struct metrics *metrics, const struct view *view) {
         }
         if (reader->file >= 0) serve(reader, view);
     }
+}
+
+void metrics_show(struct metrics *metrics, const struct view *view) {
+    uint64_t now = clock_now();
+    bool is_due = metrics->has_lines && now >= metrics->next_line;
+    metrics_serve(metrics, view);
+    if (!is_due && !signal_status) return;
+    signal_status = 0;
+    if (is_due) metrics->next_line = now + SECOND;
+    report_figures("status", NULL, view->figures, view->count);
 }
 
 void metrics_close(struct metrics *metrics) { address_leave(metrics->address, metrics->file); }

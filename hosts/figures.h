@@ -33,6 +33,8 @@ struct reader {
 struct metrics {
     const struct address *address;
     int file; /* -1: none is asked for */
+    bool has_lines; /* a line each second */
+    uint64_t next_line;
     struct reader readers[READER_LIMIT];
 };
 
@@ -40,6 +42,10 @@ struct metrics {
 int metrics_open(struct metrics *metrics, const struct address *address);
 void metrics_watch(const struct metrics *metrics, struct watch *watch);
 void metrics_serve(struct metrics *metrics, const struct view *view);
+
+/* The same; and a line of the figures, if one is due, or a signal asked for it. */
+void metrics_show(struct metrics *metrics, const struct view *view);
+
 void metrics_close(struct metrics *metrics);
 
 #endif

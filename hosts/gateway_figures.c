@@ -1,13 +1,10 @@
 #include "gateway_state.h"
 
-#include "report.h"
 #include "tls.h"
 
 #include <string.h>
 
-enum { SECOND = 1000000 };
-
-enum { FIGURES = 12 };
+enum { FIGURES = 13 };
 
 static size_t figures(const struct gateway_host *host, struct figure out[FIGURES]) {
     uint64_t logged = 0, waiting = 0, shown = 0, clients = 0;
@@ -26,6 +23,7 @@ static size_t figures(const struct gateway_host *host, struct figure out[FIGURES
         {"programs", clients, NULL, "programs that hand in inputs or take outputs", false},
         {"behind", host->store.behind, NULL, "bytes of records after the store", false},
         {"refused", host->refused, NULL, "times that bytes came that are no packet", true},
+        {"faulty", host->faulty, NULL, "times that a program sent what is no frame", true},
         {"broken", host->transport.broken, NULL, "times that something came that is no bundle", true},
         {"foreign", host->transport.foreign, NULL, "times that a bundle of another cluster came", true},
         {"strangers", tls_refused(), NULL, "connections by tls that were refused", true},
@@ -35,15 +33,10 @@ static size_t figures(const struct gateway_host *host, struct figure out[FIGURES
     return FIGURES;
 }
 
-void gateway_show(struct gateway_host *host, uint64_t now) {
+void gateway_show(struct gateway_host *host) {
     struct figure all[FIGURES];
     size_t count = figures(host, all);
-    bool is_due = host->options->status && now >= host->next_status;
     const struct histogram syncs = syncer_took(&host->store.syncer);
-    metrics_serve(&host->metrics, &(struct view){.process = "gateway", .stage = "up", .is_ready = true, .figures = all, .count = count,
-                                                 .messages = &host->pace.took, .syncs = &syncs});
-    if (!is_due && !signal_status) return;
-    signal_status = 0;
-    if (is_due) host->next_status = now + SECOND;
-    report_figures("status", NULL, all, count);
+    metrics_show(&host->metrics, &(struct view){.process = "gateway", .stage = "up", .is_ready = true, .figures = all, .count = count,
+                                                .messages = &host->pace.took, .syncs = &syncs});
 }

@@ -7,7 +7,7 @@
 #include <sblog.h>
 #include <stdlib.h>
 
-/* Packets and outputs of a turn; inputs of a process without a number, from which on no line is read; bytes of records after
+/* Packets and outputs of a turn; inputs of a process without a number, from which on no request is read; bytes of records after
    which the store is written anew. */
 enum { TURN = 1024, AHEAD = 1024, BEHIND = 1 << 24 };
 
@@ -18,45 +18,58 @@ static bool may_read(const struct gateway_host *host) {
     return host->answers.count < ANSWERS_LIMIT && host->turns.count < TURNS_LIMIT;
 }
 
-static void input(struct gateway_host *host, struct client *client, const struct line *line) {
-    uint8_t process = (uint8_t)line->process;
-    uint64_t ssn = 0;
-    uint32_t code = sblog_gateway_input(&host->gateway, process, line->payload, line->size, &ssn);
-    struct answer *answer = answers_add(&host->answers, client, line, code == SBLOG_GATEWAY_DONE ? NULL : code_words(code));
+/* An input that says which SSN it is to have is logged once, whatever the program sends again. */
+static void input(struct gateway_host *host, struct client *client, const struct request *request) {
+    uint64_t *last = &host->last[request->process], ssn = request->ssn;
+    uint32_t code = ssn > *last + 1 ? REFUSAL_SSN : SBLOG_GATEWAY_DONE;
+    bool is_new = code == SBLOG_GATEWAY_DONE && (ssn == 0 || ssn > *last);
+    if (is_new) code = sblog_gateway_input(&host->gateway, (uint8_t)request->process, request->payload, request->size, &ssn);
+    struct answer *answer = answers_add(&host->answers, client, request, code);
     if (code != SBLOG_GATEWAY_DONE) return;
-    answer->ssn = ssn;
-    counts_input(&host->counts, line->process, ssn);
+    answer->number = ssn;
+    if (!is_new) return;
+    *last = ssn;
+    counts_input(&host->counts, request->process, ssn);
 }
 
 /* One program alone takes outputs, while it is there: first those that nobody has taken. */
-static void take_outputs(struct gateway_host *host, struct client *client, const struct line *line) {
+static void take_outputs(struct gateway_host *host, struct client *client, const struct request *request) {
     struct client *other = clients_consumer(&host->clients);
     if (other && other != client && client_is_gone(other)) {
         other->takes_outputs = false;
         other = NULL;
     }
-    if (other && other != client) answers_add(&host->answers, client, line, "another program takes the outputs");
+    if (other && other != client) answers_add(&host->answers, client, request, REFUSAL_OTHER);
     if (other) return;
     client->takes_outputs = true;
     host->waiting.printed = 0;
 }
 
-static void took(struct gateway_host *host, struct client *client, const struct line *line) {
-    const char *why = !client->takes_outputs ? "this program takes no outputs" : NULL;
-    if (!why && !outputs_take(&host->waiting, line->process, line->ssn)) why = "no output has this SSN yet";
-    if (why) answers_add(&host->answers, client, line, why);
+static void taken(struct gateway_host *host, struct client *client, const struct request *request) {
+    enum refusal why = client->takes_outputs ? REFUSAL_NONE : REFUSAL_NO_CONSUMER;
+    if (why == REFUSAL_NONE && !outputs_take(&host->waiting, request->process, request->ssn)) why = REFUSAL_NO_OUTPUT;
+    if (why != REFUSAL_NONE) answers_add(&host->answers, client, request, why);
 }
 
-static void read_lines(struct gateway_host *host, struct client *client) {
-    struct line line;
+static void obey(struct gateway_host *host, struct client *client, const struct request *request) {
+    switch (request->verb) {
+    case VERB_INPUT: input(host, client, request); return;
+    case VERB_LOGGED: answers_add(&host->answers, client, request, REFUSAL_NONE)->number = host->last[request->process]; return;
+    case VERB_OUTPUT: take_outputs(host, client, request); return;
+    case VERB_TAKEN: taken(host, client, request); return;
+    case VERB_REFUSED: answers_add(&host->answers, client, request, request->why); return;
+    case VERB_NONE: return;
+    }
+}
+
+static void read_requests(struct gateway_host *host, struct client *client) {
+    struct request request;
     if (!may_read(host)) return;
     client_read(client);
-    while (may_read(host) && client_line(client, host->cluster, &line)) {
+    while (may_read(host) && client_request(client, host->cluster, &request)) {
         size_t answers = host->answers.count;
-        if (line.order == ORDER_INPUT) input(host, client, &line);
-        if (line.order == ORDER_OUTPUTS) take_outputs(host, client, &line);
-        if (line.order == ORDER_TOOK) took(host, client, &line);
-        if (line.order == ORDER_REFUSED) answers_add(&host->answers, client, &line, line.why);
+        obey(host, client, &request);
+        host->faulty += refusal_ends(request.why);
         if (host->answers.count == answers) client->promised--; /* it has no answer */
     }
 }
@@ -163,7 +176,7 @@ static int print_outputs(struct gateway_host *host) {
         if (is_pipe) status = note_printed(host);
         if (status != STATUS_DONE || waiting->printed == waiting->stored) break;
         const struct output *next = &waiting->all[waiting->printed++];
-        output_print(next, host->cluster->processes[next->process].name, client);
+        output_print(next, host->cluster, client);
         if (is_pipe) client_write(client);
         host->outputs++;
     }
@@ -194,17 +207,16 @@ static int turn(struct gateway_host *host, bool *is_more) {
     const struct owner owner = gateway_owner(host);
     transport_reload(&host->transport);
     clients_welcome(&host->clients);
-    for (int i = 0; i < CLIENTS_LIMIT && !signal_stop; i++) read_lines(host, &host->clients.all[i]);
+    for (int i = 0; i < CLIENTS_LIMIT && !signal_stop; i++) read_requests(host, &host->clients.all[i]);
     int received = receive(host);
     int status = membership_welcome(&owner, &host->folder, &host->ids, &host->transport);
     bool is_cut = hand_out(host);
     if (status == STATUS_DONE) status = commit(host);
     if (status != STATUS_DONE) return status;
-    uint64_t now = clock_now();
-    tick(host, now);
+    tick(host, clock_now());
     status = give_out(host);
-    gateway_show(host, now);
-    *is_more = received == TURN || (may_read(host) && clients_have_lines(&host->clients)) || (is_cut && !outputs_are_full(&host->waiting));
+    gateway_show(host);
+    *is_more = received == TURN || (may_read(host) && clients_have_requests(&host->clients)) || (is_cut && !outputs_are_full(&host->waiting));
     return status;
 }
 
@@ -212,7 +224,6 @@ static void wait(struct gateway_host *host, bool is_more) {
     struct watch watch;
     watch_begin(&watch, is_more ? 0 : host->has_tick ? UINT64_MAX : pace_due(&host->pace));
     watch_file(&watch, host->store.syncer.event, POLLIN);
-    if (host->options->status) watch_time(&watch, host->next_status);
     if (host->turns.count < TURNS_LIMIT) transport_watch(&host->transport, &watch);
     metrics_watch(&host->metrics, &watch);
     clients_watch(&host->clients, may_read(host), host->waiting.printed < host->waiting.stored, &watch);
@@ -226,6 +237,7 @@ int gateway_run(const struct options *options, const struct cluster *cluster) {
     host.cluster = cluster;
     int status = options->looks ? gateway_look(&host) : gateway_begin(&host);
     if (status != STATUS_DONE || options->looks) return status;
+    host.metrics.has_lines = options->status;
     while (status == STATUS_DONE && !signal_stop) {
         status = turn(&host, &is_more);
         if (status == STATUS_DONE && !signal_stop) wait(&host, is_more);

@@ -3,6 +3,7 @@
 #include "limits.h"
 #include "privileges.h"
 #include "report.h"
+#include "stored.h"
 
 #include <stdlib.h>
 #include <string.h>
@@ -10,19 +11,10 @@
 
 enum { ROOM = 1 << 16 };
 
-static bool has_room(struct gateway_host *host, size_t size) {
-    if (size <= host->room) return true;
-    uint8_t *more = realloc(host->bytes, size + size / 2);
-    if (!more) return false;
-    host->bytes = more;
-    host->room = size + size / 2;
-    return true;
-}
-
 uint32_t gateway_bytes(struct gateway_host *host, uint32_t (*call)(sblog_gateway *, uint8_t *, size_t, size_t *), size_t *size) {
     uint32_t code;
     while ((code = call(&host->gateway, host->bytes, host->room, size)) == SBLOG_GATEWAY_ROOM)
-        if (!has_room(host, *size)) return SBLOG_GATEWAY_MEMORY;
+        if (!bytes_fit(&host->bytes, &host->room, *size)) return SBLOG_GATEWAY_MEMORY;
     return code;
 }
 
@@ -68,15 +60,22 @@ struct owner gateway_owner(const struct gateway_host *host) {
     return (struct owner){.cluster = host->cluster, .me = 0, .durable = true};
 }
 
+/* The store that was written tells the SSN of each process's last input. */
+static void learn_last(struct gateway_host *host) {
+    struct stored all[PROCESS_LIMIT + 1];
+    for (int p = stored_read(host->bytes, all); p > 0; p--) host->last[p] = all[p].logged;
+}
+
 /* Begins with what is stored. */
 static int begin_life(struct gateway_host *host, bool is_new) {
     struct bytes whole = {0}, changes = {0};
     const struct owner owner = gateway_owner(host);
     int status = gateway_store_open(&host->store, &host->folder, &whole, &changes, &host->waiting);
-    if (status == STATUS_DONE && !has_room(host, ROOM)) status = code_refused("open", SBLOG_GATEWAY_MEMORY, 0);
+    if (status == STATUS_DONE && !bytes_fit(&host->bytes, &host->room, ROOM)) status = code_refused("open", SBLOG_GATEWAY_MEMORY, 0);
     if (status == STATUS_DONE) status = is_new ? begin_new(host, &owner, &whole, &changes) : begin_again(host, &whole, &changes);
     bytes_end(&whole);
     bytes_end(&changes);
+    if (status == STATUS_DONE) learn_last(host);
     return status;
 }
 

@@ -35,7 +35,8 @@ struct gateway_host {
     bool has_tick; /* whether the packets of one wait */
     uint8_t *bytes;
     size_t room;
-    uint64_t next_status, refused, outputs;
+    uint64_t last[PROCESS_LIMIT + 1]; /* the SSN of each process's last input */
+    uint64_t refused, faulty, outputs;
     uint8_t packet[PACKET_LIMIT];
 };
 
@@ -54,6 +55,6 @@ uint32_t gateway_bytes(struct gateway_host *host, uint32_t (*call)(sblog_gateway
 int gateway_write_whole(struct gateway_host *host);
 
 /* Figures are shown to who asks for them. */
-void gateway_show(struct gateway_host *host, uint64_t now);
+void gateway_show(struct gateway_host *host);
 
 #endif

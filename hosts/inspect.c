@@ -5,6 +5,7 @@
 #include "report.h"
 #include "slots.h"
 #include "store.h"
+#include "stored.h"
 
 #include <inttypes.h>
 #include <sblog.h>
@@ -12,8 +13,8 @@
 #include <stdlib.h>
 #include <string.h>
 
-/* Places in the kept bytes of a process, and in a gateway's store (docs/FORMATS.md, "Kept bytes", "Store"). */
-enum { STATE_SIZE = 6, MESSAGES = 8, KEPT_HEAD = 16, COUNT = 4, STORE_HEAD = 8, PROCESS_SIZE = 17, WORD = 8, HALF = 4, LENGTH = 2 };
+/* Places in the kept bytes of a process (docs/FORMATS.md, "Kept bytes"). */
+enum { STATE_SIZE = 6, MESSAGES = 8, KEPT_HEAD = 16, WORD = 8, LENGTH = 2 };
 
 static int inspect_process(const struct store *store) {
     struct slots slots;
@@ -42,16 +43,13 @@ static void print_name(const char *identity, int process) {
     printf("process %d %.*s: ", process, (int)strcspn(name, " \n"), name);
 }
 
-/* The store of a gateway is whole: the library has written it. */
 static void print_processes(const uint8_t *whole, const char *identity) {
-    int count = whole[COUNT];
-    const uint8_t *first = whole + STORE_HEAD, *at = first + count * PROCESS_SIZE;
-    for (int p = 1; p <= count; p++, first += PROCESS_SIZE) {
-        uint64_t next = number_at(at, WORD), kept = number_at(at + WORD, HALF);
+    struct stored all[PROCESS_LIMIT + 1];
+    int count = stored_read(whole, all);
+    for (int p = 1; p <= count; p++) {
         print_name(identity, p);
         printf("%" PRIu64 " inputs logged, %" PRIu64 " of them kept; %" PRIu64 " outputs shown; incarnation %" PRIu64 "\n",
-               next + kept - 1, kept, number_at(first, WORD), number_at(first + WORD, WORD));
-        for (at += WORD + HALF; kept > 0; kept--) at += WORD + LENGTH + number_at(at + WORD, LENGTH);
+               all[p].logged, all[p].kept, all[p].shown, all[p].incarnation);
     }
 }
 

@@ -1,30 +1,17 @@
 #include "log.h"
 
+#include "text.h"
+
 #include <inttypes.h>
-#include <stdarg.h>
 #include <stdbool.h>
 #include <stdio.h>
 #include <string.h>
 #include <time.h>
 #include <unistd.h>
 
-enum { LINE_LIMIT = 16384, THOUSAND = 1000 }; /* a sentence has at most 1023 bytes, each at most 6 as JSON has it */
-
-struct text {
-    size_t size;
-    char bytes[LINE_LIMIT];
-};
+enum { THOUSAND = 1000 };
 
 static const char *const LEVELS[] = {"error", "warning", "info"};
-
-static void add(struct text *text, const char *format, ...) {
-    va_list arguments;
-    va_start(arguments, format);
-    size_t room = sizeof text->bytes - text->size;
-    int size = vsnprintf(text->bytes + text->size, room, format, arguments);
-    va_end(arguments);
-    text->size += size < (int)room ? (size_t)size : room - 1;
-}
 
 /* How many bytes the next character has as UTF-8 spells it; 0 where none is spelled. */
 static int character(const unsigned char *at) {
@@ -38,29 +25,29 @@ static int character(const unsigned char *at) {
 
 /* A text in quotes, as JSON has it. A byte that is no character's is one that says so. */
 static void add_quoted(struct text *text, const char *word) {
-    add(text, "\"");
+    text_add(text, "\"");
     for (const unsigned char *at = (const unsigned char *)word; *at;) {
         int size = character(at);
-        if (size == 0) add(text, "\\ufffd");
-        else if (*at < ' ' || *at == 127) add(text, "\\u%04x", *at);
-        else if (*at == '"' || *at == '\\') add(text, "\\%c", *at);
-        else add(text, "%.*s", size, (const char *)at);
+        if (size == 0) text_add(text, "\\ufffd");
+        else if (*at < ' ' || *at == 127) text_add(text, "\\u%04x", *at);
+        else if (*at == '"' || *at == '\\') text_add(text, "\\%c", *at);
+        else text_add(text, "%.*s", size, (const char *)at);
         at += size > 0 ? size : 1;
     }
-    add(text, "\"");
+    text_add(text, "\"");
 }
 
 /* The name of a field, after those before it. */
 static void add_name(struct text *text, enum log_form form, const char *name) {
-    if (form == LOG_JSON) add(text, "%s\"%s\":", text->size > 1 ? "," : "", name);
-    else add(text, "%s%s=", text->size > 0 ? " " : "", name);
+    if (form == LOG_JSON) text_add(text, "%s\"%s\":", text->size > 1 ? "," : "", name);
+    else text_add(text, "%s%s=", text->size > 0 ? " " : "", name);
 }
 
 static void add_word(struct text *text, enum log_form form, const char *name, const char *word) {
     bool is_plain = form == LOG_PAIRS && *word && strcspn(word, " =\"\\") == strlen(word) && strlen(word) <= 32;
     for (const char *at = word; is_plain && *at; at++) is_plain = *at > ' ' && *at < 127;
     add_name(text, form, name);
-    if (is_plain) add(text, "%s", word);
+    if (is_plain) text_add(text, "%s", word);
     else add_quoted(text, word);
 }
 
@@ -75,7 +62,7 @@ static void add_time(struct text *text, enum log_form form) {
 }
 
 static void for_programs(struct text *text, enum log_form form, const struct log_line *line) {
-    if (form == LOG_JSON) add(text, "{");
+    if (form == LOG_JSON) text_add(text, "{");
     add_time(text, form);
     add_word(text, form, "level", LEVELS[line->level]);
     if (line->process) add_word(text, form, "process", line->process);
@@ -88,27 +75,28 @@ static void for_programs(struct text *text, enum log_form form, const struct log
             continue;
         }
         add_name(text, form, figure->name);
-        add(text, "%" PRIu64, figure->value);
+        text_add(text, "%" PRIu64, figure->value);
     }
-    if (form == LOG_JSON) add(text, "}");
+    if (form == LOG_JSON) text_add(text, "}");
 }
 
 /* A sentence says what its figures say; figures alone are a line of words and numbers. */
 static void for_people(struct text *text, const struct log_line *line) {
     if (line->sentence) {
-        add(text, "sblog-node: %s%s%s", line->process ? line->process : "", line->process ? ": " : "", line->sentence);
+        text_add(text, "sblog-node: %s%s%s", line->process ? line->process : "", line->process ? ": " : "", line->sentence);
         return;
     }
-    add(text, "%s %s", line->event, line->process);
+    text_add(text, "%s %s", line->event, line->process);
     for (size_t i = 0; i < line->count; i++) {
         const struct figure *figure = &line->figures[i];
-        if (figure->word) add(text, " %s %s", figure->name, figure->word);
-        else add(text, " %s %" PRIu64, figure->name, figure->value);
+        if (figure->word) text_add(text, " %s %s", figure->name, figure->word);
+        else text_add(text, " %s %" PRIu64, figure->name, figure->value);
     }
 }
 
 void log_write(enum log_form form, const struct log_line *line) {
-    struct text text = {0};
+    struct text text;
+    text.size = 0;
     if (form == LOG_PEOPLE) for_people(&text, line);
     else for_programs(&text, form, line);
     text.bytes[text.size++] = '\n';

@@ -1,8 +1,7 @@
 #include "membership.h"
 
+#include "pace.h"
 #include "report.h"
-
-enum { PAUSE = 32, SECOND = 1000000 }; /* the longest pause, in ticks; microseconds until it is said that nobody answers */
 
 static int refused(const struct owner *owner, const struct store *store) {
     const char *name = owner->cluster->processes[owner->me].name;
@@ -49,7 +48,7 @@ int membership_join(const struct options *options, const struct owner *owner, co
         if (now >= next) {
             transport_greet(transport, 0, &hello);
             next = now + pause;
-            if (pause < PAUSE * options->tick) pause *= 2;
+            if (pause < LONGEST_PAUSE * options->tick) pause *= 2;
         }
         if (now >= late) {
             report_event(LEVEL_WARNING, "waiting", "the gateway doesn't answer yet: a process with a new store waits for it");

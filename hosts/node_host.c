@@ -12,8 +12,7 @@
 #include <stdlib.h>
 #include <string.h>
 
-/* Messages of a turn; microseconds of a second; the longest pause between ticks, in ticks. */
-enum { TURN = 512, REPLAYS = 1024, SECOND = 1000000, PAUSE = 32 };
+enum { TURN = 512, REPLAYS = 1024 }; /* messages of a turn */
 
 static const char *const STAGES[] = {"up", "busy", "frozen", "collecting", "replaying", "resuming"};
 
@@ -143,16 +142,11 @@ static size_t figures(struct node_host *host, struct figure out[FIGURES]) {
     return FIGURES;
 }
 
-static void show(struct node_host *host, uint64_t now) {
+static void show(struct node_host *host) {
     struct figure all[FIGURES];
     size_t count = figures(host, all);
-    bool is_due = host->options->status && now >= host->next_status;
-    metrics_serve(&host->metrics, &(struct view){.process = name_of(host), .stage = STAGES[host->standing.stage], .is_ready = host->was_up,
-                                                 .figures = all, .count = count, .messages = &host->pace.took, .syncs = &host->syncs});
-    if (!is_due && !signal_status) return;
-    signal_status = 0;
-    if (is_due) host->next_status = now + SECOND;
-    report_figures("status", NULL, all, count);
+    metrics_show(&host->metrics, &(struct view){.process = name_of(host), .stage = STAGES[host->standing.stage], .is_ready = host->was_up,
+                                                .figures = all, .count = count, .messages = &host->pace.took, .syncs = &host->syncs});
 }
 
 /* What isn't answered goes again. */
@@ -171,11 +165,11 @@ static void tick(struct node_host *host, uint64_t now, int received) {
     bool is_up = host->standing.stage <= SBLOG_NODE_FROZEN, was_up = host->was_up;
     if (received > 0) host->pause = host->options->tick;
     if (is_up) host->next_tick = was_up ? pace_due(&host->pace) : now;
-    else if (host->next_tick > now + host->pause) host->next_tick = now + host->pause;
+    else if (received > 0 && host->next_tick > now + host->pause) host->next_tick = now + host->pause;
     if (now < host->next_tick) return;
     send_again(host, now);
-    if (host->pause < PAUSE * host->options->tick) host->pause *= 2;
-    host->next_tick = is_up ? pace_due(&host->pace) : now + host->pause;
+    if (host->pause < LONGEST_PAUSE * host->options->tick) host->pause *= 2;
+    host->next_tick = is_up ? pace_due(&host->pace) : now + pace_spread(&host->pace, host->pause);
 }
 
 static bool is_time_to_keep(const struct node_host *host) {
@@ -205,13 +199,12 @@ static int turn(struct node_host *host, bool *is_more) {
     }
     if (status != STATUS_DONE) return status;
     put_out(host);
-    uint64_t now = clock_now();
-    tick(host, now, received);
+    tick(host, clock_now(), received);
     status = confirm(host);
     if (status != STATUS_DONE) return status;
     transport_serve(&host->transport);
     status = tell(host);
-    show(host, now);
+    show(host);
     return status;
 }
 
@@ -223,7 +216,6 @@ static int run(struct node_host *host) {
         transport_reload(&host->transport);
         status = turn(host, &is_more);
         watch_begin(&watch, is_more || signal_stop ? 0 : host->next_tick);
-        if (host->options->status) watch_time(&watch, host->next_status);
         transport_watch(&host->transport, &watch);
         metrics_watch(&host->metrics, &watch);
         watch_wait(&watch);
@@ -241,6 +233,7 @@ int node_run(const struct options *options, const struct cluster *cluster) {
     host.was_exact = true;
     int status = options->looks ? node_look(&host) : node_begin(&host);
     if (status != STATUS_DONE || options->looks) return status;
+    host.metrics.has_lines = options->status;
     status = run(&host);
     transport_close(&host.transport, status != STATUS_STORE);
     metrics_close(&host.metrics);

@@ -1,5 +1,6 @@
 #include "node_state.h"
 
+#include "bytes.h"
 #include "hash.h"
 #include "limits.h"
 #include "membership.h"
@@ -33,20 +34,10 @@ static int read_image(struct node_host *host, char hash[HASH_TEXT]) {
     return host->image ? STATUS_DONE : STATUS_IO;
 }
 
-/* More room for a checkpoint; false without memory. */
-static bool has_room(struct node_host *host, size_t size) {
-    if (size <= host->room) return true;
-    uint8_t *more = realloc(host->bytes, size + size / 2);
-    if (!more) return false;
-    host->bytes = more;
-    host->room = size + size / 2;
-    return true;
-}
-
 uint32_t node_freeze(struct node_host *host, size_t *size) {
     uint32_t code;
     while ((code = sblog_node_checkpoint(&host->node, host->bytes, host->room, size)) == SBLOG_NODE_ROOM)
-        if (!has_room(host, *size)) return SBLOG_NODE_MEMORY;
+        if (!bytes_fit(&host->bytes, &host->room, *size)) return SBLOG_NODE_MEMORY;
     return code;
 }
 
@@ -118,7 +109,7 @@ static int begin_life(struct node_host *host, const struct owner *owner, bool is
     if (status == STATUS_DONE) status = store_read_inexact(&host->store, &inexact);
     if (status != STATUS_DONE) return status;
     host->store_is_inexact = inexact > 0;
-    if (!has_room(host, ROOM)) return code_refused("open", SBLOG_NODE_MEMORY, 0);
+    if (!bytes_fit(&host->bytes, &host->room, ROOM)) return code_refused("open", SBLOG_NODE_MEMORY, 0);
     return is_new ? begin_new(host, owner, incarnation) : begin_again(host, owner, incarnation);
 }
 

@@ -25,7 +25,7 @@ struct node_host {
     sblog_standing standing;
     uint8_t *image, *bytes;
     size_t image_size, room;
-    uint64_t started, next_tick, pause, next_status;
+    uint64_t started, next_tick, pause;
     uint64_t refused, checkpoints;
     uint64_t confirmed; /* packets that were queued while the store was this life's */
     bool has_written;   /* in this turn */

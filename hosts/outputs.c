@@ -1,6 +1,5 @@
 #include "outputs.h"
 
-#include <inttypes.h>
 #include <string.h>
 
 bool outputs_are_full(const struct outputs *outputs) { return outputs->count == OUTPUTS_LIMIT; }
@@ -32,15 +31,9 @@ bool outputs_take_printed(struct outputs *outputs) {
     return true;
 }
 
-void output_print(const struct output *output, const char *name, struct client *client) {
-    static const char digits[] = "0123456789abcdef";
-    char hex[2 * PAYLOAD_LIMIT + 2] = "-";
-    for (size_t i = 0; i < output->size; i++) {
-        hex[2 * i] = digits[output->payload[i] >> 4];
-        hex[2 * i + 1] = digits[output->payload[i] & 15];
-    }
-    if (output->size > 0) hex[2 * output->size] = 0;
-    client_answer(client, "output %s %" PRIu64 " %s\n", name, output->ssn, hex);
+void output_print(const struct output *output, const struct cluster *cluster, struct client *client) {
+    client_reply(client, cluster, &(struct reply){.verb = VERB_OUTPUT, .process = output->process, .number = output->ssn,
+                                                  .payload = output->payload, .size = output->size});
 }
 
 bool outputs_have_taken(const struct outputs *outputs) {

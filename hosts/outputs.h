@@ -39,8 +39,8 @@ bool outputs_take(struct outputs *outputs, int process, uint64_t ssn);
 /* The one that was printed last is taken; false if it is already, or none was. */
 bool outputs_take_printed(struct outputs *outputs);
 
-/* One as a line, for which there is room. */
-void output_print(const struct output *output, const char *name, struct client *client);
+/* Gives one to a program, which has room for it. */
+void output_print(const struct output *output, const struct cluster *cluster, struct client *client);
 
 /* Whether some are taken and not forgotten. */
 bool outputs_have_taken(const struct outputs *outputs);

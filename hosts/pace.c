@@ -10,8 +10,8 @@
 enum { DELIVERY = 1, NUMBER = 2, ACKNOWLEDGEMENT = 3, RESUME = 6, SAVED = 8 };
 enum { KIND = 4, FROM = 6, FIELDS = 8, WORD = 8, SHORTEST_PACKET = 12 };
 
-/* The least window; the longest pause, in shortest ones; how often the pause is doubled; microseconds; packets that wait. */
-enum { LEAST_WINDOW = 8, PAUSE = 32, DOUBLES = 5, SOON = 1000, QUEUE_LIMIT = 2048 };
+/* The least window; how often the pause is doubled; microseconds; packets that wait; what a spread counts, and the greatest one. */
+enum { LEAST_WINDOW = 8, DOUBLES = 5, SOON = 1000, QUEUE_LIMIT = 2048, WHOLE = 1024, QUARTER = WHOLE / 4 };
 
 struct waiting {
     struct waiting *next;
@@ -39,11 +39,22 @@ static void queue_drop(struct queue *queue) {
     free(first);
 }
 
+/* The next number of a sequence that the clock began (xorshift of 64 bits). */
+static uint64_t draw(struct pace *pace) {
+    pace->chance ^= pace->chance << 13;
+    pace->chance ^= pace->chance >> 7;
+    pace->chance ^= pace->chance << 17;
+    return pace->chance;
+}
+
+uint64_t pace_spread(struct pace *pace, uint64_t pause) { return pause + pause * (draw(pace) % QUARTER) / WHOLE; }
+
 void pace_begin(struct pace *pace, struct transport *transport, uint64_t shortest) {
     memset(pace, 0, sizeof *pace);
     pace->transport = transport;
     pace->shortest = shortest;
-    pace->longest = PAUSE * shortest;
+    pace->longest = LONGEST_PAUSE * shortest;
+    pace->chance = clock_now() | 1;
     uint64_t share = NUMBERS * 3 / 4 / (uint64_t)transport->cluster->count; /* a quarter is for those on their way */
     pace->most = NUMBERS * 3 / 8;
     pace->least = share > LEAST_WINDOW ? share : LEAST_WINDOW;
@@ -157,6 +168,7 @@ void pace_tick_begins(struct pace *pace, uint64_t now) {
         if (flow->sent > flow->answered) flow->window = pace->least; /* the peer may have too much to do */
         flow->timed = 0; /* an answer may be to either of two packets now */
         flow->since = now;
+        flow->spread = draw(pace) % QUARTER;
         flow->refill = 0;
         flow->is_back = false;
         flow->has_held = flow->held.count > 0;
@@ -185,18 +197,20 @@ void pace_tick_sends(struct pace *pace, int to, const uint8_t *packet, size_t si
     pace_send(pace, to, packet, size, now);
 }
 
-/* What is open goes again when its answer takes twice as long as usual, then four times, and so on. */
+/* What is open goes again when its answer takes twice as long as usual, then four times, and so on, and by chance somewhat longer. */
 static uint64_t due(const struct pace *pace, const struct flow *flow) {
     uint64_t pause = 2 * flow->usual;
     if (flow->refill > 0 && flow->answered >= flow->refill) return pace->last + SOON;
     if (flow->is_back) return pace->last + pace->shortest;
     if (!is_open(flow)) return UINT64_MAX;
     if (pause < pace->shortest) pause = pace->shortest;
-    return flow->since + (pause << flow->tries);
+    pause <<= flow->tries;
+    if (pause > pace->longest) pause = pace->longest;
+    return flow->since + pause + pause * flow->spread / WHOLE;
 }
 
 uint64_t pace_due(const struct pace *pace) {
-    uint64_t first = pace->last + pace->longest;
+    uint64_t first = pace->last + pace->longest + pace->longest / 4;
     for (int p = 0; p <= pace->transport->cluster->count; p++) {
         uint64_t one = due(pace, &pace->flows[p]);
         if (one < first) first = one;

@@ -6,6 +6,8 @@
 #include "histogram.h"
 #include "transport.h"
 
+enum { LONGEST_PAUSE = 32 }; /* in shortest ones */
+
 /* Packets that wait, each once. */
 struct queue {
     struct waiting *first, **end;
@@ -21,6 +23,7 @@ struct flow {
     uint64_t usual;              /* microseconds that an answer takes */
     uint64_t window, grown;      /* messages without an answer; answers since it grew */
     uint64_t since;              /* when it answered last, or what is open was sent */
+    uint64_t spread;             /* by how many 1,024ths its next pause is longer */
     uint64_t refill;             /* the SSN behind which a tick has more to send; 0 for none */
     int tries;                   /* ticks since it answered */
     bool is_known;               /* whether answered is */
@@ -34,6 +37,7 @@ struct pace {
     uint64_t shortest, longest; /* microseconds between ticks */
     uint64_t least, most;       /* windows: an equal share of what a node takes, and what they grow to */
     uint64_t last;              /* when it ticked */
+    uint64_t chance;
     struct histogram took; /* from a message's first sending until it is answered */
     struct flow flows[PROCESS_LIMIT + 1];
 };
@@ -52,6 +56,9 @@ void pace_hear(struct pace *pace, const uint8_t *packet, size_t size, uint64_t n
 /* A tick is made; and sends its packets, of which place counts those for one peer. */
 void pace_tick_begins(struct pace *pace, uint64_t now);
 void pace_tick_sends(struct pace *pace, int to, const uint8_t *packet, size_t size, int place, uint64_t now);
+
+/* A pause that is up to a quarter longer, by chance: programs that lost something together don't send it again together. */
+uint64_t pace_spread(struct pace *pace, uint64_t pause);
 
 /* When the next tick is due. */
 uint64_t pace_due(const struct pace *pace);

@@ -2,7 +2,7 @@
 
 #include <time.h>
 
-enum { SECOND = 1000000, THOUSAND = 1000 };
+enum { THOUSAND = 1000 };
 
 uint64_t clock_now(void) {
     struct timespec now;

@@ -5,7 +5,7 @@
 #include <poll.h>
 #include <stdint.h>
 
-enum { WATCH_LIMIT = 256 };
+enum { WATCH_LIMIT = 256, SECOND = 1000000 }; /* files; microseconds */
 
 struct watch {
     struct pollfd files[WATCH_LIMIT];

@@ -23,6 +23,12 @@ extern "C" {
    C that tools/dist writes of this header: nothing of them is proved. */
 const char *sblog_version(void);
 
+enum {
+    SBLOG_PROCESS_LIMIT = 15, /* the highest number of a process */
+    SBLOG_STATE_LIMIT = 1024, /* bytes of a state */
+    SBLOG_PAYLOAD_LIMIT = 256 /* bytes of a message; of form 1 there are 64 */
+};
+
 /* ---- handlers */
 
 enum sblog_code {
@@ -110,10 +116,7 @@ enum {
     SBLOG_SPAN_ARRAY_SIZE = 2048, /* the same of form 3, whose message region is longer */
     SBLOG_SPAN_STATE_AT = 512,
     SBLOG_STACK_SIZE = 512,
-    SBLOG_RECORD_SIZE = 4416,
-    SBLOG_PROCESS_LIMIT = 15, /* the highest number of a process */
-    SBLOG_STATE_LIMIT = 1024,
-    SBLOG_PAYLOAD_LIMIT = 256 /* bytes of a message; of form 1 there are 64 */
+    SBLOG_RECORD_SIZE = 4416
 };
 
 /* Machine code: it is given an array, a record, and the message's length, and answers r0. */

@@ -66,7 +66,7 @@ class Limits(NamedTuple):  # of a node, until it is closed
     tick: int = 8
     numbers: int = 256
     receipts: int = 65_536
-    durable: bool = False
+    durable: bool = True
 
 
 def _unsigned(kind: Any, value: int) -> Any:

@@ -1,4 +1,4 @@
-/* The host of one node: host DIRECTORY ME N IMAGE. Packets go over datagram sockets DIRECTORY/0, /1, .., of which 0 is the
+/* The host of one durable node: host DIRECTORY ME N IMAGE. Packets go over datagram sockets DIRECTORY/0, /1, .., of which 0 is the
    gateway's. What is kept of the node lies in DIRECTORY, as kept_file.c or kept_sqlite.c keeps it: it may be killed at
    any moment, and counts on. */
 #include <poll.h>
@@ -12,7 +12,7 @@
 #include "kept.h"
 #include "sblog.h"
 
-enum { PAGE = 60000, TICK = 8, NUMBERS = 256, RECEIPTS = 65536, WAIT = 50, OFTEN = 4, FILE_LIMIT = 1 << 20 };
+enum { PAGE = 60000, TICK = 8, NUMBERS = 256, RECEIPTS = 65536, DURABLE = 1, WAIT = 50, FILE_LIMIT = 1 << 20 };
 
 static uint8_t packet[PAGE], image[FILE_LIMIT], kept[FILE_LIMIT];
 
@@ -68,11 +68,11 @@ static void begin(sblog_node *node, uint8_t me, uint8_t n, size_t image_len, con
     life = size > 0 ? life + 1 : 1;
     kept_store(life_name, &life, sizeof life);
     if (size == 0) {
-        check(sblog_node_open(image, image_len, me, n, PAGE, TICK, NUMBERS, RECEIPTS, 0, node) == SBLOG_NODE_DONE, "open");
+        check(sblog_node_open(image, image_len, me, n, PAGE, TICK, NUMBERS, RECEIPTS, DURABLE, node) == SBLOG_NODE_DONE, "open");
         keep(node, name);
         return;
     }
-    uint32_t code = sblog_node_revive(image, image_len, kept, size, life, PAGE, TICK, NUMBERS, RECEIPTS, 0, node, &fault);
+    uint32_t code = sblog_node_revive(image, image_len, kept, size, life, PAGE, TICK, NUMBERS, RECEIPTS, DURABLE, node, &fault);
     check(code == SBLOG_NODE_DONE, "revive");
 }
 
@@ -94,7 +94,7 @@ int main(int count, char **words) {
         while (sblog_node_work(&node) == SBLOG_NODE_DONE) {}
         sblog_standing standing;
         sblog_node_standing(&node, &standing);
-        if (standing.receipts >= OFTEN) keep(&node, name);
+        if (standing.receipts > 0) keep(&node, name);
         send_all(&node, socket_);
         struct pollfd waits = {.fd = socket_, .events = POLLIN};
         if (poll(&waits, 1, WAIT) > 0) {

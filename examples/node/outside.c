@@ -1,5 +1,6 @@
 /* Opens two nodes of each image: the handler of one runs inside, by sblog_node_work, that of the other outside, as machine
-   code that sblog_compile wrote. Handed the same packets, both have to come to the same state, and to put out the same. */
+   code that sblog_compile wrote. Handed the same packets, both have to come to the same state, and to put out the same. They
+   aren't durable, since nothing is kept of them. */
 #define _DEFAULT_SOURCE
 #define SBLOG_CALLS_CODE
 #include "sblog.h"

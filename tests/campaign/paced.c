@@ -1,5 +1,5 @@
 /* Whether all messages come to a peer, whatever is lost and however many are put out at once: a model of the library and of a peer that
-   takes them in order, around the pace. paced */
+   takes them in order, around the pace. And whether what isn't answered goes again later and later, by chance spread. paced */
 #include "../../hosts/limits.h"
 #include "../../hosts/pace.h"
 
@@ -82,9 +82,37 @@ static int run(int count, int loss, uint64_t burst) {
     return 1;
 }
 
+/* A message to a peer that is away: each pause is twice the one before, up to 32 times the first, and up to a quarter longer. */
+static int spreads(void) {
+    static struct transport transport;
+    static struct cluster cluster;
+    enum { SHORTEST = 5000, TRIES = 60, LONGEST = 32 };
+    int longer = 0, wrong = 0;
+    cluster.count = 1;
+    transport.cluster = &cluster;
+    memset(&model, 0, sizeof model);
+    model.loss = 100;
+    pace_begin(&model.pace, &transport, SHORTEST);
+    pace_send(&model.pace, PEER, packet_of(DELIVERY, 1), SIZE, model.now);
+    for (uint64_t tries = 0, pause = SHORTEST, last = 0; tries < TRIES; tries++) {
+        uint64_t due = pace_due(&model.pace), took = due - model.now;
+        wrong += took < pause || took > pause + pause / 4;
+        longer += took - pause > pause / 8;
+        wrong += tries > 6 && took == last;
+        last = took;
+        model.now = due;
+        if (pause < LONGEST * SHORTEST) pause *= 2;
+        pace_tick_begins(&model.pace, model.now);
+        pace_tick_sends(&model.pace, PEER, packet_of(DELIVERY, 1), SIZE, 0, model.now);
+    }
+    bool is_right = wrong == 0 && longer > TRIES / 4 && longer < TRIES * 3 / 4;
+    if (!is_right) fprintf(stderr, "%d pauses are wrong, and %d of %d long\n", wrong, longer, TRIES);
+    return !is_right;
+}
+
 int main(void) {
     static const uint64_t bursts[] = {10, 96, 97, 300, 2049, 3000, MESSAGES};
-    int wrong = 0;
+    int wrong = spreads();
     srand(1);
     for (int count = 1; count <= PROCESS_LIMIT; count += 1 + count / 2)
         for (int loss = 0; loss <= 20; loss += 10)

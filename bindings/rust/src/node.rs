@@ -30,7 +30,7 @@ pub struct Limits {
 
 impl Default for Limits {
     fn default() -> Limits {
-        Limits { page: 60_000, tick: 8, numbers: 256, receipts: 65_536, is_durable: false }
+        Limits { page: 60_000, tick: 8, numbers: 256, receipts: 65_536, is_durable: true }
     }
 }
 

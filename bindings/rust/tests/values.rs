@@ -96,6 +96,9 @@ fn a_host_makes_the_call_of_a_node() {
     assert_eq!(node.state().unwrap(), 5u64.to_le_bytes());
     gateway.receive(&node.take().unwrap().unwrap().bytes).unwrap();
     node.receive(&gateway.take().unwrap().unwrap().bytes).unwrap();
+    assert_eq!(node.take().unwrap(), None); // it is durable: the output waits for a checkpoint
+    node.checkpoint().unwrap();
+    node.saved().unwrap();
     gateway.receive(&node.take().unwrap().unwrap().bytes).unwrap();
     assert_eq!(gateway.output().unwrap(), Some(Output { process: 1, ssn: 1, payload: message(5).to_vec() }));
 }
