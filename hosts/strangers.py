@@ -142,7 +142,7 @@ def joins(folder, name, environment=None, seed=None):
     for program in cluster.programs:
         if program.name == name and environment:
             try:
-                died = program.child.wait(0.3) is not None
+                died = program.child.wait(3) is not None
             except subprocess.TimeoutExpired:
                 program.kill()
             program.environment = None
