@@ -9,7 +9,7 @@ import lives
 from lives import Cluster, Wrong
 from listening import PROCESSES, connect, payload, works
 from looks import told
-from storage import Bucket, Table
+from storage import Bucket, Table, lets_through
 
 PORT = 17790
 
@@ -50,7 +50,7 @@ def tries(word, program, file):
 def lives_on(folder, storage):
     """As another user, with few system calls: a first life, kills of all, and lives that follow others."""
     cluster = Cluster(folder, "bank", PROCESSES)
-    os.chmod(os.path.dirname(folder), 0o711)
+    lets_through(folder)
     os.chmod(folder, 0o777)
     cluster.lines = os.path.join(folder, "lines")
     for program in cluster.programs:

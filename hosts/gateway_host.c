@@ -247,7 +247,7 @@ int gateway_run(const struct options *options, const struct cluster *cluster) {
     transport_close(&host.transport, status != STATUS_STORE);
     metrics_close(&host.metrics);
     gateway_store_close(&host.store);
-    store_close(&host.folder);
     clients_close(&host.clients);
+    store_close(&host.folder);
     return status;
 }

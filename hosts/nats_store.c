@@ -1,7 +1,6 @@
-/* A store in a bucket of NATS JetStream: all files under the key CLUSTER.PROCESS, and under CLUSTER.PROCESS.CLAIM.N what the life of this
-   claim put behind the gateway's log, piece by piece. JetStream takes a value only where the last one under its key has the revision that
-   the writer tells (docs/FORMATS.md, "Stores elsewhere"). A life claims a store when it writes the key of the files, and in the place of
-   the next piece of the life before a stone that stays: then no earlier life knows the revision of what it would write next. */
+/* A store in a bucket of NATS JetStream (docs/FORMATS.md, "Stores elsewhere"): a key for all files, and one for each piece that a life
+   put behind the gateway's log. JetStream takes a value only where the last one under its key has the revision that the writer tells. A
+   life claims a store when it writes the key of the files, and in the place of the next piece of the life before a stone that stays. */
 #include "report.h"
 #include "store.h"
 
@@ -14,7 +13,6 @@
 
 #include <inttypes.h>
 #include <stdio.h>
-#include <stdlib.h>
 #include <string.h>
 
 /* A value's head: the claim and the mark of the life that wrote it; of the files whose pieces follow, and the last one that they cover. */
@@ -23,25 +21,23 @@ enum { MARK = 8, WRITER = 16, BASE = 24, HEAD = 32, WORD = 8 };
 /* Microseconds that a server may be away; milliseconds of a try, and between two; another life wrote meanwhile. */
 enum { AWAY = 30000000, TRY = 2000, AGAIN = 100, MOVED = -1, TEXT = 512 };
 
-static const char STREAM[] = "KV_"; /* before a bucket's name */
+static const char STREAM[] = "KV_", LOG[] = "gateway"; /* before a bucket's name; the file that pieces are put behind */
+
+/* Of a life's piece, 1, 2 and on; or of the files. */
+static const struct key {
+    uint64_t writer, piece;
+} FILES = {0, 0};
 
 struct bucket {
     natsConnection *connection;
     jsCtx *jet;
     char url[TEXT], path[TEXT], stream[TEXT];
     struct id mark;
-    uint64_t claim, last;           /* this life's, and its last piece */
-    uint64_t revision;              /* of the files */
-    uint64_t writer, base, stone;   /* whose pieces follow them, the last one that they cover, the revision of the stone behind those */
+    uint64_t claim, last, revision; /* this life's, its last piece, and the revision of the files */
+    struct key covered;             /* whose pieces follow the files, and the last one that is in them */
+    uint64_t stone;                 /* the revision of what stands behind those */
     struct bytes files;
 };
-
-/* Which key: of a life's piece, or for 0 of the files. */
-struct key {
-    uint64_t writer, piece;
-};
-
-static const struct key FILES = {0, 0};
 
 static const char *subject_of(const struct store *store, struct key key, char text[TEXT]) {
     const struct bucket *bucket = store->place;
@@ -74,14 +70,13 @@ static int get(const struct store *store, struct key key, struct bytes *value, u
     natsStatus status;
     jsErrCode code;
     *value = (struct bytes){0};
-    *revision = 0;
     do {
         code = 0;
         status = js_GetLastMsg(&found, bucket->jet, bucket->stream, subject_of(store, key, subject), NULL, &code);
     } while (status != NATS_OK && is_away(status, code, until));
+    *revision = status == NATS_OK ? natsMsg_GetSequence(found) : 0;
     if (status != NATS_OK) return code == JSNoMessageFoundErr ? STATUS_DONE : failed(store, status, code);
     size_t size = (size_t)natsMsg_GetDataLength(found);
-    *revision = natsMsg_GetSequence(found);
     bool has_memory = size < HEAD || bytes_add(value, natsMsg_GetData(found), size); /* a key that was emptied by hand has none */
     natsMsg_Destroy(found);
     return has_memory ? STATUS_DONE : store_lacks_memory(store);
@@ -96,39 +91,33 @@ static int judge_moved(const struct store *store, struct key key, const struct b
     return status != STATUS_DONE || is_own ? status : MOVED;
 }
 
-/* Puts a value over the one of this revision, which becomes its own; MOVED where another life wrote meanwhile. */
-static int put_value(const struct store *store, struct key key, const struct bytes *value, uint64_t *revision) {
+/* Puts bytes in this life's name over the value of this revision, which becomes theirs; MOVED where another life wrote meanwhile. */
+static int put(const struct store *store, struct key key, struct key covered, const void *bytes, size_t size, uint64_t *revision) {
     const struct bucket *bucket = store->place;
     const uint64_t until = clock_now() + AWAY;
     char subject[TEXT];
+    uint8_t head[HEAD];
+    struct bytes value = {0};
     jsPubOptions options = {.MaxWait = TRY, .ExpectLastSubjectSeq = *revision, .ExpectNoMessage = *revision == 0};
-    jsPubAck *taken;
+    jsPubAck *taken = NULL;
     natsStatus status;
     jsErrCode code;
-    do {
-        code = 0;
-        status = js_Publish(&taken, bucket->jet, subject_of(store, key, subject), value->at, (int)value->size, &options, &code);
-    } while (status != NATS_OK && is_away(status, code, until));
-    if (code == JSStreamWrongLastSequenceErr) return judge_moved(store, key, value, revision);
-    if (status != NATS_OK) return failed(store, status, code);
-    *revision = taken->Sequence;
-    jsPubAck_Destroy(taken);
-    return STATUS_DONE;
-}
-
-/* Puts bytes there in this life's name. */
-static int put(const struct store *store, struct key key, struct key covered, const void *bytes, size_t size, uint64_t *revision) {
-    const struct bucket *bucket = store->place;
-    struct bytes value = {0};
-    uint8_t head[HEAD];
     number_put(head, bucket->claim, WORD);
     memcpy(head + MARK, bucket->mark.bytes, WRITER - MARK);
     number_put(head + WRITER, covered.writer, WORD);
     number_put(head + BASE, covered.piece, WORD);
-    bool has_memory = bytes_add(&value, head, HEAD) && bytes_add(&value, bytes, size);
-    int status = has_memory ? put_value(store, key, &value, revision) : store_lacks_memory(store);
+    if (!bytes_add(&value, head, HEAD) || !bytes_add(&value, bytes, size)) return store_lacks_memory(store);
+    do {
+        code = 0;
+        status = js_Publish(&taken, bucket->jet, subject_of(store, key, subject), value.at, (int)value.size, &options, &code);
+    } while (status != NATS_OK && is_away(status, code, until));
+    int result = STATUS_DONE;
+    if (status == NATS_OK) *revision = taken->Sequence;
+    else if (code == JSStreamWrongLastSequenceErr) result = judge_moved(store, key, &value, revision);
+    else result = failed(store, status, code);
+    jsPubAck_Destroy(taken);
     bytes_end(&value);
-    return status;
+    return result;
 }
 
 /* Reads the files, and claims them, unless the store is only looked at. */
@@ -138,60 +127,57 @@ static int claim_files(const struct store *store) {
     int status = get(store, FILES, &value, &bucket->revision);
     files->size = 0;
     bucket->claim = value.at ? number_at(value.at, WORD) + 1 : 1;
-    bucket->writer = value.at ? number_at(value.at + WRITER, WORD) : 0;
-    bucket->base = value.at ? number_at(value.at + BASE, WORD) : 0;
+    bucket->covered = value.at ? (struct key){number_at(value.at + WRITER, WORD), number_at(value.at + BASE, WORD)} : FILES;
     bool has_memory = !value.at || bytes_add(files, value.at + HEAD, value.size - HEAD);
     bytes_end(&value);
     if (status != STATUS_DONE || store->is_looked_at) return status;
-    const struct key covered = {bucket->writer, bucket->base};
-    return has_memory ? put(store, FILES, covered, files->at, files->size, &bucket->revision) : store_lacks_memory(store);
+    return has_memory ? put(store, FILES, bucket->covered, files->at, files->size, &bucket->revision) : store_lacks_memory(store);
 }
 
-/* A piece of the life whose pieces follow the files; no bytes where another life put a stone, or there is nothing. */
-static int get_piece(const struct store *store, uint64_t piece, struct bytes *value, uint64_t *revision) {
-    const struct bucket *bucket = store->place;
-    int status = get(store, (struct key){bucket->writer, piece}, value, revision);
-    if (value->at && number_at(value->at, WORD) != bucket->writer) bytes_end(value);
-    return status;
+/* What the life that wrote the files whole put behind them; where its next piece would be, and the revision of the stone there. */
+static int read_pieces(const struct store *store, struct bytes *all, struct key *end, uint64_t *stone) {
+    struct bytes piece = {0};
+    bool is_piece, has_memory = true;
+    int status;
+    *end = ((const struct bucket *)store->place)->covered;
+    do {
+        end->piece++;
+        status = get(store, *end, &piece, stone);
+        is_piece = piece.at && number_at(piece.at, WORD) == end->writer;
+        if (is_piece) has_memory = has_memory && bytes_add(all, piece.at + HEAD, piece.size - HEAD);
+        bytes_end(&piece);
+    } while (is_piece);
+    return status == STATUS_DONE && !has_memory ? store_lacks_memory(store) : status;
 }
 
 /* Puts a stone where an earlier life would put its next piece; MOVED where it put one there meanwhile. */
 static int claim_end(const struct store *store) {
     struct bucket *bucket = store->place;
-    struct bytes value = {0};
-    uint64_t piece = bucket->base;
-    int status;
-    do {
-        bytes_end(&value);
-        status = get_piece(store, ++piece, &value, &bucket->stone);
-    } while (status == STATUS_DONE && value.at);
-    if (status != STATUS_DONE || bucket->stone > 0) return status;
-    return put(store, (struct key){bucket->writer, piece}, FILES, "", 0, &bucket->stone);
+    struct bytes all = {0};
+    struct key end;
+    int status = read_pieces(store, &all, &end, &bucket->stone);
+    bytes_end(&all);
+    return status != STATUS_DONE || bucket->stone > 0 ? status : put(store, end, FILES, "", 0, &bucket->stone);
 }
 
 static int nats_claim(struct store *store) {
-    struct bucket *bucket = store->place;
-    int status = id_draw(&bucket->mark);
-    if (status == STATUS_DONE) status = MOVED;
-    while (status == MOVED) status = claim_files(store);
-    if (status == STATUS_DONE && bucket->writer > 0 && !store->is_looked_at) status = MOVED;
-    while (status == MOVED) status = claim_end(store);
+    const struct bucket *bucket = store->place;
+    int status;
+    do status = claim_files(store);
+    while (status == MOVED);
+    bool has_pieces = status == STATUS_DONE && bucket->covered.writer > 0 && !store->is_looked_at;
+    while (has_pieces && (status = claim_end(store)) == MOVED) continue;
     return status;
 }
 
-/* Pieces follow what a gateway has put there whole. */
 static int nats_read(const struct store *store, const char *name, uint8_t **bytes, size_t *size) {
     const struct bucket *bucket = store->place;
-    struct bytes all = {0}, piece = {0};
-    uint64_t number = bucket->base, revision;
+    struct bytes all = {0};
+    struct key end;
+    uint64_t stone;
     const uint8_t *found = files_find(&bucket->files, name, size);
-    bool is_log = !strcmp(name, "gateway"), has_memory = bytes_add(&all, found, *size);
-    int status = found && is_log ? get_piece(store, ++number, &piece, &revision) : STATUS_DONE;
-    while (status == STATUS_DONE && piece.at) {
-        has_memory = has_memory && bytes_add(&all, piece.at + HEAD, piece.size - HEAD);
-        bytes_end(&piece);
-        status = get_piece(store, ++number, &piece, &revision);
-    }
+    bool has_memory = bytes_add(&all, found, *size);
+    int status = found && !strcmp(name, LOG) ? read_pieces(store, &all, &end, &stone) : STATUS_DONE;
     *size = all.size;
     has_memory = has_memory && bytes_add(&all, "", 1);
     *bytes = found ? all.at : NULL;
@@ -202,28 +188,25 @@ static int nats_read(const struct store *store, const char *name, uint8_t **byte
 static void drop_pieces(const struct store *store, uint64_t writer, uint64_t revision) {
     const struct bucket *bucket = store->place;
     char subject[TEXT];
-    jsOptions options;
-    jsOptions_Init(&options);
+    jsOptions options = {.Stream = {.Purge = {.Subject = subject, .Sequence = revision}}};
     size_t size = strlen(subject_of(store, FILES, subject));
     snprintf(subject + size, TEXT - size, ".%" PRIu64 ".*", writer);
-    options.Stream.Purge.Subject = subject;
-    options.Stream.Purge.Sequence = revision;
     js_PurgeStream(bucket->jet, bucket->stream, &options, NULL);
 }
 
 static int nats_write(const struct store *store, const char *name, const void *bytes, size_t size) {
     struct bucket *bucket = store->place;
     struct bytes anew = {0};
-    bool is_log = !strcmp(name, "gateway");
-    const struct key covered = {is_log ? bucket->claim : bucket->writer, is_log ? bucket->last : bucket->base};
+    bool is_log = !strcmp(name, LOG);
+    const struct key covered = is_log ? (struct key){bucket->claim, bucket->last} : bucket->covered;
     bool has_memory = files_with(&bucket->files, name, bytes, size, &anew);
     int status = has_memory ? put(store, FILES, covered, anew.at, anew.size, &bucket->revision) : store_lacks_memory(store);
     bytes_end(status == STATUS_DONE ? &bucket->files : &anew);
     if (status != STATUS_DONE) return status == MOVED ? store_is_lost(store) : status;
     bucket->files = anew;
-    if (is_log) drop_pieces(store, bucket->writer, bucket->writer == bucket->claim ? bucket->revision : bucket->stone);
-    bucket->writer = covered.writer;
-    bucket->base = covered.piece;
+    uint64_t writer = bucket->covered.writer;
+    if (is_log) drop_pieces(store, writer, writer == bucket->claim ? bucket->revision : bucket->stone);
+    bucket->covered = covered;
     return STATUS_DONE;
 }
 
@@ -231,18 +214,16 @@ static int nats_write(const struct store *store, const char *name, const void *b
 static int nats_append(const struct store *store, const char *name, const void *bytes, size_t size) {
     struct bucket *bucket = store->place;
     uint64_t revision = 0;
-    (void)name; /* the gateway's log alone is put to */
-    int status = put(store, (struct key){bucket->claim, bucket->last + 1}, FILES, bytes, size, &revision);
-    if (status == STATUS_DONE) bucket->last++;
+    (void)name; /* it is LOG */
+    int status = put(store, (struct key){bucket->claim, ++bucket->last}, FILES, bytes, size, &revision);
     return status == MOVED ? store_is_lost(store) : status;
 }
 
 /* URL/BUCKET. */
 static int nats_open(struct store *store, const char *where) {
-    struct bucket *bucket = calloc(1, sizeof *bucket);
+    static struct bucket own, *bucket = &own; /* a program has one store */
     const char *slash = strrchr(where, '/');
     store->place = bucket;
-    if (!bucket) return store_lacks_memory(store);
     if (!slash || slash == where || slash[-1] == '/' || !slash[1] || strlen(where) > TEXT / 2) {
         report("--store nats: needs URL/BUCKET");
         return STATUS_COMMAND;
@@ -254,7 +235,7 @@ static int nats_open(struct store *store, const char *where) {
     natsStatus status = nats_connect(&bucket->connection, bucket->url);
     if (status == NATS_NOT_YET_CONNECTED) status = NATS_OK;
     if (status == NATS_OK) status = natsConnection_JetStream(&bucket->jet, bucket->connection, NULL);
-    return status == NATS_OK ? STATUS_DONE : failed(store, status, 0);
+    return status == NATS_OK ? id_draw(&bucket->mark) : failed(store, status, 0);
 }
 
 static void nats_close(struct store *store) { natsConnection_Close(((struct bucket *)store->place)->connection); }

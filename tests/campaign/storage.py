@@ -20,10 +20,19 @@ from server import Server
 TABLE = """
 CREATE TABLE sblog (store text, name text, number bigint, claim bigint NOT NULL, bytes bytea NOT NULL, PRIMARY KEY (store, name, number));
 CREATE FUNCTION judge() RETURNS trigger LANGUAGE plpgsql AS $$ BEGIN
-    IF NEW.name <> 'claim' AND NEW.claim < (SELECT claim FROM sblog WHERE store = NEW.store AND name = 'claim') THEN RAISE 'an earlier life writes'; END IF;
+    IF NEW.name <> 'claim' AND NEW.claim < (SELECT claim FROM sblog WHERE store = NEW.store AND name = 'claim') THEN
+        RAISE 'an earlier life writes';
+    END IF;
     RETURN NEW; END $$;
 CREATE TRIGGER judge BEFORE INSERT OR UPDATE ON sblog FOR EACH ROW EXECUTE FUNCTION judge();
 """
+
+
+def lets_through(folder):
+    """Other users may go to what is in a temporary folder."""
+    while folder.startswith(tempfile.gettempdir() + os.sep):
+        os.chmod(folder, 0o711)
+        folder = os.path.dirname(folder)
 
 
 class Storage:
@@ -131,8 +140,7 @@ class Table(Storage):
         os.makedirs(self.folder, 0o700)
         if self.user:
             shutil.chown(self.folder, **self.user)
-            for above in (os.path.dirname(self.folder), os.path.dirname(os.path.dirname(self.folder))):
-                os.chmod(above, 0o711)
+            lets_through(os.path.dirname(self.folder))
         data = os.path.join(self.folder, "data")
         self.run("initdb", "-D", data, "-U", "bank", "-A", "trust", "--no-sync", **self.user)
         with open(os.path.join(data, "pg_hba.conf"), "a") as file:
