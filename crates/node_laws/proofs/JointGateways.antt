@@ -7,7 +7,7 @@ use Rattle.cluster.specs.Rules.{Act, Input, Puts, Arrives, after_run, IsNode}
 use Rattle.packets.specs.declared.packet.NodePacket.{NodePacket}
 use Rattle.node.specs.Stands.{Each, actor}
 use Rattle.node.proofs.Outside.{SameOutside, outside-self, outside-still}
-use Rattle.gateway.specs.Deeds.{IsByGateway}
+use Rattle.gateway.specs.Acts.{IsByGateway}
 use Rattle.gateway.specs.Gateway.{TheGateway}
 use Rattle.gateway.specs.Stands.{Stands, PutOut}
 use Rattle.gateway.proofs.Steps.{all-more}
