@@ -99,7 +99,7 @@ exports-are-calls =
           record {
             bytes = bytes;
             copied = both.1.2;
-            is = (h.first, alive (λ o. IsSavable o.course × (Keeps o.course bytes × Stays Freezes o new)) n s p w old h (both.0, (both.1.1, both.2)));
+            is = (h.first, alive (λ o. IsSavable o.lifecycle × (Keeps o.lifecycle bytes × Stays Freezes o new)) n s p w old h (both.0, (both.1.1, both.2)));
           };
       saved = λ images n s p old new h k.
           (h.first, (subst (Has (λ checkpoint. checkpoint ≡ Durable)) (sym h.runs) refl, alive (λ o. Stays Thaws o new) n s p Durable old h (of-both old new _ k).1));

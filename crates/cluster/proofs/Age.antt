@@ -10,7 +10,7 @@ use Rattle.world.specs.Plan.{first_below, logged_as, message_of}
 use Rattle.theorems.proofs.Changes.{choose}
 use Rattle.cluster.specs.Parcels.{Body, Delivery, Number, Acknowledgement, Ask, Told, Resume, Restored, Saved, Parcel, parcel, In}
 use Rattle.cluster.specs.Cluster.{Stage, Live, Frozen, Dead, Collecting, Collected, Cluster, seen, runs, is_well}
-use Rattle.cluster.specs.Rules.{Act, Input, Puts, Starts, Shows, Works, Replays, Records, Counts, Drops, Hears, Collects, Recovers, Obeys, Enters, Restores, Greets, Freezes, Keeps, Thaws, Dies, Opens, IsAll, MayPut, May, does, with_page, put2}
+use Rattle.cluster.specs.Rules.{Act, Puts, Arrives, Replays, Recovers, Freezes, Thaws, Dies, Opens, IsAll, MayPut, May, does, with_page, put2}
 use Rattle.cluster.proofs.Facts.{choose2, well-is, takes-well, takes-is, true-not-false}
 use Rattle.cluster.proofs.Growth.{either-way}
 use Rattle.cluster.specs.Overlap.{Acts, Meets, Loses, Leaves}
@@ -68,27 +68,14 @@ module _ (born : ℕ → ℕ) (now : ℕ) (s : Telling) (h : Aged born now s) wh
   Under d = (p q : ℕ) (x : Body) → In (parcel p q x) d.parcels → In (parcel p q x) s.cluster.parcels ⊎ ((p ≢ q) × Fine born d p q x)
 
   under-act : (a : Act) → May s.cluster a → Under (does s.cluster a)
-  under-act (Input d x) may = λ p q y i. inl i
+  under-act (Arrives q p (Restored i j m r (Some u) f)) may = λ p q y i. inl i
   under-act (Puts p d x) may = one-more s.cluster p d x may.2 (fine-put p d x may.0 may.3)
-  under-act (Starts p d i ssn x) may = λ p q y i. inl i
-  under-act (Shows p i ssn x) may = λ p q y i. inl i
-  under-act (Works p m) may = λ p q y i. inl i
+  under-act (Arrives p zero (Delivery i ssn x)) may = λ p q y i. inl i
   under-act (Replays p j) may = either-way (nat_lt (s.cluster.saved p + suc j) (length (s.cluster.history p))) _ _ Under (λ p q y i. inl i) (λ p q y i. inl i)
-  under-act (Records r t i ssn k) may = one-more s.cluster t r (Acknowledgement i k) (λ e. (fine r t (Number i ssn k) may.0).0 (sym e)) tt
-  under-act (Counts t r i k) may = λ p q y i. inl i
-  under-act (Drops d t m) may = λ p q y i. inl i
-  under-act (Hears p q i k) may = λ p q y i. inl i
-  under-act (Collects q p i j k u f) may = λ p q y i. inl i
+  under-act (Arrives r t (Number i ssn k)) may = one-more s.cluster t r (Acknowledgement i k) (λ e. (fine r t (Number i ssn k) may.0).0 (sym e)) tt
   under-act (Recovers p k) may = either-way (nat_lt (s.cluster.saved p) k) _ _ Under (λ p q y i. inl i) (λ p q y i. inl i)
-  under-act (Obeys p q i k r) may = λ p q y i. inl i
-  under-act (Enters q p i j m r u f) may = λ p q y i. inl i
-  under-act (Restores q p i j m r f) may = λ p q y i. inl i
-  under-act (Greets p i j m r f) may = λ p q y i. inl i
-  under-act (Freezes p) may = λ p q y i. inl i
-  under-act (Keeps p) may = λ p q y i. inl i
-  under-act (Thaws p) may = λ p q y i. inl i
-  under-act (Dies p) may = λ p q y i. inl i
-  under-act (Opens p n) may = λ p q y i. inl i
+  under-act (Arrives zero p (Restored i j m r None f)) may = λ p q y i. inl i
+  under-act act may = λ p q y i. inl i
 
   -- and what is said of it
   abbrev AreSaid : Cluster → List Flagged → Type 0
@@ -112,31 +99,15 @@ module _ (born : ℕ → ℕ) (now : ℕ) (s : Telling) (h : Aged born now s) wh
   said-put p d (Saved n) may = λ y i e. inl i
 
   said-act : (a : Act) → May s.cluster a → AreSaid (does s.cluster a) (said_after s a)
+  said-act (Arrives q p (Restored i j m r (Some u) f)) may = λ y i e. inl i
   said-act (Puts p d x) may = said-put p d x may.3
-  said-act (Input d x) may = λ y i e. inl i
-  said-act (Starts p d i ssn x) may = λ y i e. inl i
-  said-act (Shows p i ssn x) may = λ y i e. inl i
-  said-act (Works p m) may = λ y i e. inl i
-  said-act (Replays p j) may = λ y i e. inl i
-  said-act (Records r t i ssn k) may = λ y i e. inl i
-  said-act (Counts t r i k) may = λ y i e. inl i
-  said-act (Drops d t m) may = λ y i e. inl i
-  said-act (Hears p q i k) may = λ y i e. inl i
-  said-act (Collects q p i j k u f) may = λ y i e. inl i
-  said-act (Recovers p k) may = λ y i e. inl i
-  said-act (Obeys p q i k r) may = λ y i e. inl i
-  said-act (Enters q p i j m r u f) may = λ y i e. inl i
-  said-act (Restores q p i j m r f) may = λ y i e. inl i
-  said-act (Greets p i j m r f) may = λ y i e. inl i
-  said-act (Freezes p) may = λ y i e. inl i
-  said-act (Keeps p) may = λ y i e. inl i
-  said-act (Thaws p) may = λ y i e. inl i
-  said-act (Dies p) may = λ y i e. inl i
-  said-act (Opens p n) may = λ y i e. inl i
+  said-act (Arrives p zero (Delivery i ssn x)) may = λ y i e. inl i
+  said-act (Arrives zero p (Restored i j m r None f)) may = λ y i e. inl i
+  said-act act may = λ y i e. inl i
 
   -- a node that has an answer had it before, or takes it
   abbrev IsPage : Act → ℕ → ℕ → Type 0
-  IsPage (Collects q p i j k u f) a b = (a ≡ p) × (b ≡ q)
+  IsPage (Arrives q p (Told i j k u f)) a b = (a ≡ p) × (b ≡ q)
   IsPage x a b = ⊥
 
   abbrev Was : Act → Cluster → Type 0
@@ -156,16 +127,10 @@ module _ (born : ℕ → ℕ) (now : ℕ) (s : Telling) (h : Aged born now s) wh
       whole (Some t) a = refl
 
   was-act : (a : Act) → May s.cluster a → Was a (does s.cluster a)
-  was-act (Puts p d x) may = λ i j l n e. inl e
-  was-act (Input d x) may = λ i j l n e. inl e
-  was-act (Starts p d i ssn x) may = λ i j l n e. inl e
-  was-act (Shows p i ssn x) may = λ i j l n e. inl e
-  was-act (Works p m) may = λ i j l n e. inl e
+  was-act (Arrives q p (Restored i j m r (Some u) f)) may = λ i j l n e. inl e
+  was-act (Arrives p zero (Delivery i ssn x)) may = λ i j l n e. inl e
   was-act (Replays p j) may = either-way (nat_lt (s.cluster.saved p + suc j) (length (s.cluster.history p))) _ _ (Was (Replays p j)) (λ i j l n e. inl e) (λ i j l n e. inl e)
-  was-act (Records r t i ssn k) may = λ i j l n e. inl e
-  was-act (Counts t r i k) may = λ i j l n e. inl e
-  was-act (Drops d t m) may = λ i j l n e. inl e
-  was-act (Hears p q i k) may = λ x y l n e. choose2 q p (λ a b t. at_stage (s.cluster.stage a) (is_some (if t then None else s.cluster.told a b)) ≡ true → (at_stage (s.cluster.stage a) (is_some (s.cluster.told a b)) ≡ true) ⊎ IsPage (Hears p q i k) a b)
+  was-act (Arrives p q (Ask i k)) may = λ x y l n e. choose2 q p (λ a b t. at_stage (s.cluster.stage a) (is_some (if t then None else s.cluster.told a b)) ≡ true → (at_stage (s.cluster.stage a) (is_some (s.cluster.told a b)) ≡ true) ⊎ IsPage (Arrives p q (Ask i k)) a b)
       (λ f. inl (less (s.cluster.stage q) (is_some (s.cluster.told q p)) f)) (λ a b _ f. inl f) x y e
     where
       less : (x : Stage) (b : Bool) → at_stage x false ≡ true → at_stage x b ≡ true
@@ -173,71 +138,54 @@ module _ (born : ℕ → ℕ) (now : ℕ) (s : Telling) (h : Aged born now s) wh
       less Frozen b e = refl
       less Dead b e = e
       less Collecting b e = absurd (cc)
-  was-act (Collects q p i j k u f) may = λ x y l n e. choose2 p q (λ a b t. at_stage (s.cluster.stage a) (is_some (if t then Some (with_page (s.cluster.told p q) k u f) else s.cluster.told a b)) ≡ true → (at_stage (s.cluster.stage a) (is_some (s.cluster.told a b)) ≡ true) ⊎ ((a ≡ p) × (b ≡ q)))
+  was-act (Arrives q p (Told i j k u f)) may = λ x y l n e. choose2 p q (λ a b t. at_stage (s.cluster.stage a) (is_some (if t then Some (with_page (s.cluster.told p q) k u f) else s.cluster.told a b)) ≡ true → (at_stage (s.cluster.stage a) (is_some (s.cluster.told a b)) ≡ true) ⊎ ((a ≡ p) × (b ≡ q)))
       (λ f. inr (refl, refl)) (λ a b _ f. inl f) x y e
   was-act (Recovers p k) may = either-way (nat_lt (s.cluster.saved p) k) _ _ (Was (Recovers p k)) (was-recovers p k may) (was-recovers p k may)
-  was-act (Obeys p q i k r) may = λ i j l n e. inl e
-  was-act (Enters q p i j m r u f) may = λ i j l n e. inl e
-  was-act (Restores q p i j m r f) may = λ i j l n e. inl e
-  was-act (Greets p i j m r f) may = λ i j l n e. inl e
+  was-act (Arrives zero p (Restored i j m r None f)) may = λ i j l n e. inl e
   was-act (Freezes p) may = was-stage (Freezes p) p Frozen (λ b _. let t = takes-is s.cluster p may.1 in rw t.0 refl)
-  was-act (Keeps p) may = λ i j l n e. inl e
   was-act (Thaws p) may = was-stage (Thaws p) p Live (λ b _. rw may.1 refl)
   was-act (Dies p) may = was-stage (Dies p) p Dead (λ b e. absurd (let z : false ≡ true = e in cc))
   was-act (Opens p n) may = λ i j l n e.
       let none : ℕ → Option Collected = λ _. None in
       choose p (λ i b. at_stage (if b then Collecting else s.cluster.stage i) (is_some ((if b then none else s.cluster.told i) j)) ≡ true → (at_stage (s.cluster.stage i) (is_some (s.cluster.told i j)) ≡ true) ⊎ ⊥) (λ f. absurd (let z : false ≡ true = f in cc)) (λ i _ f. inl f) i e
+  was-act act may = λ i j l n e. inl e
 
   -- what it lost it lost before, while it isn't up
   abbrev Lost : Act → Bool → Cluster → Type 0
   Lost a lost d = (p q : ℕ) → has_told d p q ≡ true → is_well d p ≡ false → lost_after s.lost lost a p q ≡ false → (s.lost p q ≡ false) ⊎ IsPage a p q
 
   lost-act : (lost : Bool) (a : Act) → is_opening a ≡ false → May s.cluster a → Lost a lost (does s.cluster a)
-  lost-act lost (Puts p d x) n may = λ p q e w f. inl f
-  lost-act lost (Input d x) n may = λ p q e w f. inl f
-  lost-act lost (Starts p d i ssn x) n may = λ p q e w f. inl f
-  lost-act lost (Shows p i ssn x) n may = λ p q e w f. inl f
-  lost-act lost (Works p m) n may = λ p q e w f. inl f
-  lost-act lost (Replays p j) n may = λ p q e w f. inl f
-  lost-act lost (Records r t i ssn k) n may = λ p q e w f. inl f
-  lost-act lost (Counts t r i k) n may = λ p q e w f. inl f
-  lost-act lost (Drops d t m) n may = λ p q e w f. inl f
-  lost-act lost (Hears p q i k) n may = λ x y e w f. choose2 q p (λ a b t. at_stage (s.cluster.stage a) (is_some (if t then None else s.cluster.told a b)) ≡ true → is_well s.cluster a ≡ false → (if t then false else s.lost a b) ≡ false → (s.lost a b ≡ false) ⊎ ⊥)
+  lost-act lost (Arrives q p (Restored i j m r (Some u) g)) n may = λ p q e w f. inl f
+  lost-act lost (Arrives p zero (Delivery i ssn x)) n may = λ p q e w f. inl f
+  lost-act lost (Arrives p q (Ask i k)) n may = λ x y e w f. choose2 q p (λ a b t. at_stage (s.cluster.stage a) (is_some (if t then None else s.cluster.told a b)) ≡ true → is_well s.cluster a ≡ false → (if t then false else s.lost a b) ≡ false → (s.lost a b ≡ false) ⊎ ⊥)
       (λ e w f. absurd (off e w)) (λ a b _ e w f. inl f) x y e w f
     where
       off : at_stage (s.cluster.stage q) false ≡ true → is_well s.cluster q ≡ false → ⊥
-      off e w = elim may.2 [ inl t ↦ true-not-false (takes-well s.cluster q t) w | inr g ↦ true-not-false e (ap (λ x. at_stage x false) g) ]
-  lost-act lost (Collects q p i j k u g) n may = λ x y e w f. choose2 p q (λ a b t. (if t then lost else s.lost a b) ≡ false → (s.lost a b ≡ false) ⊎ ((a ≡ p) × (b ≡ q))) (λ f. inr (refl, refl)) (λ a b _ f. inl f) x y f
-  lost-act lost (Recovers p k) n may = λ p q e w f. inl f
-  lost-act lost (Obeys p q i k r) n may = λ p q e w f. inl f
-  lost-act lost (Enters q p i j m r u g) n may = λ p q e w f. inl f
-  lost-act lost (Restores q p i j m r g) n may = λ p q e w f. inl f
-  lost-act lost (Greets p i j m r g) n may = λ p q e w f. inl f
-  lost-act lost (Freezes p) n may = λ p q e w f. inl f
-  lost-act lost (Keeps p) n may = λ p q e w f. inl f
-  lost-act lost (Thaws p) n may = λ p q e w f. inl f
-  lost-act lost (Dies p) n may = λ p q e w f. inl f
+      off e w = elim may.1.1 [ inl t ↦ true-not-false (takes-well s.cluster q t) w | inr g ↦ true-not-false e (ap (λ x. at_stage x false) g) ]
+  lost-act lost (Arrives q p (Told i j k u g)) n may = λ x y e w f. choose2 p q (λ a b t. (if t then lost else s.lost a b) ≡ false → (s.lost a b ≡ false) ⊎ ((a ≡ p) × (b ≡ q))) (λ f. inr (refl, refl)) (λ a b _ f. inl f) x y f
+  lost-act lost (Arrives zero p (Restored i j m r None g)) n may = λ p q e w f. inl f
   lost-act lost (Opens p n) m may = absurd (cc)
+  lost-act lost act n may = λ p q e w f. inl f
 
   -- a page that is taken
   page-knows : (a : Act) → May s.cluster a → On s.cluster (does s.cluster a) → (p q : ℕ) → IsPage a p q → Knows born (does s.cluster a) p q
-  page-knows (Collects r t i j k u f) may o p q g =
-      let known : Knows born (does s.cluster (Collects r t i j k u f)) t r =
-      elim ((fine r t (Told i j k u f) may.0).1.3 may.2) [ inl e ↦ inl (known-on born s.cluster (does s.cluster (Collects r t i j k u f)) o t r e.0, put2-same s.cluster.heard t r j ∙ e.1) | inr l ↦ inr l ] in
-      let P : ℕ → Type 0 = λ x. Knows born (does s.cluster (Collects r t i j k u f)) x q in
-      let Q : ℕ → Type 0 = λ y. Knows born (does s.cluster (Collects r t i j k u f)) t y in
+  page-knows (Arrives r t (Told i j k u f)) may o p q g =
+      let known : Knows born (does s.cluster (Arrives r t (Told i j k u f))) t r =
+      elim ((fine r t (Told i j k u f) may.0).1.3 may.1.1) [ inl e ↦ inl (known-on born s.cluster (does s.cluster (Arrives r t (Told i j k u f))) o t r e.0, put2-same s.cluster.heard t r j ∙ e.1) | inr l ↦ inr l ] in
+      let P : ℕ → Type 0 = λ x. Knows born (does s.cluster (Arrives r t (Told i j k u f))) x q in
+      let Q : ℕ → Type 0 = λ y. Knows born (does s.cluster (Arrives r t (Told i j k u f))) t y in
       subst P (sym g.0) (subst Q (sym g.1) known)
   page-knows a may o p q g = absurd (g)
 
   page-later : (exact lost : Bool) (a : Act) → MayStep s (Takes exact lost a) → On s.cluster (does s.cluster a) → (p q : ℕ) → IsPage a p q → lost_after s.lost lost a p q ≡ false → Later born (does s.cluster a) p q
-  page-later exact lost (Collects r t i j k u f) may o p q g e =
-      let P : ℕ → Type 0 = λ x. Later born (does s.cluster (Collects r t i j k u f)) x q in
-      let Q : ℕ → Type 0 = λ y. Later born (does s.cluster (Collects r t i j k u f)) t y in
+  page-later exact lost (Arrives r t (Told i j k u f)) may o p q g e =
+      let P : ℕ → Type 0 = λ x. Later born (does s.cluster (Arrives r t (Told i j k u f))) x q in
+      let Q : ℕ → Type 0 = λ y. Later born (does s.cluster (Arrives r t (Told i j k u f))) t y in
       let R : ℕ → Type 0 = λ x. put2 s.lost t r lost x q ≡ false in
       let S : ℕ → Type 0 = λ y. put2 s.lost t r lost t y ≡ false in
       let none : lost ≡ false = sym (put2-same s.lost t r lost) ∙ subst S g.1 (subst R g.0 e) in
       let real = h.said (flagged (parcel r t (Told i j k u f)) exact lost) may.1 none in
-      subst P (sym g.0) (subst Q (sym g.1) (later-on born s.cluster (does s.cluster (Collects r t i j k u f)) o t r (real.1 may.0.2)))
+      subst P (sym g.0) (subst Q (sym g.1) (later-on born s.cluster (does s.cluster (Arrives r t (Told i j k u f))) o t r (real.1 may.0.1.1)))
   page-later exact lost a may o p q g e = absurd (g)
 
   pub takes-aged : (exact lost : Bool) (a : Act) → is_opening a ≡ false → MayStep s (Takes exact lost a) → Aged born now (step s (Takes exact lost a))

@@ -8,7 +8,7 @@ use Rattle.theorems.proofs.Changes.{choose}
 use Rattle.theorems.proofs.Tests.{not-below}
 use Rattle.cluster.specs.Parcels.{Body, Ask, Told, parcel, In}
 use Rattle.cluster.specs.Cluster.{Live, Collecting, Collected, runs, is_well, takes}
-use Rattle.cluster.specs.Rules.{Puts, Hears, Collects, IsNode, Asks, IsAll, entry_of, with_page, put2}
+use Rattle.cluster.specs.Rules.{Puts, Arrives, IsNode, Asks, IsAll, entry_of, with_page, put2}
 use Rattle.cluster.proofs.Facts.{true-not-false}
 use Rattle.cluster.specs.Overlap.{restores_anew}
 use Rattle.cluster.specs.Exact.{flagged, Said, Telling, Step, Takes, Meeting, Losing, MayStep, step}
@@ -80,14 +80,14 @@ module _ (p q : ℕ) (ne : q ≢ p) where
         -- it hears that
         hears : nat_lt (s.cluster.heard q p) (s.cluster.stored p) ≡ true → (takes s.cluster q ≡ true) ⊎ (s.cluster.stage q ≡ Collecting) → CanGo (asked k) (Heard p q k s)
         hears e t =
-            let x : Step = Takes true false (Hears p q (s.cluster.stored p) k) in
-            let m : MayStep (step s (Takes true false (Puts p q (Ask (s.cluster.stored p) k)))) (Takes true false (Hears p q (s.cluster.stored p) k)) = ((inl refl, grind (arith, nat_tests), t), tt) in
-            go-first (asked k) (Heard p q k s) (Takes true false (Hears p q (s.cluster.stored p) k)) m refl (
+            let x : Step = Takes true false (Arrives p q (Ask (s.cluster.stored p) k)) in
+            let m : MayStep (step s (Takes true false (Puts p q (Ask (s.cluster.stored p) k)))) (Takes true false (Arrives p q (Ask (s.cluster.stored p) k))) = ((inl refl, (grind (arith, nat_tests), t)), tt) in
+            go-first (asked k) (Heard p q k s) (Takes true false (Arrives p q (Ask (s.cluster.stored p) k))) m refl (
               [],
               tt,
               tt,
               record {
-                orderly = orderly-step (asked k) (Takes true false (Hears p q (s.cluster.stored p) k)) g m;
+                orderly = orderly-step (asked k) (Takes true false (Arrives p q (Ask (s.cluster.stored p) k))) g m;
                 count = refl;
                 stage = λ r. refl;
                 ready = ready;
@@ -142,14 +142,14 @@ module _ (p q : ℕ) (ne : q ≢ p) where
     collect : (i j k : ℕ) (f : ℕ → Option Message) (exact lost : Bool) → In (parcel q p (Told i j k None f)) s.cluster.parcels → Said (flagged (parcel q p (Told i j k None f)) exact lost) s.said
         → i ≡ s.cluster.stored p → s.cluster.heard p q ≤ j → Asks (s.cluster.saved p) (s.cluster.told p q) k → CanGo s (Answered p q s)
     collect i j k f exact lost there said e low asks =
-        let x : Step = Takes exact lost (Collects q p i j k None f) in
-        let m : MayStep s (Takes exact lost (Collects q p i j k None f)) = ((there, coll, e, low, asks), said) in
-        go-first s (Answered p q s) (Takes exact lost (Collects q p i j k None f)) m refl (
+        let x : Step = Takes exact lost (Arrives q p (Told i j k None f)) in
+        let m : MayStep s (Takes exact lost (Arrives q p (Told i j k None f))) = ((there, (coll, e, low, asks)), said) in
+        go-first s (Answered p q s) (Takes exact lost (Arrives q p (Told i j k None f))) m refl (
           [],
           tt,
           tt,
           record {
-            orderly = orderly-step s (Takes exact lost (Collects q p i j k None f)) h m;
+            orderly = orderly-step s (Takes exact lost (Arrives q p (Told i j k None f))) h m;
             count = refl;
             stage = λ r. refl;
             ready = ready;

@@ -1,6 +1,6 @@
 -- What a node was ever told to be covered for good is in no log of it, where it is up
-use Rattle.std.proofs.Common.{◌≡◌, ◌≢◌, ◌⊎◌, inl, inr, ℕ, suc, ◌+◌, ◌<◌, ◌≤◌, max, min, List, [], ◌∷◌, ◌++◌, length, take, Bool, true, false, refl, sym, ap, ◌∙◌, subst, arith}
-use Rattle.std.specs.Prelude.{Option, None, ◌&&◌, ◌==◌, nat_lt, if◌then◌else◌}
+use Rattle.std.proofs.Common.{zero, ◌≡◌, ◌≢◌, ◌⊎◌, inl, inr, ℕ, suc, ◌+◌, ◌<◌, ◌≤◌, max, min, List, [], ◌∷◌, ◌++◌, length, take, Bool, true, false, refl, sym, ap, ◌∙◌, subst, arith}
+use Rattle.std.specs.Prelude.{Some, Option, None, ◌&&◌, ◌==◌, nat_lt, if◌then◌else◌}
 use Rattle.std.proofs.lemmas.Bool.Decides.{nat_tests}
 use Rattle.world.specs.declared.message.Message.{Message}
 use Rattle.world.specs.History.{count_of}
@@ -14,9 +14,9 @@ use Rattle.theorems.proofs.Changes.{choose}
 use Rattle.theorems.proofs.PhaseLemmas.{with-restored, resync-phase}
 use Rattle.theorems.proofs.Resyncs.{without-has}
 use Rattle.theorems.proofs.Tests.{different}
-use Rattle.cluster.specs.Parcels.{Body, Acknowledgement, Restored, Saved, Parcel, parcel, In}
+use Rattle.cluster.specs.Parcels.{Body, Delivery, Number, Acknowledgement, Restored, Saved, Parcel, parcel, In}
 use Rattle.cluster.specs.Cluster.{Stage, Live, Frozen, Dead, Collecting, Cluster, opening, seen, runs, is_well}
-use Rattle.cluster.specs.Rules.{Act, Input, Puts, Starts, Shows, Works, Replays, Records, Counts, Drops, Hears, Collects, Recovers, Obeys, Enters, Restores, Greets, Freezes, Keeps, Thaws, Dies, Opens, MayPut, May, does, taken_back, put2, Run, after_run}
+use Rattle.cluster.specs.Rules.{Act, Puts, Arrives, Works, Replays, Recovers, Freezes, Keeps, Thaws, Dies, Opens, MayPut, Awaits, May, does, goes_on, takes_in, taken_back, put2, Run, after_run}
 use Rattle.cluster.specs.Memory.{unsaved, ToldIsDropped}
 use Rattle.cluster.specs.Inside.Agrees.{Beside, world, is_answered, Agrees}
 use Rattle.cluster.proofs.Worlds.{Lawful}
@@ -195,7 +195,7 @@ module _ (p d k : ℕ) (other : d ≢ p) where
         let U : ℕ → Type 0 = λ x. k ≤ max (c.trims q x) n in
         subst U here (subst T same t)
 
-    restores : (q r i j n s : ℕ) (f : ℕ → Option ℕ) → May c (Restores r q i j n s f) → Dropped (does c (Restores r q i j n s f))
+    restores : (q r i j n s : ℕ) (f : ℕ → Option ℕ) → In (parcel r q (Restored i j n s None f)) c.parcels × Awaits c q r i j s → Dropped (goes_on (takes_in c q r j n s None f) q (without (todo_of (c.phase q)) r))
     restores q r i j n s f may =
         let more : Dropped (record c { trims = put2 c.trims q r (max (c.trims q r) n) }) = trims-more q r (max (c.trims q r) n) (omega arith) in
         record { inside = h.inside; covers = h.covers; gone = back (p == q) refl (d == r) refl; told = more.told }
@@ -205,7 +205,7 @@ module _ (p d k : ℕ) (other : d ≢ p) where
 
         before : d ≢ r → is_restored (phase_with rest) d ≡ true → is_restored (c.phase q) d ≡ true
         before o e =
-            let t = resync-phase (c.phase q) r may.4 in
+            let t = resync-phase (c.phase q) r may.1.3 in
             let g : has (without (todo_of (c.phase q)) r) d ≡ false = with-restored rest d e in
             let l : has (todo_of (c.phase q)) d ≡ false = without-has (todo_of (c.phase q)) r d o g in
             let P : Phase → Type 0 = λ x. has (todo_of x) d ≡ false in
@@ -214,14 +214,14 @@ module _ (p d k : ℕ) (other : d ≢ p) where
 
         back : (t : Bool) → (p == q) ≡ t → (w : Bool) → (d == r) ≡ w → runs (c.stage p) ≡ true → (if d == 0 then c.greeted p else is_restored (if t then phase_with rest else c.phase p) d) ≡ true → k ≤ (if t && w then max (c.trims q r) n else c.trims p d)
         back false e w g run y = h.gone run y
-        back true e true g run y = answered q r i j n s None f may.0 may.2 may.3 (grind (arith, nat_tests)) (grind (arith, nat_tests))
+        back true e true g run y = answered q r i j n s None f may.0 may.1.1 may.1.2 (grind (arith, nat_tests)) (grind (arith, nat_tests))
         back true e false g run y = h.gone run (split (d == 0) y)
           where
             split : (v : Bool) → (if v then c.greeted p else is_restored (phase_with rest) d) ≡ true → (if v then c.greeted p else is_restored (c.phase p) d) ≡ true
             split true z = z
             split false z = let same : p ≡ q = grind (arith, nat_tests) in let P : ℕ → Type 0 = λ x. is_restored (c.phase x) d ≡ true in subst P (sym same) (before (different d r g) z)
 
-    greets : (q i j n s : ℕ) (f : ℕ → Option ℕ) → May c (Greets q i j n s f) → Dropped (does c (Greets q i j n s f))
+    greets : (q i j n s : ℕ) (f : ℕ → Option ℕ) → May c (Arrives zero q (Restored i j n s None f)) → Dropped (does c (Arrives zero q (Restored i j n s None f)))
     greets q i j n s f may =
         let more : Dropped (record c { trims = put2 c.trims q 0 (max (c.trims q 0) n) }) = trims-more q 0 (max (c.trims q 0) n) (omega arith) in
         record { inside = h.inside; covers = h.covers; gone = λ run. back (p == q) refl (d == 0) refl (h.gone run); told = more.told }
@@ -229,43 +229,39 @@ module _ (p d k : ℕ) (other : d ≢ p) where
         back : (t : Bool) → (p == q) ≡ t → (w : Bool) → (d == 0) ≡ w → ((if w then c.greeted p else is_restored (c.phase p) d) ≡ true → k ≤ c.trims p d) → (if w then (if t then true else c.greeted p) else is_restored (c.phase p) d) ≡ true
             → k ≤ (if t && w then max (c.trims q 0) n else c.trims p d)
         back false e w g old y = old y
-        back true e true g old y = answered q 0 i j n s None f may.0 may.1 may.2 (grind (arith, nat_tests)) (grind (arith, nat_tests))
+        back true e true g old y = answered q 0 i j n s None f may.0 may.1.0 may.1.1 (grind (arith, nat_tests)) (grind (arith, nat_tests))
         back true e false g old y = old y
 
     -- each step leaves it so
     dropped-step : (a : Act) → May c a → Dropped (does c a)
-    dropped-step (Input q x) may = h
+    dropped-step (Arrives r q (Restored i j n s (Some u) f)) may = trims-more q r (max (c.trims q r) n) (omega arith)
     dropped-step (Puts q r x) may = put-more q r x (puts q r x may.3)
-    dropped-step (Starts q r i ssn x) may = turned r _ (λ _ _ _. rw may.3 refl)
-    dropped-step (Shows q i ssn x) may = record { inside = h.inside; covers = covers-more (Shows q i ssn x); gone = h.gone; told = h.told }
+    dropped-step (Arrives q (suc r) (Delivery i ssn x)) may = turned (suc r) _ (λ _ _ _. rw may.1.2 refl)
+    dropped-step (Arrives q zero (Delivery i ssn x)) may = record { inside = h.inside; covers = covers-more (Arrives q zero (Delivery i ssn x)); gone = h.gone; told = h.told }
     dropped-step (Works q m) may = record { inside = h.inside; covers = covers-more (Works q m); gone = λ r e. h.gone r (turns q Up (λ _ _ _. rw may.2 refl) e); told = h.told }
     dropped-step (Replays q j) may =
         either-way (nat_lt (c.saved q + suc j) (length (c.history q))) _ _ (λ v. Dropped v) (turned q (Replaying (suc j) false false) (λ _ _ e. absurd (cc)))
         (turned q (phase_with (peers (seen c) q false)) (λ same g e. absurd (true-not-false (is-peer (seen c) q d (grind (arith, nat_tests)) h.inside (λ o. other (o ∙ sym same))) (with-restored (peers (seen c) q false) d e))))
-    dropped-step (Records r s i ssn m) may = put-more s r (Acknowledgement i m) (records s r i m)
-    dropped-step (Counts s r i m) may = h
-    dropped-step (Drops q r n) may = trims-more r q _ (omega arith)
-    dropped-step (Hears q r i m) may = h
-    dropped-step (Collects q r i j m u f) may = h
+    dropped-step (Arrives r s (Number i ssn m)) may = put-more s r (Acknowledgement i m) (records s r i m)
+    dropped-step (Arrives q r (Saved n)) may = trims-more r q _ (omega arith)
     dropped-step (Recovers q m) may =
         either-way (nat_lt (c.saved q) m) _ _ (λ v. Dropped v) (recovers q m may (Replaying 0 false false) (λ r _ _ _ e. cc))
         (recovers q m may (phase_with (peers (seen c) q false)) (λ r a l o e. true-not-false (is-peer (seen c) q r a l o) (with-restored (peers (seen c) q false) r e)))
-    dropped-step (Obeys q r i m s) may = h
-    dropped-step (Enters r q i j n s u f) may = trims-more q r (max (c.trims q r) n) (omega arith)
-    dropped-step (Restores r q i j n s f) may = restores q r i j n s f may
-    dropped-step (Greets q i j n s f) may = greets q i j n s f may
+    dropped-step (Arrives (suc r) q (Restored i j n s None f)) may = restores q (suc r) i j n s f may
+    dropped-step (Arrives zero q (Restored i j n s None f)) may = greets q i j n s f may
     dropped-step (Freezes q) may = let live : c.stage q ≡ Live = (takes-is c q may.1).0 in restages q Frozen (sym (ap runs live)) (λ o. cc)
     dropped-step (Keeps q) may = record { inside = h.inside; covers = covers-more (Keeps q); gone = h.gone; told = h.told }
     dropped-step (Thaws q) may = let frozen : c.stage q ≡ Frozen = may.1 in restages q Live (sym (ap runs frozen)) (λ o. cc)
     dropped-step (Dies q) may = dies q
     dropped-step (Opens q m) may = opens q m
+    dropped-step act may = h
 
   dropped-run : (c : Cluster) (acts : List Act) → c.count ≤ 15 → Holds c → Run c acts → Dropped c → Dropped (after_run c acts)
   dropped-run c [] n h r t = t
   dropped-run c (a ∷ acts) n h r t = let s = step-holds c a n h r.0 in dropped-run (does c a) acts s.1 s.0 r.1 (dropped-step c h.beside h.agrees h.lawful t a r.0)
 
 -- it is so when p is told
-starts-dropped : (c : Cluster) (b : Beside) (p d k : ℕ) → Agrees c b → Lawful (world c b) → (other : d ≢ p) → May c (Drops d p k) → Dropped p d k other (does c (Drops d p k))
+starts-dropped : (c : Cluster) (b : Beside) (p d k : ℕ) → Agrees c b → Lawful (world c b) → (other : d ≢ p) → May c (Arrives d p (Saved k)) → Dropped p d k other (does c (Arrives d p (Saved k)))
 starts-dropped c b p d k agrees lawful other may =
     let x = agrees.parcels d p (Saved k) may.0 in
     let fine : k ≤ covered (seen c) p d = x.3 in
@@ -279,13 +275,13 @@ starts-dropped c b p d k agrees lawful other may =
 pub told-is-dropped : ToldIsDropped
 told-is-dropped n f acts more p d k from well =
     let l : n ≤ 15 = from.few in
-    let t = run-append (opening n f) acts (Drops d p k ∷ more) from.run in
+    let t = run-append (opening n f) acts (Arrives d p (Saved k) ∷ more) from.run in
     let c : Cluster = after_run (opening n f) acts in
     let h : Holds c = run-holds n f acts l from.grows t.0 in
     let e : c.count ≡ n = run-count (opening n f) acts in
     let other : d ≢ p = (h.agrees.parcels d p (Saved k) t.1.0.0).2 in
-    let s = step-holds c (Drops d p k) (omega arith) h t.1.0 in
-    let v : Cluster = after_run (does c (Drops d p k)) more in
-    let o : Dropped p d k other v = dropped-run p d k other (does c (Drops d p k)) more s.1 s.0 t.1.1 (starts-dropped c h.beside p d k h.agrees h.lawful other t.1.0) in
+    let s = step-holds c (Arrives d p (Saved k)) (omega arith) h t.1.0 in
+    let v : Cluster = after_run (does c (Arrives d p (Saved k))) more in
+    let o : Dropped p d k other v = dropped-run p d k other (does c (Arrives d p (Saved k))) more s.1 s.0 t.1.1 (starts-dropped c h.beside p d k h.agrees h.lawful other t.1.0) in
     let P : Cluster → Type 0 = λ w. is_well w p ≡ true → k ≤ w.trims p d in
     subst P (sym t.2) (λ w. o.gone (well-is v p w).0 (back-answered v p d (well-back v p w))) well

@@ -1,5 +1,5 @@
 -- Each event but that a node is opened goes on so
-use Rattle.std.proofs.Common.{◌≡◌, ◌≢◌, inl, inr, ℕ, suc, ◌+◌, ◌<◌, ◌≤◌, List, [], ◌∷◌, ◌++◌, length, Bool, true, false, refl, sym, ap, ◌∙◌, subst, arith, length-append}
+use Rattle.std.proofs.Common.{zero, ◌≡◌, ◌≢◌, inl, inr, ℕ, suc, ◌+◌, ◌<◌, ◌≤◌, List, [], ◌∷◌, ◌++◌, length, Bool, true, false, refl, sym, ap, ◌∙◌, subst, arith, length-append}
 use Rattle.std.specs.Prelude.{◌⊎◌, Option, Some, None, ◌==◌, ◌&&◌, ◌||◌, nat_lt, nat_le, if◌then◌else◌}
 use Rattle.std.proofs.lemmas.Bool.Decides.{nat_tests}
 use Rattle.world.specs.declared.message.Message.{Message}
@@ -7,9 +7,9 @@ use Rattle.world.specs.Phases.{Phase, Up, Busy, Down, Replaying, Resync, is_up, 
 use Rattle.world.specs.World.{put}
 use Rattle.world.specs.Calls.{phase_with, peers}
 use Rattle.theorems.proofs.Changes.{choose, elsewhere}
-use Rattle.cluster.specs.Parcels.{Body, Ask, Told, Restored, parcel, In}
+use Rattle.cluster.specs.Parcels.{Body, Delivery, Ask, Told, Restored, parcel, In}
 use Rattle.cluster.specs.Cluster.{Stage, Live, Frozen, Dead, Collecting, Collected, Cluster, seen, runs, is_well}
-use Rattle.cluster.specs.Rules.{Act, Input, Puts, Starts, Shows, Works, Replays, Records, Counts, Drops, Hears, Collects, Recovers, Obeys, Enters, Restores, Greets, Freezes, Keeps, Thaws, Dies, Opens, IsNode, May, does, message, with_page, kept_by, put2}
+use Rattle.cluster.specs.Rules.{Act, Arrives, Works, Replays, Recovers, Freezes, Keeps, Thaws, Dies, Opens, IsNode, May, does, message, with_page, kept_by, put2}
 use Rattle.cluster.proofs.Facts.{choose2, well-is, is-well, takes-is, true-not-false}
 use Rattle.cluster.proofs.Growth.{either-way}
 use Rattle.cluster.specs.Overlap.{Event, Acts, Meets, Loses, Leaves, Might, restores_anew, goes}
@@ -169,27 +169,20 @@ module _ (born : ℕ → ℕ) (c : Cluster) (h : Plain c) (fine : (p d : ℕ) (x
       }
 
   pub on-act : (a : Act) → is_opening a ≡ false → May c a → On c (does c a)
-  on-act (Input d x) n may = on-same c h.low
-  on-act (Puts p d x) n may = on-same c h.low
-  on-act (Starts p d i ssn x) n may = on-turn c d (Busy (message p ssn x)) h.low (λ _. refl)
-  on-act (Shows p i ssn x) n may = on-same c h.low
+  on-act (Arrives q p (Restored i j m s (Some u) f)) n may = on-hears c p q j h.low may.1.5 (fine q p (Restored i j m s (Some u) f) may.0).1
+  on-act (Arrives p (suc d) (Delivery i ssn x)) n may = on-turn c (suc d) (Busy (message p ssn x)) h.low (λ _. refl)
   on-act (Works p m) n may = on-turn c p Up h.low (λ _. refl)
   on-act (Replays p j) n may = either-way (nat_lt (c.saved p + suc j) (length (c.history p))) _ _ (On c)
       (on-turn c p (Replaying (suc j) false false) h.low (replaying-up p j (Replaying (suc j) false false) may.2))
       (on-turn c p (phase_with (peers (seen c) p false)) h.low (replaying-up p j (phase_with (peers (seen c) p false)) may.2))
-  on-act (Records r s i ssn k) n may = on-same c h.low
-  on-act (Counts s r i k) n may = on-same c h.low
-  on-act (Drops d s m) n may = on-same c h.low
-  on-act (Hears p q i k) n may = let l : c.heard q p < i = may.1 in on-hears c q p i h.low (omega arith) (fine p q (Ask i k) may.0).1.1
-  on-act (Collects q p i j k u f) n may = on-hears c p q j h.low may.3 (fine q p (Told i j k u f) may.0).1.1
+  on-act (Arrives p q (Ask i k)) n may = let l : c.heard q p < i = may.1.0 in on-hears c q p i h.low (omega arith) (fine p q (Ask i k) may.0).1.1
+  on-act (Arrives q p (Told i j k u f)) n may = on-hears c p q j h.low may.1.2 (fine q p (Told i j k u f) may.0).1.1
   on-act (Recovers p k) n may = either-way (nat_lt (c.saved p) k) _ _ (On c) (on-recovers p k (Replaying 0 false false) may.1) (on-recovers p k (phase_with (peers (seen c) p false)) may.1)
-  on-act (Obeys p q i k s) n may = on-same c h.low
-  on-act (Enters q p i j m s u f) n may = on-hears c p q j h.low may.6 (fine q p (Restored i j m s (Some u) f) may.0).1
-  on-act (Restores q p i j m s f) n may =
-      let o = on-hears c p q j h.low may.6 (fine q p (Restored i j m s None f) may.0).1 in
-      let x : Phase = phase_with (without (todo_of (c.phase p)) q) in
-      record { count = refl; stored = λ p. refl; heard = o.heard; low = o.low; well = well-turn c p x (λ u. absurd (true-not-false u (not-up c p q may.4))); dead = λ p e. e }
-  on-act (Greets p i j m s f) n may =
+  on-act (Arrives (suc q) p (Restored i j m s None f)) n may =
+      let o = on-hears c p (suc q) j h.low may.1.5 (fine (suc q) p (Restored i j m s None f) may.0).1 in
+      let x : Phase = phase_with (without (todo_of (c.phase p)) (suc q)) in
+      record { count = refl; stored = λ p. refl; heard = o.heard; low = o.low; well = well-turn c p x (λ u. absurd (true-not-false u (not-up c p (suc q) may.1.3))); dead = λ p e. e }
+  on-act (Arrives zero p (Restored i j m s None f)) n may =
       record {
         count = refl;
         stored = λ p. refl;
@@ -200,7 +193,6 @@ module _ (born : ℕ → ℕ) (c : Cluster) (h : Plain c) (fine : (p d : ℕ) (x
         dead = λ p e. e;
       }
   on-act (Freezes p) n may = on-stage c p Frozen h.low refl (λ e. absurd (true-not-false (ap runs (takes-is c p may.1).0) (ap runs e)))
-  on-act (Keeps p) n may = on-same c h.low
   on-act (Thaws p) n may = on-stage c p Live h.low refl (λ e. absurd (true-not-false (ap runs may.1) (ap runs e)))
   on-act (Dies p) n may =
       record {
@@ -212,6 +204,7 @@ module _ (born : ℕ → ℕ) (c : Cluster) (h : Plain c) (fine : (p d : ℕ) (x
         dead = choose p (λ j b. c.stage j ≡ Dead → (if b then Dead else c.stage j) ≡ Dead) (λ e. refl) (λ j _ e. e);
       }
   on-act (Opens p m) n may = absurd (cc)
+  on-act act n may = on-same c h.low
 
   plain-recovers : (p k : ℕ) (x : Phase) → May c (Recovers p k) → IsSound x → ((q : ℕ) → has (todo_of x) q ≡ true → IsNode c q × (q ≢ p))
       → Plain (record c { stage = put c.stage p Live; life = put c.life p (c.stored p); history = put c.history p (kept_by c p k); greeted = put c.greeted p false; told = put c.told p (λ _. None); phase = put c.phase p x })
@@ -242,10 +235,19 @@ module _ (born : ℕ → ℕ) (c : Cluster) (h : Plain c) (fine : (p d : ℕ) (x
   none-todo p x e q t = absurd (let z : false ≡ true = sym (ap (λ xs. has xs q) e) ∙ t in cc)
 
   pub plain-act : (a : Act) → is_opening a ≡ false → May c a → Plain (does c a)
-  plain-act (Input d x) n may = h
-  plain-act (Puts p d x) n may = h
-  plain-act (Starts p d i ssn x) n may = plain-turn c d (Busy (message p ssn x)) (not-gate c d may.1) tt (none-todo d (Busy (message p ssn x)) refl) h
-  plain-act (Shows p i ssn x) n may = h
+  plain-act (Arrives q p (Restored i j m s (Some u) f)) n may =
+      record {
+        low = low-hears c p q j h.low (fine q p (Restored i j m s (Some u) f) may.0).1;
+        begun = h.begun;
+        settled = h.settled;
+        gateway = h.gateway;
+        sound = h.sound;
+        todo = h.todo;
+        within = h.within;
+        ends = h.ends;
+        own = h.own;
+      }
+  plain-act (Arrives p (suc d) (Delivery i ssn x)) n may = plain-turn c (suc d) (Busy (message p ssn x)) (not-gate c (suc d) may.1.0) tt (none-todo (suc d) (Busy (message p ssn x)) refl) h
   plain-act (Works p m) n may =
       let g = plain-turn c p Up (not-gate c p may.0) tt (none-todo p Up refl) h in
       let longer : length (c.history p ++ m ∷ []) ≡ length (c.history p) + 1 = length-append _ _ in
@@ -264,10 +266,7 @@ module _ (born : ℕ → ℕ) (c : Cluster) (h : Plain c) (fine : (p d : ℕ) (x
   plain-act (Replays p j) n may = either-way (nat_lt (c.saved p + suc j) (length (c.history p))) _ _ Plain
       (plain-turn c p (Replaying (suc j) false false) (not-gate c p may.0) (refl, refl) (none-todo p (Replaying (suc j) false false) refl) h)
       (plain-turn c p (phase_with (peers (seen c) p false)) (not-gate c p may.0) (sound-with _) (peers-todo p) h)
-  plain-act (Records r s i ssn k) n may = h
-  plain-act (Counts s r i k) n may = h
-  plain-act (Drops d s m) n may = h
-  plain-act (Hears p q i k) n may =
+  plain-act (Arrives p q (Ask i k)) n may =
       let f = fine p q (Ask i k) may.0 in
       record {
         low = low-hears c q p i h.low f.1.1;
@@ -280,7 +279,7 @@ module _ (born : ℕ → ℕ) (c : Cluster) (h : Plain c) (fine : (p d : ℕ) (x
         ends = told-ends c q p None tt h.ends;
         own = un-own c q p None (λ e. f.0 (sym e)) h.own;
       }
-  plain-act (Collects q p i j k u f) n may =
+  plain-act (Arrives q p (Told i j k u f)) n may =
       let t = fine q p (Told i j k u f) may.0 in
       record {
         low = low-hears c p q j h.low t.1.1;
@@ -295,23 +294,10 @@ module _ (born : ℕ → ℕ) (c : Cluster) (h : Plain c) (fine : (p d : ℕ) (x
       }
   plain-act (Recovers p k) n may = either-way (nat_lt (c.saved p) k) _ _ Plain
       (plain-recovers p k (Replaying 0 false false) may (refl, refl) (none-todo p (Replaying 0 false false) refl)) (plain-recovers p k (phase_with (peers (seen c) p false)) may (sound-with _) (peers-todo p))
-  plain-act (Obeys p q i k s) n may = h
-  plain-act (Enters q p i j m s u f) n may =
+  plain-act (Arrives (suc q) p (Restored i j m s None f)) n may =
+      let g = plain-turn c p (phase_with (without (todo_of (c.phase p)) (suc q))) (restores-gate c p (suc q) h may.1.3) (sound-with _) (rest-todo p (suc q)) h in
       record {
-        low = low-hears c p q j h.low (fine q p (Restored i j m s (Some u) f) may.0).1;
-        begun = h.begun;
-        settled = h.settled;
-        gateway = h.gateway;
-        sound = h.sound;
-        todo = h.todo;
-        within = h.within;
-        ends = h.ends;
-        own = h.own;
-      }
-  plain-act (Restores q p i j m s f) n may =
-      let g = plain-turn c p (phase_with (without (todo_of (c.phase p)) q)) (restores-gate c p q h may.4) (sound-with _) (rest-todo p q) h in
-      record {
-        low = low-hears c p q j h.low (fine q p (Restored i j m s None f) may.0).1;
+        low = low-hears c p (suc q) j h.low (fine (suc q) p (Restored i j m s None f) may.0).1;
         begun = g.begun;
         settled = g.settled;
         gateway = g.gateway;
@@ -321,7 +307,7 @@ module _ (born : ℕ → ℕ) (c : Cluster) (h : Plain c) (fine : (p d : ℕ) (x
         ends = g.ends;
         own = g.own;
       }
-  plain-act (Greets p i j m s f) n may =
+  plain-act (Arrives zero p (Restored i j m s None f)) n may =
       record {
         low = h.low;
         begun = h.begun;
@@ -349,6 +335,7 @@ module _ (born : ℕ → ℕ) (c : Cluster) (h : Plain c) (fine : (p d : ℕ) (x
   plain-act (Thaws p) n may = plain-stage c p Live (not-gate c p may.0) (λ _. h.settled p (ap runs may.1)) h
   plain-act (Dies p) n may = plain-stage c p Dead (not-gate c p may.0) (λ e. absurd (let z : false ≡ true = e in cc)) h
   plain-act (Opens p m) n may = absurd (cc)
+  plain-act act n may = h
 
   -- and so do nodes that meet
   joined : (xs : List ℕ) (p q : ℕ) → has (p ∷ without xs p) q ≡ true → (q ≡ p) ⊎ (has xs q ≡ true)

@@ -18,9 +18,9 @@ use Rattle.theorems.proofs.PhaseLemmas.{resync-phase}
 use Rattle.theorems.proofs.PlanLemmas.{first_below-at, logged_as-at}
 use Rattle.theorems.proofs.Recoveries.{up_to-is}
 use Rattle.theorems.proofs.Tests.{both}
-use Rattle.cluster.specs.Parcels.{Body, Told, Restored, Parcel, parcel, In, reaches}
+use Rattle.cluster.specs.Parcels.{Body, Delivery, Number, Ask, Told, Resume, Restored, Parcel, parcel, In, reaches}
 use Rattle.cluster.specs.Cluster.{Stage, Live, Frozen, Dead, Collecting, Collected, Cluster, opening, seen, runs, is_well}
-use Rattle.cluster.specs.Rules.{Act, Input, Puts, Starts, Shows, Works, Replays, Records, Counts, Drops, Hears, Collects, Recovers, Obeys, Enters, Restores, Greets, Freezes, Keeps, Thaws, Dies, Opens, MayPut, May, does, Asks, entry_of, entry_in, with_page, entered, taken_back, kept_by, put2, Run, after_run}
+use Rattle.cluster.specs.Rules.{Act, Puts, Arrives, Works, Replays, Recovers, Freezes, Keeps, Thaws, Dies, Opens, MayPut, May, does, Asks, entry_of, entry_in, with_page, entered, taken_back, kept_by, put2, Run, after_run}
 use Rattle.cluster.specs.Memory.{receipts, how_many, is_of, counts, taken_since, holds, ToldIsNew}
 use Rattle.cluster.specs.Inside.Agrees.{Beside, world, restored_so_far, is_back, Agrees}
 use Rattle.cluster.proofs.Worlds.{Lawful}
@@ -173,11 +173,11 @@ module _ (p : ℕ) where
           let back : put c.stage r x p ≡ Collecting → c.stage p ≡ Collecting = choose r (λ j t. (if t then x else c.stage j) ≡ Collecting → c.stage j ≡ Collecting) (λ e. absurd (other e)) (λ j _ e. e) p in
           record { begins = h.begins; numbers = h.numbers; told = λ q i j k u f a s e. h.told q i j k u f a (back s) e; collected = λ q s. h.collected q (back s) }
 
-      records : (r s i ssn k : ℕ) → May c (Records r s i ssn k) → Of (does c (Records r s i ssn k)) (c.saved p) took
+      records : (r s i ssn k : ℕ) → May c (Arrives r s (Number i ssn k)) → Of (does c (Arrives r s (Number i ssn k))) (c.saved p) took
       records r s i ssn k may =
           record {
             begins = h.begins;
-            numbers = numbered (does c (Records r s i ssn k)).numbers (λ x j m e. choose2 s r (λ y z t. (if t then put (c.numbers s r) ssn (Some k) else c.numbers y z) j ≡ Some m → (c.numbers y z j ≡ Some m) ⊎ Names (c.history z) m y j)
+            numbers = numbered (does c (Arrives r s (Number i ssn k))).numbers (λ x j m e. choose2 s r (λ y z t. (if t then put (c.numbers s r) ssn (Some k) else c.numbers y z) j ≡ Some m → (c.numbers y z j ≡ Some m) ⊎ Names (c.history z) m y j)
                 (λ f. choose ssn (λ n t. (if t then Some k else c.numbers s r n) ≡ Some m → (c.numbers s r n ≡ Some m) ⊎ Names (c.history r) m s n)
                 (λ g. let same : k ≡ m = cc in let P : ℕ → Type 0 = λ n. Names (c.history r) n s ssn in inr (subst P same (names c b r s i ssn k agrees lawful may))) (λ n _ g. inl g) j f)
                 (λ y z _ f. inl f) x p e);
@@ -186,7 +186,7 @@ module _ (p : ℕ) where
           }
 
       -- what one told is forgotten
-      hears : (u v i k : ℕ) → Of (does c (Hears u v i k)) (c.saved p) took
+      hears : (u v i k : ℕ) → Of (does c (Arrives u v (Ask i k))) (c.saved p) took
       hears u v i k =
           record { begins = h.begins; numbers = h.numbers; told = h.told; collected = λ q s. forgets q ((p == v) && (q == u)) (h.collected q s) }
         where
@@ -211,7 +211,7 @@ module _ (p : ℕ) where
           split true m l x far e = before o asks old m x l e
           split false m l x far e = let a : k < m = grind (arith, nat_tests) in let z : c.saved p ≤ k = low o asks old in (omega arith, is m x a far e (omega arith))
 
-      collects : (r v i j k : ℕ) (u : Option ℕ) (f : ℕ → Option Message) → May c (Collects r v i j k u f) → Of (does c (Collects r v i j k u f)) (c.saved p) took
+      collects : (r v i j k : ℕ) (u : Option ℕ) (f : ℕ → Option Message) → May c (Arrives r v (Told i j k u f)) → Of (does c (Arrives r v (Told i j k u f))) (c.saved p) took
       collects r v i j k u f may =
           record { begins = h.begins; numbers = h.numbers; told = h.told; collected = λ q s. split q (p == v) refl (q == r) refl s }
         where
@@ -224,7 +224,7 @@ module _ (p : ℕ) where
               let P : ℕ → ℕ → Type 0 = λ x y. In (parcel y x (Told i j k u f)) c.parcels × (i ≡ c.stored x) × Asks (c.saved x) (c.told x y) k in
               let Q : ℕ → Type 0 = λ x. P x r in
               let R : ℕ → Type 0 = λ y. P p y in
-              let t : P p q = subst R here (subst Q same (may.0, may.2, may.4)) in
+              let t : P p q = subst R here (subst Q same (may.0, may.1.1, may.1.3)) in
               let m = h.told q i j k u f t.0 s t.1 in
               let S : ℕ → ℕ → Type 0 = λ x y. IsOf (c.saved p) took q (Some (with_page (c.told x y) k u f)) in
               let U : ℕ → Type 0 = λ x. S x r in
@@ -257,11 +257,11 @@ module _ (p : ℕ) where
           again false q s = h.collected q s
 
       -- numbers above k are forgotten
-      obeys : (u v i k s : ℕ) → Of (does c (Obeys u v i k s)) (c.saved p) took
+      obeys : (u v i k s : ℕ) → Of (does c (Arrives u v (Resume i k s))) (c.saved p) took
       obeys u v i k s =
           record {
             begins = h.begins;
-            numbers = numbered (does c (Obeys u v i k s)).numbers (λ x j m e. choose2 v u (λ y z t. (if t then (λ n. up_to k (c.numbers v u n)) else c.numbers y z) j ≡ Some m → (c.numbers y z j ≡ Some m) ⊎ Names (c.history z) m y j)
+            numbers = numbered (does c (Arrives u v (Resume i k s))).numbers (λ x j m e. choose2 v u (λ y z t. (if t then (λ n. up_to k (c.numbers v u n)) else c.numbers y z) j ≡ Some m → (c.numbers y z j ≡ Some m) ⊎ Names (c.history z) m y j)
                 (λ f. inl (up_to-is k m (c.numbers v u j) f).0) (λ y z _ f. inl f) x p e);
             told = h.told;
             collected = h.collected;
@@ -328,78 +328,51 @@ module _ (p : ℕ) where
 
     -- all others leave such messages
     of-step : (took : List Message) → Of c (c.saved p) took → (a : Act) → May c a → renews a ≡ false → Of (does c a) ((does c a).saved p) took
-    of-step took h (Input d x) may e = h
+    of-step took h (Arrives q r (Restored i j n s (Some u) f)) may e = enters took h q r i j n s (Some u) f may.0 may.1.2 may.1.3
     of-step took h (Puts r d x) may e = puts took h r d x may
-    of-step took h (Starts q d i ssn x) may e = h
-    of-step took h (Shows q i ssn x) may e = h
+    of-step took h (Arrives q zero (Delivery i ssn x)) may e = h
     of-step took h (Works r m) may e = works took h r m e
     of-step took h (Replays r j) may e = either-way (nat_lt (c.saved r + suc j) (length (c.history r))) _ _ (λ v. Of v (v.saved p) took) h h
-    of-step took h (Records r s i ssn k) may e = records took h r s i ssn k may
-    of-step took h (Counts s r i k) may e = h
-    of-step took h (Drops d s n) may e = h
-    of-step took h (Hears u v i k) may e = hears took h u v i k
-    of-step took h (Collects r v i j k u f) may e = collects took h r v i j k u f may
+    of-step took h (Arrives r s (Number i ssn k)) may e = records took h r s i ssn k may
+    of-step took h (Arrives u v (Ask i k)) may e = hears took h u v i k
+    of-step took h (Arrives r v (Told i j k u f)) may e = collects took h r v i j k u f may
     of-step took h (Recovers r n) may e = either-way (nat_lt (c.saved r) n) _ _ (λ v. Of v (v.saved p) took) (recovers took h r n may) (recovers took h r n may)
-    of-step took h (Obeys u v i k s) may e = obeys took h u v i k s
-    of-step took h (Enters q r i j n s u f) may e = enters took h q r i j n s (Some u) f may.0 may.3 may.4
-    of-step took h (Restores q r i j n s f) may e = enters took h q r i j n s None f may.0 may.3 may.4
-    of-step took h (Greets r i j n s f) may e = h
+    of-step took h (Arrives u v (Resume i k s)) may e = obeys took h u v i k s
+    of-step took h (Arrives (suc q) r (Restored i j n s None f)) may e = enters took h (suc q) r i j n s None f may.0 may.1.2 may.1.3
     of-step took h (Freezes r) may e = restages took h r Frozen (λ y. cc)
     of-step took h (Keeps r) may e = keeps took h r e
     of-step took h (Thaws r) may e = restages took h r Live (λ y. cc)
     of-step took h (Dies r) may e = restages took h r Dead (λ y. cc)
     of-step took h (Opens r n) may e = opens took h r n
+    of-step took h act may e = h
 
     few-step : (took : List Message) (k : (Message → Bool) → ℕ) → ((test : Message → Bool) → how_many test (drop (c.saved p) took) ≤ k test) → (a : Act) → renews a ≡ false → (test : Message → Bool) → how_many test (drop ((does c a).saved p) took) ≤ counts test p a (k test)
-    few-step took k h (Input d x) e test = h test
-    few-step took k h (Puts r d x) e test = h test
-    few-step took k h (Starts q d i ssn x) e test = h test
-    few-step took k h (Shows q i ssn x) e test = h test
+    few-step took k h (Arrives q r (Restored i j n s (Some u) f)) e test = h test
+    few-step took k h (Arrives q zero (Delivery i ssn x)) e test = h test
     few-step took k h (Works r m) e test = rw e (h test)
     few-step took k h (Replays r j) e test = either-way (nat_lt (c.saved r + suc j) (length (c.history r))) _ _ (λ v. how_many test (drop (v.saved p) took) ≤ k test) (h test) (h test)
-    few-step took k h (Records r s i ssn m) e test = h test
-    few-step took k h (Counts s r i m) e test = h test
-    few-step took k h (Drops d s n) e test = h test
-    few-step took k h (Hears u v i m) e test = h test
-    few-step took k h (Collects r v i j m u f) e test = h test
     few-step took k h (Recovers r n) e test = either-way (nat_lt (c.saved r) n) _ _ (λ v. how_many test (drop (v.saved p) took) ≤ k test) (h test) (h test)
-    few-step took k h (Obeys u v i m s) e test = h test
-    few-step took k h (Enters q r i j n s u f) e test = h test
-    few-step took k h (Restores q r i j n s f) e test = h test
-    few-step took k h (Greets r i j n s f) e test = h test
-    few-step took k h (Freezes r) e test = h test
+    few-step took k h (Arrives zero r (Restored i j n s None f)) e test = h test
     few-step took k h (Keeps r) e test = rw e (h test)
-    few-step took k h (Thaws r) e test = h test
-    few-step took k h (Dies r) e test = h test
-    few-step took k h (Opens r n) e test = h test
+    few-step took k h act e test = h test
 
     -- one that is frozen was up
     frozen-step : ((q : ℕ) → c.stage q ≡ Frozen → c.greeted q ≡ true) → (a : Act) → May c a → (q : ℕ) → (does c a).stage q ≡ Frozen → (does c a).greeted q ≡ true
-    frozen-step h (Input d x) may = h
-    frozen-step h (Puts r d x) may = h
-    frozen-step h (Starts q d i ssn x) may = h
-    frozen-step h (Shows q i ssn x) may = h
-    frozen-step h (Works r m) may = h
+    frozen-step h (Arrives q r (Restored i j n s (Some u) f)) may = h
+    frozen-step h (Arrives q zero (Delivery i ssn x)) may = h
     frozen-step h (Replays r j) may = either-way (nat_lt (c.saved r + suc j) (length (c.history r))) _ _ (λ v. (q : ℕ) → v.stage q ≡ Frozen → v.greeted q ≡ true) h h
-    frozen-step h (Records r s i ssn k) may = h
-    frozen-step h (Counts s r i k) may = h
-    frozen-step h (Drops d s n) may = h
-    frozen-step h (Hears u v i k) may = h
-    frozen-step h (Collects r v i j k u f) may = h
     frozen-step h (Recovers r n) may =
         let lives : (q : ℕ) → (taken_back c r n).stage q ≡ Frozen → (taken_back c r n).greeted q ≡ true = choose r (λ j t. (if t then Live else c.stage j) ≡ Frozen → (if t then false else c.greeted j) ≡ true) (λ e. absurd (cc)) (λ j _. h j) in
         either-way (nat_lt (c.saved r) n) _ _ (λ v. (q : ℕ) → v.stage q ≡ Frozen → v.greeted q ≡ true) lives lives
-    frozen-step h (Obeys u v i k s) may = h
-    frozen-step h (Enters q r i j n s u f) may = h
-    frozen-step h (Restores q r i j n s f) may = h
-    frozen-step h (Greets r i j n s f) may = choose r (λ j t. c.stage j ≡ Frozen → (if t then true else c.greeted j) ≡ true) (λ _. refl) (λ j _. h j)
+    frozen-step h (Arrives zero r (Restored i j n s None f)) may = choose r (λ j t. c.stage j ≡ Frozen → (if t then true else c.greeted j) ≡ true) (λ _. refl) (λ j _. h j)
     frozen-step h (Freezes r) may = choose r (λ j t. (if t then Frozen else c.stage j) ≡ Frozen → c.greeted j ≡ true) (λ _. (takes-is c r may.1).1) (λ j _. h j)
-    frozen-step h (Keeps r) may = h
     frozen-step h (Thaws r) may = choose r (λ j t. (if t then Live else c.stage j) ≡ Frozen → c.greeted j ≡ true) (λ e. absurd (cc)) (λ j _. h j)
     frozen-step h (Dies r) may = choose r (λ j t. (if t then Dead else c.stage j) ≡ Frozen → c.greeted j ≡ true) (λ e. absurd (cc)) (λ j _. h j)
     frozen-step h (Opens r n) may = choose r (λ j t. (if t then Collecting else c.stage j) ≡ Frozen → c.greeted j ≡ true) (λ e. absurd (cc)) (λ j _. h j)
+    frozen-step h act may = h
 
     renews-well : ((q : ℕ) → c.stage q ≡ Frozen → c.greeted q ≡ true) → (a : Act) → May c a → renews a ≡ true → is_well (does c a) p ≡ true
+    renews-well frozen (Arrives q r (Restored i j n s (Some u) f)) may e = absurd (cc)
     renews-well frozen (Works r m) may e =
         let same : r ≡ p = grind (arith, nat_tests) in
         let t = takes-is c r may.1 in
@@ -411,25 +384,9 @@ module _ (p : ℕ) where
         let P : ℕ → Type 0 = λ j. c.stage j ≡ Frozen in
         let at : c.stage p ≡ Frozen = subst P same may.1 in
         is-well (does c (Keeps r)) p (ap runs at) (frozen p at) (ap is_up (agrees.stages.frozen p at))
-    renews-well frozen (Input d x) may e = absurd (cc)
-    renews-well frozen (Puts r d x) may e = absurd (cc)
-    renews-well frozen (Starts q d i ssn x) may e = absurd (cc)
-    renews-well frozen (Shows q i ssn x) may e = absurd (cc)
-    renews-well frozen (Replays r j) may e = absurd (cc)
-    renews-well frozen (Records r s i ssn k) may e = absurd (cc)
-    renews-well frozen (Counts s r i k) may e = absurd (cc)
-    renews-well frozen (Drops d s n) may e = absurd (cc)
-    renews-well frozen (Hears u v i k) may e = absurd (cc)
-    renews-well frozen (Collects r v i j k u f) may e = absurd (cc)
-    renews-well frozen (Recovers r n) may e = absurd (cc)
-    renews-well frozen (Obeys u v i k s) may e = absurd (cc)
-    renews-well frozen (Enters q r i j n s u f) may e = absurd (cc)
-    renews-well frozen (Restores q r i j n s f) may e = absurd (cc)
-    renews-well frozen (Greets r i j n s f) may e = absurd (cc)
-    renews-well frozen (Freezes r) may e = absurd (cc)
-    renews-well frozen (Thaws r) may e = absurd (cc)
-    renews-well frozen (Dies r) may e = absurd (cc)
-    renews-well frozen (Opens r n) may e = absurd (cc)
+    renews-well frozen (Arrives q zero (Delivery i ssn x)) may e = absurd (cc)
+    renews-well frozen (Arrives zero r (Restored i j n s None f)) may e = absurd (cc)
+    renews-well frozen act may e = absurd (cc)
 
   fresh-step : (c : Cluster) (h : Holds c) (a : Act) (may : May c a) (v : Holds (does c a)) → p ≤ (does c a).count → (k : (Message → Bool) → ℕ) → Fresh c k → Fresh (does c a) (λ test. counts test p a (k test))
   fresh-step c h a may v pa k f = split (renews c h.beside h.agrees h.lawful a) refl

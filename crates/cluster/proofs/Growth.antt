@@ -6,8 +6,9 @@ use Rattle.world.specs.Plan.{if_next, pushed}
 use Rattle.theorems.specs.Growth.{Begins}
 use Rattle.theorems.proofs.Changes.{choose}
 use Rattle.theorems.proofs.ListLemmas.{take-all, take-push, take-take, take-length, begins-self, begins-trans, begins-take}
+use Rattle.cluster.specs.Parcels.{Delivery, Restored}
 use Rattle.cluster.specs.Cluster.{Cluster}
-use Rattle.cluster.specs.Rules.{Act, Input, Puts, Starts, Shows, Works, Replays, Records, Counts, Drops, Hears, Collects, Recovers, Obeys, Enters, Restores, Greets, Freezes, Keeps, Thaws, Dies, Opens, does, told_by, kept_by, taken_back, plan, message}
+use Rattle.cluster.specs.Rules.{Act, Input, Arrives, Works, Replays, Recovers, Keeps, does, told_by, kept_by, taken_back, plan, message}
 
 -- the inputs of c begin those of v, and so do what it showed and what checkpoints cover in it
 abbrev pub Continues : Cluster → Cluster → Type 0
@@ -64,10 +65,9 @@ takes-back c p k within =
 
 -- no act takes back an input, or what a checkpoint covers
 pub does-continue : (c : Cluster) (a : Act) → ((p : ℕ) → c.saved p ≤ length (c.history p)) → Continues c (does c a)
+does-continue c (Arrives q p (Restored i j n s (Some u) f)) within = still c
 does-continue c (Input d x) within = record { inputs = choose d (λ j t. Begins (c.inputs j) (if t then c.inputs d ++ x ∷ [] else c.inputs j)) (x ∷ [], refl) (λ j _. begins-self _); shown = begins-self _; messages = λ p. begins-self _ }
-does-continue c (Puts p d x) within = still c
-does-continue c (Starts p d i ssn x) within = still c
-does-continue c (Shows p i ssn x) within = record { inputs = λ d. begins-self _; shown = (message p ssn x ∷ [], refl); messages = λ p. begins-self _ }
+does-continue c (Arrives p zero (Delivery i ssn x)) within = record { inputs = λ d. begins-self _; shown = (message p ssn x ∷ [], refl); messages = λ p. begins-self _ }
 does-continue c (Works p m) within =
     record {
       inputs = λ d. begins-self _;
@@ -75,17 +75,8 @@ does-continue c (Works p m) within =
       messages = choose p (λ j t. Begins (take (c.saved j) (c.history j)) (take (c.saved j) (if t then c.history p ++ m ∷ [] else c.history j))) (same-begins _ _ (sym (take-push (c.history p) (m ∷ []) (c.saved p) (within p)))) (λ j _. begins-self _);
     }
 does-continue c (Replays p j) within = either-way (nat_lt (c.saved p + suc j) (length (c.history p))) _ _ (Continues c) (still c) (still c)
-does-continue c (Records r s i ssn k) within = still c
-does-continue c (Counts s r i k) within = still c
-does-continue c (Drops d s n) within = still c
-does-continue c (Hears p q i k) within = still c
-does-continue c (Collects q p i j k u f) within = still c
 does-continue c (Recovers p k) within = either-way (nat_lt (c.saved p) k) _ _ (Continues c) (takes-back c p k (within p)) (takes-back c p k (within p))
-does-continue c (Obeys p q i k s) within = still c
-does-continue c (Enters q p i j n s u f) within = still c
-does-continue c (Restores q p i j n s f) within = still c
-does-continue c (Greets p i j n s f) within = still c
-does-continue c (Freezes p) within = still c
+does-continue c (Arrives zero p (Restored i j n s None f)) within = still c
 does-continue c (Keeps p) within =
     record {
       inputs = λ d. begins-self _;
@@ -93,6 +84,4 @@ does-continue c (Keeps p) within =
       messages = choose p (λ j t. Begins (take (c.saved j) (c.history j)) (take (if t then length (c.history p) else c.saved j) (c.history j)))
           (begins-trans _ _ _ (take-begins (c.saved p) (c.history p)) (same-begins _ _ (sym (take-all (c.history p))))) (λ j _. begins-self _);
     }
-does-continue c (Thaws p) within = still c
-does-continue c (Dies p) within = still c
-does-continue c (Opens p n) within = still c
+does-continue c act within = still c

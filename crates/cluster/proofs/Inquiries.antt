@@ -12,7 +12,7 @@ use Rattle.theorems.proofs.ListLemmas.{none-some, nth-within, take-length}
 use Rattle.theorems.proofs.PlanLemmas.{first_below-at}
 use Rattle.cluster.specs.Parcels.{Ask, Told, Parcel, reaches}
 use Rattle.cluster.specs.Cluster.{Live, Collecting, Collected, Cluster, seen}
-use Rattle.cluster.specs.Rules.{Act, Puts, Hears, Collects, Recovers, IsNode, Asks, IsAll, May, does, entry_of, entry_in, told_by, taken_back, goes_on, put2}
+use Rattle.cluster.specs.Rules.{Act, Puts, Arrives, Recovers, IsNode, Asks, IsAll, May, does, entry_of, entry_in, told_by, taken_back, goes_on, put2}
 use Rattle.cluster.specs.Inside.Agrees.{CollectedAs}
 use Rattle.cluster.proofs.Facts.{runs-live}
 use Rattle.cluster.specs.Return.{CanReach, AllUp}
@@ -97,7 +97,7 @@ module _ (p : ℕ) (c : Cluster) (s : Sane c) (node : IsNode c p) (o : Others p 
     tell k ps hs rs ts = Puts q p (Told (c.stored p) (c.life q) k None (entry_of (Heard ps hs rs ts) q p))
 
     abbrev collect : ℕ → List Parcel → (ℕ → ℕ → ℕ) → (ℕ → ℕ → Bool) → (ℕ → ℕ → Option Collected) → Act
-    collect k ps hs rs ts = Collects q p (c.stored p) (c.life q) k None (entry_of (Heard ps hs rs ts) q p)
+    collect k ps hs rs ts = Arrives q p (Told (c.stored p) (c.life q) k None (entry_of (Heard ps hs rs ts) q p))
 
     -- q has heard of p's incarnation, and tells
     tells : Rest → (k : ℕ) → Asks (c.saved p) (c.told p q) k → (ps : List Parcel) (hs : ℕ → ℕ → ℕ) (rs : ℕ → ℕ → Bool) (ts : ℕ → ℕ → Option Collected) → Sane (Heard ps hs rs ts)
@@ -114,7 +114,7 @@ module _ (p : ℕ) (c : Cluster) (s : Sane c) (node : IsNode c p) (o : Others p 
         low = let l : hs p q ≤ c.stored q = t.low p q in let m : c.life q ≡ c.stored q = t.holds.agrees.stages.settled q (runs-live _ (o q a n).0) in omega arith
 
         collects : May (does (Heard ps hs rs ts) (tell k ps hs rs ts)) (collect k ps hs rs ts)
-        collects = (inl refl, coll, refl, low, (let P : Option Collected → Type 0 = λ x. Asks (c.saved p) x k in subst P (sym (same q)) asks))
+        collects = (inl refl, (coll, refl, low, (let P : Option Collected → Type 0 = λ x. Asks (c.saved p) x k in subst P (sym (same q)) asks)))
 
         whole : IsAll ((does (does (Heard ps hs rs ts) (tell k ps hs rs ts)) (collect k ps hs rs ts)).told p q)
         whole = let x : (p == p) ≡ true = grind (arith, nat_tests) in let y : (q == q) ≡ true = grind (arith, nat_tests) in rw (x, y) refl
@@ -134,10 +134,10 @@ module _ (p : ℕ) (c : Cluster) (s : Sane c) (node : IsNode c p) (o : Others p 
 
         split : (b : Bool) → nat_lt (c.heard q p) (c.stored p) ≡ b → CanReach (does c (Puts p q (Ask (c.stored p) k))) AllUp
         split false e = tells go k asks _ _ _ _ t (let l : c.heard q p ≤ c.stored p = s.low q p in let m : c.stored p ≤ c.heard q p = not-below (c.heard q p) (c.stored p) e in omega arith) (λ r. refl)
-        split true e = first (does c (Puts p q (Ask (c.stored p) k))) AllUp (Hears p q (c.stored p) k) hears refl (tells go k asks _ _ _ _ (sane-step _ (Hears p q (c.stored p) k) t hears) known same)
+        split true e = first (does c (Puts p q (Ask (c.stored p) k))) AllUp (Arrives p q (Ask (c.stored p) k)) hears refl (tells go k asks _ _ _ _ (sane-step _ (Arrives p q (Ask (c.stored p) k)) t hears) known same)
           where
-            hears : May (does c (Puts p q (Ask (c.stored p) k))) (Hears p q (c.stored p) k)
-            hears = (inl refl, grind (arith, nat_tests), inl (waits-takes c q (o q a n)))
+            hears : May (does c (Puts p q (Ask (c.stored p) k))) (Arrives p q (Ask (c.stored p) k))
+            hears = (inl refl, (grind (arith, nat_tests), inl (waits-takes c q (o q a n))))
 
             known : put2 c.heard q p (c.stored p) q p ≡ c.stored p
             known = let x : (p == p) ≡ true = grind (arith, nat_tests) in let y : (q == q) ≡ true = grind (arith, nat_tests) in rw (x, y) refl

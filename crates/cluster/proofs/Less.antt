@@ -1,6 +1,6 @@
 -- A durable node that is up releases no more than it would if it weren't durable; and the others release as they would without it
-use Rattle.std.proofs.Common.{◌≡◌, ℕ, suc, ◌+◌, ◌≤◌, max, List, [], ◌∷◌, length, take, Bool, true, false, refl, sym, ap, subst, arith}
-use Rattle.std.specs.Prelude.{◌==◌, nat_lt, if◌then◌else◌}
+use Rattle.std.proofs.Common.{zero, ◌≡◌, ℕ, suc, ◌+◌, ◌≤◌, max, List, [], ◌∷◌, length, take, Bool, true, false, refl, sym, ap, subst, arith}
+use Rattle.std.specs.Prelude.{None, Some, ◌==◌, nat_lt, if◌then◌else◌}
 use Rattle.std.proofs.lemmas.Bool.Decides.{nat_tests}
 use Rattle.world.specs.Phases.{Phase, Up, Replaying, is_up, todo_of, without}
 use Rattle.world.specs.World.{put}
@@ -9,8 +9,9 @@ use Rattle.world.specs.Calls.{phase_with, peers, released_with}
 use Rattle.theorems.specs.Growth.{Grows}
 use Rattle.theorems.proofs.Changes.{at-itself}
 use Rattle.theorems.proofs.ListLemmas.{begins-length}
+use Rattle.cluster.specs.Parcels.{Delivery, Acknowledgement, Restored}
 use Rattle.cluster.specs.Cluster.{Cluster, seen}
-use Rattle.cluster.specs.Rules.{Act, Input, Puts, Starts, Shows, Works, Replays, Records, Counts, Drops, Hears, Collects, Recovers, Obeys, Enters, Restores, Greets, Freezes, Keeps, Thaws, Dies, Opens, May, does, goes_on, taken_back, kept_by}
+use Rattle.cluster.specs.Rules.{Act, Arrives, Works, Replays, Recovers, Keeps, May, does, goes_on, taken_back, kept_by}
 use Rattle.cluster.proofs.Growth.{either-way}
 use Rattle.cluster.specs.Overlap.{Acts, renews, steps, kept_sends}
 use Rattle.cluster.proofs.DurablePromised.{Durable, step-durable, kept-whole}
@@ -49,33 +50,20 @@ goes-alike : (c : Cluster) (r : ℕ → ℕ → ℕ) (p : ℕ) (ps : List ℕ) (
 goes-alike c r p ps j e = put-alike c.released r p (released_with (seen c) p ps) (released_with (seen (letting c r)) p ps) j e (with-alike c r p ps)
 
 pub does-alike : (c : Cluster) (r : ℕ → ℕ → ℕ) (a : Act) (j : ℕ) → Alike j c (letting c r) → Alike j (does c a) (does (letting c r) a)
-does-alike c r (Input d x) j e = e
-does-alike c r (Puts p d x) j e = e
-does-alike c r (Starts p d i ssn x) j e = e
-does-alike c r (Shows p i ssn x) j e = e
-does-alike c r (Works p m) j e = e
+does-alike c r (Arrives q p (Restored i n m s (Some u) f)) j e = e
+does-alike c r (Arrives p zero (Delivery i ssn x)) j e = e
 does-alike c r (Replays p i) j e = pair-way (nat_lt (c.saved p + suc i) (length (c.history p))) _ _ _ _ (Alike j) e (goes-alike c r p (peers (seen c) p false) j e)
-does-alike c r (Records t s i ssn k) j e = e
-does-alike c r (Counts s t i k) j e =
+does-alike c r (Arrives s t (Acknowledgement i k)) j e =
     let sends : ℕ → ℕ = λ d. length (payloads (seen c) t (take (run_to (put (c.acknowledged t) k true) (length (c.history t))) (c.history t)) d) in
     let raised : (ℕ → ℕ) → ℕ → ℕ = λ f d. max (f d) (sends d) in
     put-alike c.released r t (raised (c.released t)) (raised (r t)) j e (λ g. ap raised g)
-does-alike c r (Drops d s n) j e = e
-does-alike c r (Hears p q i k) j e = e
-does-alike c r (Collects q p i n k u f) j e = e
 does-alike c r (Recovers p k) j e = pair-way (nat_lt (c.saved p) k) _ _ _ _ (Alike j) none (goes-alike (taken_back c p k) (put r p (λ _. 0)) p (peers (seen c) p false) j none)
   where
     none : put c.released p (λ _. 0) j ≡ put r p (λ _. 0) j
     none = put-alike c.released r p (λ _. 0) (λ _. 0) j e (λ _. refl)
-does-alike c r (Obeys p q i k s) j e = e
-does-alike c r (Enters q p i n m s u f) j e = e
-does-alike c r (Restores q p i n m s f) j e = goes-alike c r p (without (todo_of (c.phase p)) q) j e
-does-alike c r (Greets p i n m s f) j e = e
-does-alike c r (Freezes p) j e = e
+does-alike c r (Arrives (suc q) p (Restored i n m s None f)) j e = goes-alike c r p (without (todo_of (c.phase p)) (suc q)) j e
 does-alike c r (Keeps p) j e = put-alike c.released r p (sent_in_all (seen c) p) (sent_in_all (seen c) p) j e (λ _. refl)
-does-alike c r (Thaws p) j e = e
-does-alike c r (Dies p) j e = e
-does-alike c r (Opens p n) j e = e
+does-alike c r act j e = e
 
 -- Of one that is up no more
 
@@ -119,32 +107,20 @@ kept-less c v p x s l j d = split (j == p) refl
     split false t u = l j d u
 
 pub does-less : (c : Cluster) (r : ℕ → ℕ → ℕ) (a : Act) → May c a → Less c (letting c r) → Less (does c a) (does (letting c r) a)
-does-less c r (Input d x) may l = l
-does-less c r (Puts p d x) may l = l
-does-less c r (Starts p d i ssn x) may l = kept-less c (letting c r) d _ (ap is_up may.3) l
-does-less c r (Shows p i ssn x) may l = l
+does-less c r (Arrives q p (Restored i n m s (Some u) f)) may l = l
+does-less c r (Arrives p (suc d) (Delivery i ssn x)) may l = kept-less c (letting c r) (suc d) _ (ap is_up may.1.2) l
 does-less c r (Works p m) may l = kept-less c (letting c r) p Up (ap is_up may.2) l
 does-less c r (Replays p i) may l = pair-way (nat_lt (c.saved p + suc i) (length (c.history p))) _ _ _ _ Less (stopped-less c (letting c r) p (Replaying (suc i) false false) refl l) (goes-less c r p (peers (seen c) p false) l)
-does-less c r (Records t s i ssn k) may l = l
-does-less c r (Counts s t i k) may l =
+does-less c r (Arrives s t (Acknowledgement i k)) may l =
     let sends : ℕ → ℕ = λ d. length (payloads (seen c) t (take (run_to (put (c.acknowledged t) k true) (length (c.history t))) (c.history t)) d) in
     λ j d u. put-less c.released r t (λ d. max (c.released t d) (sends d)) (λ d. max (r t d) (sends d)) j d (l j d u) (λ (m : c.released t d ≤ r t d). omega arith)
-does-less c r (Drops d s n) may l = l
-does-less c r (Hears p q i k) may l = l
-does-less c r (Collects q p i n k u f) may l = l
 does-less c r (Recovers p k) may l = pair-way (nat_lt (c.saved p) k) _ _ _ _ Less (stopped-less (taken_back c p k) (taken_back (letting c r) p k) p (Replaying 0 false false) refl none) (goes-less (taken_back c p k) (put r p (λ _. 0)) p (peers (seen c) p false) none)
   where
     none : Less (taken_back c p k) (taken_back (letting c r) p k)
     none j d u = put-less c.released r p (λ _. 0) (λ _. 0) j d (l j d u) (λ _. omega arith)
-does-less c r (Obeys p q i k s) may l = l
-does-less c r (Enters q p i n m s u f) may l = l
-does-less c r (Restores q p i n m s f) may l = goes-less c r p (without (todo_of (c.phase p)) q) l
-does-less c r (Greets p i n m s f) may l = l
-does-less c r (Freezes p) may l = l
+does-less c r (Arrives (suc q) p (Restored i n m s None f)) may l = goes-less c r p (without (todo_of (c.phase p)) (suc q)) l
 does-less c r (Keeps p) may l = λ j d u. put-less c.released r p (sent_in_all (seen c) p) (sent_in_all (seen c) p) j d (l j d u) (λ _. omega arith)
-does-less c r (Thaws p) may l = l
-does-less c r (Dies p) may l = l
-does-less c r (Opens p n) may l = l
+does-less c r act may l = l
 
 -- A durable node that is up releases no more than an act would
 
@@ -210,14 +186,10 @@ module _ (durable : ℕ → Bool) (c : Cluster) (h : Durable durable c) (j d : �
           rw (back, t) (omega arith)
 
   renewed-less : (a : Act) → May c a → is_up ((does c a).phase j) ≡ true → Renewed (does c a) (renews (Acts a) j) ≤ (does c a).released j d
-  renewed-less (Input e x) may u = omega arith
-  renewed-less (Puts p e x) may u = omega arith
-  renewed-less (Starts p e i ssn x) may u = omega arith
-  renewed-less (Shows p i ssn x) may u = omega arith
-  renewed-less (Works p m) may u = omega arith
+  renewed-less (Arrives q p (Restored i n m s (Some f) g)) may u = omega arith
+  renewed-less (Arrives p zero (Delivery i ssn x)) may u = omega arith
   renewed-less (Replays p i) may u = either-way (nat_lt (c.saved p + suc i) (length (c.history p))) _ _ (λ v. is_up (v.phase j) ≡ true → c.released j d ≤ v.released j d) (λ _. omega arith) (goes-held p (peers (seen c) p false)) u
-  renewed-less (Records t s i ssn k) may u = omega arith
-  renewed-less (Counts s t i k) may u = rises (j == t) refl
+  renewed-less (Arrives s t (Acknowledgement i k)) may u = rises (j == t) refl
     where
       sends : ℕ → ℕ
       sends e = length (payloads (seen c) t (take (run_to (put (c.acknowledged t) k true) (length (c.history t))) (c.history t)) e)
@@ -225,19 +197,10 @@ module _ (durable : ℕ → Bool) (c : Cluster) (h : Durable durable c) (j d : �
       rises : (b : Bool) → (j == t) ≡ b → c.released j d ≤ (if b then (λ (e : ℕ). max (c.released t e) (sends e)) else c.released j) d
       rises true f = let same : j ≡ t = grind (arith, nat_tests) in let P : ℕ → Type 0 = λ i. c.released j d ≤ max (c.released i d) (sends d) in subst P same (omega arith)
       rises false f = omega arith
-  renewed-less (Drops e s n) may u = omega arith
-  renewed-less (Hears p q i k) may u = omega arith
-  renewed-less (Collects q p i n k f g) may u = omega arith
   renewed-less (Recovers p k) may u = recovers-held p k may u
-  renewed-less (Obeys p q i k s) may u = omega arith
-  renewed-less (Enters q p i n m s f g) may u = omega arith
-  renewed-less (Restores q p i n m s f) may u = goes-held p (without (todo_of (c.phase p)) q) u
-  renewed-less (Greets p i n m s f) may u = omega arith
-  renewed-less (Freezes p) may u = omega arith
+  renewed-less (Arrives (suc q) p (Restored i n m s None f)) may u = goes-held p (without (todo_of (c.phase p)) (suc q)) u
   renewed-less (Keeps p) may u = keeps-held p may
-  renewed-less (Thaws p) may u = omega arith
-  renewed-less (Dies p) may u = omega arith
-  renewed-less (Opens p n) may u = omega arith
+  renewed-less act may u = omega arith
 
   pub held-less : (a : Act) → May c a → is_up ((does c a).phase j) ≡ true → (steps durable c (Acts a)).released j d ≤ (does c a).released j d
   held-less a may u = rw lasting (renewed-less a may u)

@@ -1,6 +1,6 @@
 -- What a node keeps of what it received came since its checkpoint, and its logs wait for their receivers
 use Rattle.std.proofs.Common.{◌≡◌, ℕ, zero, suc, ◌+◌, ◌<◌, ◌≤◌, List, [], ◌∷◌, ◌++◌, length, take, drop, Bool, true, false, refl, subst, arith}
-use Rattle.std.specs.Prelude.{◌==◌, nat_lt, if◌then◌else◌}
+use Rattle.std.specs.Prelude.{None, Some, ◌==◌, nat_lt, if◌then◌else◌}
 use Rattle.std.proofs.lemmas.Bool.Decides.{nat_tests}
 use Rattle.world.specs.declared.message.Message.{Message}
 use Rattle.world.specs.History.{count_of}
@@ -12,8 +12,9 @@ use Rattle.theorems.specs.Invariants.Sound.{Replays}
 use Rattle.theorems.proofs.ListLemmas.{take-all, begins-length}
 use Rattle.theorems.proofs.PhaseLemmas.{up-length}
 use Rattle.theorems.proofs.TidyLemmas.{sent-more}
+use Rattle.cluster.specs.Parcels.{Delivery, Restored}
 use Rattle.cluster.specs.Cluster.{Cluster, opening, seen, is_well, waiting, WINDOW}
-use Rattle.cluster.specs.Rules.{Act, Input, Puts, Starts, Shows, Works, Replays as ReplaysOne, Records, Counts, Drops, Hears, Collects, Recovers, Obeys, Enters, Restores, Greets, Freezes, Keeps, Thaws, Dies, Opens, May, does, kept_by, Run, after_run}
+use Rattle.cluster.specs.Rules.{Act, Arrives, Works, Replays as ReplaysOne, Recovers, Keeps, May, does, kept_by, Run, after_run}
 use Rattle.cluster.specs.Memory.{receipts, how_many, is_of, counts, taken_since, unsaved, LogHas, ReceiptsAreNew, LogsWait, FewWait}
 use Rattle.cluster.specs.Inside.Agrees.{Beside, world, Agrees}
 use Rattle.cluster.proofs.Worlds.{Lawful}
@@ -79,27 +80,14 @@ module _ (test : Message → Bool) (p : ℕ) (c : Cluster) (b : Beside) (agrees 
 
   -- each step keeps at most what it may
   pub receipts-step : (a : Act) → May c a → how_many test (receipts (does c a) p) ≤ counts test p a k
-  receipts-step (Input d x) may = h
-  receipts-step (Puts q d x) may = h
-  receipts-step (Starts q d i ssn x) may = h
-  receipts-step (Shows q i ssn x) may = h
+  receipts-step (Arrives q r (Restored i j n s (Some u) f)) may = h
+  receipts-step (Arrives q zero (Delivery i ssn x)) may = h
   receipts-step (Works q m) may = works q m (p == q) refl
   receipts-step (ReplaysOne q j) may = either-way (nat_lt (c.saved q + suc j) (length (c.history q))) _ _ (λ v. how_many test (receipts v p) ≤ k) h h
-  receipts-step (Records r s i ssn m) may = h
-  receipts-step (Counts s r i m) may = h
-  receipts-step (Drops d s n) may = h
-  receipts-step (Hears q r i m) may = h
-  receipts-step (Collects q r i j m u f) may = h
   receipts-step (Recovers q n) may = either-way (nat_lt (c.saved q) n) _ _ (λ v. how_many test (receipts v p) ≤ k) (recovers q n may (p == q) refl) (recovers q n may (p == q) refl)
-  receipts-step (Obeys q r i m s) may = h
-  receipts-step (Enters q r i j n s u f) may = h
-  receipts-step (Restores q r i j n s f) may = h
-  receipts-step (Greets q i j n s f) may = h
-  receipts-step (Freezes q) may = h
+  receipts-step (Arrives zero q (Restored i j n s None f)) may = h
   receipts-step (Keeps q) may = keeps q (p == q) refl
-  receipts-step (Thaws q) may = h
-  receipts-step (Dies q) may = h
-  receipts-step (Opens q n) may = h
+  receipts-step act may = h
 
 -- and so each run
 receipts-run : (test : Message → Bool) (p : ℕ) (c : Cluster) (acts : List Act) → c.count ≤ 15 → Holds c → Run c acts → (k : ℕ) → how_many test (receipts c p) ≤ k → how_many test (receipts (after_run c acts) p) ≤ taken_since test p k acts

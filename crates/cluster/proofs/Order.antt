@@ -8,8 +8,9 @@ use Rattle.world.specs.Plan.{if_next, pushed}
 use Rattle.world.specs.World.{put}
 use Rattle.theorems.proofs.Changes.{choose}
 use Rattle.theorems.proofs.ListLemmas.{get-push, get-take, take-all, take-push, take-take}
+use Rattle.cluster.specs.Parcels.{Delivery, Restored}
 use Rattle.cluster.specs.Cluster.{Cluster, opening}
-use Rattle.cluster.specs.Rules.{Act, Input, Puts, Starts, Shows, Works, Replays, Records, Counts, Drops, Hears, Collects, Recovers, Obeys, Enters, Restores, Greets, Freezes, Keeps, Thaws, Dies, Opens, May, does, message, plan, told_by, kept_by}
+use Rattle.cluster.specs.Rules.{Act, Arrives, Works, Replays, Recovers, May, does, message, plan, told_by, kept_by}
 use Rattle.cluster.proofs.Growth.{either-way}
 use Rattle.cluster.specs.Overlap.{Event, Acts, Meets, Loses, Leaves, Might, steps, Events, after_events}
 use Rattle.cluster.specs.DurablePromises.{InOrder, AlwaysInOrder}
@@ -50,29 +51,15 @@ Ordered c = ((p : ℕ) → InOrder (c.history p)) × InOrder c.shown
 
 -- an act leaves it so, if the open jobs are on messages that are their senders' next
 does-order : (c : Cluster) (a : Act) → ((d : ℕ) (m : Message) → c.phase d ≡ Busy m → m.ssn ≡ suc (count_of m.sender (c.history d))) → May c a → Ordered c → Ordered (does c a)
-does-order c (Input d x) jobs may o = o
-does-order c (Puts p d x) jobs may o = o
-does-order c (Starts p d i ssn x) jobs may o = o
-does-order c (Shows p i ssn x) jobs may o = (o.0, order-push c.shown (message p ssn x) may.2 o.1)
+does-order c (Arrives q p (Restored i j n s (Some u) f)) jobs may o = o
+does-order c (Arrives p zero (Delivery i ssn x)) jobs may o = (o.0, order-push c.shown (message p ssn x) may.1.1 o.1)
 does-order c (Works p m) jobs may o = (choose p (λ j t. InOrder (if t then c.history p ++ m ∷ [] else c.history j)) (order-push (c.history p) m (jobs p m may.2) (o.0 p)) (λ j _. o.0 j), o.1)
 does-order c (Replays p j) jobs may o = either-way (nat_lt (c.saved p + suc j) (length (c.history p))) _ _ Ordered o o
-does-order c (Records r s i ssn k) jobs may o = o
-does-order c (Counts s r i k) jobs may o = o
-does-order c (Drops d s n) jobs may o = o
-does-order c (Hears p q i k) jobs may o = o
-does-order c (Collects q p i j k u f) jobs may o = o
 does-order c (Recovers p k) jobs may o =
     let kept : (q : ℕ) → InOrder (put c.history p (kept_by c p k) q) = choose p (λ j t. InOrder (if t then kept_by c p k else c.history j)) (order-plan (told_by c p) (take (c.saved p) (c.history p)) (k - c.saved p) (order-take (c.history p) (c.saved p) (o.0 p))) (λ j _. o.0 j) in
     either-way (nat_lt (c.saved p) k) _ _ Ordered (kept, o.1) (kept, o.1)
-does-order c (Obeys p q i k s) jobs may o = o
-does-order c (Enters q p i j n s u f) jobs may o = o
-does-order c (Restores q p i j n s f) jobs may o = o
-does-order c (Greets p i j n s f) jobs may o = o
-does-order c (Freezes p) jobs may o = o
-does-order c (Keeps p) jobs may o = o
-does-order c (Thaws p) jobs may o = o
-does-order c (Dies p) jobs may o = o
-does-order c (Opens p n) jobs may o = o
+does-order c (Arrives zero p (Restored i j n s None f)) jobs may o = o
+does-order c act jobs may o = o
 
 steps-order : (durable : ℕ → Bool) (c : Cluster) (e : Event) → Durable durable c → Might c e → Ordered c → Ordered (steps durable c e)
 steps-order durable c (Acts a) h may o = does-order c a (λ d m e. (h.firm.jobs d m e).1) may o

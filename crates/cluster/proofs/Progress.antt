@@ -1,5 +1,5 @@
 -- Each event leaves it so
-use Rattle.std.proofs.Common.{◌≡◌, ◌≢◌, inl, inr, ℕ, suc, ◌+◌, ◌-◌, ◌<◌, ◌≤◌, List, [], ◌∷◌, ◌++◌, length, take, Bool, true, false, refl, sym, ap, ◌∙◌, subst, arith, length-append}
+use Rattle.std.proofs.Common.{zero, ◌≡◌, ◌≢◌, inl, inr, ℕ, suc, ◌+◌, ◌-◌, ◌<◌, ◌≤◌, List, [], ◌∷◌, ◌++◌, length, take, Bool, true, false, refl, sym, ap, ◌∙◌, subst, arith, length-append}
 use Rattle.std.specs.Prelude.{Option, Some, None, ◌==◌, ◌&&◌, nat_lt, nat_le, if◌then◌else◌}
 use Rattle.std.proofs.lemmas.Bool.Decides.{nat_tests}
 use Rattle.world.specs.declared.message.Message.{Message}
@@ -20,7 +20,7 @@ use Rattle.theorems.proofs.PlanLemmas.{first_below-at, logged_as-at}
 use Rattle.theorems.proofs.Recoveries.{up_to-is}
 use Rattle.cluster.specs.Parcels.{Body, Delivery, Number, Acknowledgement, Ask, Told, Resume, Restored, Saved, Parcel, parcel, In, reaches}
 use Rattle.cluster.specs.Cluster.{Collected, Cluster, seen, is_well}
-use Rattle.cluster.specs.Rules.{Act, Input, Puts, Starts, Shows, Works, Replays, Records, Counts, Drops, Hears, Collects, Recovers, Obeys, Enters, Restores, Greets, Freezes, Keeps, Thaws, Dies, Opens, MayPut, May, does, message, entry_of, entry_in, with_page, Asks, IsAll, told_by, kept_by, entered, put2, taken_back}
+use Rattle.cluster.specs.Rules.{Act, Input, Puts, Arrives, Works, Replays, Recovers, Keeps, Opens, MayPut, May, does, message, entry_of, entry_in, with_page, Asks, IsAll, told_by, kept_by, entered, put2, goes_on, takes_in, taken_back}
 use Rattle.cluster.proofs.Facts.{choose2, well-is}
 use Rattle.cluster.proofs.Growth.{either-way, plan-begins, takes-back}
 use Rattle.cluster.specs.Overlap.{Event, Acts, Meets, Loses, Leaves, Might, restores_anew, goes, kept_sends}
@@ -176,10 +176,11 @@ module _ (last : ℕ → Bool) (c : Cluster) (h : Firm last c) where
   with-numbers f g =
       record { grows = h.grows; within = h.within; parcels = h.parcels; jobs = h.jobs; numbers = g; told = h.told; own = h.own; received = h.received; shown = h.shown }
 
-  starts : (p d i ssn : ℕ) (x : Payload) → May c (Starts p d i ssn x) → Firm last (does c (Starts p d i ssn x))
-  starts p d i ssn x may =
+  starts : (p d i ssn : ℕ) (x : Payload) → May c (Arrives p (suc d) (Delivery i ssn x)) → Firm last (does c (Arrives p (suc d) (Delivery i ssn x)))
+  starts p e i ssn x may =
+      let d : ℕ = suc e in
       let g : IsGood last k d (message p ssn x) = (h.parcels p d (Delivery i ssn x) may.0).1 in
-      let n : ssn ≡ suc (count_of p (c.history d)) = may.5 in
+      let n : ssn ≡ suc (count_of p (c.history d)) = may.1.4 in
       record {
         grows = h.grows;
         within = h.within;
@@ -193,7 +194,7 @@ module _ (last : ℕ → Bool) (c : Cluster) (h : Firm last c) where
         shown = h.shown;
       }
 
-  shows : (p i ssn : ℕ) (x : Payload) → May c (Shows p i ssn x) → Firm last (does c (Shows p i ssn x))
+  shows : (p i ssn : ℕ) (x : Payload) → May c (Arrives p zero (Delivery i ssn x)) → Firm last (does c (Arrives p zero (Delivery i ssn x)))
   shows p i ssn x may =
       let g : IsGood last k 0 (message p ssn x) = (h.parcels p 0 (Delivery i ssn x) may.0).1 in
       record {
@@ -205,10 +206,10 @@ module _ (last : ℕ → Bool) (c : Cluster) (h : Firm last c) where
         told = h.told;
         own = h.own;
         received = h.received;
-        shown = λ q l. first-push c.shown (message p ssn x) q (k q 0) may.2 (λ e. let P : ℕ → Type 0 = λ z. (last z ≡ true → nth (k z 0) ssn ≡ Some x) in subst P e g l) (h.shown q l);
+        shown = λ q l. first-push c.shown (message p ssn x) q (k q 0) may.1.1 (λ e. let P : ℕ → Type 0 = λ z. (last z ≡ true → nth (k z 0) ssn ≡ Some x) in subst P e g l) (h.shown q l);
       }
 
-  records : (r s i ssn n : ℕ) → May c (Records r s i ssn n) → Firm last (does c (Records r s i ssn n))
+  records : (r s i ssn n : ℕ) → May c (Arrives r s (Number i ssn n)) → Firm last (does c (Arrives r s (Number i ssn n)))
   records r s i ssn n may =
       let t = h.parcels r s (Number i ssn n) may.0 in
       record {
@@ -224,20 +225,20 @@ module _ (last : ℕ → Bool) (c : Cluster) (h : Firm last c) where
         shown = h.shown;
       }
 
-  obeys : (p q i n s : ℕ) → Firm last (does c (Obeys p q i n s))
+  obeys : (p q i n s : ℕ) → Firm last (does c (Arrives p q (Resume i n s)))
   obeys p q i n s =
       with-numbers (put2 c.numbers q p (λ ssn. up_to n (c.numbers q p ssn)))
       (choose2 q p (λ a b t. (ssn m : ℕ) → (if t then (λ ssn. up_to n (c.numbers q p ssn)) else c.numbers a b) ssn ≡ Some m → IsThere last k a b ssn)
       (λ ssn m e. h.numbers q p ssn m (up_to-is n m (c.numbers q p ssn) e).0) (λ a b _ ssn m e. h.numbers a b ssn m e))
 
-  restores : (q p i j n s : ℕ) (f : ℕ → Option ℕ) → May c (Restores q p i j n s f) → Firm last (does c (Restores q p i j n s f))
-  restores q p i j n s f may =
+  restores : (q p i j n s : ℕ) (f : ℕ → Option ℕ) → In (parcel q p (Restored i j n s None f)) c.parcels → Firm last (goes_on (takes_in c p q j n s None f) p (without (todo_of (c.phase p)) q))
+  restores q p i j n s f there =
       record {
         grows = h.grows;
         within = h.within;
         parcels = h.parcels;
         jobs = jobs-idle p (phase_with (without (todo_of (c.phase p)) q)) (with-idle _);
-        numbers = page-there p q s None f (h.parcels q p (Restored i j n s None f) may.0).1;
+        numbers = page-there p q s None f (h.parcels q p (Restored i j n s None f) there).1;
         told = h.told;
         own = h.own;
         received = h.received;
@@ -365,30 +366,25 @@ module _ (last : ℕ → Bool) (c : Cluster) (h : Firm last c) where
         more = sends-continue c (taken_back c p n) h.grows refl (takes-back c p n (h.within p))
 
   does-firm : (released : (p d : ℕ) → last p ≡ true → released_to (seen c) p d ≤ length (k p d)) (a : Act) → May c a → Firm last (does c a)
+  does-firm released (Arrives q p (Restored i j n s (Some u) f)) may = with-numbers (put2 c.numbers p q (entered c p q s (Some u) f)) (page-there p q s (Some u) f (h.parcels q p (Restored i j n s (Some u) f) may.0).1)
   does-firm released (Input d x) may = input-firm d x
   does-firm released (Puts p d x) may = with-parcel p d x may.2 (put-true released p d x may.3)
-  does-firm released (Starts p d i ssn x) may = starts p d i ssn x may
-  does-firm released (Shows p i ssn x) may = shows p i ssn x may
+  does-firm released (Arrives p (suc d) (Delivery i ssn x)) may = starts p d i ssn x may
+  does-firm released (Arrives p zero (Delivery i ssn x)) may = shows p i ssn x may
   does-firm released (Works p m) may = works p m may
   does-firm released (Replays p j) may = either-way (nat_lt (c.saved p + suc j) (length (c.history p))) _ _ (Firm last)
       (with-phase p (Replaying (suc j) false false) (λ m e. let t : false ≡ true = ap is_busy e in cc)) (with-phase p (phase_with (peers (seen c) p false)) (with-idle (peers (seen c) p false)))
-  does-firm released (Records r s i ssn n) may = records r s i ssn n may
-  does-firm released (Counts s r i n) may = h
-  does-firm released (Drops d s n) may = h
-  does-firm released (Hears p q i n) may = with-told q p None (λ _. refl) tt
-  does-firm released (Collects q p i j n u f) may =
+  does-firm released (Arrives r s (Number i ssn n)) may = records r s i ssn n may
+  does-firm released (Arrives p q (Ask i n)) may = with-told q p None (λ _. refl) tt
+  does-firm released (Arrives q p (Told i j n u f)) may =
       let t = h.parcels q p (Told i j n u f) may.0 in
-      with-told p q (Some (with_page (c.told p q) n u f)) (λ e. absurd (t.0 (sym e))) (page-good p q n u f may.4 t.1)
+      with-told p q (Some (with_page (c.told p q) n u f)) (λ e. absurd (t.0 (sym e))) (page-good p q n u f may.1.3 t.1)
   does-firm released (Recovers p n) may = recovers-firm p n may
-  does-firm released (Obeys p q i n s) may = obeys p q i n s
-  does-firm released (Enters q p i j n s u f) may = with-numbers (put2 c.numbers p q (entered c p q s (Some u) f)) (page-there p q s (Some u) f (h.parcels q p (Restored i j n s (Some u) f) may.0).1)
-  does-firm released (Restores q p i j n s f) may = restores q p i j n s f may
-  does-firm released (Greets p i j n s f) may = h
-  does-firm released (Freezes p) may = h
+  does-firm released (Arrives p q (Resume i n s)) may = obeys p q i n s
+  does-firm released (Arrives (suc q) p (Restored i j n s None f)) may = restores (suc q) p i j n s f may.0
   does-firm released (Keeps p) may = keeps p
-  does-firm released (Thaws p) may = h
-  does-firm released (Dies p) may = h
   does-firm released (Opens p n) may = opens p n
+  does-firm released act may = h
 
   pub goes-firm : (released : (p d : ℕ) → last p ≡ true → released_to (seen c) p d ≤ length (k p d)) (e : Event) → Might c e → Firm last (goes c e)
   goes-firm released (Acts a) may = does-firm released a may

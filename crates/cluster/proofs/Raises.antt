@@ -10,7 +10,7 @@ use Rattle.world.specs.Logs.{covered}
 use Rattle.world.specs.Calls.{phase_with, peers}
 use Rattle.cluster.specs.Parcels.{Body, Resume, Restored}
 use Rattle.cluster.specs.Cluster.{Live, Cluster, seen, runs, is_well}
-use Rattle.cluster.specs.Rules.{Puts, Works, Replays, Obeys, Restores, Greets, IsNode, goes_on}
+use Rattle.cluster.specs.Rules.{Puts, Arrives, Works, Replays, IsNode, goes_on}
 use Rattle.cluster.proofs.Facts.{well-is, is-well}
 use Rattle.cluster.specs.Exact.{Telling, Takes, Leaving, MayStep, step}
 use Rattle.cluster.specs.Return.{CanGo}
@@ -126,14 +126,14 @@ module _ (born : ℕ → ℕ) (now p : ℕ) where
             let w = h.awake q a n in
             let up : s.cluster.phase q ≡ Up = w.1 well in
             let g : s.cluster.greeted q ≡ true = (well-is s.cluster q well).1 in
-            let m : MayStep (step s (Takes true false (Puts p q (Resume (s.cluster.life p) (length (s.cluster.history p)) (s.cluster.restoring p q))))) (Takes true false (Obeys p q (s.cluster.life p) (length (s.cluster.history p)) (s.cluster.restoring p q))) =
-            ((inl refl, (rw (w.0, g, up) refl), sym (heard-life s h q a n), e, (λ x f. absurd (not-busy s.cluster q up x f))), tt) in
-            go-first (step s (Takes true false (Puts p q (Resume (s.cluster.life p) (length (s.cluster.history p)) (s.cluster.restoring p q))))) (Obeyed q s) (Takes true false (Obeys p q (s.cluster.life p) (length (s.cluster.history p)) (s.cluster.restoring p q))) m refl (
+            let m : MayStep (step s (Takes true false (Puts p q (Resume (s.cluster.life p) (length (s.cluster.history p)) (s.cluster.restoring p q))))) (Takes true false (Arrives p q (Resume (s.cluster.life p) (length (s.cluster.history p)) (s.cluster.restoring p q)))) =
+            ((inl refl, ((rw (w.0, g, up) refl), sym (heard-life s h q a n), e, (λ x f. absurd (not-busy s.cluster q up x f)))), tt) in
+            go-first (step s (Takes true false (Puts p q (Resume (s.cluster.life p) (length (s.cluster.history p)) (s.cluster.restoring p q))))) (Obeyed q s) (Takes true false (Arrives p q (Resume (s.cluster.life p) (length (s.cluster.history p)) (s.cluster.restoring p q)))) m refl (
               [],
               tt,
               tt,
               record {
-                aged = step-aged born now _ (Takes true false (Obeys p q (s.cluster.life p) (length (s.cluster.history p)) (s.cluster.restoring p q))) refl aged m;
+                aged = step-aged born now _ (Takes true false (Arrives p q (Resume (s.cluster.life p) (length (s.cluster.history p)) (s.cluster.restoring p q)))) refl aged m;
                 count = refl;
                 stage = λ r. refl;
                 greeted = λ r. refl;
@@ -155,29 +155,32 @@ module _ (born : ℕ → ℕ) (now p : ℕ) where
     low : s.cluster.heard p q ≤ s.cluster.life q
     low = let l : s.cluster.heard p q ≤ s.cluster.stored q = h.aged.plain.low p q in let e : s.cluster.life q ≡ s.cluster.stored q = h.aged.plain.settled q (ap runs (h.awake q a n).0) in omega arith
 
-    -- p takes it in, of another node
-    restores-one : s.cluster.resumed q p ≡ true → IsNode s.cluster q → has (todo_of (s.cluster.phase p)) q ≡ true → CanGo s (Fewer q s)
-    restores-one e other todo =
-        let m : MayStep (step s (Takes true false (Puts q p answer))) (Takes (s.exact q) false (Restores q p (s.cluster.life p) (s.cluster.life q) (covered (seen s.cluster) p q) (s.cluster.restoring p q) (rsn_of (s.cluster.history q) p))) =
-        ((inl refl, other, h.live, refl, todo, refl, low), inl refl) in
-        go-first s (Fewer q s) (Takes true false (Puts q p answer)) (may-answer e) refl
-        (go-first (step s (Takes true false (Puts q p answer))) (Fewer q s) (Takes (s.exact q) false (Restores q p (s.cluster.life p) (s.cluster.life q) (covered (seen s.cluster) p q) (s.cluster.restoring p q) (rsn_of (s.cluster.history q) p))) m refl (
-          [],
-          tt,
-          tt,
-          (
-            record {
-              aged = step-aged born now _ (Takes (s.exact q) false (Restores q p (s.cluster.life p) (s.cluster.life q) (covered (seen s.cluster) p q) (s.cluster.restoring p q) (rsn_of (s.cluster.history q) p))) refl
-                  (step-aged born now s (Takes true false (Puts q p answer)) refl h.aged (may-answer e)) m;
-              count = refl;
-              stage = λ r. refl;
-              greeted = λ r _. refl;
-              phase = λ r n. put-other s.cluster.phase p (phase_with (without (todo_of (s.cluster.phase p)) q)) r n;
-              lost = λ r. refl;
-            },
-            put-same s.cluster.phase p (phase_with (without (todo_of (s.cluster.phase p)) q)),
-          ),
-        ))
+  -- p takes it in, of another node
+  restores-one : (s : Telling) (h : Stand s) (un : is_well s.cluster p ≡ false) (q : ℕ) (a : q ≤ s.cluster.count) (n : q ≢ p) (well : is_well s.cluster q ≡ true)
+      → s.cluster.resumed q p ≡ true → IsNode s.cluster q → has (todo_of (s.cluster.phase p)) q ≡ true → CanGo s (Fewer q s)
+  restores-one s h un zero a n well e other todo = absurd (let l : 0 < 0 = other.0 in omega arith)
+  restores-one s h un (suc v) a n well e other todo =
+      let q : ℕ = suc v in
+      let x : Body = answer s h un q a n well in
+      let put_ = may-answer s h un q a n well e in
+      let m : MayStep (step s (Takes true false (Puts q p x))) (Takes (s.exact q) false (Arrives q p x)) = ((inl refl, (other, h.live, refl, todo, refl, low s h un q a n well)), inl refl) in
+      go-first s (Fewer q s) (Takes true false (Puts q p x)) put_ refl
+      (go-first (step s (Takes true false (Puts q p x))) (Fewer q s) (Takes (s.exact q) false (Arrives q p x)) m refl (
+        [],
+        tt,
+        tt,
+        (
+          record {
+            aged = step-aged born now _ (Takes (s.exact q) false (Arrives q p x)) refl (step-aged born now s (Takes true false (Puts q p x)) refl h.aged put_) m;
+            count = refl;
+            stage = λ r. refl;
+            greeted = λ r _. refl;
+            phase = λ r n. put-other s.cluster.phase p (phase_with (without (todo_of (s.cluster.phase p)) q)) r n;
+            lost = λ r. refl;
+          },
+          put-same s.cluster.phase p (phase_with (without (todo_of (s.cluster.phase p)) q)),
+        ),
+      ))
 
   -- the gateway greets it
   abbrev Greeted : Telling → Telling → Type 0
@@ -192,16 +195,16 @@ module _ (born : ℕ → ℕ) (now p : ℕ) where
   greets-one : (s : Telling) (h : Stand s) (un : is_well s.cluster p ≡ false) → s.cluster.greeted p ≡ false → is_up (s.cluster.phase p) ≡ true → s.cluster.resumed 0 p ≡ true → CanGo s (Greeted s)
   greets-one s h un g up e =
       let first : MayStep s (Takes true false (Puts 0 p (answer s h un 0 (omega arith) (gate-other s h) (gate-well s h)))) = may-answer s h un 0 (omega arith) (gate-other s h) (gate-well s h) e in
-      let m : MayStep (step s (Takes true false (Puts 0 p (answer s h un 0 (omega arith) (gate-other s h) (gate-well s h))))) (Takes (s.exact 0) false (Greets p (s.cluster.life p) (s.cluster.life 0) (covered (seen s.cluster) p 0) (s.cluster.restoring p 0) (rsn_of (s.cluster.history 0) p))) =
-      ((inl refl, h.live, refl, g, not-replaying (s.cluster.phase p) up), inl refl) in
+      let m : MayStep (step s (Takes true false (Puts 0 p (answer s h un 0 (omega arith) (gate-other s h) (gate-well s h))))) (Takes (s.exact 0) false (Arrives 0 p (answer s h un 0 (omega arith) (gate-other s h) (gate-well s h)))) =
+      ((inl refl, (h.live, refl, g, not-replaying (s.cluster.phase p) up)), inl refl) in
       go-first s (Greeted s) (Takes true false (Puts 0 p (answer s h un 0 (omega arith) (gate-other s h) (gate-well s h)))) first refl
-      (go-first (step s (Takes true false (Puts 0 p (answer s h un 0 (omega arith) (gate-other s h) (gate-well s h))))) (Greeted s) (Takes (s.exact 0) false (Greets p (s.cluster.life p) (s.cluster.life 0) (covered (seen s.cluster) p 0) (s.cluster.restoring p 0) (rsn_of (s.cluster.history 0) p))) m refl (
+      (go-first (step s (Takes true false (Puts 0 p (answer s h un 0 (omega arith) (gate-other s h) (gate-well s h))))) (Greeted s) (Takes (s.exact 0) false (Arrives 0 p (answer s h un 0 (omega arith) (gate-other s h) (gate-well s h)))) m refl (
         [],
         tt,
         tt,
         (
           record {
-            aged = step-aged born now _ (Takes (s.exact 0) false (Greets p (s.cluster.life p) (s.cluster.life 0) (covered (seen s.cluster) p 0) (s.cluster.restoring p 0) (rsn_of (s.cluster.history 0) p))) refl
+            aged = step-aged born now _ (Takes (s.exact 0) false (Arrives 0 p (answer s h un 0 (omega arith) (gate-other s h) (gate-well s h)))) refl
                 (step-aged born now s (Takes true false (Puts 0 p (answer s h un 0 (omega arith) (gate-other s h) (gate-well s h)))) refl h.aged first) m;
             count = refl;
             stage = λ r. refl;

@@ -1,5 +1,5 @@
 -- A run in which no node was ever not exact is one of nodes that don't meet
-use Rattle.std.proofs.Common.{◌≡◌, inl, inr, ℕ, suc, ◌+◌, ◌≤◌, List, [], ◌∷◌, length, Bool, true, false, refl, sym, ap, ◌∙◌, subst, arith}
+use Rattle.std.proofs.Common.{zero, ◌≡◌, inl, inr, ℕ, suc, ◌+◌, ◌≤◌, List, [], ◌∷◌, length, Bool, true, false, refl, sym, ap, ◌∙◌, subst, arith}
 use Rattle.std.specs.Prelude.{Some, None, not, ◌&&◌, ◌==◌, nat_lt, if◌then◌else◌}
 use Rattle.world.specs.Handlers.{Handlers}
 use Rattle.theorems.specs.Growth.{Grows}
@@ -9,7 +9,7 @@ use Rattle.cluster.specs.Parcels.{Body, Delivery, Number, Acknowledgement, Ask, 
 use Rattle.world.specs.Phases.{is_up}
 use Rattle.world.specs.Logs.{released_to}
 use Rattle.cluster.specs.Cluster.{Cluster, opening, seen, is_well}
-use Rattle.cluster.specs.Rules.{Act, Input, Puts, Starts, Shows, Works, Replays, Records, Counts, Drops, Hears, Collects, Recovers, Obeys, Enters, Restores, Greets, Freezes, Keeps, Thaws, Dies, Opens, May, does, Run, after_run}
+use Rattle.cluster.specs.Rules.{Act, Puts, Arrives, Replays, Recovers, Opens, MayTake, May, does, Run, after_run}
 use Rattle.cluster.specs.Promises.{NoOrphanNode, OutputOnce, ReceivedOnce}
 use Rattle.cluster.proofs.Facts.{choose2, true-not-false, well-is}
 use Rattle.cluster.proofs.Growth.{either-way}
@@ -27,7 +27,7 @@ is_told x = false
 -- the packets behind an act
 abbrev more : Act → List Parcel → List Parcel
 more (Puts p d x) ps = parcel p d x ∷ ps
-more (Records r s i ssn k) ps = parcel s r (Acknowledgement i k) ∷ ps
+more (Arrives r s (Number i ssn k)) ps = parcel s r (Acknowledgement i k) ∷ ps
 more a ps = ps
 
 -- the cluster with these packets, where this is released
@@ -40,31 +40,16 @@ either-among true x y v w ps = refl
 either-among false x y v w ps = refl
 
 does-among : (c : Cluster) (ps : List Parcel) (r : ℕ → ℕ → ℕ) (a : Act) → does (among c ps r) a ≡ among (does c a) (more a ps) (does (letting c r) a).released
-does-among c ps r (Input d x) = refl
-does-among c ps r (Puts p d x) = refl
-does-among c ps r (Starts p d i ssn x) = refl
-does-among c ps r (Shows p i ssn x) = refl
-does-among c ps r (Works p m) = refl
+does-among c ps r (Arrives q p (Restored i j n s (Some u) f)) = refl
+does-among c ps r (Arrives p zero (Delivery i ssn x)) = refl
 does-among c ps r (Replays p j) = either-among (nat_lt (c.saved p + suc j) (length (c.history p))) _ _ _ _ ps
-does-among c ps r (Records t s i ssn k) = refl
-does-among c ps r (Counts s t i k) = refl
-does-among c ps r (Drops d s n) = refl
-does-among c ps r (Hears p q i k) = refl
-does-among c ps r (Collects q p i j k u f) = refl
 does-among c ps r (Recovers p k) = either-among (nat_lt (c.saved p) k) _ _ _ _ ps
-does-among c ps r (Obeys p q i k s) = refl
-does-among c ps r (Enters q p i j n s u f) = refl
-does-among c ps r (Restores q p i j n s f) = refl
-does-among c ps r (Greets p i j n s f) = refl
-does-among c ps r (Freezes p) = refl
-does-among c ps r (Keeps p) = refl
-does-among c ps r (Thaws p) = refl
-does-among c ps r (Dies p) = refl
-does-among c ps r (Opens p n) = refl
+does-among c ps r (Arrives zero p (Restored i j n s None f)) = refl
+does-among c ps r act = refl
 
 -- the Told that an act takes is among them
 abbrev Got : List Parcel → Act → Type 0
-Got ps (Collects q p i j k u f) = In (parcel q p (Told i j k u f)) ps
+Got ps (Arrives q p (Told i j k u f)) = In (parcel q p (Told i j k u f)) ps
 Got ps a = Unit {0}
 
 -- an act may happen among other packets, where these have what it takes, and where no less is released
@@ -76,38 +61,20 @@ module _ (c : Cluster) (ps : List Parcel) (r : ℕ → ℕ → ℕ) (others : (x
       split true l = omega arith
       split false l = l
 
+  takes-among : (p d : ℕ) (x : Body) → MayTake c p d x → MayTake (among c ps r) p d x
+  takes-among p d (Restored i j n s (Some u) f) may = may
+  takes-among zero d (Restored i j n s None f) may = may
+  takes-among p zero (Delivery i ssn x) may = may
+  takes-among p d x may = may
+
   may-among : (a : Act) → Got ps a → May c a → May (among c ps r) a
-  may-among (Input d x) g may = may
   may-among (Puts p d (Delivery i ssn x)) g may =
       let l : released_to (seen c) p d ≤ released_to (seen (letting c r)) p d = released-among p d may.3.0 in
       let s : ssn ≤ released_to (seen c) p d = may.3.2 in
       (may.0, may.1, may.2, (may.3.0, may.3.1, (omega arith), may.3.3, may.3.4))
-  may-among (Puts p d (Number i ssn k)) g may = may
-  may-among (Puts p d (Acknowledgement i k)) g may = may
-  may-among (Puts p d (Ask i k)) g may = may
-  may-among (Puts p d (Told i j k u f)) g may = may
-  may-among (Puts p d (Resume i k s)) g may = may
-  may-among (Puts p d (Restored i j n s u f)) g may = may
-  may-among (Puts p d (Saved n)) g may = may
-  may-among (Starts p d i ssn x) g may = (others (parcel p d (Delivery i ssn x)) refl may.0, may.1, may.2, may.3, may.4, may.5, may.6)
-  may-among (Shows p i ssn x) g may = (others (parcel p 0 (Delivery i ssn x)) refl may.0, may.1, may.2)
-  may-among (Works p m) g may = may
-  may-among (Replays p j) g may = may
-  may-among (Records r s i ssn k) g may = (others (parcel r s (Number i ssn k)) refl may.0, may.1, may.2, may.3)
-  may-among (Counts s r i k) g may = (others (parcel s r (Acknowledgement i k)) refl may.0, may.1, may.2, may.3, may.4, may.5)
-  may-among (Drops d s n) g may = (others (parcel d s (Saved n)) refl may.0, may.1)
-  may-among (Hears p q i k) g may = (others (parcel p q (Ask i k)) refl may.0, may.1, may.2)
-  may-among (Collects q p i j k u f) g may = (g, may.1, may.2, may.3, may.4)
-  may-among (Recovers p k) g may = may
-  may-among (Obeys p q i k s) g may = (others (parcel p q (Resume i k s)) refl may.0, may.1, may.2, may.3, may.4)
-  may-among (Enters q p i j n s u f) g may = (others (parcel q p (Restored i j n s (Some u) f)) refl may.0, may.1, may.2, may.3, may.4, may.5, may.6)
-  may-among (Restores q p i j n s f) g may = (others (parcel q p (Restored i j n s None f)) refl may.0, may.1, may.2, may.3, may.4, may.5, may.6)
-  may-among (Greets p i j n s f) g may = (others (parcel 0 p (Restored i j n s None f)) refl may.0, may.1, may.2, may.3, may.4)
-  may-among (Freezes p) g may = may
-  may-among (Keeps p) g may = may
-  may-among (Thaws p) g may = may
-  may-among (Dies p) g may = may
-  may-among (Opens p n) g may = may
+  may-among (Arrives p d (Told i j k u f)) g may = (g, may.1)
+  may-among (Arrives p d x) g may = (others (parcel p d x) refl may.0, takes-among p d x may.1)
+  may-among act g may = may
 
 -- these are all packets of s but those that say that something is lost; and nobody was told so
 abbrev Follows : Telling → List Parcel → Type 0
@@ -120,7 +87,7 @@ Follows s ps =
 
 -- if an act that takes a Told takes one that says nothing is lost
 abbrev Nothing : Bool → Act → Type 0
-Nothing lost (Collects q p i j k u f) = lost ≡ false
+Nothing lost (Arrives q p (Told i j k u f)) = lost ≡ false
 Nothing lost a = Unit {0}
 
 module _ (s : Telling) (ps : List Parcel) (h : Follows s ps) (exact lost : Bool) where
@@ -133,7 +100,7 @@ module _ (s : Telling) (ps : List Parcel) (h : Follows s ps) (exact lost : Bool)
   one-said x z y i e = elim i [ inl f ↦ inl (ap (λ (w : Flagged). w.packet) f) | inr f ↦ inr (h.told y f e) ]
 
   follows : (a : Act) → Nothing lost a → Follows (step s (Takes exact lost a)) (more a ps)
-  follows (Input d x) g = h
+  follows (Arrives q p (Restored i j n r (Some u) f)) g = h
   follows (Puts p d (Delivery i ssn x)) g = record { others = one-more (parcel p d (Delivery i ssn x)); told = λ y i e. inr (h.told y i e); found = h.found }
   follows (Puts p d (Number i ssn k)) g = record { others = one-more (parcel p d (Number i ssn k)); told = λ y i e. inr (h.told y i e); found = h.found }
   follows (Puts p d (Acknowledgement i k)) g = record { others = one-more (parcel p d (Acknowledgement i k)); told = λ y i e. inr (h.told y i e); found = h.found }
@@ -142,35 +109,25 @@ module _ (s : Telling) (ps : List Parcel) (h : Follows s ps) (exact lost : Bool)
   follows (Puts p d (Resume i k r)) g = record { others = one-more (parcel p d (Resume i k r)); told = λ y i e. inr (h.told y i e); found = h.found }
   follows (Puts p d (Restored i j n r u f)) g = record { others = one-more (parcel p d (Restored i j n r u f)); told = one-said (parcel p d (Restored i j n r u f)) (s.exact p); found = h.found }
   follows (Puts p d (Saved n)) g = record { others = one-more (parcel p d (Saved n)); told = λ y i e. inr (h.told y i e); found = h.found }
-  follows (Starts p d i ssn x) g = h
-  follows (Shows p i ssn x) g = h
-  follows (Works p m) g = h
+  follows (Arrives p zero (Delivery i ssn x)) g = h
   follows (Replays p j) g =
       record {
         others = either-way (nat_lt (s.cluster.saved p + suc j) (length (s.cluster.history p))) _ _ (λ v. (x : Parcel) → is_told x.body ≡ false → In x v.parcels → In x ps) h.others h.others;
         told = h.told;
         found = h.found;
       }
-  follows (Records r t i ssn k) g = record { others = one-more (parcel t r (Acknowledgement i k)); told = λ y i e. inr (h.told y i e); found = h.found }
-  follows (Counts t r i k) g = h
-  follows (Drops d t n) g = h
-  follows (Hears p q i k) g = record { others = h.others; told = h.told; found = choose2 q p (λ a b t. (if t then false else s.lost a b) ≡ false) refl (λ a b _. h.found a b) }
-  follows (Collects q p i j k u f) g = record { others = h.others; told = h.told; found = choose2 p q (λ a b t. (if t then lost else s.lost a b) ≡ false) g (λ a b _. h.found a b) }
+  follows (Arrives r t (Number i ssn k)) g = record { others = one-more (parcel t r (Acknowledgement i k)); told = λ y i e. inr (h.told y i e); found = h.found }
+  follows (Arrives p q (Ask i k)) g = record { others = h.others; told = h.told; found = choose2 q p (λ a b t. (if t then false else s.lost a b) ≡ false) refl (λ a b _. h.found a b) }
+  follows (Arrives q p (Told i j k u f)) g = record { others = h.others; told = h.told; found = choose2 p q (λ a b t. (if t then lost else s.lost a b) ≡ false) g (λ a b _. h.found a b) }
   follows (Recovers p k) g =
       record {
         others = either-way (nat_lt (s.cluster.saved p) k) _ _ (λ v. (x : Parcel) → is_told x.body ≡ false → In x v.parcels → In x ps) h.others h.others;
         told = h.told;
         found = h.found;
       }
-  follows (Obeys p q i k r) g = h
-  follows (Enters q p i j n r u f) g = h
-  follows (Restores q p i j n r f) g = h
-  follows (Greets p i j n r f) g = h
-  follows (Freezes p) g = h
-  follows (Keeps p) g = h
-  follows (Thaws p) g = h
-  follows (Dies p) g = h
+  follows (Arrives zero p (Restored i j n r None f)) g = h
   follows (Opens p n) g = record { others = h.others; told = h.told; found = λ a b. choose p (λ j t. (if t then (λ (k : ℕ). false) else s.lost j) b ≡ false) refl (λ j _. h.found j b) a }
+  follows act g = h
 
 -- all are exact where such a run begins
 first-exact : (s : Telling) (xs : List Step) → AlwaysExact s xs → (p : ℕ) → s.exact p ≡ true
@@ -183,53 +140,15 @@ not-lost false e = refl
 
 -- a node that is exact after it took a Told was told of nothing lost
 nothing : (s : Telling) (exact lost : Bool) (a : Act) → ((p : ℕ) → (step s (Takes exact lost a)).exact p ≡ true) → Nothing lost a
-nothing s exact lost (Collects q p i j k u f) e =
+nothing s exact lost (Arrives q p (Told i j k u f)) e =
     let now : (s.exact p && (exact && not lost)) ≡ true = at-itself p (λ b. (if b then s.exact p && (exact && not lost) else s.exact p) ≡ true → (s.exact p && (exact && not lost)) ≡ true) (λ z. z) (e p) in
     not-lost lost (both exact (not lost) (both (s.exact p) (exact && not lost) now).1).1
-nothing s exact lost (Input d x) e = tt
-nothing s exact lost (Puts p d x) e = tt
-nothing s exact lost (Starts p d i ssn x) e = tt
-nothing s exact lost (Shows p i ssn x) e = tt
-nothing s exact lost (Works p m) e = tt
-nothing s exact lost (Replays p j) e = tt
-nothing s exact lost (Records r t i ssn k) e = tt
-nothing s exact lost (Counts t r i k) e = tt
-nothing s exact lost (Drops d t n) e = tt
-nothing s exact lost (Hears p q i k) e = tt
-nothing s exact lost (Recovers p k) e = tt
-nothing s exact lost (Obeys p q i k r) e = tt
-nothing s exact lost (Enters q p i j n r u f) e = tt
-nothing s exact lost (Restores q p i j n r f) e = tt
-nothing s exact lost (Greets p i j n r f) e = tt
-nothing s exact lost (Freezes p) e = tt
-nothing s exact lost (Keeps p) e = tt
-nothing s exact lost (Thaws p) e = tt
-nothing s exact lost (Dies p) e = tt
-nothing s exact lost (Opens p n) e = tt
+nothing s exact lost act e = tt
 
 -- and what it takes is among the packets that say so
 got : (s : Telling) (ps : List Parcel) → Follows s ps → (exact lost : Bool) (a : Act) → Nothing lost a → Says s exact lost a → Got ps a
-got s ps h exact lost (Collects q p i j k u f) n y = h.told (flagged (parcel q p (Told i j k u f)) exact lost) y n
-got s ps h exact lost (Input d x) n y = tt
-got s ps h exact lost (Puts p d x) n y = tt
-got s ps h exact lost (Starts p d i ssn x) n y = tt
-got s ps h exact lost (Shows p i ssn x) n y = tt
-got s ps h exact lost (Works p m) n y = tt
-got s ps h exact lost (Replays p j) n y = tt
-got s ps h exact lost (Records r t i ssn k) n y = tt
-got s ps h exact lost (Counts t r i k) n y = tt
-got s ps h exact lost (Drops d t k) n y = tt
-got s ps h exact lost (Hears p q i k) n y = tt
-got s ps h exact lost (Recovers p k) n y = tt
-got s ps h exact lost (Obeys p q i k r) n y = tt
-got s ps h exact lost (Enters q p i j k r u f) n y = tt
-got s ps h exact lost (Restores q p i j k r f) n y = tt
-got s ps h exact lost (Greets p i j k r f) n y = tt
-got s ps h exact lost (Freezes p) n y = tt
-got s ps h exact lost (Keeps p) n y = tt
-got s ps h exact lost (Thaws p) n y = tt
-got s ps h exact lost (Dies p) n y = tt
-got s ps h exact lost (Opens p k) n y = tt
+got s ps h exact lost (Arrives q p (Told i j k u f)) n y = h.told (flagged (parcel q p (Told i j k u f)) exact lost) y n
+got s ps h exact lost act n y = tt
 
 -- What is released in the exact cluster: where one isn't durable the same, and nowhere less
 abbrev Lets : Telling → (ℕ → ℕ → ℕ) → Type 0

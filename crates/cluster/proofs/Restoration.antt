@@ -22,8 +22,8 @@ use Rattle.theorems.proofs.ListLemmas.{begins-self, take-all, at-number, nth-wit
 use Rattle.theorems.proofs.Resyncs.{without-has}
 use Rattle.theorems.proofs.TidyLemmas.{sent-more}
 use Rattle.cluster.specs.Parcels.{Restored, parcel, In, reaches}
-use Rattle.cluster.specs.Cluster.{Cluster, Live, Collecting, Collected, seen, runs}
-use Rattle.cluster.specs.Rules.{Enters, Restores, May, does, goes_on, entered, put2, IsNode}
+use Rattle.cluster.specs.Cluster.{Cluster, Collecting, Collected, seen, runs}
+use Rattle.cluster.specs.Rules.{Arrives, Awaits, May, does, goes_on, takes_in, entered, put2, IsNode}
 use Rattle.cluster.specs.Inside.Agrees.{Beside, world, NumberAs, HeardAs, CollectedAs, IsTold, AllKept, IsIdle, is_back, is_answered, restored_so_far, Agrees}
 use Rattle.cluster.specs.Inside.Simulation.{IsJournalOf}
 use Rattle.cluster.proofs.Worlds.{Lawful}
@@ -72,14 +72,14 @@ contrary false n = absurd (n refl)
 
 -- what may be done with a page of any kind
 abbrev MayEnter : Cluster → ℕ → ℕ → ℕ → ℕ → ℕ → ℕ → Option ℕ → (ℕ → Option ℕ) → Type 0
-MayEnter c q p i j n s u f = In (parcel q p (Restored i j n s u f)) c.parcels × IsNode c q × (c.stage p ≡ Live) × (i ≡ c.life p) × (has (todo_of (c.phase p)) q ≡ true) × (s ≡ c.restoring p q) × (c.heard p q ≤ j)
+MayEnter c q p i j n s u f = In (parcel q p (Restored i j n s u f)) c.parcels × Awaits c p q i j s
 
 module _ (c : Cluster) (b : Beside) (q p i j n s : ℕ) (u : Option ℕ) (f : ℕ → Option ℕ) (h : Agrees c b) (l : Lawful (world c b)) (may : MayEnter c q p i j n s u f) where
   abbrev todo : List ℕ
-  todo = (resync-phase (c.phase p) q may.4).0
+  todo = (resync-phase (c.phase p) q may.1.3).0
 
   at : c.phase p ≡ Resync todo
-  at = (resync-phase (c.phase p) q may.4).1
+  at = (resync-phase (c.phase p) q may.1.3).1
 
   abbrev rest : List ℕ
   rest = without (todo_of (c.phase p)) q
@@ -100,7 +100,7 @@ module _ (c : Cluster) (b : Beside) (q p i j n s : ℕ) (u : Option ℕ) (f : �
   ne = (h.parcels q p (Restored i j n s u f) may.0).2
 
   ran : runs (c.stage p) ≡ true
-  ran = runs-live _ may.2
+  ran = runs-live _ may.1.1
 
   was : is_up (c.phase p) ≡ false
   was = rw at refl
@@ -116,13 +116,13 @@ module _ (c : Cluster) (b : Beside) (q p i j n s : ℕ) (u : Option ℕ) (f : �
       first (suc k) e = omega arith
 
   now : (j ≡ c.life q) × (((m : Message) → c.phase q ≡ Busy m → m.sender ≢ p)) × ((ssn : ℕ) → s < ssn → reaches u ssn ≡ true → f ssn ≡ rsn_of (c.history q) p ssn) × (runs (c.stage q) ≡ true → c.heard q p ≡ c.life p → c.resumed q p ≡ true) × AllKept c b q p
-  now = (h.parcels q p (Restored i j n s u f) may.0).3.now may.3 unback
+  now = (h.parcels q p (Restored i j n s u f) may.0).3.now may.1.2 unback
 
   qback : is_back c q ≡ true
   qback = others-back c b h p q pa qa ne unback
 
   there_ : is_restored (c.phase p) q ≡ false
-  there_ = let e : has (todo_of (c.phase p)) q ≡ true = may.4 in let g : has todo q ≡ true = rw at at e in rw (at, g) refl
+  there_ = let e : has (todo_of (c.phase p)) q ≡ true = may.1.3 in let g : has todo q ≡ true = rw at at e in rw (at, g) refl
 
   -- what q was told and what it received of p agree
   same-heard : (x y : ℕ) → put2 c.heard p q j x y ≡ c.heard x y
@@ -140,9 +140,9 @@ module _ (c : Cluster) (b : Beside) (q p i j n s : ℕ) (u : Option ℕ) (f : �
   no-number ssn m e = let g : None ≡ Some m = sym (h.numbered.fresh p q ssn there_) ∙ e in cc
 
 -- a page
-pub agrees-enters : (c : Cluster) (b : Beside) (q p i j n s u : ℕ) (f : ℕ → Option ℕ) → Agrees c b → Lawful (world c b) → May c (Enters q p i j n s u f) → Agrees (does c (Enters q p i j n s u f)) b
+pub agrees-enters : (c : Cluster) (b : Beside) (q p i j n s u : ℕ) (f : ℕ → Option ℕ) → Agrees c b → Lawful (world c b) → May c (Arrives q p (Restored i j n s (Some u) f)) → Agrees (does c (Arrives q p (Restored i j n s (Some u) f))) b
 agrees-enters c b q p i j n s u f h l may =
-    let d : Cluster = does c (Enters q p i j n s u f) in
+    let d : Cluster = does c (Arrives q p (Restored i j n s (Some u) f)) in
     let same : (x y : ℕ) → d.heard x y ≡ c.heard x y = same-heard c b q p i j n s (Some u) f h l may in
     let unrestored : is_restored (c.phase p) q ≡ false = there_ c b q p i j n s (Some u) f h l may in
     let told_ = now c b q p i j n s (Some u) f h l may in
@@ -180,7 +180,7 @@ agrees-enters c b q p i j n s u f h l may =
           (λ e. absurd (true-not-false (qback c b q p i j n s (Some u) f h l may) e)) (λ x y _ _ g. g) x y e g) h.parcels;
     }
   where
-    kept : (x y : ℕ) (o : Option Collected) → CollectedAs c b x y o → CollectedAs (does c (Enters q p i j n s u f)) b x y o
+    kept : (x y : ℕ) (o : Option Collected) → CollectedAs c b x y o → CollectedAs (does c (Arrives q p (Restored i j n s (Some u) f))) b x y o
     kept x y None t = tt
     kept x y (Some g) t = record { heard = rw (same-heard c b q p i j n s (Some u) f h l may x y) t.heard; gave = t.gave; is = t.is }
 
@@ -204,11 +204,11 @@ agrees-enters c b q p i j n s u f h l may =
             rw z old
           where
             last : (t : Bool) → nat_lt s ssn ≡ t → (t && nat_le ssn u) ≡ false → nat_le ssn u ≡ nat_le ssn (c.restoring p q)
-            last true g y = let x : s ≡ c.restoring p q = may.5 in let w : nat_le ssn (c.restoring p q) ≡ false = grind (arith, nat_tests) in y ∙ sym w
-            last false g y = let x : s ≡ c.restoring p q = may.5 in let k : s < u = ahead in let v : nat_le ssn u ≡ true = grind (arith, nat_tests) in let w : nat_le ssn (c.restoring p q) ≡ true = grind (arith, nat_tests) in v ∙ sym w
+            last true g y = let x : s ≡ c.restoring p q = may.1.4 in let w : nat_le ssn (c.restoring p q) ≡ false = grind (arith, nat_tests) in y ∙ sym w
+            last false g y = let x : s ≡ c.restoring p q = may.1.4 in let k : s < u = ahead in let v : nat_le ssn u ≡ true = grind (arith, nat_tests) in let w : nat_le ssn (c.restoring p q) ≡ true = grind (arith, nat_tests) in v ∙ sym w
 
 -- the last page
-module _ (c : Cluster) (b : Beside) (q p i j n s : ℕ) (f : ℕ → Option ℕ) (h : Agrees c b) (l : Lawful (world c b)) (may : May c (Restores q p i j n s f)) where
+module _ (c : Cluster) (b : Beside) (q p i j n s : ℕ) (f : ℕ → Option ℕ) (h : Agrees c b) (l : Lawful (world c b)) (may : MayEnter c q p i j n s None f) where
   abbrev v : World
   v = world c b
 
@@ -260,7 +260,7 @@ module _ (c : Cluster) (b : Beside) (q p i j n s : ℕ) (f : ℕ → Option ℕ)
   turn =
       record {
         node = node c b q p i j n s None f h l may;
-        stage = may.2;
+        stage = may.1.1;
         was = was c b q p i j n s None f h l may;
         live = with-down rest_;
         busy = with-busy rest_;
@@ -374,13 +374,13 @@ module _ (c : Cluster) (b : Beside) (q p i j n s : ℕ) (f : ℕ → Option ℕ)
 
           here : (o : Option ℕ) → rsn_of (c.history q) p ssn ≡ o → (if nat_lt 0 ssn && nat_le ssn (c.restoring p q) then o else None) ≡ o
           here None g = other (nat_lt 0 ssn && nat_le ssn (c.restoring p q)) None refl
-          here (Some m) g = let r : 0 < ssn = (received ssn m g).0 in let a : s ≡ c.restoring p q = may.5 in let z : (nat_lt 0 ssn && nat_le ssn (c.restoring p q)) ≡ true = grind (arith, nat_tests) in rw z refl
+          here (Some m) g = let r : 0 < ssn = (received ssn m g).0 in let a : s ≡ c.restoring p q = may.1.4 in let z : (nat_lt 0 ssn && nat_le ssn (c.restoring p q)) ≡ true = grind (arith, nat_tests) in rw z refl
 
   not-given-by-p : (r : ℕ) → r ≤ c.count → p ≢ r → c.stage r ≡ Collecting → b.gave p r ≡ c.stored r → ⊥
   not-given-by-p = not-given c b q p i j n s None f h l may
 
   abbrev after_ : Cluster
-  after_ = does c (Restores q p i j n s f)
+  after_ = goes_on (takes_in c p q j n s None f) p rest_
 
   -- numbers of the others stay
   stay : (x y ssn : ℕ) → (x ≡ p → y ≢ q) → b'.numbers x y ssn ≡ b.numbers x y ssn
@@ -480,13 +480,13 @@ module _ (c : Cluster) (b : Beside) (q p i j n s : ℕ) (f : ℕ → Option ℕ)
       again = choose2 p q (λ x y t. (if t then 0 else c.restoring x y) ≡ 0 → is_replaying (turned.phase x) ≡ true → c.restoring x y ≡ 0)
           (λ _ e. absurd (true-not-false e (at-itself p (λ t. is_replaying (if t then phase_with rest_ else c.phase p) ≡ false) (with-replaying rest_)))) (λ x y _ e _. e)
 
-  pub step-restores : IsJournalOf (world c b) (does c (Restores q p i j n s f))
+  pub step-restores : IsJournalOf (world c b) after_
   step-restores =
       let node_ = node c b q p i j n s None f h l may in
       record {
         beside = b';
         leads = leads-one v (world after_ b') (ResyncWith p q) (RestoredAnswer (restored_count v p q (suc (length (sent v p q)))))
-            (step-of v (ResyncWith p q) (RestoredAnswer (restored_count v p q (suc (length (sent v p q))))) (open_jobs v + 1) (inside node_.0 node_.1 may.1.0 may.1.1, (apart, (upped, (rw may.4 refl, (below-self (open_jobs v + 1), tt))))) refl refl) refl;
+            (step-of v (ResyncWith p q) (RestoredAnswer (restored_count v p q (suc (length (sent v p q))))) (open_jobs v + 1) (inside node_.0 node_.1 may.1.0.0 may.1.0.1, (apart, (upped, (rw may.1.3 refl, (below-self (open_jobs v + 1), tt))))) refl refl) refl;
         agrees = agrees-restores;
       }
     where

@@ -12,7 +12,7 @@ use Rattle.theorems.proofs.Changes.{elsewhere, at-itself}
 use Rattle.cluster.specs.Parcels.{Body, Resume, Restored, Parcel, parcel}
 use Rattle.cluster.specs.Cluster.{Live, Cluster, seen, runs, is_well, takes}
 use Rattle.cluster.specs.Inside.Agrees.{is_back}
-use Rattle.cluster.specs.Rules.{Act, Puts, Replays, Obeys, Restores, Greets, IsNode, May, does, goes_on}
+use Rattle.cluster.specs.Rules.{Act, Puts, Arrives, Replays, IsNode, May, does, goes_on}
 use Rattle.cluster.proofs.Facts.{is-well, runs-live, heard-now, back-well}
 use Rattle.cluster.specs.Return.{is_death, CanReach, AllUp}
 use Rattle.cluster.proofs.Sane.{Sane, sane-step, without-shorter}
@@ -65,10 +65,10 @@ module _ (p : ℕ) where
         split : (b : Bool) → c.resumed q p ≡ b → CanReach (does c (Puts p q asked)) P
         split true e = go (parcel p q asked ∷ c.parcels) c.numbers c.resumed s1 e
         split false e =
-            let act : Act = Obeys p q (c.life p) (length (c.history p)) (c.restoring p q) in
-            let may : May (does c (Puts p q asked)) (Obeys p q (c.life p) (length (c.history p)) (c.restoring p q)) = (inl refl, waits-takes c q (o q a n), heard, e, (λ m f. absurd (not-busy c q (o q a n) m f))) in
-            first (does c (Puts p q asked)) P (Obeys p q (c.life p) (length (c.history p)) (c.restoring p q)) may refl
-            (go _ _ _ (sane-step (does c (Puts p q asked)) (Obeys p q (c.life p) (length (c.history p)) (c.restoring p q)) s1 may) (there q p))
+            let act : Act = Arrives p q (Resume (c.life p) (length (c.history p)) (c.restoring p q)) in
+            let may : May (does c (Puts p q asked)) (Arrives p q (Resume (c.life p) (length (c.history p)) (c.restoring p q))) = (inl refl, (waits-takes c q (o q a n), heard, e, (λ m f. absurd (not-busy c q (o q a n) m f)))) in
+            first (does c (Puts p q asked)) P (Arrives p q (Resume (c.life p) (length (c.history p)) (c.restoring p q))) may refl
+            (go _ _ _ (sane-step (does c (Puts p q asked)) (Arrives p q (Resume (c.life p) (length (c.history p)) (c.restoring p q))) s1 may) (there q p))
           where
             there : (x y : ℕ) → (if (x == x) && (y == y) then true else c.resumed x y) ≡ true
             there x y = let t : (x == x) ≡ true = grind (arith, nat_tests) in let u : (y == y) ≡ true = grind (arith, nat_tests) in rw (t, u) refl
@@ -121,7 +121,7 @@ module _ (p : ℕ) where
           obeys c s node o live un 0 low ne AllUp (λ ps ns rs t e.
           let may = may-answer c s node o live un 0 low ne ps ns rs e in
           first (record c { parcels = ps; numbers = ns; resumed = rs }) AllUp (Puts 0 p (Restored (c.life p) (c.life 0) (covered (seen c) p 0) (c.restoring p 0) None (rsn_of (c.history 0) p))) may refl
-          (first _ AllUp (Greets p (c.life p) (c.life 0) (covered (seen c) p 0) (c.restoring p 0) (rsn_of (c.history 0) p)) (inl refl, live, refl, g, not-replaying (c.phase p) up) refl
+          (first _ AllUp (Arrives zero p (Restored (c.life p) (c.life 0) (covered (seen c) p 0) (c.restoring p 0) None (rsn_of (c.history 0) p))) (inl refl, (live, refl, g, not-replaying (c.phase p) up)) refl
           (is-up _ (λ q a n. let w = o q a n in (w.0, elsewhere p (λ j b. (if b then true else c.greeted j) ≡ c.greeted j) (λ j. refl) q n ∙ w.1, w.2)) live up (at-itself p (λ b. (if b then true else c.greeted p) ≡ true) refl))))
 
   pub others-turn : (c : Cluster) (x : Phase) → Others c → (q : ℕ) → q ≤ c.count → q ≢ p → (c.stage q ≡ Live) × (c.greeted q ≡ true) × (put c.phase p x q ≡ Up)
@@ -134,7 +134,9 @@ module _ (p : ℕ) where
   pub restores : (k : ℕ) (c : Cluster) → Sane c → IsNode c p → Others c → c.stage p ≡ Live → (rs : List ℕ) → length rs ≤ k → c.phase p ≡ phase_with rs → CanReach c AllUp
   restores k c s node o live [] l e = greets c s node o live (ap is_up e)
   restores zero c s node o live (q ∷ rs) l e = absurd (omega arith)
-  restores (suc k) c s node o live (q ∷ rs) l e =
+  restores (suc k) c s node o live (zero ∷ rs) l e = absurd (let z : 0 < 0 = (s.todo p 0 (ap (λ x. has (todo_of x) 0) e)).0.0 in omega arith)
+  restores (suc k) c s node o live (suc v ∷ rs) l e =
+      let q : ℕ = suc v in
       let todo : todo_of (c.phase p) ≡ q ∷ rs = ap todo_of e in
       let me : (q == q) ≡ true = grind (arith, nat_tests) in
       let has_ : has (todo_of (c.phase p)) q ≡ true = ap (λ xs. has xs q) todo ∙ (rw me refl) in
@@ -150,11 +152,11 @@ module _ (p : ℕ) where
       let d : Cluster = record c { parcels = ps; numbers = ns; resumed = ts } in
       let may = may-answer c s node o live un q a n ps ns ts f in
       let u = sane-step (record c { parcels = ps; numbers = ns; resumed = ts }) (Puts q p (answer c s node o live un q a n)) t may in
-      let enters : May (does (record c { parcels = ps; numbers = ns; resumed = ts }) (Puts q p (answer c s node o live un q a n))) (Restores q p (c.life p) (c.life q) (covered (seen c) p q) (c.restoring p q) (rsn_of (c.history q) p)) =
-      (inl refl, that.0, live, refl, has_, refl, (omega arith)) in
+      let enters : May (does (record c { parcels = ps; numbers = ns; resumed = ts }) (Puts q p (answer c s node o live un q a n))) (Arrives q p (Restored (c.life p) (c.life q) (covered (seen c) p q) (c.restoring p q) None (rsn_of (c.history q) p))) =
+      (inl refl, (that.0, live, refl, has_, refl, (omega arith))) in
       first (record c { parcels = ps; numbers = ns; resumed = ts }) AllUp (Puts q p (answer c s node o live un q a n)) may refl
-      (first _ AllUp (Restores q p (c.life p) (c.life q) (covered (seen c) p q) (c.restoring p q) (rsn_of (c.history q) p)) enters refl
-      (restores k _ (sane-step _ (Restores q p (c.life p) (c.life q) (covered (seen c) p q) (c.restoring p q) (rsn_of (c.history q) p)) u enters) node
+      (first _ AllUp (Arrives q p (Restored (c.life p) (c.life q) (covered (seen c) p q) (c.restoring p q) None (rsn_of (c.history q) p))) enters refl
+      (restores k _ (sane-step _ (Arrives q p (Restored (c.life p) (c.life q) (covered (seen c) p q) (c.restoring p q) None (rsn_of (c.history q) p))) u enters) node
       (others-turn c (phase_with (without (todo_of (c.phase p)) q)) o) live (without (todo_of (c.phase p)) q) fewer (turned c (phase_with (without (todo_of (c.phase p)) q))))))
 
   -- and before that it replays: one message, and what comes after it

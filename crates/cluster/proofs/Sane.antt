@@ -9,9 +9,9 @@ use Rattle.world.specs.Calls.{phase_with, peers}
 use Rattle.theorems.specs.Growth.{Grows}
 use Rattle.theorems.proofs.Changes.{choose}
 use Rattle.theorems.proofs.Tests.{both}
-use Rattle.cluster.specs.Parcels.{Ask, Told, Restored}
+use Rattle.cluster.specs.Parcels.{Delivery, Ask, Told, Restored}
 use Rattle.cluster.specs.Cluster.{Cluster, opening, seen}
-use Rattle.cluster.specs.Rules.{Act, Input, Puts, Starts, Shows, Works, Replays, Records, Counts, Drops, Hears, Collects, Recovers, Obeys, Enters, Restores, Greets, Freezes, Keeps, Thaws, Dies, Opens, IsNode, May, does, message, Run, after_run}
+use Rattle.cluster.specs.Rules.{Act, Arrives, Works, Replays, Recovers, Opens, IsNode, May, does, message, Run, after_run}
 use Rattle.cluster.specs.Inside.Agrees.{is_back}
 use Rattle.cluster.proofs.Facts.{choose2}
 use Rattle.cluster.proofs.Growth.{either-way}
@@ -98,32 +98,18 @@ no-todo : (c : Cluster) (p q : ℕ) (x : Phase) → todo_of x ≡ [] → has (to
 no-todo c p q x e t = absurd (let z : false ≡ true = sym (ap (λ xs. has xs q) e) ∙ t in cc)
 
 pub todo-step : (c : Cluster) (a : Act) → May c a → Todo c → Todo (does c a)
-todo-step c (Input d x) may h = h
-todo-step c (Puts p d x) may h = h
-todo-step c (Starts p d i ssn x) may h = todo-turn c d (Busy (message p ssn x)) (λ q e. no-todo c d q (Busy (message p ssn x)) refl e) h
-todo-step c (Shows p i ssn x) may h = h
+todo-step c (Arrives q p (Restored i j n s (Some u) f)) may h = h
+todo-step c (Arrives p (suc d) (Delivery i ssn x)) may h = todo-turn c (suc d) (Busy (message p ssn x)) (λ q e. no-todo c (suc d) q (Busy (message p ssn x)) refl e) h
 todo-step c (Works p m) may h = todo-turn c p Up (λ q e. no-todo c p q Up refl e) h
 todo-step c (Replays p j) may h = either-way (nat_lt (c.saved p + suc j) (length (c.history p))) _ _ Todo
     (todo-turn c p (Replaying (suc j) false false) (λ q e. no-todo c p q (Replaying (suc j) false false) refl e) h)
     (todo-turn c p (phase_with (peers (seen c) p false)) (todo-with c p (peers (seen c) p false) (peers-nodes c p)) h)
-todo-step c (Records r s i ssn k) may h = h
-todo-step c (Counts s r i k) may h = h
-todo-step c (Drops d s n) may h = h
-todo-step c (Hears p q i k) may h = h
-todo-step c (Collects q p i j k u f) may h = h
 todo-step c (Recovers p k) may h = either-way (nat_lt (c.saved p) k) _ _ Todo
     (todo-turn c p (Replaying 0 false false) (λ q e. no-todo c p q (Replaying 0 false false) refl e) h)
     (todo-turn c p (phase_with (peers (seen c) p false)) (todo-with c p (peers (seen c) p false) (peers-nodes c p)) h)
-todo-step c (Obeys p q i k s) may h = h
-todo-step c (Enters q p i j n s u f) may h = h
-todo-step c (Restores q p i j n s f) may h =
-    todo-turn c p (phase_with (without (todo_of (c.phase p)) q)) (todo-with c p (without (todo_of (c.phase p)) q) (λ r e. h p r (without-less (todo_of (c.phase p)) q r e))) h
-todo-step c (Greets p i j n s f) may h = h
-todo-step c (Freezes p) may h = h
-todo-step c (Keeps p) may h = h
-todo-step c (Thaws p) may h = h
-todo-step c (Dies p) may h = h
-todo-step c (Opens p n) may h = h
+todo-step c (Arrives (suc q) p (Restored i j n s None f)) may h =
+    todo-turn c p (phase_with (without (todo_of (c.phase p)) (suc q))) (todo-with c p (without (todo_of (c.phase p)) (suc q)) (λ r e. h p r (without-less (todo_of (c.phase p)) (suc q) r e))) h
+todo-step c act may h = h
 
 some-turn : (c : Cluster) (p : ℕ) (x : Phase) → x ≢ Resync [] → IsSomeTodo c → (j : ℕ) → put c.phase p x j ≢ Resync []
 some-turn c p x n h = choose p (λ j b. (if b then x else c.phase j) ≢ Resync []) n (λ j _. h j)
@@ -140,29 +126,15 @@ replays-some : (j : ℕ) → Replaying j false false ≢ Resync []
 replays-some j e = let t : true ≡ false = ap is_replaying e in cc
 
 some-step : (c : Cluster) (a : Act) → IsSomeTodo c → IsSomeTodo (does c a)
-some-step c (Starts p d i ssn x) h = some-turn c d (Busy (message p ssn x)) (λ e. let t : true ≡ false = ap is_up e in cc) h
+some-step c (Arrives q p (Restored i j n s (Some u) f)) h = h
+some-step c (Arrives p (suc d) (Delivery i ssn x)) h = some-turn c (suc d) (Busy (message p ssn x)) (λ e. let t : true ≡ false = ap is_up e in cc) h
 some-step c (Works p m) h = some-turn c p Up (λ e. let t : true ≡ false = ap is_up e in cc) h
 some-step c (Replays p j) h = either-way (nat_lt (c.saved p + suc j) (length (c.history p))) _ _ IsSomeTodo
     (some-turn c p (Replaying (suc j) false false) (replays-some (suc j)) h) (some-turn c p (phase_with (peers (seen c) p false)) (some-with (peers (seen c) p false)) h)
 some-step c (Recovers p k) h = either-way (nat_lt (c.saved p) k) _ _ IsSomeTodo
     (some-turn c p (Replaying 0 false false) (replays-some 0) h) (some-turn c p (phase_with (peers (seen c) p false)) (some-with (peers (seen c) p false)) h)
-some-step c (Restores q p i j n s f) h = some-turn c p (phase_with (without (todo_of (c.phase p)) q)) (some-with (without (todo_of (c.phase p)) q)) h
-some-step c (Input d x) h = h
-some-step c (Puts p d x) h = h
-some-step c (Shows p i ssn x) h = h
-some-step c (Records r s i ssn k) h = h
-some-step c (Counts s r i k) h = h
-some-step c (Drops d s n) h = h
-some-step c (Hears p q i k) h = h
-some-step c (Collects q p i j k u f) h = h
-some-step c (Obeys p q i k s) h = h
-some-step c (Enters q p i j n s u f) h = h
-some-step c (Greets p i j n s f) h = h
-some-step c (Freezes p) h = h
-some-step c (Keeps p) h = h
-some-step c (Thaws p) h = h
-some-step c (Dies p) h = h
-some-step c (Opens p n) h = h
+some-step c (Arrives (suc q) p (Restored i j n s None f)) h = some-turn c p (phase_with (without (todo_of (c.phase p)) (suc q))) (some-with (without (todo_of (c.phase p)) (suc q))) h
+some-step c act h = h
 
 -- who restores numbers isn't back
 restores-back : (c : Cluster) (p q : ℕ) → has (todo_of (c.phase p)) q ≡ true → is_back c p ≡ false
@@ -176,38 +148,25 @@ restores-back c p q e = split (c.phase p) e
     split x e = absurd (cc)
 
 low-step : (c : Cluster) (a : Act) → Holds c → May c a → Low c → Low (does c a)
-low-step c (Input d x) h may l = l
-low-step c (Puts p d x) h may l = l
-low-step c (Starts p d i ssn x) h may l = l
-low-step c (Shows p i ssn x) h may l = l
-low-step c (Works p m) h may l = l
+low-step c (Arrives q p (Restored i j n s (Some u) f)) h may l =
+    let now = (h.agrees.parcels q p (Restored i j n s (Some u) f) may.0).3.now may.1.2 (restores-back c p q may.1.3) in
+    let e : j ≡ c.life q = now.0 in
+    let m : c.life q ≤ c.stored q = h.agrees.stages.lives q in
+    choose2 p q (λ a b t. (if t then j else c.heard a b) ≤ c.stored b) (omega arith) (λ a b _. l a b)
+low-step c (Arrives p zero (Delivery i ssn x)) h may l = l
 low-step c (Replays p j) h may l = either-way (nat_lt (c.saved p + suc j) (length (c.history p))) _ _ Low l l
-low-step c (Records r s i ssn k) h may l = l
-low-step c (Counts s r i k) h may l = l
-low-step c (Drops d s n) h may l = l
-low-step c (Hears p q i k) h may l = let fine : i ≤ c.stored p = (h.agrees.parcels p q (Ask i k) may.0).3 in choose2 q p (λ a b t. (if t then i else c.heard a b) ≤ c.stored b) fine (λ a b _. l a b)
-low-step c (Collects q p i j k u f) h may l =
-    let now = (h.agrees.parcels q p (Told i j k u f) may.0).3.now may.1 may.2 in
+low-step c (Arrives p q (Ask i k)) h may l = let fine : i ≤ c.stored p = (h.agrees.parcels p q (Ask i k) may.0).3 in choose2 q p (λ a b t. (if t then i else c.heard a b) ≤ c.stored b) fine (λ a b _. l a b)
+low-step c (Arrives q p (Told i j k u f)) h may l =
+    let now = (h.agrees.parcels q p (Told i j k u f) may.0).3.now may.1.0 may.1.1 in
     let e : j ≡ c.life q = now.0 in
     let m : c.life q ≤ c.stored q = h.agrees.stages.lives q in
     choose2 p q (λ a b t. (if t then j else c.heard a b) ≤ c.stored b) (omega arith) (λ a b _. l a b)
 low-step c (Recovers p k) h may l = either-way (nat_lt (c.saved p) k) _ _ Low l l
-low-step c (Obeys p q i k s) h may l = l
-low-step c (Enters q p i j n s u f) h may l =
-    let now = (h.agrees.parcels q p (Restored i j n s (Some u) f) may.0).3.now may.3 (restores-back c p q may.4) in
-    let e : j ≡ c.life q = now.0 in
-    let m : c.life q ≤ c.stored q = h.agrees.stages.lives q in
-    choose2 p q (λ a b t. (if t then j else c.heard a b) ≤ c.stored b) (omega arith) (λ a b _. l a b)
-low-step c (Restores q p i j n s f) h may l =
-    let now = (h.agrees.parcels q p (Restored i j n s None f) may.0).3.now may.3 (restores-back c p q may.4) in
-    let e : j ≡ c.life q = now.0 in
-    let m : c.life q ≤ c.stored q = h.agrees.stages.lives q in
-    choose2 p q (λ a b t. (if t then j else c.heard a b) ≤ c.stored b) (omega arith) (λ a b _. l a b)
-low-step c (Greets p i j n s f) h may l = l
-low-step c (Freezes p) h may l = l
-low-step c (Keeps p) h may l = l
-low-step c (Thaws p) h may l = l
-low-step c (Dies p) h may l = l
+low-step c (Arrives (suc q) p (Restored i j n s None f)) h may l =
+    let now = (h.agrees.parcels (suc q) p (Restored i j n s None f) may.0).3.now may.1.2 (restores-back c p (suc q) may.1.3) in
+    let e : j ≡ c.life (suc q) = now.0 in
+    let m : c.life (suc q) ≤ c.stored (suc q) = h.agrees.stages.lives (suc q) in
+    choose2 p (suc q) (λ a b t. (if t then j else c.heard a b) ≤ c.stored b) (omega arith) (λ a b _. l a b)
 low-step c (Opens p n) h may l = λ a b.
     let rises : (b : ℕ) → c.stored b ≤ put c.stored p (suc (n + c.stored p)) b = choose p (λ j t. c.stored j ≤ (if t then suc (n + c.stored p) else c.stored j)) (omega arith) (λ j _. omega arith) in
     let g : c.life 0 ≡ 1 = h.agrees.stages.gateway.1 in
@@ -220,6 +179,7 @@ low-step c (Opens p n) h may l = λ a b.
     one : (x : ℕ) (t : Bool) → (x == 0) ≡ t → 1 ≤ c.stored 0 → (if t then 1 else 0) ≤ c.stored x
     one x true e m = let same : 0 ≡ x = grind (arith, nat_tests) in let P : ℕ → Type 0 = λ i. 1 ≤ c.stored i in subst P same m
     one x false e m = omega arith
+low-step c act h may l = l
 
 pub sane-step : (c : Cluster) (a : Act) → Sane c → May c a → Sane (does c a)
 sane-step c a s may = let t = step-holds c a s.few s.holds may in record { holds = t.0; few = t.1; low = low-step c a s.holds may s.low; todo = todo-step c a may s.todo; some = some-step c a s.some }

@@ -1,12 +1,12 @@
 -- The whole rules: nodes may be durable, nodes whose recoveries meet say so, and each node knows whether it is exact
-use Rattle.std.specs.Prelude.{◌≡◌, ◌⊎◌, ℕ, ◌≤◌, List, [], ◌∷◌, Some, None, Bool, true, false, not, ◌&&◌}
+use Rattle.std.specs.Prelude.{◌≡◌, ◌⊎◌, ℕ, ◌≤◌, List, [], ◌∷◌, None, Bool, true, false, not, ◌&&◌}
 use Rattle.world.specs.Handlers.{Handlers}
 use Rattle.world.specs.Phases.{is_up}
 use Rattle.world.specs.World.{put}
 use Rattle.theorems.specs.Growth.{Grows}
-use Rattle.cluster.specs.Parcels.{Body, Told, Restored, Parcel, parcel}
+use Rattle.cluster.specs.Parcels.{Body, Ask, Told, Restored, Parcel, parcel}
 use Rattle.cluster.specs.Cluster.{Cluster, opening}
-use Rattle.cluster.specs.Rules.{Act, Puts, Hears, Collects, Enters, Restores, Greets, Opens, May, put2, Run, after_run}
+use Rattle.cluster.specs.Rules.{Act, Puts, Arrives, Opens, May, put2, Run, after_run}
 use Rattle.cluster.specs.Promises.{NoOrphanNode, OutputOnce, ReceivedOnce}
 use Rattle.cluster.specs.Overlap.{Event, Acts, Meets, Loses, Leaves, Might, steps, Events, after_events}
 
@@ -54,10 +54,8 @@ pub data Step : Type 0 where
 
 -- the packet that an act takes said this
 abbrev pub Says : Telling → Bool → Bool → Act → Type 0
-Says s exact lost (Collects q p i j k u f) = Said (flagged (parcel q p (Told i j k u f)) exact lost) s.said
-Says s exact lost (Enters q p i j n r u f) = Said (flagged (parcel q p (Restored i j n r (Some u) f)) exact lost) s.said
-Says s exact lost (Restores q p i j n r f) = Said (flagged (parcel q p (Restored i j n r None f)) exact lost) s.said
-Says s exact lost (Greets p i j n r f) = Said (flagged (parcel 0 p (Restored i j n r None f)) exact lost) s.said
+Says s exact lost (Arrives p d (Told i j k u f)) = Said (flagged (parcel p d (Told i j k u f)) exact lost) s.said
+Says s exact lost (Arrives p d (Restored i j n r u f)) = Said (flagged (parcel p d (Restored i j n r u f)) exact lost) s.said
 Says s exact lost a = Unit {0}
 
 -- when each may happen
@@ -69,17 +67,15 @@ MayStep s (Leaving p q) = Might s.cluster (Leaves p q) × (s.lost p q ≡ true)
 
 -- who is exact after an act. A node that is opened again has forgotten that it wasn't
 abbrev pub exact_after : (ℕ → Bool) → Bool → Bool → Act → ℕ → Bool
-exact_after f exact lost (Collects q p i j k u g) = put f p (f p && (exact && not lost))
-exact_after f exact lost (Enters q p i j n r u g) = put f p (f p && exact)
-exact_after f exact lost (Restores q p i j n r g) = put f p (f p && exact)
-exact_after f exact lost (Greets p i j n r g) = put f p (f p && exact)
+exact_after f exact lost (Arrives p d (Told i j k u g)) = put f d (f d && (exact && not lost))
+exact_after f exact lost (Arrives p d (Restored i j n r u g)) = put f d (f d && exact)
 exact_after f exact lost (Opens p n) = put f p true
 exact_after f exact lost a = f
 
 -- which peers said that they lost what they had. A node that asks anew was told nothing
 abbrev pub lost_after : (ℕ → ℕ → Bool) → Bool → Act → ℕ → ℕ → Bool
-lost_after f lost (Collects q p i j k u g) = put2 f p q lost
-lost_after f lost (Hears p q i k) = put2 f q p false
+lost_after f lost (Arrives p d (Told i j k u g)) = put2 f d p lost
+lost_after f lost (Arrives p d (Ask i k)) = put2 f d p false
 lost_after f lost (Opens p n) = put f p (λ _. false)
 lost_after f lost a = f
 

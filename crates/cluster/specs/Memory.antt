@@ -6,9 +6,9 @@ use Rattle.world.specs.History.{count_of}
 use Rattle.world.specs.Handlers.{Handlers}
 use Rattle.world.specs.Logs.{sent, sent_in_all, covered}
 use Rattle.world.specs.Bounds.{count_below}
-use Rattle.cluster.specs.Parcels.{reaches}
+use Rattle.cluster.specs.Parcels.{Saved, reaches}
 use Rattle.cluster.specs.Cluster.{Collecting, Collected, Cluster, opening, seen, is_well, waiting, WINDOW}
-use Rattle.cluster.specs.Rules.{Act, Works, Keeps, Drops, IsNode, after_run, FromOpening}
+use Rattle.cluster.specs.Rules.{Act, Arrives, Works, Keeps, IsNode, after_run, FromOpening}
 
 -- the receipts that p keeps: of the messages that it received after its durable checkpoint
 abbrev pub receipts : Cluster → ℕ → List Message
@@ -77,9 +77,9 @@ LogsWait = (n : ℕ) (f : Handlers) (acts : List Act) (p d : ℕ) → FromOpenin
 
 -- if p is up it has dropped whatever d ever reported as covered for good, also before p died
 abbrev pub ToldIsDropped : Type 0
-ToldIsDropped = (n : ℕ) (f : Handlers) (acts more : List Act) (p d k : ℕ) → FromOpening n f (acts ++ Drops d p k ∷ more)
-    → is_well (after_run (opening n f) (acts ++ Drops d p k ∷ more)) p ≡ true
-    → k ≤ (after_run (opening n f) (acts ++ Drops d p k ∷ more)).trims p d
+ToldIsDropped = (n : ℕ) (f : Handlers) (acts more : List Act) (p d k : ℕ) → FromOpening n f (acts ++ Arrives d p (Saved k) ∷ more)
+    → is_well (after_run (opening n f) (acts ++ Arrives d p (Saved k) ∷ more)) p ≡ true
+    → k ≤ (after_run (opening n f) (acts ++ Arrives d p (Saved k) ∷ more)).trims p d
 
 -- no more RSNs than the window has wait for their acknowledgement
 abbrev pub FewWait : Type 0

@@ -3,16 +3,19 @@ use Rattle.std.specs.Prelude.{◌≡◌, ℕ, List, [], ◌∷◌, ◌++◌, Opt
 use Rattle.world.specs.declared.message.Message.{Message}
 use Rattle.world.specs.Logs.{state_of}
 use Rattle.world.specs.Worked.{relaying}
-use Rattle.cluster.specs.Parcels.{Number, Told, Saved, parcel, In}
+use Rattle.cluster.specs.Parcels.{Delivery, Number, Acknowledgement, Told, Saved, parcel, In}
 use Rattle.cluster.specs.Cluster.{opening, seen, is_well}
-use Rattle.cluster.specs.Rules.{Act, Puts, Starts, Works, Replays, Records, Counts, Collects, Recovers, Freezes, Keeps, Dies, May, Run}
+use Rattle.cluster.specs.Rules.{Act, Puts, Arrives, Works, Replays, Recovers, Freezes, Keeps, Dies, May, Run}
 use Rattle.cluster.specs.Rules.{after_run, message}
 use Rattle.cluster.specs.WorkedPieces.{receives, number_recorded, falls, asks, tells, resumes, restores, no_numbers, no_entries, greets}
 use Rattle.cluster.specs.WorkedPieces.{first_entry, one_after}
 
 -- node 1 receives two messages, and only the RSN of the second is recorded
 abbrev pub gap : List ℕ → List ℕ → List Act
-gap x y = receives 1 x ++ receives 2 y ++ Puts 1 0 (Number 1 1 1) ∷ Puts 1 0 (Number 1 2 2) ∷ Records 1 0 1 2 2 ∷ Counts 0 1 1 2 ∷ []
+gap x y =
+    receives 1 x ++ receives 2 y ++ Puts 1 0 (Number 1 1 1) ∷ Puts 1 0 (Number 1 2 2) ∷ Arrives 1 0 (Number 1 2 2)
+    ∷ Arrives 0 1 (Acknowledgement 1 2)
+    ∷ []
 
 -- it dies, and the gateway hears its Ask
 abbrev pub gap_heard : List ℕ → List ℕ → List Act
@@ -28,7 +31,7 @@ gap_kept x y = gap_heard x y ++ tells 1 0 2 1 0 (second_entry y) ++ Recovers 1 0
 
 -- the gateway forgets that RSN, the node is up, and the first message is sent again
 abbrev pub gap_closed : List ℕ → List ℕ → List Act
-gap_closed x y = gap_kept x y ++ greets 1 2 0 ++ Starts 0 1 1 1 x ∷ Works 1 (message 0 1 x) ∷ []
+gap_closed x y = gap_kept x y ++ greets 1 2 0 ++ Arrives 0 1 (Delivery 1 1 x) ∷ Works 1 (message 0 1 x) ∷ []
 
 -- it is a run. The second RSN alone doesn't release what the node sent, and the node isn't up before the gateway has answered. Then the
 -- second RSN is forgotten, and the first message is received again
@@ -58,7 +61,7 @@ DiesWhileCollecting =
     (g : ℕ → List Message → List ℕ) (x : List ℕ) →
     Run (opening 1 (relaying 0 g)) (told_again x)
     × In (parcel 0 1 (Told 2 1 0 None (first_entry x))) (one_after g (told_twice x)).parcels
-    × (¬ May (one_after g (told_twice x)) (Collects 0 1 2 1 0 None (first_entry x)))
+    × (¬ May (one_after g (told_twice x)) (Arrives 0 1 (Told 2 1 0 None (first_entry x))))
     × (is_well (one_after g (told_again x)) 1 ≡ true)
     × (state_of (seen (one_after g (told_again x))) 1 ≡ g 1 (message 0 1 x ∷ []))
 

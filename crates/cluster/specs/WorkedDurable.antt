@@ -4,9 +4,9 @@ use Rattle.std.specs.Prelude.{◌≡◌, ℕ, List, [], ◌∷◌, ◌++◌, Non
 use Rattle.world.specs.declared.message.Message.{Message}
 use Rattle.world.specs.History.{Payload}
 use Rattle.theorems.specs.WorkedOverlap.{passing}
-use Rattle.cluster.specs.Parcels.{Delivery, Number, Ask, Told}
+use Rattle.cluster.specs.Parcels.{Delivery, Number, Acknowledgement, Ask, Told}
 use Rattle.cluster.specs.Cluster.{opening}
-use Rattle.cluster.specs.Rules.{Act, Input, Puts, Starts, Shows, Works, Records, Counts, Hears, Collects, Recovers, Freezes, Keeps, Thaws}
+use Rattle.cluster.specs.Rules.{Act, Input, Puts, Arrives, Works, Recovers, Freezes, Keeps, Thaws}
 use Rattle.cluster.specs.Rules.{Dies, Opens, message}
 use Rattle.cluster.specs.Promises.{NoOrphanNode}
 use Rattle.cluster.specs.WorkedLate.{old_ask_answered}
@@ -18,13 +18,13 @@ abbrev pub passed_on : Payload → List Event
 passed_on x =
     Acts (Input 1 x)
     ∷ Acts (Puts 0 1 (Delivery 1 1 x))
-    ∷ Acts (Starts 0 1 1 1 x)
+    ∷ Acts (Arrives 0 1 (Delivery 1 1 x))
     ∷ Acts (Works 1 (message 0 1 x))
     ∷ Acts (Freezes 1)
     ∷ Acts (Keeps 1)
     ∷ Acts (Thaws 1)
     ∷ Acts (Puts 1 2 (Delivery 1 1 x))
-    ∷ Acts (Starts 1 2 1 1 x)
+    ∷ Acts (Arrives 1 2 (Delivery 1 1 x))
     ∷ Acts (Works 2 (message 1 1 x))
     ∷ []
 
@@ -32,15 +32,15 @@ passed_on x =
 abbrev pub acknowledged : Payload → List Event
 acknowledged x =
     Acts (Puts 2 1 (Number 1 1 1))
-    ∷ Acts (Records 2 1 1 1 1)
-    ∷ Acts (Counts 1 2 1 1)
+    ∷ Acts (Arrives 2 1 (Number 1 1 1))
+    ∷ Acts (Arrives 1 2 (Acknowledgement 1 1))
     ∷ Acts (Puts 2 0 (Delivery 1 1 x))
-    ∷ Acts (Shows 2 1 1 x)
+    ∷ Acts (Arrives 2 0 (Delivery 1 1 x))
     ∷ []
 
 -- a checkpoint covers it: so a durable node releases its output
 abbrev pub covered : Payload → List Event
-covered x = Acts (Freezes 2) ∷ Acts (Keeps 2) ∷ Acts (Thaws 2) ∷ Acts (Puts 2 0 (Delivery 1 1 x)) ∷ Acts (Shows 2 1 1 x) ∷ []
+covered x = Acts (Freezes 2) ∷ Acts (Keeps 2) ∷ Acts (Thaws 2) ∷ Acts (Puts 2 0 (Delivery 1 1 x)) ∷ Acts (Arrives 2 0 (Delivery 1 1 x)) ∷ []
 
 -- both die, and are opened again; node 2, whose checkpoint covers s messages, hears from node 1 that what it had is lost, and keeps s
 abbrev pub both_fall : ℕ → List Event
@@ -50,13 +50,13 @@ both_fall s =
     ∷ Acts (Opens 1 0)
     ∷ Acts (Opens 2 0)
     ∷ Acts (Puts 2 0 (Ask 2 s))
-    ∷ Acts (Hears 2 0 2 s)
+    ∷ Acts (Arrives 2 0 (Ask 2 s))
     ∷ Acts (Puts 0 2 (Told 2 1 s None (λ _. None)))
-    ∷ Acts (Collects 0 2 2 1 s None (λ _. None))
+    ∷ Acts (Arrives 0 2 (Told 2 1 s None (λ _. None)))
     ∷ Acts (Puts 2 1 (Ask 2 s))
-    ∷ Acts (Hears 2 1 2 s)
+    ∷ Acts (Arrives 2 1 (Ask 2 s))
     ∷ Loses 1 2 2 2 s
-    ∷ Acts (Collects 1 2 2 2 s None (λ _. None))
+    ∷ Acts (Arrives 1 2 (Told 2 2 s None (λ _. None)))
     ∷ Acts (Recovers 2 s)
     ∷ []
 
@@ -97,7 +97,7 @@ until_told x = as_steps (passed_on x ++ acknowledged x ++ take 11 (both_fall 0))
 
 -- and then node 2 takes that, and recovers
 abbrev pub told_of_loss : Payload → List Step
-told_of_loss x = until_told x ++ Takes false true (Collects 1 2 2 2 0 None (λ _. None)) ∷ Takes true false (Recovers 2 0) ∷ []
+told_of_loss x = until_told x ++ Takes false true (Arrives 1 2 (Told 2 2 0 None (λ _. None))) ∷ Takes true false (Recovers 2 0) ∷ []
 
 -- it is a run of the whole rules; node 2 is no longer exact once it took that
 abbrev pub LossIsTold : Type 0

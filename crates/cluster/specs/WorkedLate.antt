@@ -4,9 +4,9 @@ use Rattle.world.specs.declared.message.Message.{Message}
 use Rattle.world.specs.Plan.{or_else}
 use Rattle.world.specs.Worked.{relaying}
 use Rattle.theorems.specs.WorkedOverlap.{passing}
-use Rattle.cluster.specs.Parcels.{Delivery, Number, Ask, Told, Resume, Restored, parcel, In}
+use Rattle.cluster.specs.Parcels.{Delivery, Number, Acknowledgement, Ask, Told, Resume, Restored, parcel, In}
 use Rattle.cluster.specs.Cluster.{opening, is_well}
-use Rattle.cluster.specs.Rules.{Act, Puts, Starts, Works, Replays, Records, Counts, Hears, Collects, Recovers, Obeys, May, Run, message}
+use Rattle.cluster.specs.Rules.{Act, Puts, Arrives, Works, Replays, Recovers, May, Run, message}
 use Rattle.cluster.specs.WorkedPieces.{receives, number_recorded, falls, asks, tells, resumes, restores, no_numbers, no_entries, greets}
 use Rattle.cluster.specs.WorkedPieces.{first_entry, one_after, two_after}
 use Rattle.cluster.specs.WorkedDeaths.{gap_heard, gap_closed, second_entry}
@@ -16,7 +16,7 @@ abbrev pub LateNumberIsDropped : Type 0
 LateNumberIsDropped =
     (g : ℕ → List Message → List ℕ) (x y : List ℕ) →
     In (parcel 1 0 (Number 1 1 1)) (one_after g (gap_heard x y)).parcels
-    × (¬ May (one_after g (gap_heard x y)) (Records 1 0 1 1 1))
+    × (¬ May (one_after g (gap_heard x y)) (Arrives 1 0 (Number 1 1 1)))
 
 -- node 1 has come back with nothing and received a message again, whose new RSN is recorded
 abbrev pub renumbered : List ℕ → List ℕ → List Act
@@ -29,8 +29,8 @@ LateResumeIsDropped =
     Run (opening 1 (relaying 0 g)) (renumbered x y)
     × In (parcel 1 0 (Resume 2 0 0)) (one_after g (renumbered x y)).parcels
     × In (parcel 1 0 (Ask 2 0)) (one_after g (renumbered x y)).parcels
-    × (¬ May (one_after g (renumbered x y)) (Obeys 1 0 2 0 0))
-    × (¬ May (one_after g (renumbered x y)) (Hears 1 0 2 0))
+    × (¬ May (one_after g (renumbered x y)) (Arrives 1 0 (Resume 2 0 0)))
+    × (¬ May (one_after g (renumbered x y)) (Arrives 1 0 (Ask 2 0)))
     × ((one_after g (renumbered x y)).numbers 0 1 1 ≡ Some 1)
 
 -- node 1 comes back with a message, receives another, whose RSN is acknowledged, and dies again
@@ -46,7 +46,7 @@ second_death x y =
     ∷ greets 1 2 1
     ++ receives 2 y
     ++ number_recorded 2 2 2
-    ++ Counts 0 1 2 2
+    ++ Arrives 0 1 (Acknowledgement 2 2)
     ∷ falls 1
 
 -- the entries of the gateway's log for it, by RSN
@@ -63,7 +63,7 @@ OldAnswerIsDropped =
     (g : ℕ → List Message → List ℕ) (x y : List ℕ) →
     Run (opening 1 (relaying 0 g)) (second_return x y)
     × In (parcel 0 1 (Told 2 1 0 None (first_entry x))) (one_after g (second_death x y)).parcels
-    × (¬ May (one_after g (second_death x y)) (Collects 0 1 2 1 0 None (first_entry x)))
+    × (¬ May (one_after g (second_death x y)) (Arrives 0 1 (Told 2 1 0 None (first_entry x))))
     × ((one_after g (second_return x y)).history 1 ≡ message 0 1 x ∷ message 0 2 y ∷ [])
 
 -- node 1 sends two messages to node 2, which works on the first
@@ -73,11 +73,11 @@ sends_two x y =
     ++ receives 2 y
     ++ number_recorded 1 1 1
     ++ number_recorded 1 2 2
-    ++ Counts 0 1 1 1
-    ∷ Counts 0 1 1 2
+    ++ Arrives 0 1 (Acknowledgement 1 1)
+    ∷ Arrives 0 1 (Acknowledgement 1 2)
     ∷ Puts 1 2 (Delivery 1 1 x)
     ∷ Puts 1 2 (Delivery 1 2 y)
-    ∷ Starts 1 2 1 1 x
+    ∷ Arrives 1 2 (Delivery 1 1 x)
     ∷ []
 
 -- it dies, keeps both messages, and sends its Resume to node 2, which still works
@@ -105,7 +105,7 @@ first_number ssn = if 1 == ssn then Some 1 else None
 
 -- node 2 obeys and answers, and so does the gateway
 abbrev pub job_told : List ℕ → List ℕ → List Act
-job_told x y = job_done x y ++ Obeys 1 2 2 2 0 ∷ restores 1 2 2 1 first_number ++ greets 1 2 2
+job_told x y = job_done x y ++ Arrives 1 2 (Resume 2 2 0) ∷ restores 1 2 2 1 first_number ++ greets 1 2 2
 
 -- it is a run. While node 2 works on a message of node 1, it neither obeys nor answers node 1. When it has finished, the second message
 -- arrives as it was sent before the death, and isn't taken. Node 1 then has the RSN of the first, which nobody had told it before
@@ -113,10 +113,10 @@ abbrev pub OpenJobComesFirst : Type 0
 OpenJobComesFirst =
     (g : ℕ → List Message → List ℕ) (x y : List ℕ) →
     Run (opening 2 (passing g)) (job_told x y)
-    × (¬ May (two_after g (sender_back x y)) (Obeys 1 2 2 2 0))
+    × (¬ May (two_after g (sender_back x y)) (Arrives 1 2 (Resume 2 2 0)))
     × ((numbers : ℕ → Option ℕ) → ¬ May (two_after g (sender_back x y)) (Puts 2 1 (Restored 2 1 0 0 None numbers)))
     × In (parcel 1 2 (Delivery 1 2 y)) (two_after g (job_done x y)).parcels
-    × (¬ May (two_after g (job_done x y)) (Starts 1 2 1 2 y))
+    × (¬ May (two_after g (job_done x y)) (Arrives 1 2 (Delivery 1 2 y)))
     × ((two_after g (job_told x y)).numbers 1 2 1 ≡ Some 1)
     × (is_well (two_after g (job_told x y)) 1 ≡ true)
 
@@ -125,9 +125,9 @@ abbrev pub receiver_back : List ℕ → List Act
 receiver_back x =
     receives 1 x
     ++ number_recorded 1 1 1
-    ++ Counts 0 1 1 1
+    ++ Arrives 0 1 (Acknowledgement 1 1)
     ∷ Puts 1 2 (Delivery 1 1 x)
-    ∷ Starts 1 2 1 1 x
+    ∷ Arrives 1 2 (Delivery 1 1 x)
     ∷ Works 2 (message 1 1 x)
     ∷ Puts 2 1 (Number 1 1 1)
     ∷ falls 2
@@ -162,7 +162,7 @@ HeardComesBack =
     Run (opening 2 (passing g)) (both_back x)
     × (is_well (two_after g (both_back x)) 1 ≡ true)
     × In (parcel 2 1 (Number 1 1 1)) (two_after g (both_back x)).parcels
-    × (¬ May (two_after g (both_back x)) (Records 2 1 1 1 1))
+    × (¬ May (two_after g (both_back x)) (Arrives 2 1 (Number 1 1 1)))
 
 -- node 1 comes back, and node 2, which had heard its Ask, dies and is opened again
 abbrev pub ask_forgotten : List Act
@@ -180,7 +180,7 @@ ask_forgotten =
 
 -- it asks node 1, and the Ask of node 1 arrives a second time
 abbrev pub old_ask_heard : List Act
-old_ask_heard = ask_forgotten ++ asks 2 1 2 0 ++ Hears 1 2 2 0 ∷ []
+old_ask_heard = ask_forgotten ++ asks 2 1 2 0 ++ Arrives 1 2 (Ask 2 0) ∷ []
 
 -- node 1 tells it its log, and it comes back
 abbrev pub old_ask_answered : List Act

@@ -3,18 +3,22 @@ use Rattle.std.specs.Prelude.{ℕ, List, [], ◌∷◌, ◌++◌, Option, Some, 
 use Rattle.world.specs.declared.message.Message.{Message}
 use Rattle.world.specs.Worked.{relaying}
 use Rattle.theorems.specs.WorkedOverlap.{passing}
-use Rattle.cluster.specs.Parcels.{Delivery, Number, Ask, Told, Resume, Restored}
+use Rattle.cluster.specs.Parcels.{Body, Delivery, Number, Ask, Told, Resume, Restored}
 use Rattle.cluster.specs.Cluster.{Cluster, opening}
-use Rattle.cluster.specs.Rules.{Act, Input, Puts, Starts, Works, Records, Hears, Collects, Obeys, Restores, Greets, Dies, Opens}
+use Rattle.cluster.specs.Rules.{Act, Input, Puts, Arrives, Works, Dies, Opens}
 use Rattle.cluster.specs.Rules.{after_run, message}
+
+-- p sends this packet to d, which takes it
+abbrev pub sends : ℕ → ℕ → Body → List Act
+sends p d x = Puts p d x ∷ Arrives p d x ∷ []
 
 -- node 1 receives the gateway's message of this SSN
 abbrev pub receives : ℕ → List ℕ → List Act
-receives ssn x = Input 1 x ∷ Puts 0 1 (Delivery 1 ssn x) ∷ Starts 0 1 1 ssn x ∷ Works 1 (message 0 ssn x) ∷ []
+receives ssn x = Input 1 x ∷ sends 0 1 (Delivery 1 ssn x) ++ Works 1 (message 0 ssn x) ∷ []
 
 -- in incarnation i it gave that message the RSN k, which the gateway records
 abbrev pub number_recorded : ℕ → ℕ → ℕ → List Act
-number_recorded i ssn k = Puts 1 0 (Number i ssn k) ∷ Records 1 0 i ssn k ∷ []
+number_recorded i ssn k = sends 1 0 (Number i ssn k)
 
 -- p dies, and is opened in its next incarnation
 abbrev pub falls : ℕ → List Act
@@ -22,19 +26,19 @@ falls p = Dies p ∷ Opens p 0 ∷ []
 
 -- p, in incarnation i, asks q for what is above the RSN k, and q hears it
 abbrev pub asks : ℕ → ℕ → ℕ → ℕ → List Act
-asks p q i k = Puts p q (Ask i k) ∷ Hears p q i k ∷ []
+asks p q i k = sends p q (Ask i k)
 
 -- q, in incarnation j, tells p these entries, which are all that it has, and p collects them
 abbrev pub tells : ℕ → ℕ → ℕ → ℕ → ℕ → (ℕ → Option Message) → List Act
-tells p q i j k entries = Puts q p (Told i j k None entries) ∷ Collects q p i j k None entries ∷ []
+tells p q i j k entries = sends q p (Told i j k None entries)
 
 -- p, in incarnation i, keeps k messages and says so to q, which obeys
 abbrev pub resumes : ℕ → ℕ → ℕ → ℕ → List Act
-resumes p q i k = Puts p q (Resume i k 0) ∷ Obeys p q i k 0 ∷ []
+resumes p q i k = sends p q (Resume i k 0)
 
 -- q, in incarnation j, answers p, in incarnation i, with these RSNs, which are all
 abbrev pub restores : ℕ → ℕ → ℕ → ℕ → (ℕ → Option ℕ) → List Act
-restores p q i j numbers = Puts q p (Restored i j 0 0 None numbers) ∷ Restores q p i j 0 0 numbers ∷ []
+restores p q i j numbers = sends q p (Restored i j 0 0 None numbers)
 
 -- no message has an RSN
 abbrev pub no_numbers : ℕ → Option ℕ
@@ -46,7 +50,7 @@ no_entries m = None
 
 -- p sends its Resume to the gateway, which obeys and answers
 abbrev pub greets : ℕ → ℕ → ℕ → List Act
-greets p i k = resumes p 0 i k ++ Puts 0 p (Restored i 1 0 0 None no_numbers) ∷ Greets p i 1 0 0 no_numbers ∷ []
+greets p i k = resumes p 0 i k ++ restores p 0 i 1 no_numbers
 
 -- the gateway's first input, which its log has with the RSN 1
 abbrev pub first_entry : List ℕ → ℕ → Option Message

@@ -2,9 +2,9 @@
 use Rattle.std.specs.Prelude.{◌≡◌, ℕ, List, [], ◌∷◌, ◌++◌, length, None, Bool, true, take}
 use Rattle.world.specs.declared.message.Message.{Message}
 use Rattle.world.specs.Worked.{relaying}
-use Rattle.cluster.specs.Parcels.{Delivery, Restored, Saved}
+use Rattle.cluster.specs.Parcels.{Delivery, Acknowledgement, Restored, Saved}
 use Rattle.cluster.specs.Cluster.{opening, is_well, waiting}
-use Rattle.cluster.specs.Rules.{Act, Puts, Shows, Replays, Counts, Drops, Recovers, Greets, Freezes, Keeps, Thaws, Run}
+use Rattle.cluster.specs.Rules.{Act, Puts, Arrives, Replays, Recovers, Freezes, Keeps, Thaws, Run}
 use Rattle.cluster.specs.Memory.{receipts, taken_since, entries, untold, unsaved, untaken}
 use Rattle.cluster.specs.WorkedPieces.{receives, number_recorded, falls, asks, tells, resumes, no_numbers, first_entry, one_after}
 use Rattle.cluster.specs.Worked.{comes_back}
@@ -41,11 +41,11 @@ abbrev pub told_and_dies : List ℕ → List Act
 told_and_dies x =
     receives 1 x
     ++ number_recorded 1 1 1
-    ++ Counts 0 1 1 1
+    ++ Arrives 0 1 (Acknowledgement 1 1)
     ∷ Puts 1 0 (Delivery 1 1 x)
-    ∷ Shows 1 1 1 x
+    ∷ Arrives 1 0 (Delivery 1 1 x)
     ∷ Puts 0 1 (Saved 1)
-    ∷ Drops 0 1 1
+    ∷ Arrives 0 1 (Saved 1)
     ∷ falls 1
     ++ asks 1 0 2 0
     ++ tells 1 0 2 1 0 (first_entry x)
@@ -53,7 +53,7 @@ told_and_dies x =
     ∷ Replays 1 0
     ∷ resumes 1 0 2 1
     ++ Puts 0 1 (Restored 2 1 1 0 None no_numbers)
-    ∷ Greets 1 2 1 1 0 no_numbers
+    ∷ Arrives 0 1 (Restored 2 1 1 0 None no_numbers)
     ∷ []
 
 -- an entry that was dropped comes back when the process is told again, and is dropped anew
@@ -74,7 +74,10 @@ saves = Freezes 1 ∷ Keeps 1 ∷ Thaws 1 ∷ []
 -- node 1 sends Saved, which is lost; another checkpoint covers another message, the gateway is told of that one, and then the first Saved
 -- arrives
 abbrev pub saved_lost : List ℕ → List ℕ → List Act
-saved_lost x y = receives 1 x ++ saves ++ Puts 1 0 (Saved 1) ∷ receives 2 y ++ saves ++ Puts 1 0 (Saved 2) ∷ Drops 1 0 2 ∷ Drops 1 0 1 ∷ []
+saved_lost x y =
+    receives 1 x ++ saves ++ Puts 1 0 (Saved 1) ∷ receives 2 y ++ saves ++ Puts 1 0 (Saved 2) ∷ Arrives 1 0 (Saved 2)
+    ∷ Arrives 1 0 (Saved 1)
+    ∷ []
 
 -- it is a run. The gateway's log keeps both messages until it is told, and then none: the second Saved makes up for the first, which
 -- changes nothing when it arrives

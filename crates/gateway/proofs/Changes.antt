@@ -12,7 +12,7 @@ use Rattle.theorems.proofs.Changes.{at-itself}
 use Rattle.cluster.specs.Parcels.{Delivery, Number, Acknowledgement, Ask, Resume, Saved, parcel, In}
 use Rattle.world.specs.Phases.{Up}
 use Rattle.cluster.specs.Cluster.{Cluster, seen}
-use Rattle.cluster.specs.Rules.{Input, Shows, Records, Drops, Hears, Obeys, May, does, IsNode}
+use Rattle.cluster.specs.Rules.{Input, Arrives, May, does, IsNode}
 use Rattle.packets.specs.declared.packet.Body.TheVariants as packets
 use Rattle.stores.specs.declared.change.Output.{Output}
 use Rattle.stores.specs.declared.change.Change.TheVariants as changes
@@ -81,7 +81,7 @@ goes-input g c p x o s = does-one (happens (changes.Input p x) g) c (Input p x) 
 -- a number is recorded, and acknowledged
 pub goes-numbered : (g : TheGateway) (c : Cluster) (p i ssn k : ℕ) → IsOf p g.store → Stands g c → In (parcel p 0 (Number i ssn k)) c.parcels → i ≡ (peer_of p g).heard → is_kept ssn (peer_of p g) ≡ true
     → Goes (posts p (packets.Acknowledgement i k) (happens (changes.Numbered p ssn k) g)) c
-goes-numbered g c p i ssn k o s given heard kept = does-one (posts p (packets.Acknowledgement i k) (happens (changes.Numbered p ssn k) g)) c (Records p 0 i ssn k) may refl stands
+goes-numbered g c p i ssn k o s given heard kept = does-one (posts p (packets.Acknowledgement i k) (happens (changes.Numbered p ssn k) g)) c (Arrives p 0 (Number i ssn k)) may refl stands
   where
     node : IsNode c p
     node = node-is g c p s o
@@ -95,8 +95,8 @@ goes-numbered g c p i ssn k o s given heard kept = does-one (posts p (packets.Ac
         let within : nat_le ssn (length (c.inputs p)) ≡ true = (let b : ssn ≤ length (c.inputs p) = omega (arith, w.1, size) in grind (arith, nat_tests)) in
         rw (s.phase, above, within) refl
 
-    may : May c (Records p 0 i ssn k)
-    may = (given, takes-here g c s, heard ∙ sym (s.heard p node), entry)
+    may : May c (Arrives p 0 (Number i ssn k))
+    may = (given, (takes-here g c s, heard ∙ sym (s.heard p node), entry))
 
     logs : (q : ℕ) → IsNode c q → KeepsOf (peer_at q (with_peer p (recorded ssn k (peer_of p g)) g.store)) (c.trims 0 q) (c.inputs q) (if q == p then put (c.numbers 0 p) ssn (Some k) else c.numbers 0 q)
     logs q n = each-peer (λ z y. KeepsOf y (c.trims 0 z) (c.inputs z) (if z == p then put (c.numbers 0 p) ssn (Some k) else c.numbers 0 z)) g.store p q (recorded ssn k (peer_of p g)) o n.0
@@ -106,7 +106,7 @@ goes-numbered g c p i ssn k o s given heard kept = does-one (posts p (packets.Ac
     count : length (with_peer p (recorded ssn k (peer_of p g)) g.store).peers ≡ c.count
     count = count-still g c p (recorded ssn k (peer_of p g)) o s
 
-    stands : Stands (posts p (packets.Acknowledgement i k) (happens (changes.Numbered p ssn k) g)) (does c (Records p 0 i ssn k))
+    stands : Stands (posts p (packets.Acknowledgement i k) (happens (changes.Numbered p ssn k) g)) (does c (Arrives p 0 (Number i ssn k)))
     stands =
         record {
           count = count;
@@ -133,7 +133,7 @@ trims_dropped c p k = max (c.trims 0 p) (min k (length (c.inputs p)))
 -- what is covered for good is dropped
 pub goes-dropped : (g : TheGateway) (c : Cluster) (p k : ℕ) → IsOf p g.store → Stands g c → In (parcel p 0 (Saved k)) c.parcels → (peer_of p g).dropped < min k (last_of (peer_of p g))
     → Goes (happens (changes.Dropped p (min k (last_of (peer_of p g)))) g) c
-goes-dropped g c p k o s given some = does-one (happens (changes.Dropped p (min k (last_of (peer_of p g)))) g) c (Drops p 0 k) (given, takes-here g c s) refl stands
+goes-dropped g c p k o s given some = does-one (happens (changes.Dropped p (min k (last_of (peer_of p g)))) g) c (Arrives p 0 (Saved k)) (given, takes-here g c s) refl stands
   where
     node : IsNode c p
     node = node-is g c p s o
@@ -155,7 +155,7 @@ goes-dropped g c p k o s given some = does-one (happens (changes.Dropped p (min 
         (at-itself p (λ t. KeepsOf (dropped_first (many_dropped (peer_of p g) k) (peer_of p g)) (if t then (trims_dropped c p k) else c.trims 0 p) (c.inputs p) (c.numbers 0 p)) dropped)
         (λ apart. rw (apart-is q p apart) (s.logs q n))
 
-    stands : Stands (happens (changes.Dropped p (min k (last_of (peer_of p g)))) g) (does c (Drops p 0 k))
+    stands : Stands (happens (changes.Dropped p (min k (last_of (peer_of p g)))) g) (does c (Arrives p 0 (Saved k)))
     stands =
         record {
           count = count-still g c p (dropped_first (many_dropped (peer_of p g) k) (peer_of p g)) o s;
@@ -190,13 +190,13 @@ ends-push o os h e =
 -- an output is shown
 pub goes-shown : (g : TheGateway) (c : Cluster) (i : ℕ) (x : Output) → IsOf x.process g.store → Stands g c → In (parcel x.process 0 (Delivery i x.ssn x.payload)) c.parcels → i ≡ (peer_of x.process g).heard
     → x.ssn ≡ suc (peer_of x.process g).shown → Goes (happens (changes.Shown x) g) c
-goes-shown g c i x o s given heard next = does-one (happens (changes.Shown x) g) c (Shows x.process i x.ssn x.payload) may tt stands
+goes-shown g c i x o s given heard next = does-one (happens (changes.Shown x) g) c (Arrives x.process 0 (Delivery i x.ssn x.payload)) may refl stands
   where
     node : IsNode c x.process
     node = node-is g c x.process s o
 
-    may : May c (Shows x.process i x.ssn x.payload)
-    may = (given, heard ∙ sym (s.heard x.process node), next ∙ ap suc (s.shown x.process node))
+    may : May c (Arrives x.process 0 (Delivery i x.ssn x.payload))
+    may = (given, (heard ∙ sym (s.heard x.process node), next ∙ ap suc (s.shown x.process node)))
 
     logs : (q : ℕ) → IsNode c q → KeepsOf (peer_at q (with_peer x.process (shows x.ssn (peer_of x.process g)) g.store)) (c.trims 0 q) (c.inputs q) (c.numbers 0 q)
     logs q n = each-peer (λ z y. KeepsOf y (c.trims 0 z) (c.inputs z) (c.numbers 0 z)) g.store x.process q (shows x.ssn (peer_of x.process g)) o n.0 still (λ apart. s.logs q n)
@@ -216,7 +216,7 @@ goes-shown g c i x o s given heard next = does-one (happens (changes.Shown x) g)
         let was : (peer_of q g).shown ≡ count_of q c.shown = s.shown q n in
         omega (arith, e, none, was))
 
-    stands : Stands (happens (changes.Shown x) g) (does c (Shows x.process i x.ssn x.payload))
+    stands : Stands (happens (changes.Shown x) g) (does c (Arrives x.process 0 (Delivery i x.ssn x.payload)))
     stands =
         record {
           count = count-still g c x.process (shows x.ssn (peer_of x.process g)) o s;
@@ -276,7 +276,7 @@ kept-same y z d xs numbers e f k =
 
 -- a newer incarnation is heard of
 pub goes-heard : (g : TheGateway) (c : Cluster) (p i k : ℕ) → IsOf p g.store → Stands g c → In (parcel p 0 (Ask i k)) c.parcels → (peer_of p g).heard < i → Goes (happens (changes.Heard p i false) g) c
-goes-heard g c p i k o s given newer = does-one (happens (changes.Heard p i false) g) c (Hears p 0 i k) (given, omega (arith, s.heard p node, newer), inl (takes-here g c s)) refl stands
+goes-heard g c p i k o s given newer = does-one (happens (changes.Heard p i false) g) c (Arrives p 0 (Ask i k)) (given, (omega (arith, s.heard p node, newer), inl (takes-here g c s))) refl stands
   where
     node : IsNode c p
     node = node-is g c p s o
@@ -293,7 +293,7 @@ goes-heard g c p i k o s given newer = does-one (happens (changes.Heard p i fals
     resumed q n = each-peer (λ z y. (if z == p then false else c.resumed 0 z) ≡ y.resumed) g.store p q (hears i false (peer_of p g)) o n.0
         (at-itself p (λ t. (if t then false else c.resumed 0 p) ≡ false) refl) (λ apart. rw (apart-is q p apart) (s.resumed q n))
 
-    stands : Stands (happens (changes.Heard p i false) g) (does c (Hears p 0 i k))
+    stands : Stands (happens (changes.Heard p i false) g) (does c (Arrives p 0 (Ask i k)))
     stands =
         record {
           count = count-still g c p (hears i false (peer_of p g)) o s;
@@ -313,7 +313,7 @@ goes-heard g c p i k o s given newer = does-one (happens (changes.Heard p i fals
 -- a Resume is obeyed: numbers above what is kept are forgotten
 pub goes-obeyed : (g : TheGateway) (c : Cluster) (p i k n : ℕ) → IsOf p g.store → Stands g c → In (parcel p 0 (Resume i k n)) c.parcels → i ≡ (peer_of p g).heard → (peer_of p g).resumed ≡ false → Goes (obeyed p i k g) c
 goes-obeyed g c p i k n o s given last fresh =
-    does-one (obeyed p i k g) c (Obeys p 0 i k n) (given, takes-here g c s, last ∙ sym (s.heard p node), s.resumed p node ∙ fresh, (λ m busy. absurd (let up : c.phase 0 ≡ Up = s.phase in cc))) refl stands
+    does-one (obeyed p i k g) c (Arrives p 0 (Resume i k n)) (given, (takes-here g c s, last ∙ sym (s.heard p node), s.resumed p node ∙ fresh, (λ m busy. absurd (let up : c.phase 0 ≡ Up = s.phase in cc)))) refl stands
   where
     node : IsNode c p
     node = node-is g c p s o
@@ -334,7 +334,7 @@ goes-obeyed g c p i k n o s given last fresh =
     resumed q m = each-twice g.store p (forgets k (peer_of p g)) (hears i true) o (λ z y. (if z == p then true else c.resumed 0 z) ≡ y.resumed) q m.0
         (at-itself p (λ t. (if t then true else c.resumed 0 p) ≡ true) refl) (λ apart. rw (apart-is q p apart) (s.resumed q m))
 
-    stands : Stands (obeyed p i k g) (does c (Obeys p 0 i k n))
+    stands : Stands (obeyed p i k g) (does c (Arrives p 0 (Resume i k n)))
     stands =
         record {
           count = twice-many g.store p (forgets k (peer_of p g)) (hears i true) o ∙ s.count;

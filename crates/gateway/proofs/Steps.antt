@@ -12,7 +12,7 @@ use Rattle.stores.specs.declared.change.Change.{Change}
 use Rattle.packets.specs.declared.outbox.TheConstants.{OUTBOX}
 use Rattle.gateway.specs.Gateway.{TheGateway, posts, packet_of}
 use Rattle.packets.specs.Says.{Says}
-use Rattle.gateway.specs.Deeds.{IsByGateway}
+use Rattle.gateway.specs.Acts.{IsByGateway}
 use Rattle.gateway.specs.Stands.{Stands, PutOut, Goes, Owes, Acts}
 
 -- it stands so with other packets that were put out, and whatever is told of what happened

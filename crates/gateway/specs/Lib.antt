@@ -1,6 +1,6 @@
 pub mod Gateway
 pub mod Calls
-pub mod Deeds
+pub mod Acts
 pub mod Stands
 pub mod Since
 pub mod Bytes

@@ -13,7 +13,7 @@ use Rattle.stores.specs.declared.change.Output.{Output}
 use Rattle.stores.specs.Peer.{ThePeer, no_entry}
 use Rattle.gateway.specs.Gateway.{TheGateway, peer_of}
 use Rattle.packets.specs.Says.{Says}
-use Rattle.gateway.specs.Deeds.{IsByGateway}
+use Rattle.gateway.specs.Acts.{IsByGateway}
 
 -- p sent a body that the packet says
 pub record WasSaid (parcels : List Parcel) (p : ℕ) (x : NodePacket) : Type 0 where

@@ -11,7 +11,7 @@ use Rattle.world.specs.Bounds.{count_below}
 use Rattle.theorems.proofs.Changes.{at-itself}
 use Rattle.cluster.specs.Parcels.{Acknowledgement, In, parcel}
 use Rattle.cluster.specs.Cluster.{Cluster, seen, waiting}
-use Rattle.cluster.specs.Rules.{Act, Counts, May, does}
+use Rattle.cluster.specs.Rules.{Act, Arrives, May, does}
 use Rattle.node.specs.Node.{TheNode, counted, log_at}
 use Rattle.node.specs.Stands.{Stands, HasReceived, IsShut, sent_by, freed_in, most_released, GoesOn, Receives}
 use Rattle.node.proofs.Puts.{stands-takes}
@@ -75,7 +75,7 @@ received-counted count base covered r h a k some within s =
 
 module _ (n : TheNode) (c : Cluster) (q i k : ℕ) (s : Stands n c n.me) (given : In (parcel q n.me (Acknowledgement i (n.base + k))) c.parcels) (life : i ≡ n.life) (some : 0 < k) (within : k ≤ length n.receipts.senders) (fresh : slice_index_or n.receipts.acknowledged (k - 1) false ≡ false) (live : n.frozen ≡ false) where
   abbrev act : Act
-  act = Counts q n.me i (n.base + k)
+  act = Arrives q n.me (Acknowledgement i (n.base + k))
 
   abbrev c' : Cluster
   c' = does c act
@@ -90,7 +90,7 @@ module _ (n : TheNode) (c : Cluster) (q i k : ℕ) (s : Stands n c n.me) (given 
   not-yet = let e : suc (n.base + (k - 1)) ≡ n.base + k = omega (arith, some) in ap (c.acknowledged n.me) (sym e) ∙ sym (s.received.acknowledged_is (k - 1) (omega (arith, some, within))) ∙ fresh
 
   may : May c act
-  may = (given, s.inside, stands-takes n c n.me live s, life ∙ sym s.life, omega (arith, many, within), not-yet)
+  may = (given, (s.inside, stands-takes n c n.me live s, life ∙ sym s.life, omega (arith, many, within), not-yet))
 
   acknowledged-is : c'.acknowledged n.me ≡ put (c.acknowledged n.me) (n.base + k) true
   acknowledged-is = at-itself n.me (λ t. (if t then put (c.acknowledged n.me) (n.base + k) true else c.acknowledged n.me) ≡ put (c.acknowledged n.me) (n.base + k) true) refl

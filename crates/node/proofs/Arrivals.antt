@@ -1,5 +1,5 @@
 -- A message comes
-use Rattle.std.proofs.Common.{◌≡◌, ◌≢◌, ℕ, suc, ◌+◌, ◌-◌, ◌<◌, ◌≤◌, List, [], ◌∷◌, ◌++◌, length, take, map, false, refl, sym, ap, ◌∙◌, arith}
+use Rattle.std.proofs.Common.{◌≡◌, ◌≢◌, ℕ, suc, ◌+◌, ◌-◌, ◌<◌, ◌≤◌, List, [], ◌∷◌, ◌++◌, length, take, map, false, refl, sym, ap, ◌∙◌, subst, arith}
 use Rattle.std.specs.Prelude.{Some, None, slice_get, slice_index_or, ◌==◌, if◌then◌else◌}
 use Rattle.std.proofs.lemmas.Bool.Decides.{nat_tests}
 use Rattle.rsn.specs.Receipts.{numbers_of, numbers_from}
@@ -12,7 +12,8 @@ use Rattle.theorems.proofs.Changes.{at-itself}
 use Rattle.theorems.proofs.HistoryLemmas.{found-at}
 use Rattle.cluster.specs.Parcels.{Body, Delivery, Number, Saved}
 use Rattle.cluster.specs.Cluster.{Cluster, seen, waiting, WINDOW}
-use Rattle.cluster.specs.Rules.{Act, Starts, message}
+use Rattle.cluster.specs.Rules.{Act, Arrives, message}
+use Rattle.cluster.proofs.Nodes.{may-open, opens}
 use Rattle.packets.specs.declared.packet.Body.TheVariants as packets
 use Rattle.node.specs.Node.{TheNode, posts, tells, covered_of}
 use Rattle.node.specs.Stands.{Stands, HasReceived, Receives, Acts}
@@ -83,9 +84,9 @@ unfolding WINDOW
 starts n from i ssn x live low other idle incarnation above next room c s given =
     record {
       acts = act ∷ [];
-      run = ((given, s.inside, stands-takes n c n.me live s, up, incarnation ∙ sym (s.heard from within), is-next, few), tt);
+      run = (may-open c from n.me i ssn x given (s.inside, stands-takes n c n.me live s, up, incarnation ∙ sym (s.heard from within), is-next, few), tt);
       by = (refl, tt);
-      stands = record {
+      stands = subst (λ d. Stands (record n { working = Some (record { sender = from; ssn = ssn; payload = x }) }) d n.me) (sym (opens c from n.me i ssn x s.inside.0)) (record {
         me = s.me;
         count = s.count;
         inside = s.inside;
@@ -104,11 +105,11 @@ starts n from i ssn x live low other idle incarnation above next room c s given 
         heard = s.heard;
         resumed = s.resumed;
         out = s.out;
-      };
+      });
     }
   where
     act : Act
-    act = Starts from n.me i ssn x
+    act = Arrives from n.me (Delivery i ssn x)
 
     within : from ≤ c.count
     within = omega (arith, low, s.count)

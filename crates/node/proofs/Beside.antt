@@ -1,13 +1,13 @@
 -- Acts of others leave what a node stands for
-use Rattle.std.proofs.Common.{◌≡◌, ◌≢◌, inr, ℕ, suc, ◌≤◌, ◌+◌, List, [], ◌∷◌, length, Bool, true, false, refl, sym, ◌∙◌, subst, arith}
-use Rattle.std.specs.Prelude.{◌==◌, nat_lt, if◌then◌else◌}
+use Rattle.std.proofs.Common.{zero, ◌≡◌, ◌≢◌, inr, ℕ, suc, ◌≤◌, ◌+◌, List, [], ◌∷◌, length, Bool, true, false, refl, sym, ◌∙◌, subst, arith}
+use Rattle.std.specs.Prelude.{None, Some, ◌==◌, nat_lt, if◌then◌else◌}
 use Rattle.std.proofs.lemmas.Bool.Decides.{nat_tests}
 use Rattle.world.specs.World.{put}
 use Rattle.world.specs.Phases.{Replaying}
 use Rattle.world.specs.Calls.{peers}
-use Rattle.cluster.specs.Parcels.{Parcel, In}
+use Rattle.cluster.specs.Parcels.{Delivery, Number, Acknowledgement, Ask, Told, Resume, Restored, Saved, Parcel, In}
 use Rattle.cluster.specs.Cluster.{Cluster, seen}
-use Rattle.cluster.specs.Rules.{Act, Input, Puts, Starts, Shows, Works, Replays, Records, Counts, Drops, Hears, Collects, Recovers, Obeys, Enters, Restores, Greets, Freezes, Keeps, Thaws, Dies, Opens, does, after_run, goes_on, taken_back}
+use Rattle.cluster.specs.Rules.{Act, Input, Puts, Arrives, Works, Replays, Recovers, Freezes, Keeps, Thaws, Dies, Opens, does, after_run, goes_on, taken_back}
 use Rattle.node.specs.Node.{TheNode}
 use Rattle.node.specs.Stands.{Each, Stands, Goes, PutOut, actor}
 use Rattle.cluster.proofs.Settings.{does-count}
@@ -41,28 +41,28 @@ pub record Same (c d : Cluster) (p : ℕ) : Type 0 where
 pub same : (c : Cluster) (a : Act) (p : ℕ) → (p == actor a) ≡ false → Same c (does c a) p
 same c (Input d x) p e = record { count = refl; handlers = refl; stage = refl; greeted = refl; phase = refl; life = refl; history = refl; saved = refl; acknowledged = refl; released = refl; trims = λ k. refl; numbers = λ k. refl; heard = λ k. refl; resumed = λ k. refl; told = λ k. refl; restoring = λ k. refl; stored = refl; saved_trims = λ k. refl; parcels = λ x i. i }
 same c (Puts q d x) p e = record { count = refl; handlers = refl; stage = refl; greeted = refl; phase = refl; life = refl; history = refl; saved = refl; acknowledged = refl; released = refl; trims = λ k. refl; numbers = λ k. refl; heard = λ k. refl; resumed = λ k. refl; told = λ k. refl; restoring = λ k. refl; stored = refl; saved_trims = λ k. refl; parcels = λ x i. inr i }
-same c (Starts q d i ssn x) p e = record { count = refl; handlers = refl; stage = refl; greeted = refl; phase = rw e refl; life = refl; history = refl; saved = refl; acknowledged = refl; released = refl; trims = λ k. refl; numbers = λ k. refl; heard = λ k. refl; resumed = λ k. refl; told = λ k. refl; restoring = λ k. refl; stored = refl; saved_trims = λ k. refl; parcels = λ x i. i }
-same c (Shows q i ssn x) p e = record { count = refl; handlers = refl; stage = refl; greeted = refl; phase = refl; life = refl; history = refl; saved = refl; acknowledged = refl; released = refl; trims = λ k. refl; numbers = λ k. refl; heard = λ k. refl; resumed = λ k. refl; told = λ k. refl; restoring = λ k. refl; stored = refl; saved_trims = λ k. refl; parcels = λ x i. i }
+same c (Arrives q (suc d) (Delivery i ssn x)) p e = record { count = refl; handlers = refl; stage = refl; greeted = refl; phase = rw e refl; life = refl; history = refl; saved = refl; acknowledged = refl; released = refl; trims = λ k. refl; numbers = λ k. refl; heard = λ k. refl; resumed = λ k. refl; told = λ k. refl; restoring = λ k. refl; stored = refl; saved_trims = λ k. refl; parcels = λ x i. i }
+same c (Arrives q zero (Delivery i ssn x)) p e = record { count = refl; handlers = refl; stage = refl; greeted = refl; phase = refl; life = refl; history = refl; saved = refl; acknowledged = refl; released = refl; trims = λ k. refl; numbers = λ k. refl; heard = λ k. refl; resumed = λ k. refl; told = λ k. refl; restoring = λ k. refl; stored = refl; saved_trims = λ k. refl; parcels = λ x i. i }
 same c (Works q m) p e = record { count = refl; handlers = refl; stage = refl; greeted = refl; phase = rw e refl; life = refl; history = rw e refl; saved = refl; acknowledged = refl; released = refl; trims = λ k. refl; numbers = λ k. refl; heard = λ k. refl; resumed = λ k. refl; told = λ k. refl; restoring = λ k. refl; stored = refl; saved_trims = λ k. refl; parcels = λ x i. i }
 same c (Replays q j) p e = by_end (nat_lt (c.saved q + suc j) (length (c.history q)))
   where
     by_end : (b : Bool) → Same c (if b then record c { phase = put c.phase q (Replaying (suc j) false false) } else goes_on c q (peers (seen c) q false)) p
     by_end true = record { count = refl; handlers = refl; stage = refl; greeted = refl; phase = rw e refl; life = refl; history = refl; saved = refl; acknowledged = refl; released = refl; trims = λ k. refl; numbers = λ k. refl; heard = λ k. refl; resumed = λ k. refl; told = λ k. refl; restoring = λ k. refl; stored = refl; saved_trims = λ k. refl; parcels = λ x i. i }
     by_end false = record { count = refl; handlers = refl; stage = refl; greeted = refl; phase = rw e refl; life = refl; history = refl; saved = refl; acknowledged = refl; released = rw e refl; trims = λ k. refl; numbers = λ k. refl; heard = λ k. refl; resumed = λ k. refl; told = λ k. refl; restoring = λ k. refl; stored = refl; saved_trims = λ k. refl; parcels = λ x i. i }
-same c (Records r s i ssn k) p e = record { count = refl; handlers = refl; stage = refl; greeted = refl; phase = refl; life = refl; history = refl; saved = refl; acknowledged = refl; released = refl; trims = λ k. refl; numbers = λ k. rw e refl; heard = λ k. refl; resumed = λ k. refl; told = λ k. refl; restoring = λ k. refl; stored = refl; saved_trims = λ k. refl; parcels = λ x i. inr i }
-same c (Counts s r i k) p e = record { count = refl; handlers = refl; stage = refl; greeted = refl; phase = refl; life = refl; history = refl; saved = refl; acknowledged = rw e refl; released = rw e refl; trims = λ k. refl; numbers = λ k. refl; heard = λ k. refl; resumed = λ k. refl; told = λ k. refl; restoring = λ k. refl; stored = refl; saved_trims = λ k. refl; parcels = λ x i. i }
-same c (Drops d s n) p e = record { count = refl; handlers = refl; stage = refl; greeted = refl; phase = refl; life = refl; history = refl; saved = refl; acknowledged = refl; released = refl; trims = λ k. rw e refl; numbers = λ k. refl; heard = λ k. refl; resumed = λ k. refl; told = λ k. refl; restoring = λ k. refl; stored = refl; saved_trims = λ k. refl; parcels = λ x i. i }
-same c (Hears r q i k) p e = record { count = refl; handlers = refl; stage = refl; greeted = refl; phase = refl; life = refl; history = refl; saved = refl; acknowledged = refl; released = refl; trims = λ k. refl; numbers = λ k. refl; heard = λ k. rw e refl; resumed = λ k. rw e refl; told = λ k. rw e refl; restoring = λ k. refl; stored = refl; saved_trims = λ k. refl; parcels = λ x i. i }
-same c (Collects r q i j k u f) p e = record { count = refl; handlers = refl; stage = refl; greeted = refl; phase = refl; life = refl; history = refl; saved = refl; acknowledged = refl; released = refl; trims = λ k. refl; numbers = λ k. refl; heard = λ k. rw e refl; resumed = λ k. refl; told = λ k. rw e refl; restoring = λ k. refl; stored = refl; saved_trims = λ k. refl; parcels = λ x i. i }
+same c (Arrives r s (Number i ssn k)) p e = record { count = refl; handlers = refl; stage = refl; greeted = refl; phase = refl; life = refl; history = refl; saved = refl; acknowledged = refl; released = refl; trims = λ k. refl; numbers = λ k. rw e refl; heard = λ k. refl; resumed = λ k. refl; told = λ k. refl; restoring = λ k. refl; stored = refl; saved_trims = λ k. refl; parcels = λ x i. inr i }
+same c (Arrives s r (Acknowledgement i k)) p e = record { count = refl; handlers = refl; stage = refl; greeted = refl; phase = refl; life = refl; history = refl; saved = refl; acknowledged = rw e refl; released = rw e refl; trims = λ k. refl; numbers = λ k. refl; heard = λ k. refl; resumed = λ k. refl; told = λ k. refl; restoring = λ k. refl; stored = refl; saved_trims = λ k. refl; parcels = λ x i. i }
+same c (Arrives d s (Saved n)) p e = record { count = refl; handlers = refl; stage = refl; greeted = refl; phase = refl; life = refl; history = refl; saved = refl; acknowledged = refl; released = refl; trims = λ k. rw e refl; numbers = λ k. refl; heard = λ k. refl; resumed = λ k. refl; told = λ k. refl; restoring = λ k. refl; stored = refl; saved_trims = λ k. refl; parcels = λ x i. i }
+same c (Arrives r q (Ask i k)) p e = record { count = refl; handlers = refl; stage = refl; greeted = refl; phase = refl; life = refl; history = refl; saved = refl; acknowledged = refl; released = refl; trims = λ k. refl; numbers = λ k. refl; heard = λ k. rw e refl; resumed = λ k. rw e refl; told = λ k. rw e refl; restoring = λ k. refl; stored = refl; saved_trims = λ k. refl; parcels = λ x i. i }
+same c (Arrives r q (Told i j k u f)) p e = record { count = refl; handlers = refl; stage = refl; greeted = refl; phase = refl; life = refl; history = refl; saved = refl; acknowledged = refl; released = refl; trims = λ k. refl; numbers = λ k. refl; heard = λ k. rw e refl; resumed = λ k. refl; told = λ k. rw e refl; restoring = λ k. refl; stored = refl; saved_trims = λ k. refl; parcels = λ x i. i }
 same c (Recovers q k) p e = by_end (nat_lt (c.saved q) k)
   where
     by_end : (b : Bool) → Same c (if b then record (taken_back c q k) { phase = put c.phase q (Replaying 0 false false) } else goes_on (taken_back c q k) q (peers (seen c) q false)) p
     by_end true = record { count = refl; handlers = refl; stage = rw e refl; greeted = rw e refl; phase = rw e refl; life = rw e refl; history = rw e refl; saved = refl; acknowledged = rw e refl; released = rw e refl; trims = λ k. rw e refl; numbers = λ k. rw e refl; heard = λ k. refl; resumed = λ k. rw e refl; told = λ k. rw e refl; restoring = λ k. rw e refl; stored = refl; saved_trims = λ k. refl; parcels = λ x i. i }
     by_end false = record { count = refl; handlers = refl; stage = rw e refl; greeted = rw e refl; phase = rw e refl; life = rw e refl; history = rw e refl; saved = refl; acknowledged = rw e refl; released = rw e refl; trims = λ k. rw e refl; numbers = λ k. rw e refl; heard = λ k. refl; resumed = λ k. rw e refl; told = λ k. rw e refl; restoring = λ k. rw e refl; stored = refl; saved_trims = λ k. refl; parcels = λ x i. i }
-same c (Obeys r q i k s) p e = record { count = refl; handlers = refl; stage = refl; greeted = refl; phase = refl; life = refl; history = refl; saved = refl; acknowledged = refl; released = refl; trims = λ k. refl; numbers = λ k. rw e refl; heard = λ k. refl; resumed = λ k. rw e refl; told = λ k. refl; restoring = λ k. refl; stored = refl; saved_trims = λ k. refl; parcels = λ x i. i }
-same c (Enters r q i j n s u f) p e = record { count = refl; handlers = refl; stage = refl; greeted = refl; phase = refl; life = refl; history = refl; saved = refl; acknowledged = refl; released = refl; trims = λ k. rw e refl; numbers = λ k. rw e refl; heard = λ k. rw e refl; resumed = λ k. refl; told = λ k. refl; restoring = λ k. rw e refl; stored = refl; saved_trims = λ k. refl; parcels = λ x i. i }
-same c (Restores r q i j n s f) p e = record { count = refl; handlers = refl; stage = refl; greeted = refl; phase = rw e refl; life = refl; history = refl; saved = refl; acknowledged = refl; released = rw e refl; trims = λ k. rw e refl; numbers = λ k. rw e refl; heard = λ k. rw e refl; resumed = λ k. refl; told = λ k. refl; restoring = λ k. refl; stored = refl; saved_trims = λ k. refl; parcels = λ x i. i }
-same c (Greets q i j n s f) p e = record { count = refl; handlers = refl; stage = refl; greeted = rw e refl; phase = refl; life = refl; history = refl; saved = refl; acknowledged = refl; released = refl; trims = λ k. rw e refl; numbers = λ k. refl; heard = λ k. refl; resumed = λ k. refl; told = λ k. refl; restoring = λ k. refl; stored = refl; saved_trims = λ k. refl; parcels = λ x i. i }
+same c (Arrives r q (Resume i k s)) p e = record { count = refl; handlers = refl; stage = refl; greeted = refl; phase = refl; life = refl; history = refl; saved = refl; acknowledged = refl; released = refl; trims = λ k. refl; numbers = λ k. rw e refl; heard = λ k. refl; resumed = λ k. rw e refl; told = λ k. refl; restoring = λ k. refl; stored = refl; saved_trims = λ k. refl; parcels = λ x i. i }
+same c (Arrives r q (Restored i j n s (Some u) f)) p e = record { count = refl; handlers = refl; stage = refl; greeted = refl; phase = refl; life = refl; history = refl; saved = refl; acknowledged = refl; released = refl; trims = λ k. rw e refl; numbers = λ k. rw e refl; heard = λ k. rw e refl; resumed = λ k. refl; told = λ k. refl; restoring = λ k. rw e refl; stored = refl; saved_trims = λ k. refl; parcels = λ x i. i }
+same c (Arrives (suc r) q (Restored i j n s None f)) p e = record { count = refl; handlers = refl; stage = refl; greeted = refl; phase = rw e refl; life = refl; history = refl; saved = refl; acknowledged = refl; released = rw e refl; trims = λ k. rw e refl; numbers = λ k. rw e refl; heard = λ k. rw e refl; resumed = λ k. refl; told = λ k. refl; restoring = λ k. refl; stored = refl; saved_trims = λ k. refl; parcels = λ x i. i }
+same c (Arrives zero q (Restored i j n s None f)) p e = record { count = refl; handlers = refl; stage = refl; greeted = rw e refl; phase = refl; life = refl; history = refl; saved = refl; acknowledged = refl; released = refl; trims = λ k. rw e refl; numbers = λ k. refl; heard = λ k. refl; resumed = λ k. refl; told = λ k. refl; restoring = λ k. refl; stored = refl; saved_trims = λ k. refl; parcels = λ x i. i }
 same c (Freezes q) p e = record { count = refl; handlers = refl; stage = rw e refl; greeted = refl; phase = refl; life = refl; history = refl; saved = refl; acknowledged = refl; released = refl; trims = λ k. refl; numbers = λ k. refl; heard = λ k. refl; resumed = λ k. refl; told = λ k. refl; restoring = λ k. refl; stored = refl; saved_trims = λ k. refl; parcels = λ x i. i }
 same c (Keeps q) p e = record { count = refl; handlers = refl; stage = refl; greeted = refl; phase = refl; life = refl; history = refl; saved = rw e refl; acknowledged = rw e refl; released = rw e refl; trims = λ k. refl; numbers = λ k. refl; heard = λ k. refl; resumed = λ k. refl; told = λ k. refl; restoring = λ k. refl; stored = refl; saved_trims = λ k. rw e refl; parcels = λ x i. i }
 same c (Thaws q) p e = record { count = refl; handlers = refl; stage = rw e refl; greeted = refl; phase = refl; life = refl; history = refl; saved = refl; acknowledged = refl; released = refl; trims = λ k. refl; numbers = λ k. refl; heard = λ k. refl; resumed = λ k. refl; told = λ k. refl; restoring = λ k. refl; stored = refl; saved_trims = λ k. refl; parcels = λ x i. i }

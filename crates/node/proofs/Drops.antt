@@ -8,7 +8,7 @@ use Rattle.world.specs.Logs.{sent}
 use Rattle.theorems.proofs.Changes.{at-itself}
 use Rattle.cluster.specs.Parcels.{Saved, In, parcel}
 use Rattle.cluster.specs.Cluster.{Cluster, seen}
-use Rattle.cluster.specs.Rules.{Act, Drops, May, does}
+use Rattle.cluster.specs.Rules.{Act, Arrives, May, does}
 use Rattle.node.specs.Queue.{TheQueue, dropped_first, dropped_to}
 use Rattle.node.specs.Node.{TheNode, log_at}
 use Rattle.node.specs.Calls.{dropped_by}
@@ -44,7 +44,7 @@ shut-dropped q k n released sent some s =
 
 module _ (n : TheNode) (c : Cluster) (r k : ℕ) (s : Stands n c n.me) (low : r ≤ c.count) (other : r ≢ n.me) (given : In (parcel r n.me (Saved k)) c.parcels) (wide : r < length n.logs) (live : n.frozen ≡ false) where
   abbrev act : Act
-  act = Drops r n.me k
+  act = Arrives r n.me (Saved k)
 
   abbrev c' : Cluster
   c' = does c act

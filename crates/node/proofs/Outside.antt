@@ -1,6 +1,6 @@
 -- The gateway beside nodes: what it sees of a cluster
 use Rattle.std.proofs.Common.{◌≡◌, inl, inr, ℕ, zero, suc, ◌<◌, ◌+◌, List, [], ◌∷◌, length, Bool, true, false, refl, sym, ap, ◌∙◌, arith}
-use Rattle.std.specs.Prelude.{Option, ◌==◌, nat_lt, if◌then◌else◌}
+use Rattle.std.specs.Prelude.{None, Some, Option, ◌==◌, nat_lt, if◌then◌else◌}
 use Rattle.std.proofs.lemmas.Bool.Decides.{nat_tests}
 use Rattle.world.specs.World.{put}
 use Rattle.world.specs.History.{Payload}
@@ -9,7 +9,7 @@ use Rattle.world.specs.Calls.{peers}
 use Rattle.world.specs.Phases.{Replaying}
 use Rattle.cluster.specs.Parcels.{Body, Delivery, Number, Acknowledgement, Ask, Told, Resume, Restored, Saved, Parcel, In, parcel}
 use Rattle.cluster.specs.Cluster.{Cluster, seen}
-use Rattle.cluster.specs.Rules.{Act, Input, Puts, Starts, Shows, Works, Replays, Records, Counts, Drops, Hears, Collects, Recovers, Obeys, Enters, Restores, Greets, Freezes, Keeps, Thaws, Dies, Opens, May, MayPut, entry_of, does, after_run, goes_on, taken_back}
+use Rattle.cluster.specs.Rules.{Act, Input, Puts, Arrives, Replays, Recovers, May, MayPut, entry_of, does, after_run, goes_on, taken_back}
 use Rattle.node.specs.Stands.{Each, actor}
 use Rattle.node.specs.Runs.{IsGateway}
 use Rattle.node.proofs.Beside.{Same, same}
@@ -41,34 +41,20 @@ record Left (c d : Cluster) : Type 0 where
 
 left : (c : Cluster) (a : Act) → (0 == actor a) ≡ false → Left c (does c a)
 left c (Input d x) e = absurd (cc)
-left c (Puts q d x) e = record { inputs = λ k. refl; shown = refl }
-left c (Starts q d i ssn x) e = record { inputs = λ k. refl; shown = refl }
-left c (Shows q i ssn x) e = absurd (cc)
-left c (Works q m) e = record { inputs = λ k. refl; shown = refl }
+left c (Arrives q zero x) e = absurd (cc)
+left c (Arrives r (suc q) (Restored i j n s (Some u) f)) e = record { inputs = λ k. refl; shown = refl }
+left c (Arrives zero (suc q) (Restored i j n s None f)) e = record { inputs = λ k. refl; shown = refl }
 left c (Replays q j) e = by_end (nat_lt (c.saved q + suc j) (length (c.history q)))
   where
     by_end : (b : Bool) → Left c (if b then record c { phase = put c.phase q (Replaying (suc j) false false) } else goes_on c q (peers (seen c) q false))
     by_end true = record { inputs = λ k. refl; shown = refl }
     by_end false = record { inputs = λ k. refl; shown = refl }
-left c (Records r s i ssn k) e = record { inputs = λ k. refl; shown = refl }
-left c (Counts s r i k) e = record { inputs = λ k. refl; shown = refl }
-left c (Drops d s n) e = record { inputs = λ k. refl; shown = refl }
-left c (Hears r q i k) e = record { inputs = λ k. refl; shown = refl }
-left c (Collects r q i j k u f) e = record { inputs = λ k. refl; shown = refl }
 left c (Recovers q k) e = by_end (nat_lt (c.saved q) k)
   where
     by_end : (b : Bool) → Left c (if b then record (taken_back c q k) { phase = put c.phase q (Replaying 0 false false) } else goes_on (taken_back c q k) q (peers (seen c) q false))
     by_end true = record { inputs = λ k. refl; shown = refl }
     by_end false = record { inputs = λ k. refl; shown = refl }
-left c (Obeys r q i k s) e = record { inputs = λ k. refl; shown = refl }
-left c (Enters r q i j n s u f) e = record { inputs = λ k. refl; shown = refl }
-left c (Restores r q i j n s f) e = record { inputs = λ k. refl; shown = refl }
-left c (Greets q i j n s f) e = record { inputs = λ k. refl; shown = refl }
-left c (Freezes q) e = record { inputs = λ k. refl; shown = refl }
-left c (Keeps q) e = record { inputs = λ k. refl; shown = refl }
-left c (Thaws q) e = record { inputs = λ k. refl; shown = refl }
-left c (Dies q) e = record { inputs = λ k. refl; shown = refl }
-left c (Opens q n) e = record { inputs = λ k. refl; shown = refl }
+left c act e = record { inputs = λ k. refl; shown = refl }
 
 -- a node acts
 outside-act : (g c : Cluster) (a : Act) → (0 == actor a) ≡ false → SameOutside g c → SameOutside g (does c a)
@@ -129,30 +115,12 @@ may-put g c e d (Saved n) o m = rw (sym e.stage, sym e.greeted, sym e.phase, sym
 pub may-too : (g c : Cluster) → SameOutside g c → (a : Act) → IsGateway a → May g a → May c a
 may-too g c e (Input d x) o m = rw (sym e.count) m
 may-too g c e (Puts zero d x) o m = (rw (sym e.count) m.0, rw (sym e.count) m.1, m.2, may-put g c e d x o m.3)
-may-too g c e (Puts (suc p) d x) o m = absurd o
-may-too g c e (Shows p i ssn x) o m = (e.parcels _ m.0, m.1 ∙ e.heard p, rw (sym e.shown) m.2)
-may-too g c e (Records r zero i ssn k) o m = (e.parcels _ m.0, rw (sym e.stage, sym e.greeted, sym e.phase) m.1, m.2 ∙ e.heard r, rw (sym e.phase, sym (e.trims r), sym (e.inputs r)) m.3)
-may-too g c e (Records r (suc s) i ssn k) o m = absurd o
-may-too g c e (Drops d zero n) o m = (e.parcels _ m.0, rw (sym e.stage, sym e.greeted, sym e.phase) m.1)
-may-too g c e (Drops d (suc s) n) o m = absurd o
-may-too g c e (Hears p zero i k) o m = (e.parcels _ m.0, rw (sym (e.heard p)) m.1, rw (sym e.stage, sym e.greeted, sym e.phase) m.2)
-may-too g c e (Hears p (suc q) i k) o m = absurd o
-may-too g c e (Obeys p zero i k s) o m = (e.parcels _ m.0, rw (sym e.stage, sym e.greeted, sym e.phase) m.1, m.2 ∙ e.heard p, rw (sym (e.resumed p)) m.3, rw (sym e.phase) m.4)
-may-too g c e (Obeys p (suc q) i k s) o m = absurd o
-may-too g c e (Starts q d i ssn x) o m = absurd o
-may-too g c e (Works q w) o m = absurd o
-may-too g c e (Replays q j) o m = absurd o
-may-too g c e (Counts s r i k) o m = absurd o
-may-too g c e (Collects r q i j k u f) o m = absurd o
-may-too g c e (Recovers q k) o m = absurd o
-may-too g c e (Enters r q i j n s u f) o m = absurd o
-may-too g c e (Restores r q i j n s f) o m = absurd o
-may-too g c e (Greets q i j n s f) o m = absurd o
-may-too g c e (Freezes q) o m = absurd o
-may-too g c e (Keeps q) o m = absurd o
-may-too g c e (Thaws q) o m = absurd o
-may-too g c e (Dies q) o m = absurd o
-may-too g c e (Opens q n) o m = absurd o
+may-too g c e (Arrives p zero (Delivery i ssn x)) o m = (e.parcels _ m.0, (m.1.0 ∙ e.heard p, rw (sym e.shown) m.1.1))
+may-too g c e (Arrives p zero (Number i ssn k)) o m = (e.parcels _ m.0, (rw (sym e.stage, sym e.greeted, sym e.phase) m.1.0, m.1.1 ∙ e.heard p, rw (sym e.phase, sym (e.trims p), sym (e.inputs p)) m.1.2))
+may-too g c e (Arrives p zero (Ask i k)) o m = (e.parcels _ m.0, (rw (sym (e.heard p)) m.1.0, rw (sym e.stage, sym e.greeted, sym e.phase) m.1.1))
+may-too g c e (Arrives p zero (Resume i k s)) o m = (e.parcels _ m.0, (rw (sym e.stage, sym e.greeted, sym e.phase) m.1.0, m.1.1 ∙ e.heard p, rw (sym (e.resumed p)) m.1.2, rw (sym e.phase) m.1.3))
+may-too g c e (Arrives p zero (Saved n)) o m = (e.parcels _ m.0, rw (sym e.stage, sym e.greeted, sym e.phase) m.1)
+may-too g c e act o m = absurd o
 
 -- and has the same then
 pub outside-too : (g c : Cluster) → SameOutside g c → (a : Act) → IsGateway a → SameOutside (does g a) (does c a)
@@ -190,8 +158,7 @@ outside-too g c e (Puts zero d x) o =
       shown = e.shown;
       parcels = λ y i. in-more y (parcel 0 d x) g.parcels c.parcels (e.parcels y) i;
     }
-outside-too g c e (Puts (suc p) d x) o = absurd o
-outside-too g c e (Shows p i ssn x) o =
+outside-too g c e (Arrives p zero (Delivery i ssn x)) o =
     record {
       count = e.count;
       handlers = e.handlers;
@@ -208,7 +175,7 @@ outside-too g c e (Shows p i ssn x) o =
       shown = rw e.shown refl;
       parcels = λ x i. e.parcels x i;
     }
-outside-too g c e (Records r zero i ssn k) o =
+outside-too g c e (Arrives r zero (Number i ssn k)) o =
     record {
       count = e.count;
       handlers = e.handlers;
@@ -225,8 +192,7 @@ outside-too g c e (Records r zero i ssn k) o =
       shown = e.shown;
       parcels = λ y z. in-more y (parcel 0 r (Acknowledgement i k)) g.parcels c.parcels (e.parcels y) z;
     }
-outside-too g c e (Records r (suc s) i ssn k) o = absurd o
-outside-too g c e (Drops d zero n) o =
+outside-too g c e (Arrives d zero (Saved n)) o =
     record {
       count = e.count;
       handlers = e.handlers;
@@ -243,8 +209,7 @@ outside-too g c e (Drops d zero n) o =
       shown = e.shown;
       parcels = λ x i. e.parcels x i;
     }
-outside-too g c e (Drops d (suc s) n) o = absurd o
-outside-too g c e (Hears p zero i k) o =
+outside-too g c e (Arrives p zero (Ask i k)) o =
     record {
       count = e.count;
       handlers = e.handlers;
@@ -261,8 +226,7 @@ outside-too g c e (Hears p zero i k) o =
       shown = e.shown;
       parcels = λ x i. e.parcels x i;
     }
-outside-too g c e (Hears p (suc q) i k) o = absurd o
-outside-too g c e (Obeys p zero i k s) o =
+outside-too g c e (Arrives p zero (Resume i k s)) o =
     record {
       count = e.count;
       handlers = e.handlers;
@@ -279,18 +243,4 @@ outside-too g c e (Obeys p zero i k s) o =
       shown = e.shown;
       parcels = λ x i. e.parcels x i;
     }
-outside-too g c e (Obeys p (suc q) i k s) o = absurd o
-outside-too g c e (Starts q d i ssn x) o = absurd o
-outside-too g c e (Works q m) o = absurd o
-outside-too g c e (Replays q j) o = absurd o
-outside-too g c e (Counts s r i k) o = absurd o
-outside-too g c e (Collects r q i j k u f) o = absurd o
-outside-too g c e (Recovers q k) o = absurd o
-outside-too g c e (Enters r q i j n s u f) o = absurd o
-outside-too g c e (Restores r q i j n s f) o = absurd o
-outside-too g c e (Greets q i j n s f) o = absurd o
-outside-too g c e (Freezes q) o = absurd o
-outside-too g c e (Keeps q) o = absurd o
-outside-too g c e (Thaws q) o = absurd o
-outside-too g c e (Dies q) o = absurd o
-outside-too g c e (Opens q n) o = absurd o
+outside-too g c e act o = absurd o

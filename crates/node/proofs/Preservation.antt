@@ -1,6 +1,6 @@
 -- What is kept of a node comes back, is in its range, and is what the cluster's checkpoint covers
 use Rattle.std.proofs.Common.{◌≡◌, ◌≢◌, ℕ, zero, suc, ◌+◌, ◌-◌, ◌*◌, ◌^◌, ◌<◌, ◌≤◌, List, [], ◌∷◌, ◌++◌, length, map, take, Bool, true, false, refl, sym, ap, ◌∙◌, subst, arith}
-use Rattle.std.specs.Prelude.{None, sum, ◌==◌, nat_lt, nat_le, if◌then◌else◌, slice_index_or}
+use Rattle.std.specs.Prelude.{Some, None, sum, ◌==◌, nat_lt, nat_le, if◌then◌else◌, slice_index_or}
 use Rattle.std.specs.List.{list_all, AllByRecursion}
 use Rattle.std.proofs.lemmas.Bool.Decides.{nat_tests}
 use Rattle.std.proofs.lemmas.List.{take_all, length-map, length-replicate, get_or-map, get_or-replicate}
@@ -14,8 +14,9 @@ use Rattle.theorems.proofs.ListLemmas.{take-push, take-length, take-take, begins
 use Rattle.world.specs.World.{put}
 use Rattle.world.specs.Phases.{Replaying}
 use Rattle.world.specs.Calls.{peers}
+use Rattle.cluster.specs.Parcels.{Delivery, Restored}
 use Rattle.cluster.specs.Cluster.{Cluster, seen}
-use Rattle.cluster.specs.Rules.{Act, Input, Puts, Starts, Shows, Works, Replays, Records, Counts, Drops, Hears, Collects, Recovers, Obeys, Enters, Restores, Greets, Freezes, Keeps, Thaws, Dies, Opens, does, told_by, kept_by, goes_on, taken_back}
+use Rattle.cluster.specs.Rules.{Act, Arrives, Works, Replays, Recovers, Keeps, does, told_by, kept_by, goes_on, taken_back}
 use Rattle.cluster.proofs.Growth.{plan-begins}
 use Rattle.packets.specs.declared.kept.Kept.{Kept}
 use Rattle.packets.specs.declared.kept.KeptLog.{KeptLog}
@@ -293,35 +294,22 @@ recovers c p q j = choose q
         )
 
 kept-same : (c : Cluster) (p : ℕ) (a : Act) → a ≢ Keeps p → SameKept c (does c a) p
-kept-same c p (Input d x) other = holds refl refl refl (λ r. refl) (λ l. (refl, l))
-kept-same c p (Puts q d x) other = holds refl refl refl (λ r. refl) (λ l. (refl, l))
-kept-same c p (Starts q d i ssn x) other = holds refl refl refl (λ r. refl) (λ l. (refl, l))
-kept-same c p (Shows q i ssn x) other = holds refl refl refl (λ r. refl) (λ l. (refl, l))
+kept-same c p (Arrives q r (Restored i j n s (Some u) f)) other = holds refl refl refl (λ r. refl) (λ l. (refl, l))
+kept-same c p (Arrives q zero (Delivery i ssn x)) other = holds refl refl refl (λ r. refl) (λ l. (refl, l))
 kept-same c p (Works q m) other = holds refl refl refl (λ r. refl) (works c p q m)
 kept-same c p (Replays q j) other = by_end (nat_lt (c.saved q + suc j) (length (c.history q)))
   where
     by_end : (b : Bool) → SameKept c (if b then record c { phase = put c.phase q (Replaying (suc j) false false) } else goes_on c q (peers (seen c) q false)) p
     by_end true = holds refl refl refl (λ r. refl) (λ l. (refl, l))
     by_end false = holds refl refl refl (λ r. refl) (λ l. (refl, l))
-kept-same c p (Records r s i ssn n) other = holds refl refl refl (λ r. refl) (λ l. (refl, l))
-kept-same c p (Counts s r i n) other = holds refl refl refl (λ r. refl) (λ l. (refl, l))
-kept-same c p (Drops d s n) other = holds refl refl refl (λ r. refl) (λ l. (refl, l))
-kept-same c p (Hears q r i n) other = holds refl refl refl (λ r. refl) (λ l. (refl, l))
-kept-same c p (Collects q r i j n u f) other = holds refl refl refl (λ r. refl) (λ l. (refl, l))
 kept-same c p (Recovers q j) other = by_end (nat_lt (c.saved q) j)
   where
     by_end : (b : Bool) → SameKept c (if b then record (taken_back c q j) { phase = put c.phase q (Replaying 0 false false) } else goes_on (taken_back c q j) q (peers (seen c) q false)) p
     by_end true = holds refl refl refl (λ r. refl) (recovers c p q j)
     by_end false = holds refl refl refl (λ r. refl) (recovers c p q j)
-kept-same c p (Obeys q r i n s) other = holds refl refl refl (λ r. refl) (λ l. (refl, l))
-kept-same c p (Enters q r i j n s u f) other = holds refl refl refl (λ r. refl) (λ l. (refl, l))
-kept-same c p (Restores q r i j n s f) other = holds refl refl refl (λ r. refl) (λ l. (refl, l))
-kept-same c p (Greets q i j n s f) other = holds refl refl refl (λ r. refl) (λ l. (refl, l))
-kept-same c p (Freezes q) other = holds refl refl refl (λ r. refl) (λ l. (refl, l))
+kept-same c p (Arrives zero q (Restored i j n s None f)) other = holds refl refl refl (λ r. refl) (λ l. (refl, l))
 kept-same c p (Keeps q) other = let apart : (p == q) ≡ false = apart-from p q (λ e. other (ap Keeps e)) in holds refl refl (rw apart refl) (λ r. rw apart refl) (λ l. (refl, l))
-kept-same c p (Thaws q) other = holds refl refl refl (λ r. refl) (λ l. (refl, l))
-kept-same c p (Dies q) other = holds refl refl refl (λ r. refl) (λ l. (refl, l))
-kept-same c p (Opens q n) other = holds refl refl refl (λ r. refl) (λ l. (refl, l))
+kept-same c p act other = holds refl refl refl (λ r. refl) (λ l. (refl, l))
 
 pub kept-still : (k : Kept) (c d : Cluster) (p : ℕ) → SameKept c d p → IsKeptOf k c p → IsKeptOf k d p
 kept-still k c d p e s =

@@ -12,7 +12,7 @@ use Rattle.theorems.proofs.PhaseLemmas.{up-length}
 use Rattle.theorems.proofs.Tests.{both}
 use Rattle.cluster.specs.Parcels.{Number, Acknowledgement, In, parcel}
 use Rattle.cluster.specs.Cluster.{Cluster, seen}
-use Rattle.cluster.specs.Rules.{Act, Records, May, does}
+use Rattle.cluster.specs.Rules.{Act, Arrives, May, does}
 use Rattle.packets.specs.declared.packet.Body.TheVariants as packets
 use Rattle.node.specs.Queue.{TheQueue, recorded, is_kept}
 use Rattle.node.specs.Node.{TheNode, posts, packet_of, log_at, numbered}
@@ -87,13 +87,13 @@ kept-numbered q dropped xs numbers ssn k kept s =
 
 module _ (n : TheNode) (c : Cluster) (r i ssn k : ℕ) (s : Stands n c n.me) (low : r ≤ c.count) (other : r ≢ n.me) (given : In (parcel r n.me (Number i ssn k)) c.parcels) (heard : i ≡ slice_index_or n.heard r 0) (wide : r < length n.logs) (live : n.frozen ≡ false) (kept : is_kept ssn (log_at n.logs r) ≡ true) where
   abbrev act : Act
-  act = Records r n.me i ssn k
+  act = Arrives r n.me (Number i ssn k)
 
   abbrev c' : Cluster
   c' = does c act
 
   may : May c act
-  may = (given, stands-takes n c n.me live s, heard ∙ sym (s.heard r low), entry-is n c n.me r ssn s low other kept)
+  may = (given, (stands-takes n c n.me live s, heard ∙ sym (s.heard r low), entry-is n c n.me r ssn s low other kept))
 
   logs : (d : ℕ) → d ≤ c.count → d ≢ n.me → KeepsOf (log_at (slice_set n.logs r (recorded ssn k (log_at n.logs r))) d) (c.trims n.me d) (c.handlers.sends n.me (c.history n.me) d) (c'.numbers n.me d)
   logs d l o = at-itself n.me (λ t. KeepsOf (log_at (slice_set n.logs r (recorded ssn k (log_at n.logs r))) d) (c.trims n.me d) (c.handlers.sends n.me (c.history n.me) d) (if t && (d == r) then put (c.numbers n.me r) ssn (Some k) else c.numbers n.me d))

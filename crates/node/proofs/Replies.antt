@@ -9,8 +9,8 @@ use Rattle.world.specs.Phases.{Busy}
 use Rattle.world.specs.Calls.{up_to}
 use Rattle.theorems.proofs.Changes.{at-itself}
 use Rattle.theorems.proofs.Tests.{neither, not-false}
-use Rattle.cluster.specs.Parcels.{Ask, Resume, Told, Restored, In, parcel}
-use Rattle.cluster.specs.Rules.{Hears, Obeys, entry_of}
+use Rattle.cluster.specs.Parcels.{Ask, Told, Resume, Restored, In, parcel}
+use Rattle.cluster.specs.Rules.{Arrives, entry_of}
 use Rattle.node.specs.declared.job.OpenJob.{OpenJob}
 use Rattle.node.specs.Queue.{TheQueue, forgotten_above}
 use Rattle.node.specs.Node.{TheNode, Within, log_at, posts, covered_of}
@@ -62,8 +62,8 @@ hearing : (n : TheNode) (d i k : ℕ) → n.frozen ≡ false → d ≤ n.count �
 hearing n d i k live low wide broad newer c s given =
     let within : d ≤ c.count = omega (arith, low, s.count) in
     record {
-      acts = Hears d n.me i k ∷ [];
-      run = ((given, omega (arith, s.heard d within, newer), inl (stands-takes n c n.me live s)), tt);
+      acts = Arrives d n.me (Ask i k) ∷ [];
+      run = ((given, (omega (arith, s.heard d within, newer), inl (stands-takes n c n.me live s))), tt);
       by = (refl, tt);
       stands = record {
         me = refl;
@@ -166,8 +166,8 @@ obeying : (n : TheNode) (d i k a : ℕ) → n.frozen ≡ false → d ≤ n.count
     → Receives d (Resume i k a) n (record n { logs = slice_set n.logs d (forgotten_above k (log_at n.logs d)); resumed = slice_set n.resumed d true })
 obeying n d i k a live low other wide broad heard fresh free c s given =
     record {
-      acts = Obeys d n.me i k a ∷ [];
-      run = ((given, stands-takes n c n.me live s, sym (s.heard d within ∙ heard), s.resumed d within ∙ fresh, λ m e. no-job n.working d m free (sym s.phase ∙ e)), tt);
+      acts = Arrives d n.me (Resume i k a) ∷ [];
+      run = ((given, (stands-takes n c n.me live s, sym (s.heard d within ∙ heard), s.resumed d within ∙ fresh, λ m e. no-job n.working d m free (sym s.phase ∙ e))), tt);
       by = (refl, tt);
       stands = record {
         me = refl;

@@ -11,7 +11,7 @@ use Rattle.packets.specs.declared.packet.Body as bodies
 use Rattle.packets.specs.declared.packet.Body.TheVariants as packets
 use Rattle.cluster.specs.Parcels.{Body, Parcel, In, parcel}
 use Rattle.cluster.specs.Cluster.{Cluster, opening}
-use Rattle.cluster.specs.Rules.{Act, Input, Puts, Starts, Shows, Works, Replays, Records, Counts, Drops, Hears, Collects, Recovers, Obeys, Enters, Restores, Greets, Freezes, Keeps, Thaws, Dies, Opens, does, Run, after_run}
+use Rattle.cluster.specs.Rules.{Act, Input, Puts, Arrives, does, Run, after_run}
 use Rattle.cluster.proofs.Settings.{does-count, does-handlers}
 use Rattle.cluster.proofs.Runs.{run-handlers}
 use Rattle.cluster.proofs.Promised.{nodes-keep}
@@ -133,30 +133,8 @@ answers f len n c p a handlers s is j busy =
 of-gateway : (a : Act) → IsGateway a → actor a ≡ 0
 of-gateway (Input d x) o = refl
 of-gateway (Puts zero d x) o = refl
-of-gateway (Puts (suc q) d x) o = absurd o
-of-gateway (Starts q d i ssn x) o = absurd o
-of-gateway (Shows q i ssn x) o = refl
-of-gateway (Works q m) o = absurd o
-of-gateway (Replays q j) o = absurd o
-of-gateway (Records r zero i ssn k) o = refl
-of-gateway (Records r (suc q) i ssn k) o = absurd o
-of-gateway (Counts s r i k) o = absurd o
-of-gateway (Drops d zero n) o = refl
-of-gateway (Drops d (suc q) n) o = absurd o
-of-gateway (Hears r zero i k) o = refl
-of-gateway (Hears r (suc q) i k) o = absurd o
-of-gateway (Collects r q i j k u f) o = absurd o
-of-gateway (Recovers q k) o = absurd o
-of-gateway (Obeys r zero i k s) o = refl
-of-gateway (Obeys r (suc q) i k s) o = absurd o
-of-gateway (Enters r q i j n s u f) o = absurd o
-of-gateway (Restores r q i j n s f) o = absurd o
-of-gateway (Greets q i j n s f) o = absurd o
-of-gateway (Freezes q) o = absurd o
-of-gateway (Keeps q) o = absurd o
-of-gateway (Thaws q) o = absurd o
-of-gateway (Dies q) o = absurd o
-of-gateway (Opens q n) o = absurd o
+of-gateway (Arrives q zero x) o = refl
+of-gateway act o = absurd o
 
 -- a node acts, and is told nothing
 acts-on : (f : Answering) (len : ℕ → ℕ) (s : System) (c : Cluster) (p : ℕ) (new : TheNode) → Holds (handlers_of f len) s c → 0 < p → p ≤ s.outside.count → Acts (s.nodes p) new → Onward (handlers_of f len) c (record s { nodes = put s.nodes p new })

@@ -2,7 +2,7 @@
 use Rattle.std.proofs.Common.{◌≡◌, refl, sym, subst, List, [], ◌∷◌, ◌++◌, Bool, true, false, ℕ}
 use Rattle.std.specs.Prelude.{Some, if◌then◌else◌}
 use Rattle.cluster.specs.Cluster.{Cluster}
-use Rattle.cluster.specs.Rules.{Act, Input, Puts, Starts, Shows, Works, Replays, Records, Counts, Drops, Hears, Collects, Recovers, Obeys, Enters, Restores, Greets, Freezes, Keeps, Thaws, Dies, Opens, May, does, Run, after_run}
+use Rattle.cluster.specs.Rules.{Act, Keeps, Opens, May, does, Run, after_run}
 use Rattle.node.specs.Node.{TheNode}
 use Rattle.node.specs.Stands.{Each, Stands, Goes, GoesOn, Owes, Acts, Saves, actor, own_act}
 use Rattle.node.proofs.Lists.{all-more}
@@ -37,27 +37,9 @@ owes-at given old new c p owed s g =
 
 -- an act of its own that leaves what is stored durably is an act of its own
 pub own-actor : (p : ℕ) (a : Act) → own_act a ≡ Some p → actor a ≡ p
-own-actor p (Input d x) e = cc (e)
-own-actor p (Puts q d x) e = cc (e)
-own-actor p (Starts q d i ssn x) e = cc (e)
-own-actor p (Shows q i ssn x) e = cc (e)
-own-actor p (Works q m) e = cc (e)
-own-actor p (Replays q j) e = cc (e)
-own-actor p (Records r s i ssn k) e = cc (e)
-own-actor p (Counts s r i k) e = cc (e)
-own-actor p (Drops d s n) e = cc (e)
-own-actor p (Hears r q i k) e = cc (e)
-own-actor p (Collects q r i j k u f) e = cc (e)
-own-actor p (Recovers q k) e = cc (e)
-own-actor p (Obeys r q i k s) e = cc (e)
-own-actor p (Enters q r i j n s u f) e = cc (e)
-own-actor p (Restores q r i j n s f) e = cc (e)
-own-actor p (Greets q i j n s f) e = cc (e)
-own-actor p (Freezes q) e = cc (e)
 own-actor p (Keeps q) e = absurd (cc (e))
-own-actor p (Thaws q) e = cc (e)
-own-actor p (Dies q) e = cc (e)
 own-actor p (Opens q n) e = absurd (cc (e))
+own-actor p act e = cc (e)
 
 pub own-acts : (p : ℕ) (acts : List Act) → Each (λ (a : Act). own_act a ≡ Some p) acts → Each (λ (a : Act). actor a ≡ p) acts
 own-acts p acts by = all-more (λ (a : Act). own_act a ≡ Some p) (λ (a : Act). actor a ≡ p) acts (own-actor p) by

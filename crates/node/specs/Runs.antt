@@ -6,9 +6,9 @@ use Rattle.world.specs.History.{Payload}
 use Rattle.world.specs.Handlers.{Handlers}
 use Rattle.world.specs.World.{put}
 use Rattle.packets.specs.declared.packet.NodePacket.{NodePacket}
-use Rattle.cluster.specs.Parcels.{Body, Ask, Resume, Parcel, parcel}
+use Rattle.cluster.specs.Parcels.{Body, Delivery, Number, Ask, Resume, Saved, Parcel, parcel}
 use Rattle.cluster.specs.Cluster.{Cluster, opening}
-use Rattle.cluster.specs.Rules.{Act, Input, Puts, Shows, Records, Drops, Hears, Obeys, May, does, Run, after_run}
+use Rattle.cluster.specs.Rules.{Act, Input, Puts, Arrives, May, does, Run, after_run}
 use Rattle.cluster.specs.Promises.{NoOrphanNode, OutputOnce, ReceivedOnce}
 use Rattle.node.specs.declared.limit.Limits.{Limits}
 use Rattle.node.specs.declared.job.OpenJob.{OpenJob}
@@ -75,11 +75,11 @@ IsGateway (Input d x) = Unit {0}
 IsGateway (Puts zero d (Ask i k)) = ⊥
 IsGateway (Puts zero d (Resume i k s)) = ⊥
 IsGateway (Puts zero d x) = Unit {0}
-IsGateway (Shows p i ssn x) = Unit {0}
-IsGateway (Records r zero i ssn k) = Unit {0}
-IsGateway (Drops d zero n) = Unit {0}
-IsGateway (Hears p zero i k) = Unit {0}
-IsGateway (Obeys p zero i k s) = Unit {0}
+IsGateway (Arrives p zero (Delivery i ssn x)) = Unit {0}
+IsGateway (Arrives p zero (Number i ssn k)) = Unit {0}
+IsGateway (Arrives p zero (Ask i k)) = Unit {0}
+IsGateway (Arrives p zero (Resume i k s)) = Unit {0}
+IsGateway (Arrives p zero (Saved n)) = Unit {0}
 IsGateway act = ⊥
 
 -- the answer is that of the handler, if a job is open

@@ -10,8 +10,8 @@ use Rattle.world.specs.World.{put}
 use Rattle.world.specs.Logs.{run_to}
 use Rattle.cluster.specs.Parcels.{Body, Parcel, parcel, In}
 use Rattle.cluster.specs.Cluster.{Cluster, Stage, Live, Frozen, waiting}
-use Rattle.cluster.specs.Rules.{Act, Input, Puts, Starts, Shows, Works, Replays, Records, Counts, Drops, Hears, Collects, Recovers, Obeys}
-use Rattle.cluster.specs.Rules.{Enters, Restores, Greets, Freezes, Keeps, Thaws, Dies, Opens, May, does, Run, after_run, IsNode, message}
+use Rattle.cluster.specs.Rules.{Act, Input, Puts, Arrives, Works, Replays, Recovers, Freezes, Keeps, Thaws, Dies, Opens, May, does, Run}
+use Rattle.cluster.specs.Rules.{after_run, IsNode, message}
 use Rattle.packets.specs.declared.packet.NodePacket.{NodePacket}
 use Rattle.node.specs.declared.job.OpenJob.{OpenJob}
 use Rattle.node.specs.declared.job.Given.{Given}
@@ -128,20 +128,10 @@ pub record Stands (n : TheNode) (c : Cluster) (p : ℕ) : Type 0 where
 abbrev pub actor : Act → ℕ
 actor (Input d x) = 0
 actor (Puts p d x) = p
-actor (Starts p d i ssn x) = d
-actor (Shows p i ssn x) = 0
+actor (Arrives p d x) = d
 actor (Works p m) = p
 actor (Replays p j) = p
-actor (Records r s i ssn k) = s
-actor (Counts s r i k) = r
-actor (Drops d s n) = s
-actor (Hears p q i k) = q
-actor (Collects q p i j k u f) = p
 actor (Recovers p k) = p
-actor (Obeys p q i k s) = q
-actor (Enters q p i j n s u f) = p
-actor (Restores q p i j n s f) = p
-actor (Greets p i j n s f) = p
 actor (Freezes p) = p
 actor (Keeps p) = p
 actor (Thaws p) = p

@@ -1,11 +1,12 @@
 -- What acts leave of a process
-use Rattle.std.proofs.Common.{◌≡◌, ◌≢◌, ℕ, suc, ◌+◌, ◌≤◌, List, [], ◌∷◌, length, take, Bool, true, false, refl, sym, ap, ◌∙◌, subst, arith}
+use Rattle.std.proofs.Common.{zero, ◌≡◌, ◌≢◌, ℕ, suc, ◌+◌, ◌≤◌, List, [], ◌∷◌, length, take, Bool, true, false, refl, sym, ap, ◌∙◌, subst, arith}
 use Rattle.std.specs.Prelude.{Some, None, ◌==◌, nat_lt, if◌then◌else◌}
 use Rattle.std.proofs.lemmas.Bool.Decides.{nat_tests}
 use Rattle.theorems.proofs.Changes.{at-itself}
 use Rattle.world.specs.declared.message.Message.{Message}
+use Rattle.cluster.specs.Parcels.{Delivery, Restored}
 use Rattle.cluster.specs.Cluster.{Cluster}
-use Rattle.cluster.specs.Rules.{Act, Input, Puts, Starts, Shows, Works, Replays, Records, Counts, Drops, Hears, Collects, Recovers, Obeys, Enters, Restores, Greets, Freezes, Keeps, Thaws, Dies, Opens, does, after_run}
+use Rattle.cluster.specs.Rules.{Act, Arrives, Replays, Recovers, Keeps, Opens, does, after_run}
 use Rattle.packets.specs.declared.kept.Kept.{Kept}
 use Rattle.node.specs.Stands.{Each, actor, own_act}
 use Rattle.node.specs.Kept.{IsKeptOf}
@@ -51,27 +52,13 @@ either false x y f a u v = v
 
 -- an act of its own that leaves what is stored durably leaves its incarnation
 stored-same : (c : Cluster) (p : ℕ) (a : Act) → own_act a ≡ Some p → (does c a).stored p ≡ c.stored p
-stored-same c p (Input d x) e = refl
-stored-same c p (Puts q d x) e = refl
-stored-same c p (Starts q d i ssn x) e = refl
-stored-same c p (Shows q i ssn x) e = refl
-stored-same c p (Works q m) e = refl
+stored-same c p (Arrives q r (Restored i j n s (Some u) f)) e = refl
+stored-same c p (Arrives q zero (Delivery i ssn x)) e = refl
 stored-same c p (Replays q j) e = either (nat_lt (c.saved q + suc j) (length (c.history q))) _ _ (λ (x : Cluster). x.stored p) (c.stored p) refl refl
-stored-same c p (Records r s i ssn k) e = refl
-stored-same c p (Counts s r i k) e = refl
-stored-same c p (Drops d s n) e = refl
-stored-same c p (Hears r q i k) e = refl
-stored-same c p (Collects q r i j k u f) e = refl
 stored-same c p (Recovers q k) e = either (nat_lt (c.saved q) k) _ _ (λ (x : Cluster). x.stored p) (c.stored p) refl refl
-stored-same c p (Obeys r q i k s) e = refl
-stored-same c p (Enters q r i j n s u f) e = refl
-stored-same c p (Restores q r i j n s f) e = refl
-stored-same c p (Greets q i j n s f) e = refl
-stored-same c p (Freezes q) e = refl
-stored-same c p (Keeps q) e = refl
-stored-same c p (Thaws q) e = refl
-stored-same c p (Dies q) e = refl
+stored-same c p (Arrives zero q (Restored i j n s None f)) e = refl
 stored-same c p (Opens q n) e = absurd (cc (e))
+stored-same c p act e = refl
 
 pub stored-along : (c : Cluster) (p : ℕ) (acts : List Act) → Each (λ (a : Act). own_act a ≡ Some p) acts → (after_run c acts).stored p ≡ c.stored p
 stored-along c p [] by = refl

@@ -19,8 +19,8 @@ use Rattle.recovery.specs.Replayed.{TheReplayed}
 use Rattle.recovery.specs.Collection.{TheCollecting}
 use Rattle.recovery.specs.Replays.{next_job}
 use Rattle.recovery.specs.Restoration.{TheRestoring}
-use Rattle.process.specs.declared.course.Course.{Course}
-use Rattle.process.specs.declared.course.Course.TheVariants.{Up, Collecting, Replaying, Replayed, Restoring, Passing}
+use Rattle.process.specs.declared.lifecycle.Lifecycle.{Lifecycle}
+use Rattle.process.specs.declared.lifecycle.Lifecycle.TheVariants.{Up, Collecting, Replaying, Replayed, Restoring, Passing}
 use Rattle.process.specs.Process.{is_settled, state_of}
 use Rattle.process.specs.Calls.{IsHanded, Ticks, Takes, Freezes, FreezesAs, Thaws, is_storable}
 use Rattle.process.specs.Checkpoints.{IsSavable, Keeps}
@@ -33,12 +33,12 @@ use Rattle.node_laws.proofs.Chains.{Chain, ticked-exact, froze-exact, asked-exac
 use Rattle.node_laws.proofs.Stages.{unsettled, Fits, GoesOn, on}
 
 -- a call that is one in all lives, of the process as it is seen
-abbrev pub Is : (Process → Process → Type 0) → Checkpoint → Course → Course → Type 0
+abbrev pub Is : (Process → Process → Type 0) → Checkpoint → Lifecycle → Lifecycle → Type 0
 Is Does w c d = (is_settled d ≡ true) × (Fits w d × Does (seen w c) (seen w d))
 
 -- ---- a packet comes
 
-handed-absent : (x : NodePacket) (c d : Course) → is_settled c ≡ true → IsHanded x c d → Is (Hears x) Absent c d
+handed-absent : (x : NodePacket) (c d : Lifecycle) → is_settled c ≡ true → IsHanded x c d → Is (Hears x) Absent c d
 handed-absent x (Up n) (Up m) s g = (refl, (tt, (m, (refl, g))))
 handed-absent x (Up n) (Collecting m) s g = absurd g
 handed-absent x (Up n) (Replaying m) s g = absurd g
@@ -77,7 +77,7 @@ handed-rests x n e = rw e refl
 handed-frozen : (x : NodePacket) (n m : TheNode) → n.frozen ≡ true → m ≡ handed x n → m ≡ n
 handed-frozen x n m f e = e ∙ handed-rests x n f
 
-pub handed-is : (x : NodePacket) (w : Checkpoint) (c d : Course) → is_settled c ≡ true → Fits w c → IsHanded x c d → Is (Hears x) w c d
+pub handed-is : (x : NodePacket) (w : Checkpoint) (c d : Lifecycle) → is_settled c ≡ true → Fits w c → IsHanded x c d → Is (Hears x) w c d
 handed-is x Absent c d s f g = handed-absent x c d s g
 handed-is x (Pending bytes) (Up n) (Up m) s f g = (refl, (subst (λ (z : TheNode). (z.frozen ≡ true) × AreOf bytes z) (sym (handed-frozen x n m f.0 g.0)) f, (m, (refl, g))))
 handed-is x (Pending bytes) (Up n) (Collecting m) s f g = absurd g
@@ -104,7 +104,7 @@ handed-is x Durable Passing d s f g = absurd f
 
 -- ---- a packet is taken
 
-taken-absent : (x : NodePacket) (c d : Course) → is_settled c ≡ true → Takes (Some x) c d → Is (Gives x) Absent c d
+taken-absent : (x : NodePacket) (c d : Lifecycle) → is_settled c ≡ true → Takes (Some x) c d → Is (Gives x) Absent c d
 taken-absent x (Up n) (Up m) s g = (refl, (tt, (m, (refl, g))))
 taken-absent x (Up n) (Collecting m) s g = absurd g
 taken-absent x (Up n) (Replaying m) s g = absurd g
@@ -138,7 +138,7 @@ taken-absent x (Restoring n) (Restoring m) s g = (refl, (tt, (m, (refl, g))))
 taken-absent x (Restoring n) Passing s g = absurd g
 taken-absent x Passing d s g = unsettled s
 
-pub taken-is : (x : NodePacket) (w : Checkpoint) (c d : Course) → is_settled c ≡ true → Fits w c → Takes (Some x) c d → Is (Gives x) w c d
+pub taken-is : (x : NodePacket) (w : Checkpoint) (c d : Lifecycle) → is_settled c ≡ true → Fits w c → Takes (Some x) c d → Is (Gives x) w c d
 taken-is x Absent c d s f g = taken-absent x c d s g
 taken-is x (Pending bytes) (Up n) (Up m) s f g = (refl, (subst (λ (z : TheNode). (z.frozen ≡ true) × AreOf bytes z) g.0 f, (m, (refl, g))))
 taken-is x (Pending bytes) (Up n) (Collecting m) s f g = absurd g
@@ -168,7 +168,7 @@ taken-is x Durable Passing d s f g = absurd f
 ticked-rests : (n : TheNode) → n.frozen ≡ true → ticked n ≡ n
 ticked-rests n e = rw e refl
 
-pub ticks-is : (w : Checkpoint) (c d : Course) → is_settled c ≡ true → Fits w c → Ticks c d → GoesOn w c d
+pub ticks-is : (w : Checkpoint) (c d : Lifecycle) → is_settled c ≡ true → Fits w c → Ticks c d → GoesOn w c d
 ticks-is Absent (Up n) (Up m) s f g = (refl, (tt, (lives.Up m ∷ [], ((m, (refl, (inl g.0, g.1))), (tt, (ap (λ (z : TheNode). z.exact) g.0 ∙ ticked-exact n, refl))))))
 ticks-is Absent (Up n) (Collecting m) s f g = absurd g
 ticks-is Absent (Up n) (Replaying m) s f g = absurd g
@@ -253,7 +253,7 @@ answer-is images image count p me total o state j who h same here all next answe
     let right : answering count images p state (job_of i) ≡ answered (who_of count p i.sender) h = ap (answer_of (who_of count p i.sender) state) said in
     ◌∙◌ {b = answered (who_of count p i.sender) h} left (sym right)
 
-pub works-is : (images : ℕ → AnyImage) (image : AnyImage) (count p : ℕ) (w : Checkpoint) (c d : Course) (j : OpenJob) (who : Who) (h : Handled) → as_image image ≡ as_image (images p) → is_settled c ≡ true → Fits w c → IsHere count p (seen w c) → job_at c ≡ Some (j, who)
+pub works-is : (images : ℕ → AnyImage) (image : AnyImage) (count p : ℕ) (w : Checkpoint) (c d : Lifecycle) (j : OpenJob) (who : Who) (h : Handled) → as_image image ≡ as_image (images p) → is_settled c ≡ true → Fits w c → IsHere count p (seen w c) → job_at c ≡ Some (j, who)
     → answer_to image who (state_of c) j ≡ Some h → TakesIn h.state (given_of who h.effects) c d → Is (Works (answering count images) p (answered who h)) w c d
 works-is images image count p Absent (Up n) (Up m) j who h same s f here next answers g =
     (refl, (tt, (answer-is images image count p n.me n.count n.working n.state j who h same here.0 here.1.0 next answers, (m, (refl, g)))))
@@ -301,7 +301,7 @@ frozen-now : (n : TheNode) → may_freeze n ≡ true → froze n ≡ record n { 
 frozen-now n e = if-true (may_freeze n) (record n { frozen = true }) n e
 
 -- the checkpoint is made, and these are its bytes
-pub froze-is : (bytes : List ℕ) (w : Checkpoint) (c d : Course) → Fits w c → IsSavable c → Keeps c bytes → Freezes c d
+pub froze-is : (bytes : List ℕ) (w : Checkpoint) (c d : Lifecycle) → Fits w c → IsSavable c → Keeps c bytes → Freezes c d
     → (is_settled d ≡ true) × (Fits (Pending bytes) d × ((ps : List Process) × Chain (seen w c) ps (seen (Pending bytes) d)))
 froze-is bytes Absent (Up n) (Up m) f may keeps g =
     let can = both (may_freeze n) (is_storable n) may.may in
@@ -343,7 +343,7 @@ rests-as : (b : Bool) (n m : TheNode) → n.frozen ≡ true → FreezesAs b n m 
 rests-as true n m f g = g.0 ∙ froze-rests n f
 rests-as false n m f g = g
 
-pub paused-is : (w : Checkpoint) (c d : Course) → is_settled c ≡ true → Fits w c → Freezes c d → GoesOn w c d
+pub paused-is : (w : Checkpoint) (c d : Lifecycle) → is_settled c ≡ true → Fits w c → Freezes c d → GoesOn w c d
 paused-is Absent (Up n) (Up m) s f g = pauses-as (is_storable n) n m g
 paused-is Absent (Up n) (Collecting m) s f g = absurd g
 paused-is Absent (Up n) (Replaying m) s f g = absurd g
@@ -379,7 +379,7 @@ paused-is Durable (Restoring n) d s f g = absurd f
 paused-is Durable Passing d s f g = absurd f
 
 -- what is pending is stored
-pub stored-is : (bytes : List ℕ) (c : Course) → Fits (Pending bytes) c → Fits Durable c
+pub stored-is : (bytes : List ℕ) (c : Lifecycle) → Fits (Pending bytes) c → Fits Durable c
 stored-is bytes (Up n) f = f.0
 stored-is bytes (Collecting n) f = absurd f
 stored-is bytes (Replaying n) f = absurd f
@@ -388,7 +388,7 @@ stored-is bytes (Restoring n) f = absurd f
 stored-is bytes Passing f = absurd f
 
 -- and it is told so
-pub saved-is : (c d : Course) → Fits Durable c → Thaws c d → (is_settled d ≡ true) × IsTold (seen Durable c) (stage_of d)
+pub saved-is : (c d : Lifecycle) → Fits Durable c → Thaws c d → (is_settled d ≡ true) × IsTold (seen Durable c) (stage_of d)
 saved-is (Up n) (Up m) f g = (refl, (m, (refl, g)))
 saved-is (Up n) (Collecting m) f g = absurd g
 saved-is (Up n) (Replaying m) f g = absurd g

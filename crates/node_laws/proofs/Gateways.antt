@@ -6,7 +6,7 @@ use Rattle.cluster.specs.Parcels.{Parcel, In}
 use Rattle.cluster.specs.Cluster.{Cluster}
 use Rattle.cluster.specs.Rules.{after_run}
 use Rattle.stores.specs.Store.{TheStore, peer_at}
-use Rattle.gateway.specs.Deeds.{IsByGateway}
+use Rattle.gateway.specs.Acts.{IsByGateway}
 use Rattle.gateway.specs.Gateway.{TheGateway}
 use Rattle.gateway.specs.Stands.{Stands, PutOut, KeepsOf, EndsWith, Goes, Owes}
 use Rattle.gateway.proofs.Steps.{stays, put-still, all-more, all-append}

@@ -18,7 +18,7 @@ use Rattle.node_laws.specs.System as called
 use Rattle.node_laws.specs.Back.{IsBack}
 use Rattle.node_laws.proofs.Lives.{at-each}
 use Rattle.node_laws.proofs.Back.{recovers-exactly}
-use Rattle.process.specs.declared.course.Course.{Course}
+use Rattle.process.specs.declared.lifecycle.Lifecycle.{Lifecycle}
 use Rattle.node_laws.specs.HostReplies.{answering}
 use Rattle.node_laws.specs.HostSystem.{System, new_system, as_lives, after_call, after_calls}
 use Rattle.node_laws.specs.HostLives.{IsAs, len_of, handlers}
@@ -44,7 +44,7 @@ stand-still n p first s u m c b here a =
     }
 
 -- what holds at the moment among the calls in all lives holds of the call of the host
-recovered : (n p : ℕ) → IsFirst n p → (f : Handlers) (s s2 : System) (t t2 u : Lived) (ks : List Call) (c : Course) (m : Moment n p s t ks c) → u ≡ called.after_calls t m.before → IsAs n s2 t2 → IsBack n f u t2 p m.collected m.replays → HasRecovered n f s s2 p c
+recovered : (n p : ℕ) → IsFirst n p → (f : Handlers) (s s2 : System) (t t2 u : Lived) (ks : List Call) (c : Lifecycle) (m : Moment n p s t ks c) → u ≡ called.after_calls t m.before → IsAs n s2 t2 → IsBack n f u t2 p m.collected m.replays → HasRecovered n f s s2 p c
 recovered n p first f s s2 t t2 u ks c m is st b =
     let beside : Beside n p s u = subst (Beside n p s) (sym is) m.beside in
     let here : u.processes p ≡ stages.Collects m.collected = ap (λ (z : Lived). z.processes p) is ∙ m.here in
@@ -79,7 +79,7 @@ hosted-recovers images n page tick limits processes bytes calls more k p from no
     let u2 : Lived = called.after_calls u one.steps.calls in
     let s2 : System = after_call s1 k in
     let b : Are images n s2 u2 more = are-go images n s2 u2 more one.state made.1.1 in
-    let m : Moment n p s2 u one.steps.calls now.course = one.steps.moment p l from (a.state.stand.processes p l ∙ was) now w is rec in
+    let m : Moment n p s2 u one.steps.calls now.lifecycle = one.steps.moment p l from (a.state.stand.processes p l ∙ was) now w is rec in
     let did : Call = Did p (stages.Replays m.replays) in
     let all : List Call = a.calls ++ (one.steps.calls ++ b.calls) in
     let same : all ≡ (a.calls ++ m.before) ++ did ∷ (m.behind ++ b.calls) = ap (λ z. a.calls ++ (z ++ b.calls)) m.is ∙ parted a.calls m.before m.behind b.calls did in
@@ -91,7 +91,7 @@ hosted-recovers images n page tick limits processes bytes calls more k p from no
     let last : IsAs n (after_calls s (calls ++ k ∷ more)) (called.after_calls t ((a.calls ++ m.before) ++ did ∷ (m.behind ++ b.calls))) =
     subst (λ z. IsAs n z (called.after_calls t ((a.calls ++ m.before) ++ did ∷ (m.behind ++ b.calls)))) (sym (after-more s calls (k ∷ more))) (subst (IsAs n (after_calls s2 more)) (sym end) b.state.stand) in
     let before : called.after_calls t (a.calls ++ m.before) ≡ called.after_calls u m.before = after-append t a.calls m.before in
-    recovered n p l (handlers n images) s2 (after_calls s (calls ++ k ∷ more)) u (called.after_calls t ((a.calls ++ m.before) ++ did ∷ (m.behind ++ b.calls))) (called.after_calls t (a.calls ++ m.before)) one.steps.calls now.course m before last
+    recovered n p l (handlers n images) s2 (after_calls s (calls ++ k ∷ more)) u (called.after_calls t ((a.calls ++ m.before) ++ did ∷ (m.behind ++ b.calls))) (called.after_calls t (a.calls ++ m.before)) one.steps.calls now.lifecycle m before last
     (recovers-exactly f n page tick limits (len_of images) bytes (a.calls ++ m.before) (m.behind ++ b.calls) p m.collected m.replays few (are-stored images n limits processes bytes o) (subst (called.Calls f n t) same are)
     (subst (called.StayExact n t) same stay) (ap (λ (z : Lived). z.processes p) before ∙ m.here))
 

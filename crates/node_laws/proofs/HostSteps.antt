@@ -49,7 +49,7 @@ use Rattle.node_laws.proofs.Moments.{Moment, of-acts, behind-one, dead-end, not-
 
 -- it has such an image, is in some stage, and waits for what is pending
 abbrev pub IsGood : AnyImage → Hosted → Type 0
-IsGood image (Runs old w) = (as_image old.image ≡ as_image image) × ((is_settled old.course ≡ true) × Fits w old.course)
+IsGood image (Runs old w) = (as_image old.image ≡ as_image image) × ((is_settled old.lifecycle ≡ true) × Fits w old.lifecycle)
 IsGood image Killed = Unit {0}
 
 abbrev pub AreGood : (ℕ → AnyImage) → ℕ → System → Type 0
@@ -69,8 +69,8 @@ pub record Steps (images : ℕ → AnyImage) (n : ℕ) (s : System) (t : Lived) 
   pub outputs : durables.outputs_of t calls ≡ shown_by s k
   pub gave : (q : ℕ) → durables.given_by q calls ≡ gave_by q k
   -- where a process collects before it, and doesn't behind it, it recovers among them
-  pub moment : (q : ℕ) → IsFirst n q → (from : TheCollecting) → t.processes q ≡ stages.Collects from → (now : TheProcess) (w : Checkpoint) → (after_call s k).processes q ≡ Runs now w → has_recovered now.course ≡ true
-      → Moment n q (after_call s k) t calls now.course
+  pub moment : (q : ℕ) → IsFirst n q → (from : TheCollecting) → t.processes q ≡ stages.Collects from → (now : TheProcess) (w : Checkpoint) → (after_call s k).processes q ≡ Runs now w → has_recovered now.lifecycle ≡ true
+      → Moment n q (after_call s k) t calls now.lifecycle
 
 module _ (images : ℕ → AnyImage) (n : ℕ) (s : System) (t : Lived) (st : IsAs n s t) (goods : AreGood images n s) (heres : (p : ℕ) → IsFirst n p → IsHere n p (t.processes p)) where
   abbrev f : Answering
@@ -89,21 +89,21 @@ module _ (images : ℕ → AnyImage) (n : ℕ) (s : System) (t : Lived) (st : Is
   both-put {X} g h p q x e = ap (λ z. if q == p then x else z) e
 
   -- one that isn't changed doesn't recover
-  unmoved : {P : Type 0} (q : ℕ) → IsFirst n q → (from : TheCollecting) → t.processes q ≡ stages.Collects from → (now : TheProcess) (w : Checkpoint) → s.processes q ≡ Runs now w → has_recovered now.course ≡ true → P
-  unmoved q l from c now w is r = not-collecting w now.course from (sym (st.processes q l ∙ ap as_process is) ∙ c) r
+  unmoved : {P : Type 0} (q : ℕ) → IsFirst n q → (from : TheCollecting) → t.processes q ≡ stages.Collects from → (now : TheProcess) (w : Checkpoint) → s.processes q ≡ Runs now w → has_recovered now.lifecycle ≡ true → P
+  unmoved q l from c now w is r = not-collecting w now.lifecycle from (sym (st.processes q l ∙ ap as_process is) ∙ c) r
 
   -- the moment is p's, where others don't change
   of-one : (k : HostCall) (p : ℕ) (h : Hosted) (ks : List Call) → (after_call s k).processes ≡ put s.processes p h
-      → ((from : TheCollecting) → t.processes p ≡ stages.Collects from → (now : TheProcess) (w : Checkpoint) → h ≡ Runs now w → has_recovered now.course ≡ true → Moment n p (after_call s k) t ks now.course)
-      → (q : ℕ) → IsFirst n q → (from : TheCollecting) → t.processes q ≡ stages.Collects from → (now : TheProcess) (w : Checkpoint) → (after_call s k).processes q ≡ Runs now w → has_recovered now.course ≡ true
-      → Moment n q (after_call s k) t ks now.course
+      → ((from : TheCollecting) → t.processes p ≡ stages.Collects from → (now : TheProcess) (w : Checkpoint) → h ≡ Runs now w → has_recovered now.lifecycle ≡ true → Moment n p (after_call s k) t ks now.lifecycle)
+      → (q : ℕ) → IsFirst n q → (from : TheCollecting) → t.processes q ≡ stages.Collects from → (now : TheProcess) (w : Checkpoint) → (after_call s k).processes q ≡ Runs now w → has_recovered now.lifecycle ≡ true
+      → Moment n q (after_call s k) t ks now.lifecycle
   of-one k p h ks e mine q l from c now w is rec = split (q == p) refl
     where
-      split : (b : Bool) → (q == p) ≡ b → Moment n q (after_call s k) t ks now.course
+      split : (b : Bool) → (q == p) ≡ b → Moment n q (after_call s k) t ks now.lifecycle
       split true d =
           let same : q ≡ p = grind (arith, nat_tests) in
           let here : h ≡ Runs now w = sym (raised-here s.processes p h) ∙ ap (λ z. put s.processes p h z) (sym same) ∙ sym (ap (λ z. z q) e) ∙ is in
-          subst (λ z. Moment n z (after_call s k) t ks now.course) (sym same) (mine from (subst (λ z. t.processes z ≡ stages.Collects from) same c) now w here rec)
+          subst (λ z. Moment n z (after_call s k) t ks now.lifecycle) (sym same) (mine from (subst (λ z. t.processes z ≡ stages.Collects from) same c) now w here rec)
       split false d =
           let apart : q ≢ p = grind (arith, nat_tests) in
           unmoved q l from c now w (sym (raised-other s.processes p q h apart) ∙ sym (ap (λ z. z q) e) ∙ is) rec
@@ -136,8 +136,8 @@ module _ (images : ℕ → AnyImage) (n : ℕ) (s : System) (t : Lived) (st : Is
         outputs = r.outputs ∙ sym o;
         gave = λ q. dids-give q p ps ∙ sym (gave q);
         moment = of-one k p h (dids p ps) (ap (λ (z : System). z.processes) e)
-            (λ from is now w was rec. of-acts f n p l (after_call s k) t from ps w now.course is (subst (λ z. Beside n p z t) (sym e) b) rec
-            (subst (λ z. Chain z ps (seen w now.course)) is (subst (λ z. Chain (t.processes p) ps (as_process z)) was c)));
+            (λ from is now w was rec. of-acts f n p l (after_call s k) t from ps w now.lifecycle is (subst (λ z. Beside n p z t) (sym e) b) rec
+            (subst (λ z. Chain z ps (seen w now.lifecycle)) is (subst (λ z. Chain (t.processes p) ps (as_process z)) was c)));
       }
 
   -- what one call makes of one that collects: that it collects, or is killed
@@ -166,15 +166,15 @@ module _ (images : ℕ → AnyImage) (n : ℕ) (s : System) (t : Lived) (st : Is
         moment = of-one k p h (one ∷ dids p ps) e (λ from at now w was rec. landed now w was rec (lands from at));
       }
     where
-      landed : (now : TheProcess) (w : Checkpoint) → h ≡ Runs now w → has_recovered now.course ≡ true → ((mid : TheCollecting) × (first ≡ stages.Collects mid)) ⊎ (first ≡ stages.Killed) → Moment n p (after_call s k) t (one ∷ dids p ps) now.course
+      landed : (now : TheProcess) (w : Checkpoint) → h ≡ Runs now w → has_recovered now.lifecycle ≡ true → ((mid : TheCollecting) × (first ≡ stages.Collects mid)) ⊎ (first ≡ stages.Killed) → Moment n p (after_call s k) t (one ∷ dids p ps) now.lifecycle
       landed now w was rec (inl m) =
           let u : Lived = called.after_call t one in
-          behind-one n p (after_call s k) t one (dids p ps) now.course
-          (of-acts f n p l (after_call s k) u m.0 ps w now.course (is ∙ m.1) b rec (subst (λ z. Chain z ps (seen w now.course)) m.1 (subst (λ z. Chain first ps (as_process z)) was c)))
-      landed now w was rec (inr m) = dead-end ps w now.course (subst (λ z. Chain z ps (seen w now.course)) m (subst (λ z. Chain first ps (as_process z)) was c)) rec
+          behind-one n p (after_call s k) t one (dids p ps) now.lifecycle
+          (of-acts f n p l (after_call s k) u m.0 ps w now.lifecycle (is ∙ m.1) b rec (subst (λ z. Chain z ps (seen w now.lifecycle)) m.1 (subst (λ z. Chain first ps (as_process z)) was c)))
+      landed now w was rec (inr m) = dead-end ps w now.lifecycle (subst (λ z. Chain z ps (seen w now.lifecycle)) m (subst (λ z. Chain first ps (as_process z)) was c)) rec
 
   -- where it runs so, the process in all lives is this
-  here : (p : ℕ) (old : TheProcess) (w : Checkpoint) → IsFirst n p → s.processes p ≡ Runs old w → t.processes p ≡ seen w old.course
+  here : (p : ℕ) (old : TheProcess) (w : Checkpoint) → IsFirst n p → s.processes p ≡ Runs old w → t.processes p ≡ seen w old.lifecycle
   here p old w l e = st.processes p l ∙ ap as_process e
 
   good-of : (p : ℕ) (old : TheProcess) (w : Checkpoint) → IsFirst n p → s.processes p ≡ Runs old w → IsGood (images p) (Runs old w)
@@ -193,9 +193,9 @@ module _ (images : ℕ → AnyImage) (n : ℕ) (s : System) (t : Lived) (st : Is
       → after_call s k ≡ record s { processes = put s.processes p (Runs new w); given = x ∷ s.given } → shown_by s k ≡ [] → ((q : ℕ) → (if p == q then x ∷ [] else []) ≡ gave_by q k) → Steps images n s t k
   took k p x old new w l e g is o gave =
       let good = good-of p old w l e in
-      let a : Is (Gives x) w old.course new.course = taken-is x w old.course new.course good.1.0 good.1.1 g.does in
+      let a : Is (Gives x) w old.lifecycle new.lifecycle = taken-is x w old.lifecycle new.lifecycle good.1.0 good.1.1 g.does in
       let end : System = record s { processes = put s.processes p (Runs new w); given = x ∷ s.given } in
-      let to : Process = seen w new.course in
+      let to : Process = seen w new.lifecycle in
       let b : Beside n p end (called.after_call t (called.Gave p x to)) = record {
         processes = beside-put p (Runs new w) to;
         stored = st.stored;
@@ -212,8 +212,8 @@ module _ (images : ℕ → AnyImage) (n : ℕ) (s : System) (t : Lived) (st : Is
       → after_call s k ≡ record s { processes = put s.processes p (Runs new w) } → shown_by s k ≡ [] → ((q : ℕ) → gave_by q k ≡ []) → Steps images n s t k
   heard k p x old new w l one e g is o gave =
       let good = good-of p old w l e in
-      let a : Is (Hears x) w old.course g.mid = handed-is x w old.course g.mid good.1.0 good.1.1 g.does in
-      let c : GoesOn w g.mid new.course = passes-on w g.mid new.course a.0 a.1.0 g.passes in
+      let a : Is (Hears x) w old.lifecycle g.mid = handed-is x w old.lifecycle g.mid good.1.0 good.1.1 g.does in
+      let c : GoesOn w g.mid new.lifecycle = passes-on w g.mid new.lifecycle a.0 a.1.0 g.passes in
       let to : Process = seen w g.mid in
       by-call k p (Runs new w) (called.Handed p x to) to c.1.1.0 l (l, (subst (IsOne x) (sym st.given) one, subst (λ z. Hears x z to) (sym (here p old w l e)) a.1.1)) tt (raised-here t.processes p to) c.1.1.1
       (subst (λ z. Beside n p z (called.after_call t (called.Handed p x to))) (sym is) (beside-one p (Runs new w) to)) (ap (λ (z : System). z.processes) is) (ap as_image g.image ∙ good.0, (c.0, c.1.0)) (λ z. tt) (λ q z. tt) refl o
@@ -224,10 +224,10 @@ module _ (images : ℕ → AnyImage) (n : ℕ) (s : System) (t : Lived) (st : Is
   worked : (k : HostCall) (p : ℕ) (old new : TheProcess) (w : Checkpoint) → IsFirst n p → s.processes p ≡ Runs old w → working.Works old new → after_call s k ≡ record s { processes = put s.processes p (Runs new w) } → shown_by s k ≡ [] → ((q : ℕ) → gave_by q k ≡ []) → Steps images n s t k
   worked k p old new w l e g is o gave =
       let good = good-of p old w l e in
-      let am : IsHere n p (seen w old.course) = subst (IsHere n p) (here p old w l e) (heres p l) in
+      let am : IsHere n p (seen w old.lifecycle) = subst (IsHere n p) (here p old w l e) (heres p l) in
       let does : Answer = answered g.who g.answer in
-      let a : Is (Works f p does) w old.course g.mid = works-is images old.image n p w old.course g.mid g.job g.who g.answer good.0 good.1.0 good.1.1 am g.next g.answers g.takes in
-      let c : GoesOn w g.mid new.course = passes-on w g.mid new.course a.0 a.1.0 g.passes in
+      let a : Is (Works f p does) w old.lifecycle g.mid = works-is images old.image n p w old.lifecycle g.mid g.job g.who g.answer good.0 good.1.0 good.1.1 am g.next g.answers g.takes in
+      let c : GoesOn w g.mid new.lifecycle = passes-on w g.mid new.lifecycle a.0 a.1.0 g.passes in
       let to : Process = seen w g.mid in
       by-call k p (Runs new w) (called.Worked p does to) to c.1.1.0 l (l, subst (λ z. Works f p does z to) (sym (here p old w l e)) a.1.1) tt (raised-here t.processes p to) c.1.1.1
       (subst (λ z. Beside n p z (called.after_call t (called.Worked p does to))) (sym is) (beside-one p (Runs new w) to)) (ap (λ (z : System). z.processes) is) (ap as_image g.image ∙ good.0, (c.0, c.1.0)) (λ z. tt) (λ q z. tt) refl o
@@ -236,31 +236,31 @@ module _ (images : ℕ → AnyImage) (n : ℕ) (s : System) (t : Lived) (st : Is
   ticks : (p : ℕ) (old new : TheProcess) (w : Checkpoint) → IsFirst n p → s.processes p ≡ Runs old w → process.Calls Ticks old new → Steps images n s t (Ticked p new)
   ticks p old new w l e g =
       let good = good-of p old w l e in
-      let a : GoesOn w old.course g.mid = ticks-is w old.course g.mid good.1.0 good.1.1 g.does in
-      let c : GoesOn w g.mid new.course = passes-on w g.mid new.course a.0 a.1.0 g.passes in
-      let chain : Chain (seen w old.course) (a.1.1.0 ++ c.1.1.0) (seen w new.course) = chain-append (seen w old.course) a.1.1.0 (seen w g.mid) c.1.1.0 (seen w new.course) a.1.1.1 c.1.1.1 in
-      by-acts (Ticked p new) p (Runs new w) (a.1.1.0 ++ c.1.1.0) l (subst (λ z. Chain z (a.1.1.0 ++ c.1.1.0) (seen w new.course)) (sym (here p old w l e)) chain)
+      let a : GoesOn w old.lifecycle g.mid = ticks-is w old.lifecycle g.mid good.1.0 good.1.1 g.does in
+      let c : GoesOn w g.mid new.lifecycle = passes-on w g.mid new.lifecycle a.0 a.1.0 g.passes in
+      let chain : Chain (seen w old.lifecycle) (a.1.1.0 ++ c.1.1.0) (seen w new.lifecycle) = chain-append (seen w old.lifecycle) a.1.1.0 (seen w g.mid) c.1.1.0 (seen w new.lifecycle) a.1.1.1 c.1.1.1 in
+      by-acts (Ticked p new) p (Runs new w) (a.1.1.0 ++ c.1.1.0) l (subst (λ z. Chain z (a.1.1.0 ++ c.1.1.0) (seen w new.lifecycle)) (sym (here p old w l e)) chain)
       (ap (λ z. record s { processes = put s.processes p z }) (on-by p old new w e)) (ap as_image g.image ∙ good.0, (c.0, c.1.0)) refl (λ q. refl)
 
   -- ---- checkpoints
 
-  freezes : (p : ℕ) (bytes : List ℕ) (old new : TheProcess) (w : Checkpoint) → IsFirst n p → s.processes p ≡ Runs old w → IsSavable old.course → Keeps old.course bytes → Stays Freezes old new → Steps images n s t (Froze p bytes new)
+  freezes : (p : ℕ) (bytes : List ℕ) (old new : TheProcess) (w : Checkpoint) → IsFirst n p → s.processes p ≡ Runs old w → IsSavable old.lifecycle → Keeps old.lifecycle bytes → Stays Freezes old new → Steps images n s t (Froze p bytes new)
   freezes p bytes old new w l e may kept g =
       let good = good-of p old w l e in
-      let a = froze-is bytes w old.course new.course good.1.1 may kept g.does in
-      by-acts (Froze p bytes new) p (Runs new (Pending bytes)) a.1.1.0 l (subst (λ z. Chain z a.1.1.0 (seen (Pending bytes) new.course)) (sym (here p old w l e)) a.1.1.1) refl (ap as_image g.image ∙ good.0, (a.0, a.1.0)) refl (λ q. refl)
+      let a = froze-is bytes w old.lifecycle new.lifecycle good.1.1 may kept g.does in
+      by-acts (Froze p bytes new) p (Runs new (Pending bytes)) a.1.1.0 l (subst (λ z. Chain z a.1.1.0 (seen (Pending bytes) new.lifecycle)) (sym (here p old w l e)) a.1.1.1) refl (ap as_image g.image ∙ good.0, (a.0, a.1.0)) refl (λ q. refl)
 
   pauses : (p : ℕ) (old new : TheProcess) (w : Checkpoint) → IsFirst n p → s.processes p ≡ Runs old w → Stays Freezes old new → Steps images n s t (Paused p new)
   pauses p old new w l e g =
       let good = good-of p old w l e in
-      let a : GoesOn w old.course new.course = paused-is w old.course new.course good.1.0 good.1.1 g.does in
-      by-acts (Paused p new) p (Runs new w) a.1.1.0 l (subst (λ z. Chain z a.1.1.0 (seen w new.course)) (sym (here p old w l e)) a.1.1.1) (ap (λ z. record s { processes = put s.processes p z }) (on-by p old new w e)) (ap as_image g.image ∙ good.0, (a.0, a.1.0)) refl (λ q. refl)
+      let a : GoesOn w old.lifecycle new.lifecycle = paused-is w old.lifecycle new.lifecycle good.1.0 good.1.1 g.does in
+      by-acts (Paused p new) p (Runs new w) a.1.1.0 l (subst (λ z. Chain z a.1.1.0 (seen w new.lifecycle)) (sym (here p old w l e)) a.1.1.1) (ap (λ z. record s { processes = put s.processes p z }) (on-by p old new w e)) (ap as_image g.image ∙ good.0, (a.0, a.1.0)) refl (λ q. refl)
 
   stores : (p : ℕ) (bytes : List ℕ) (old : TheProcess) → IsFirst n p → s.processes p ≡ Runs old (Pending bytes) → Steps images n s t (Stored p bytes)
   stores p bytes old l e =
       let good = good-of p old (Pending bytes) l e in
-      let is : t.processes p ≡ stage_of old.course = here p old (Pending bytes) l e in
-      let to : Process = seen Durable old.course in
+      let is : t.processes p ≡ stage_of old.lifecycle = here p old (Pending bytes) l e in
+      let to : Process = seen Durable old.lifecycle in
       let now : keeps (s.processes p) ≡ Runs old Durable = ap keeps e in
       let end : System = record s { processes = put s.processes p (Runs old Durable); stored = put s.stored p bytes } in
       let u : Lived = called.after_call t (called.Stored p bytes) in
@@ -274,14 +274,14 @@ module _ (images : ℕ → AnyImage) (n : ℕ) (s : System) (t : Lived) (st : Is
         given = st.given;
       } in
       by-call (Stored p bytes) p (Runs old Durable) (called.Stored p bytes) to [] l (l, subst (WaitsFor bytes) (sym is) good.1.1) tt (raised-here t.processes p (covered (t.processes p)) ∙ ap covered is) refl
-      (subst (λ z. Beside n p (record s { processes = put s.processes p z; stored = put s.stored p bytes }) u) (sym now) b) (ap (put s.processes p) now) (good.0, (good.1.0, stored-is bytes old.course good.1.1)) (λ z. tt) (λ q z. tt) refl refl
+      (subst (λ z. Beside n p (record s { processes = put s.processes p z; stored = put s.stored p bytes }) u) (sym now) b) (ap (put s.processes p) now) (good.0, (good.1.0, stored-is bytes old.lifecycle good.1.1)) (λ z. tt) (λ q z. tt) refl refl
       (λ q. refl) tt (λ from at. absurd (subst (WaitsFor bytes) (sym is ∙ at) good.1.1))
 
   saves : (p : ℕ) (old new : TheProcess) → IsFirst n p → s.processes p ≡ Runs old Durable → Stays Thaws old new → Steps images n s t (Saved p new)
   saves p old new l e g =
       let good = good-of p old Durable l e in
-      let a = saved-is old.course new.course good.1.1 g.does in
-      let to : Process = stage_of new.course in
+      let a = saved-is old.lifecycle new.lifecycle good.1.1 g.does in
+      let to : Process = stage_of new.lifecycle in
       by-call (Saved p new) p (Runs new Absent) (called.Saved p to) to [] l (l, subst (λ z. IsTold z to) (sym (here p old Durable l e)) a.1) tt (raised-here t.processes p to) refl (beside-one p (Runs new Absent) to) refl
       (ap as_image g.image ∙ good.0, (a.0, tt)) (λ z. tt) (λ q z. tt) refl refl (λ q. refl) tt (λ from at. absurd (subst (λ z. IsTold z to) (sym (here p old Durable l e) ∙ at) a.1))
 
@@ -298,7 +298,7 @@ module _ (images : ℕ → AnyImage) (n : ℕ) (s : System) (t : Lived) (st : Is
       let to : Process = stages.Collects n2 in
       let dead : t.processes p ≡ stages.Killed = st.processes p l ∙ ap as_process e in
       let from : ComesFrom (t.stored p) life n2 = subst (λ z. ComesFrom z life n2) (sym (st.stored p l)) (g.kept, (g.is_kept.bytes_are, ((limits, refl), g.revives))) in
-      let is : as_process (Runs new Absent) ≡ to = ap stage_of g.course_is in
+      let is : as_process (Runs new Absent) ≡ to = ap stage_of g.lifecycle_is in
       let u : Lived = called.after_call t (called.Revived p life n2) in
       let b : Beside n p (after_call s (Revived p limits life new)) u = record {
         processes = beside-put p (Runs new Absent) to;
@@ -310,7 +310,7 @@ module _ (images : ℕ → AnyImage) (n : ℕ) (s : System) (t : Lived) (st : Is
         given = st.given;
       } in
       by-call (Revived p limits life new) p (Runs new Absent) (called.Revived p life n2) to [] l (l, (subst IsKilled (sym dead) tt, (subst (λ z. z < life) (sym (st.lives p l)) above, from))) tt (raised-here t.processes p to) is b refl
-      (ap as_image g.image_is ∙ comes.1.0, (ap is_settled g.course_is, tt)) (λ z. tt) (λ q d same. ap (λ (z : Limits). z.durable) (revived-limits limits g.kept life) ∙ d same) refl refl (λ q. refl) tt (λ from at. absurd (subst IsKilled (sym dead ∙ at) tt))
+      (ap as_image g.image_is ∙ comes.1.0, (ap is_settled g.lifecycle_is, tt)) (λ z. tt) (λ q d same. ap (λ (z : Limits). z.durable) (revived-limits limits g.kept life) ∙ d same) refl refl (λ q. refl) tt (λ from at. absurd (subst IsKilled (sym dead ∙ at) tt))
 
   -- ---- the gateway
 
@@ -479,7 +479,7 @@ module _ (images : ℕ → AnyImage) (n : ℕ) (s : System) (t : Lived) (st : Is
       worked (Answered p ticket state a new) p old new w g.0 e (does.1.1 does.1.0.message does.1.0.who h.0 does.1.0.next h.1.0 h.1.1.0 h.1.1.1) (ap (λ z. record s { processes = put s.processes p z }) (on-by p old new w e)) refl (λ q. refl))
   steps (Paused p new) g = alive (λ old. Stays Freezes old new) (Paused p new) (s.processes p) p refl g.1 (λ old w e does. pauses p old new w g.0 e does)
   steps (Ticked p new) g = alive (λ old. process.Calls Ticks old new) (Ticked p new) (s.processes p) p refl g.1 (λ old w e does. ticks p old new w g.0 e does)
-  steps (Froze p bytes new) g = alive (λ old. IsSavable old.course × (Keeps old.course bytes × Stays Freezes old new)) (Froze p bytes new) (s.processes p) p refl g.1
+  steps (Froze p bytes new) g = alive (λ old. IsSavable old.lifecycle × (Keeps old.lifecycle bytes × Stays Freezes old new)) (Froze p bytes new) (s.processes p) p refl g.1
       (λ old w e does. freezes p bytes old new w g.0 e does.0 does.1.0 does.1.1)
   steps (Stored p bytes) g = let h = has (Pending bytes) (s.processes p) p refl g.1 in stores p bytes h.0 g.0 h.1
   steps (Saved p new) g = let h = has Durable (s.processes p) p refl g.1.0 in saves p h.0 new g.0 h.1 (subst (Alive (λ old. Stays Thaws old new)) h.1 g.1.1)

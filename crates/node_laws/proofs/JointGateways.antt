@@ -1,13 +1,13 @@
 -- The gateway beside nodes
-use Rattle.std.proofs.Common.{◌≡◌, ℕ, zero, suc, ◌<◌, ◌≤◌, List, [], ◌∷◌, refl, sym, ◌∙◌, subst, arith}
+use Rattle.std.proofs.Common.{◌≡◌, ℕ, ◌<◌, ◌≤◌, List, [], ◌∷◌, refl, sym, ◌∙◌, subst, arith}
 use Rattle.std.specs.List.{AllByRecursion}
-use Rattle.cluster.specs.Parcels.{Body, Parcel, parcel, In}
+use Rattle.cluster.specs.Parcels.{Delivery, Number, Ask, Resume, Saved, parcel}
 use Rattle.cluster.specs.Cluster.{Cluster}
-use Rattle.cluster.specs.Rules.{Act, Input, Puts, Starts, Shows, Works, Replays, Records, Counts, Drops, Hears, Collects, Recovers, Obeys, Enters, Restores, Greets, Freezes, Keeps, Thaws, Dies, Opens, after_run, IsNode}
+use Rattle.cluster.specs.Rules.{Act, Input, Puts, Arrives, after_run, IsNode}
 use Rattle.packets.specs.declared.packet.NodePacket.{NodePacket}
 use Rattle.node.specs.Stands.{Each, actor}
 use Rattle.node.proofs.Outside.{SameOutside, outside-self, outside-still}
-use Rattle.gateway.specs.Deeds.{IsByGateway}
+use Rattle.gateway.specs.Acts.{IsByGateway}
 use Rattle.gateway.specs.Gateway.{TheGateway}
 use Rattle.gateway.specs.Stands.{Stands, PutOut}
 use Rattle.gateway.proofs.Steps.{all-more}
@@ -44,25 +44,12 @@ gateway-stands g c p acts some by s = stands-same g c (after_run c acts) (outsid
 by-gateway : (a : Act) → IsByGateway a → actor a ≡ 0
 by-gateway (Input d x) o = refl
 by-gateway (Puts p d x) o = o
-by-gateway (Starts p d i ssn x) o = absurd o
-by-gateway (Shows p i ssn x) o = refl
-by-gateway (Works p m) o = absurd o
-by-gateway (Replays p j) o = absurd o
-by-gateway (Records r s i ssn k) o = o
-by-gateway (Counts s r i k) o = absurd o
-by-gateway (Drops d s n) o = o
-by-gateway (Hears p q i k) o = o
-by-gateway (Collects q p i j k u f) o = absurd o
-by-gateway (Recovers p k) o = absurd o
-by-gateway (Obeys p q i k s) o = o
-by-gateway (Enters q p i j n s u f) o = absurd o
-by-gateway (Restores q p i j n s f) o = absurd o
-by-gateway (Greets p i j n s f) o = absurd o
-by-gateway (Freezes p) o = absurd o
-by-gateway (Keeps p) o = absurd o
-by-gateway (Thaws p) o = absurd o
-by-gateway (Dies p) o = absurd o
-by-gateway (Opens p n) o = absurd o
+by-gateway (Arrives p d (Delivery i ssn x)) o = o
+by-gateway (Arrives p d (Number i ssn k)) o = o
+by-gateway (Arrives p d (Ask i k)) o = o
+by-gateway (Arrives p d (Resume i k s)) o = o
+by-gateway (Arrives p d (Saved n)) o = o
+by-gateway act o = absurd o
 
 pub all-by-gateway : (acts : List Act) → AllByRecursion IsByGateway acts → Each (λ (a : Act). actor a ≡ 0) acts
 all-by-gateway [] h = tt

@@ -22,8 +22,8 @@ use Rattle.node_laws.specs.Process.{Process, Up, Covered, Collects, Replays, Rep
 use Rattle.node_laws.specs.System.{System as Lived, Call, Did, after_call, after_calls}
 use Rattle.node_laws.specs.Back.{length_of, kept_of}
 use Rattle.node_laws.specs.Durable.{ReplaysAll}
-use Rattle.process.specs.declared.course.Course.{Course}
-use Rattle.process.specs.declared.course.Course.TheVariants as course
+use Rattle.process.specs.declared.lifecycle.Lifecycle.{Lifecycle}
+use Rattle.process.specs.declared.lifecycle.Lifecycle.TheVariants as lifecycle
 use Rattle.process.proofs.Bounds.{ticked-stay}
 use Rattle.node_laws.specs.HostProcess.{Checkpoint, Absent, Pending, Durable, stage_of, seen}
 use Rattle.node_laws.specs.HostSystem.{System}
@@ -51,20 +51,20 @@ keeps_in (Replayed n) = n.own.base + length n.receipts.senders
 keeps_in (Restores n) = n.own.base + length n.receipts.senders
 keeps_in Killed = 0
 
-record Reads (c : Course) (process : Process) : Type 0 where
+record Reads (c : Lifecycle) (process : Process) : Type 0 where
   recovered : has_recovered c ≡ recovered_in process
   plan : plan_of c ≡ plan_in process
   kept : keeps c ≡ keeps_in process
 
-stage-reads : (c : Course) → Reads c (stage_of c)
-stage-reads (course.Up n) = record { recovered = refl; plan = refl; kept = omega arith }
-stage-reads (course.Collecting n) = record { recovered = refl; plan = refl; kept = omega arith }
-stage-reads (course.Replaying n) = record { recovered = refl; plan = refl; kept = omega arith }
-stage-reads (course.Replayed n) = record { recovered = refl; plan = refl; kept = omega arith }
-stage-reads (course.Restoring n) = record { recovered = refl; plan = refl; kept = omega arith }
-stage-reads course.Passing = record { recovered = refl; plan = refl; kept = refl }
+stage-reads : (c : Lifecycle) → Reads c (stage_of c)
+stage-reads (lifecycle.Up n) = record { recovered = refl; plan = refl; kept = omega arith }
+stage-reads (lifecycle.Collecting n) = record { recovered = refl; plan = refl; kept = omega arith }
+stage-reads (lifecycle.Replaying n) = record { recovered = refl; plan = refl; kept = omega arith }
+stage-reads (lifecycle.Replayed n) = record { recovered = refl; plan = refl; kept = omega arith }
+stage-reads (lifecycle.Restoring n) = record { recovered = refl; plan = refl; kept = omega arith }
+stage-reads lifecycle.Passing = record { recovered = refl; plan = refl; kept = refl }
 
-covered-reads : (c : Course) (process : Process) → Reads c process → Reads c (covered process)
+covered-reads : (c : Lifecycle) (process : Process) → Reads c process → Reads c (covered process)
 covered-reads c (Up n) r = record { recovered = r.recovered; plan = r.plan; kept = r.kept }
 covered-reads c (Covered n) r = r
 covered-reads c (Collects n) r = r
@@ -73,16 +73,16 @@ covered-reads c (Replayed n) r = r
 covered-reads c (Restores n) r = r
 covered-reads c Killed r = r
 
-reads : (w : Checkpoint) (c : Course) → Reads c (seen w c)
+reads : (w : Checkpoint) (c : Lifecycle) → Reads c (seen w c)
 reads Absent c = stage-reads c
 reads (Pending bytes) c = stage-reads c
 reads Durable c = covered-reads c (stage_of c) (stage-reads c)
 
 -- it isn't one that collects, nor one that was killed
-pub not-collecting : {P : Type 0} (w : Checkpoint) (c : Course) (n : TheCollecting) → seen w c ≡ Collects n → has_recovered c ≡ true → P
+pub not-collecting : {P : Type 0} (w : Checkpoint) (c : Lifecycle) (n : TheCollecting) → seen w c ≡ Collects n → has_recovered c ≡ true → P
 not-collecting {P} w c n e r = absurd (let f : true ≡ false = sym r ∙ (reads w c).recovered ∙ ap recovered_in e in cc)
 
-pub not-killed : {P : Type 0} (w : Checkpoint) (c : Course) → seen w c ≡ Killed → has_recovered c ≡ true → P
+pub not-killed : {P : Type 0} (w : Checkpoint) (c : Lifecycle) → seen w c ≡ Killed → has_recovered c ≡ true → P
 not-killed {P} w c e r = absurd (let f : true ≡ false = sym r ∙ (reads w c).recovered ∙ ap recovered_in e in cc)
 
 -- ---- behind the moment it keeps as many
@@ -178,7 +178,7 @@ replays-end r (next ∷ ps) new none c =
 
 -- ---- the moment among acts
 
-record Cut (from : TheCollecting) (ps : List Process) (c : Course) : Type 0 where
+record Cut (from : TheCollecting) (ps : List Process) (c : Lifecycle) : Type 0 where
   before : List Process
   behind : List Process
   collected : TheCollecting
@@ -188,7 +188,7 @@ record Cut (from : TheCollecting) (ps : List Process) (c : Course) : Type 0 wher
   plan : replays.plan ≡ plan_of c
   kept : keeps c ≡ kept_of collected replays
 
-cut : (from : TheCollecting) (ps : List Process) (w : Checkpoint) (c : Course) → has_recovered c ≡ true → Chain (Collects from) ps (seen w c) → Cut from ps c
+cut : (from : TheCollecting) (ps : List Process) (w : Checkpoint) (c : Lifecycle) → has_recovered c ≡ true → Chain (Collects from) ps (seen w c) → Cut from ps c
 cut from [] w c r e = not-collecting w c from e r
 cut from (next ∷ ps) w c r chain = by-act (λ m rest. cut m ps w c r rest) chain.0
   where
@@ -223,7 +223,7 @@ cut from (next ∷ ps) w c r chain = by-act (λ m rest. cut m ps w c r rest) cha
 
 -- ---- and among calls in all lives: all is then as in this system of hosts, but that p collects
 
-pub record Moment (n p : ℕ) (s : System) (t : Lived) (ks : List Call) (c : Course) : Type 0 where
+pub record Moment (n p : ℕ) (s : System) (t : Lived) (ks : List Call) (c : Lifecycle) : Type 0 where
   pub before : List Call
   pub behind : List Call
   pub collected : TheCollecting
@@ -234,7 +234,7 @@ pub record Moment (n p : ℕ) (s : System) (t : Lived) (ks : List Call) (c : Cou
   pub plan : replays.plan ≡ plan_of c
   pub kept : keeps c ≡ kept_of collected replays
 
-pub of-acts : (f : Answering) (n p : ℕ) → IsFirst n p → (s : System) (t : Lived) (from : TheCollecting) (ps : List Process) (w : Checkpoint) (c : Course) → t.processes p ≡ Collects from → Beside n p s t → has_recovered c ≡ true
+pub of-acts : (f : Answering) (n p : ℕ) → IsFirst n p → (s : System) (t : Lived) (from : TheCollecting) (ps : List Process) (w : Checkpoint) (c : Lifecycle) → t.processes p ≡ Collects from → Beside n p s t → has_recovered c ≡ true
     → Chain (Collects from) ps (seen w c) → Moment n p s t (dids p ps) c
 of-acts f n p l s t from ps w c is b r chain =
     let k : Cut from ps c = cut from ps w c r chain in
@@ -252,7 +252,7 @@ of-acts f n p l s t from ps w c is b r chain =
     }
 
 -- one call more, before these
-pub behind-one : (n p : ℕ) (s : System) (t : Lived) (one : Call) (ks : List Call) (c : Course) → Moment n p s (after_call t one) ks c → Moment n p s t (one ∷ ks) c
+pub behind-one : (n p : ℕ) (s : System) (t : Lived) (one : Call) (ks : List Call) (c : Lifecycle) → Moment n p s (after_call t one) ks c → Moment n p s t (one ∷ ks) c
 behind-one n p s t one ks c m =
     record {
       before = one ∷ m.before;
@@ -267,6 +267,6 @@ behind-one n p s t one ks c m =
     }
 
 -- one that was killed does nothing
-pub dead-end : {P : Type 0} (ps : List Process) (w : Checkpoint) (c : Course) → Chain Killed ps (seen w c) → has_recovered c ≡ true → P
+pub dead-end : {P : Type 0} (ps : List Process) (w : Checkpoint) (c : Lifecycle) → Chain Killed ps (seen w c) → has_recovered c ≡ true → P
 dead-end [] w c e r = not-killed w c e r
 dead-end (p ∷ ps) w c e r = absurd e.0

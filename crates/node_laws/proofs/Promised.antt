@@ -37,14 +37,14 @@ use Rattle.node_laws.proofs.Lists.{State, Are, are-go, calls-append, whole-appen
 -- ---- the opening
 
 pub are-stored : (images : ℕ → AnyImage) (n : ℕ) (limits : ℕ → Limits) (processes : ℕ → TheProcess) (bytes : ℕ → List ℕ) → Opens n images limits processes bytes → AreStored n (len_of images) bytes
-are-stored images n limits processes bytes o p l = (subst (λ z. Keeps z (bytes p)) (o.opened p l).course_is (o.stored p l)).0
+are-stored images n limits processes bytes o p l = (subst (λ z. Keeps z (bytes p)) (o.opened p l).lifecycle_is (o.stored p l)).0
 
 pub opened : (images : ℕ → AnyImage) (n page tick : ℕ) (limits : ℕ → Limits) (processes : ℕ → TheProcess) (bytes : ℕ → List ℕ) → Opens n images limits processes bytes
     → State images n (new_system n processes bytes page tick) (called.new_system n limits (len_of images) bytes page tick)
 opened images n page tick limits processes bytes o =
     record {
       stand = record {
-        processes = λ p l. sym (ap stage_of (o.opened p l).course_is);
+        processes = λ p l. sym (ap stage_of (o.opened p l).lifecycle_is);
         stored = λ p l. refl;
         lives = λ p l. refl;
         gateway = refl;
@@ -52,7 +52,7 @@ opened images n page tick limits processes bytes o =
         taken = refl;
         given = refl;
       };
-      good = λ p l. (ap as_image (o.opened p l).image_is, (ap is_settled (o.opened p l).course_is, tt));
+      good = λ p l. (ap as_image (o.opened p l).image_is, (ap is_settled (o.opened p l).lifecycle_is, tt));
       now = λ p l. ([], begins-now (answering n images) (len_of images) n p page tick false false (λ q. false) nothing l.1 limits bytes (are-stored images n limits processes bytes o) l (λ e. absurd (cc (e))));
     }
 

@@ -3,8 +3,8 @@ use Rattle.std.proofs.Common.{◌≡◌, inl, inr, List, [], ◌∷◌, ◌++◌
 use Rattle.node.specs.Node.{TheNode}
 use Rattle.node.specs.Transmission.{ticked}
 use Rattle.recovery.specs.Restoration.{up}
-use Rattle.process.specs.declared.course.Course.{Course}
-use Rattle.process.specs.declared.course.Course.TheVariants.{Up, Collecting, Replaying, Replayed, Restoring, Passing}
+use Rattle.process.specs.declared.lifecycle.Lifecycle.{Lifecycle}
+use Rattle.process.specs.declared.lifecycle.Lifecycle.TheVariants.{Up, Collecting, Replaying, Replayed, Restoring, Passing}
 use Rattle.process.specs.Process.{is_settled}
 use Rattle.process.specs.Transitions.{Recovers, Finishes, Begun, Returns, Passes}
 use Rattle.node_laws.specs.Process.{Process, WaitsFor}
@@ -13,19 +13,19 @@ use Rattle.node_laws.specs.HostProcess.{Checkpoint, Absent, Pending, Durable, st
 use Rattle.node_laws.proofs.Chains.{Chain, chain-append, ticked-exact, begun-exact}
 
 -- by acts of its own it goes from one stage to another
-abbrev pub Goes : Course → Course → Type 0
+abbrev pub Goes : Lifecycle → Lifecycle → Type 0
 Goes c d = (is_settled d ≡ true) × ((ps : List Process) × Chain (stage_of c) ps (stage_of d))
 
-pub same : (c d : Course) → is_settled c ≡ true → d ≡ c → Goes c d
+pub same : (c d : Lifecycle) → is_settled c ≡ true → d ≡ c → Goes c d
 same c d s e = (subst (λ z. is_settled z ≡ true) (sym e) s, ([], ap stage_of e))
 
-goes-append : (a b c : Course) → Goes a b → Goes b c → Goes a c
+goes-append : (a b c : Lifecycle) → Goes a b → Goes b c → Goes a c
 goes-append a b c f g = (g.0, (f.1.0 ++ g.1.0, chain-append (stage_of a) f.1.0 (stage_of b) g.1.0 (stage_of c) f.1.1 g.1.1))
 
 pub unsettled : {P : Type 0} → is_settled Passing ≡ true → P
 unsettled {P} s = absurd (cc (s))
 
-recovers : (c d : Course) → is_settled c ≡ true → Recovers c d → Goes c d
+recovers : (c d : Lifecycle) → is_settled c ≡ true → Recovers c d → Goes c d
 recovers (Up n) d s g = same (Up n) d s g
 recovers (Collecting n) (Up m) s g = same (Collecting n) (Up m) s g
 recovers (Collecting n) (Collecting m) s g = same (Collecting n) (Collecting m) s g
@@ -38,7 +38,7 @@ recovers (Replayed n) d s g = same (Replayed n) d s g
 recovers (Restoring n) d s g = same (Restoring n) d s g
 recovers Passing d s g = unsettled s
 
-finishes : (c d : Course) → is_settled c ≡ true → Finishes c d → Goes c d
+finishes : (c d : Lifecycle) → is_settled c ≡ true → Finishes c d → Goes c d
 finishes (Up n) d s g = same (Up n) d s g
 finishes (Collecting n) d s g = same (Collecting n) d s g
 finishes (Replaying n) (Up m) s g = same (Replaying n) (Up m) s g.1
@@ -51,7 +51,7 @@ finishes (Replayed n) d s g = same (Replayed n) d s g
 finishes (Restoring n) d s g = same (Restoring n) d s g
 finishes Passing d s g = unsettled s
 
-begins : (c d : Course) → is_settled c ≡ true → Begun c d → Goes c d
+begins : (c d : Lifecycle) → is_settled c ≡ true → Begun c d → Goes c d
 begins (Up n) d s g = same (Up n) d s g
 begins (Collecting n) d s g = same (Collecting n) d s g
 begins (Replaying n) d s g = same (Replaying n) d s g
@@ -64,7 +64,7 @@ begins (Replayed n) Passing s g = same (Replayed n) Passing s g
 begins (Restoring n) d s g = same (Restoring n) d s g
 begins Passing d s g = unsettled s
 
-returns : (c d : Course) → is_settled c ≡ true → Returns c d → Goes c d
+returns : (c d : Lifecycle) → is_settled c ≡ true → Returns c d → Goes c d
 returns (Up n) d s g = same (Up n) d s g
 returns (Collecting n) d s g = same (Collecting n) d s g
 returns (Replaying n) d s g = same (Replaying n) d s g
@@ -81,7 +81,7 @@ returns (Restoring n) (Restoring m) s g = same (Restoring n) (Restoring m) s g.1
 returns (Restoring n) Passing s g = same (Restoring n) Passing s g.1
 returns Passing d s g = unsettled s
 
-pub passes : (c d : Course) → is_settled c ≡ true → Passes c d → Goes c d
+pub passes : (c d : Lifecycle) → is_settled c ≡ true → Passes c d → Goes c d
 passes c d s g =
     let one : Goes c g.told = recovers c g.told s g.recovers in
     let two : Goes g.told g.ran = finishes g.told g.ran one.0 g.finishes in
@@ -90,7 +90,7 @@ passes c d s g =
     goes-append c g.told d one (goes-append g.told g.ran d two (goes-append g.ran g.asks d three four))
 
 -- one that is up does not
-pub passes-up : (n : TheNode) (d : Course) → Passes (Up n) d → d ≡ Up n
+pub passes-up : (n : TheNode) (d : Lifecycle) → Passes (Up n) d → d ≡ Up n
 passes-up n d g =
     let one : g.told ≡ Up n = g.recovers in
     let two : g.ran ≡ Up n = subst (λ z. Finishes z g.ran) one g.finishes in
@@ -100,19 +100,19 @@ passes-up n d g =
 -- ---- with its checkpoint
 
 -- it waits for what is pending, and for what is durable
-abbrev pub Fits : Checkpoint → Course → Type 0
+abbrev pub Fits : Checkpoint → Lifecycle → Type 0
 Fits Absent c = Unit {0}
 Fits (Pending bytes) c = WaitsFor bytes (stage_of c)
 Fits Durable (Up n) = n.frozen ≡ true
 Fits Durable c = ⊥
 
-abbrev pub GoesOn : Checkpoint → Course → Course → Type 0
+abbrev pub GoesOn : Checkpoint → Lifecycle → Lifecycle → Type 0
 GoesOn w c d = (is_settled d ≡ true) × (Fits w d × ((ps : List Process) × Chain (seen w c) ps (seen w d)))
 
-pub on : (w : Checkpoint) (c d : Course) → is_settled c ≡ true → Fits w c → d ≡ c → GoesOn w c d
+pub on : (w : Checkpoint) (c d : Lifecycle) → is_settled c ≡ true → Fits w c → d ≡ c → GoesOn w c d
 on w c d s f e = (subst (λ z. is_settled z ≡ true) (sym e) s, (subst (Fits w) (sym e) f, ([], ap (seen w) e)))
 
-pub passes-on : (w : Checkpoint) (c d : Course) → is_settled c ≡ true → Fits w c → Passes c d → GoesOn w c d
+pub passes-on : (w : Checkpoint) (c d : Lifecycle) → is_settled c ≡ true → Fits w c → Passes c d → GoesOn w c d
 passes-on Absent c d s f g = let t : Goes c d = passes c d s g in (t.0, (tt, t.1))
 passes-on (Pending bytes) (Up n) d s f g = on (Pending bytes) (Up n) d s f (passes-up n d g)
 passes-on (Pending bytes) (Collecting n) d s f g = absurd f

@@ -43,8 +43,8 @@ use Rattle.node_laws.proofs.Lives.{usual-allowed}
 use Rattle.node_laws.proofs.Worked.{first}
 use Rattle.node_laws.proofs.Messages.{replays-two}
 use Rattle.rsn.specs.declared.receipts.TheConstants.{LIMIT}
-use Rattle.process.specs.declared.course.Course.{Course}
-use Rattle.process.specs.declared.course.Course.TheVariants.{Up, Collecting, Replaying, Replayed, Restoring}
+use Rattle.process.specs.declared.lifecycle.Lifecycle.{Lifecycle}
+use Rattle.process.specs.declared.lifecycle.Lifecycle.TheVariants.{Up, Collecting, Replaying, Replayed, Restoring}
 use Rattle.process.specs.Process.{state_of as state_at}
 use Rattle.process.specs.Calls as calls
 use Rattle.process.specs.Transitions.{Passes}
@@ -158,7 +158,7 @@ hears-up image x n m h = record { image = refl; mid = Up m; does = h; passes = s
 abbrev me : Who
 me = record { me = 1; from = 0; count = 1 }
 
-works : (image : AnyImage) (c d e : Course) (k : ℕ) → job_at c ≡ Some (job k, me) → answer_to image me (state_at c) (job k) ≡ Some (handled k) → TakesIn (input k) [] c d → Passes d e → Works (process image c) (process image e)
+works : (image : AnyImage) (c d e : Lifecycle) (k : ℕ) → job_at c ≡ Some (job k, me) → answer_to image me (state_at c) (job k) ≡ Some (handled k) → TakesIn (input k) [] c d → Passes d e → Works (process image c) (process image e)
 works image c d e k next is takes passes =
     record { job = job k; who = me; answer = handled k; mid = d; image = refl; next = next; answers = is; takes = takes; passes = passes }
 
@@ -169,7 +169,7 @@ module _ (image : AnyImage) (is : IsCopying image) (stored bytes : List ℕ) (ke
   one-process =
       record {
         image_is = refl;
-        course_is = ap (λ (l : ℕ). Up (new_node usual 1 1 l)) (sym is.is_image.len_is);
+        lifecycle_is = ap (λ (l : ℕ). Up (new_node usual 1 1 l)) (sym is.is_image.len_is);
         stands = λ f b. stands-opened usual 1 1 (state_of image) f (omega arith) (omega arith) b;
       }
 
@@ -205,7 +205,7 @@ module _ (image : AnyImage) (is : IsCopying image) (stored bytes : List ℕ) (ke
       record { told = Replaying replayed; ran = Replayed (replayed_of replayed); asks = Restoring begins; recovers = refl; finishes = (refl, ends.0, ends.1); begins = as-restores begins (d 11).1; returns = (refl, refl) } in
       let returned : Passes (Restoring has_answer) (Up (ticked (up has_answer))) =
       record { told = Restoring has_answer; ran = Restoring has_answer; asks = Restoring has_answer; recovers = refl; finishes = refl; begins = refl; returns = (refl, (up has_answer, (refl, returns has_answer (up has_answer) (d 17).1, refl, ticking (up has_answer)))) } in
-      (first, ((first, (refl, (omega arith, (image, (refl, record { kept = kept_of n4; is_kept = record { bytes_are = kept-4; comes = refl; long = sym is.is_image.len_is }; image_is = refl; course_is = refl; revives = revives usual (kept_of n4) 2 }))))), ((first, record { image = refl; does = as-collects asks (d 2).1 }), ((tt, d 3), ((tt, tt), ((tt, d 5), ((first, ((d 6).1.0, record { image = refl; mid = Collecting has_all; does = as-collects has_all (d 6).1.1; passes = recovered })), ((first, works image (Replaying replays) (Replaying replays_more) (Replaying replays_more) 2 refl (answers image is me 1 2 (runs-2 me 1)) (as-replays replays_more (d 8).1.1) (replays-on replays_more refl)), ((first, works image (Replaying replays_more) (Replaying replayed) (Restoring begins) 3 refl (answers image is me 2 3 (runs-3 me 2)) (as-replays replayed (d 9).1.1) over), ((first, record { image = refl; does = as-restores resumes (d 12).1 }), ((tt, d 13), ((tt, tt), ((tt, d 15), ((first, ((d 16).1.0, record { image = refl; mid = Restoring has_answer; does = as-restores has_answer (d 16).1.1; passes = returned })), tt))))))))))))))
+      (first, ((first, (refl, (omega arith, (image, (refl, record { kept = kept_of n4; is_kept = record { bytes_are = kept-4; comes = refl; long = sym is.is_image.len_is }; image_is = refl; lifecycle_is = refl; revives = revives usual (kept_of n4) 2 }))))), ((first, record { image = refl; does = as-collects asks (d 2).1 }), ((tt, d 3), ((tt, tt), ((tt, d 5), ((first, ((d 6).1.0, record { image = refl; mid = Collecting has_all; does = as-collects has_all (d 6).1.1; passes = recovered })), ((first, works image (Replaying replays) (Replaying replays_more) (Replaying replays_more) 2 refl (answers image is me 1 2 (runs-2 me 1)) (as-replays replays_more (d 8).1.1) (replays-on replays_more refl)), ((first, works image (Replaying replays_more) (Replaying replayed) (Restoring begins) 3 refl (answers image is me 2 3 (runs-3 me 2)) (as-replays replayed (d 9).1.1) over), ((first, record { image = refl; does = as-restores resumes (d 12).1 }), ((tt, d 13), ((tt, tt), ((tt, d 15), ((first, ((d 16).1.0, record { image = refl; mid = Restoring has_answer; does = as-restores has_answer (d 16).1.1; passes = returned })), tt))))))))))))))
 
 -- ---- it fails alone
 

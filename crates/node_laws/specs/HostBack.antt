@@ -15,8 +15,8 @@ use Rattle.node_laws.specs.Process as stages
 use Rattle.node_laws.specs.System as called
 use Rattle.node_laws.specs.System.{AllStand}
 use Rattle.node_laws.specs.Back.{length_of}
-use Rattle.process.specs.declared.course.Course.{Course}
-use Rattle.process.specs.declared.course.Course.TheVariants.{Up, Replaying, Replayed, Restoring}
+use Rattle.process.specs.declared.lifecycle.Lifecycle.{Lifecycle}
+use Rattle.process.specs.declared.lifecycle.Lifecycle.TheVariants.{Up, Replaying, Replayed, Restoring}
 use Rattle.process.specs.Process.{TheProcess}
 use Rattle.process.specs.Calls.{standing_at}
 use Rattle.node_laws.specs.HostProcess.{Checkpoint, Runs, as_process}
@@ -24,7 +24,7 @@ use Rattle.node_laws.specs.HostSystem.{System, Opens, new_system, HostCall, as_l
 use Rattle.node_laws.specs.HostLives.{handlers, StayExact, OneAtATime}
 
 -- it no longer collects
-abbrev pub has_recovered : Course → Bool
+abbrev pub has_recovered : Lifecycle → Bool
 has_recovered (Up n) = true
 has_recovered (Replaying n) = true
 has_recovered (Replayed n) = true
@@ -32,12 +32,12 @@ has_recovered (Restoring n) = true
 has_recovered c = false
 
 -- the messages that it goes on to replay
-abbrev pub plan_of : Course → List OpenJob
+abbrev pub plan_of : Lifecycle → List OpenJob
 plan_of (Replaying n) = n.plan
 plan_of c = []
 
 -- how many messages it keeps, as a host reads it: those that it has, and those that it has still to replay
-abbrev pub keeps : Course → ℕ
+abbrev pub keeps : Lifecycle → ℕ
 keeps c = (standing_at c).length + (standing_at c).replays
 
 -- the system as s has it, except that p still collects
@@ -47,7 +47,7 @@ still s p n = record (as_lives s) { processes = put (as_lives s).processes p (st
 -- p recovered in a call that led to this stage and to the system s, which goes on to t. It had received what it keeps, and all that was
 -- acknowledged without a gap is among that; these stay its first messages; and when it is up with just these, its state is the one that it
 -- had after them. It had them in the cluster with which it agreed while it collected, with all others as in s
-pub record HasRecovered (n : ℕ) (f : Handlers) (s t : System) (p : ℕ) (now : Course) : Type 0 where
+pub record HasRecovered (n : ℕ) (f : Handlers) (s t : System) (p : ℕ) (now : Lifecycle) : Type 0 where
   pub collected : TheCollecting
   pub acts : List Act
   pub more : List Act
@@ -69,10 +69,10 @@ HostedRecovers = (images : ℕ → AnyImage) (n page tick : ℕ) (limits : ℕ �
     → AreCalls images n (new_system n processes bytes page tick) (calls ++ k ∷ more)
     → StayExact n (new_system n processes bytes page tick) (calls ++ k ∷ more)
     → as_process ((after_calls (new_system n processes bytes page tick) calls).processes p) ≡ stages.Collects from
-    → (after_call (after_calls (new_system n processes bytes page tick) calls) k).processes p ≡ Runs now w → has_recovered now.course ≡ true
-    → HasRecovered n (handlers n images)
+    → (after_call (after_calls (new_system n processes bytes page tick) calls) k).processes p ≡ Runs now w
+    → has_recovered now.lifecycle ≡ true → HasRecovered n (handlers n images)
     (after_call (after_calls (new_system n processes bytes page tick) calls) k)
-    (after_calls (new_system n processes bytes page tick) (calls ++ k ∷ more)) p now.course
+    (after_calls (new_system n processes bytes page tick) (calls ++ k ∷ more)) p now.lifecycle
 
 -- the same if processes fail one at a time
 abbrev pub HostedRecoversAlone : Type 0
@@ -82,7 +82,7 @@ HostedRecoversAlone = (images : ℕ → AnyImage) (n page tick : ℕ) (limits : 
     → AreCalls images n (new_system n processes bytes page tick) (calls ++ k ∷ more)
     → OneAtATime n (new_system n processes bytes page tick) (calls ++ k ∷ more)
     → as_process ((after_calls (new_system n processes bytes page tick) calls).processes p) ≡ stages.Collects from
-    → (after_call (after_calls (new_system n processes bytes page tick) calls) k).processes p ≡ Runs now w → has_recovered now.course ≡ true
-    → HasRecovered n (handlers n images)
+    → (after_call (after_calls (new_system n processes bytes page tick) calls) k).processes p ≡ Runs now w
+    → has_recovered now.lifecycle ≡ true → HasRecovered n (handlers n images)
     (after_call (after_calls (new_system n processes bytes page tick) calls) k)
-    (after_calls (new_system n processes bytes page tick) (calls ++ k ∷ more)) p now.course
+    (after_calls (new_system n processes bytes page tick) (calls ++ k ∷ more)) p now.lifecycle

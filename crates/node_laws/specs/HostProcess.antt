@@ -1,7 +1,7 @@
 -- A process and its host
 use Rattle.std.specs.Prelude.{ℕ, List}
-use Rattle.process.specs.declared.course.Course.{Course}
-use Rattle.process.specs.declared.course.Course.TheVariants as course
+use Rattle.process.specs.declared.lifecycle.Lifecycle.{Lifecycle}
+use Rattle.process.specs.declared.lifecycle.Lifecycle.TheVariants as lifecycle
 use Rattle.process.specs.Process.{TheProcess}
 use Rattle.node_laws.specs.Process.{Process, covered}
 use Rattle.node_laws.specs.Process as lives
@@ -43,21 +43,21 @@ keeps Killed = Killed
 -- ---- which process in all lives it is
 
 -- by its stage. It is between two stages only inside a call
-abbrev pub stage_of : Course → Process
-stage_of (course.Up n) = lives.Up n
-stage_of (course.Collecting n) = lives.Collects n
-stage_of (course.Replaying n) = lives.Replays n
-stage_of (course.Replayed n) = lives.Replayed n
-stage_of (course.Restoring n) = lives.Restores n
-stage_of course.Passing = lives.Killed
+abbrev pub stage_of : Lifecycle → Process
+stage_of (lifecycle.Up n) = lives.Up n
+stage_of (lifecycle.Collecting n) = lives.Collects n
+stage_of (lifecycle.Replaying n) = lives.Replays n
+stage_of (lifecycle.Replayed n) = lives.Replayed n
+stage_of (lifecycle.Restoring n) = lives.Restores n
+stage_of lifecycle.Passing = lives.Killed
 
 -- and by its checkpoint
-abbrev pub seen : Checkpoint → Course → Process
+abbrev pub seen : Checkpoint → Lifecycle → Process
 seen Absent c = stage_of c
 seen (Pending bytes) c = stage_of c
 seen Durable c = covered (stage_of c)
 
 -- and by its host: one that was killed is that
 abbrev pub as_process : Hosted → Process
-as_process (Runs process checkpoint) = seen checkpoint process.course
+as_process (Runs process checkpoint) = seen checkpoint process.lifecycle
 as_process Killed = lives.Killed

@@ -41,7 +41,7 @@ pub record System : Type 0 where
 -- the system at the start: each process is opened, and its kept state stored; and the gateway
 pub record Opens (n : ℕ) (images : ℕ → AnyImage) (limits : ℕ → Limits) (processes : ℕ → TheProcess) (bytes : ℕ → List ℕ) : Type 0 where
   pub opened : (p : ℕ) → IsFirst n p → IsOpened (images p) (limits p) p n (processes p)
-  pub stored : (p : ℕ) → IsFirst n p → Keeps (processes p).course (bytes p)
+  pub stored : (p : ℕ) → IsFirst n p → Keeps (processes p).lifecycle (bytes p)
 
 -- n processes and the gateway, before their first call
 abbrev pub new_system : ℕ → (ℕ → TheProcess) → (ℕ → List ℕ) → ℕ → ℕ → System
@@ -112,8 +112,8 @@ as_lives s = record {
 -- on the next message the handler leaves exactly this state and sends exactly this: the host knows it of machine code
 abbrev pub AnswersSo : List ℕ → Emitted → TheProcess → Type 0
 AnswersSo state e p =
-    (message : OpenJob) (who : Who) → job_at p.course ≡ Some (message, who) → (h : Handled)
-    × ((answer_to p.image who (state_of p.course) message ≡ Some h) × ((h.state ≡ state) × (h.effects ≡ e)))
+    (message : OpenJob) (who : Who) → job_at p.lifecycle ≡ Some (message, who) → (h : Handled)
+    × ((answer_to p.image who (state_of p.lifecycle) message ≡ Some h) × ((h.state ≡ state) × (h.effects ≡ e)))
 
 -- it comes back with an image of this form, with these instructions and this length of state
 abbrev pub RevivesAs : AnyImage → Limits → List ℕ → ℕ → TheProcess → Type 0
@@ -134,7 +134,7 @@ DoesIt images n s (Answered p ticket state e new) =
     IsFirst n p × Alive (λ old. AnswersSo state e old × (IsAnswered ticket state e old new × WorksAs state e old new)) (s.processes p)
 DoesIt images n s (Ticked p new) = IsFirst n p × Alive (λ old. Calls Ticks old new) (s.processes p)
 DoesIt images n s (Froze p bytes new) =
-    IsFirst n p × Alive (λ old. IsSavable old.course × (Keeps old.course bytes × Stays Freezes old new)) (s.processes p)
+    IsFirst n p × Alive (λ old. IsSavable old.lifecycle × (Keeps old.lifecycle bytes × Stays Freezes old new)) (s.processes p)
 DoesIt images n s (Paused p new) = IsFirst n p × Alive (λ old. Stays Freezes old new) (s.processes p)
 DoesIt images n s (Stored p bytes) = IsFirst n p × Has (λ checkpoint. checkpoint ≡ Pending bytes) (s.processes p)
 DoesIt images n s (Saved p new) = IsFirst n p

@@ -22,8 +22,8 @@ use Rattle.node_laws.specs.Worked.{sent}
 use Rattle.node_laws.specs.Messages.{input, delivery, number, acknowledgement, covers, ask, told, resume, restored, gave, g1, g2, g3, g4}
 use Rattle.node_laws.specs.Messages.{g5, g6, g7, g8, quiet, n0, n1, n2, n3, n4, n5, n6, n7, n8, n9, n10, comes, asks, replays}
 use Rattle.node_laws.specs.Messages.{replays_more, begins, resumes, has_answer}
-use Rattle.process.specs.declared.course.Course.{Course}
-use Rattle.process.specs.declared.course.Course.TheVariants.{Up, Collecting, Replaying, Restoring}
+use Rattle.process.specs.declared.lifecycle.Lifecycle.{Lifecycle}
+use Rattle.process.specs.declared.lifecycle.Lifecycle.TheVariants.{Up, Collecting, Replaying, Restoring}
 use Rattle.process.specs.Process.{TheProcess}
 use Rattle.node_laws.specs.HostProcess.{Absent, Runs}
 use Rattle.node_laws.specs.HostSystem.{System, Opens, new_system, HostCall, Gave, Handed, Worked, Froze, Stored, Saved, Died, Revived}
@@ -51,8 +51,8 @@ CopyingLoads = (image : AnyImage) × (IsCopying image × IsTypable Sbi1 (code_of
 -- ---- the calls
 
 -- the process with this image, in this stage
-abbrev pub process : AnyImage → Course → TheProcess
-process image course = record { image = image; course = course }
+abbrev pub process : AnyImage → Lifecycle → TheProcess
+process image lifecycle = record { image = image; lifecycle = lifecycle }
 
 -- up to its death, if its checkpoint has these bytes
 abbrev pub before : AnyImage → List ℕ → List HostCall

@@ -41,8 +41,8 @@ use Rattle.recovery.specs.Replayed.{TheReplayed}
 use Rattle.recovery.specs.StandsAtReplay.{replayed_of}
 use Rattle.recovery.specs.Restoration as restoring
 use Rattle.recovery.specs.Restoration.{TheRestoring}
-use Rattle.process.specs.declared.course.Course.{Course}
-use Rattle.process.specs.declared.course.Course.TheVariants.{Up, Collecting, Replaying, Replayed, Restoring, Passing}
+use Rattle.process.specs.declared.lifecycle.Lifecycle.{Lifecycle}
+use Rattle.process.specs.declared.lifecycle.Lifecycle.TheVariants.{Up, Collecting, Replaying, Replayed, Restoring, Passing}
 use Rattle.process.specs.Process.{TheProcess}
 use Rattle.process.specs.Transitions.{Recovers, Finishes, Begun, Returns, Passes}
 use Rattle.process.specs.Calls.{Stays, IsHanded, Ticks, Takes, Freezes, FreezesAs, Thaws, is_frozen, is_storable, standing_at}
@@ -292,7 +292,7 @@ back-holds old new b l h =
 
 -- ---- one stage
 
-pub handed : (x : NodePacket) (old new : Course) → IsHanded x old new → Holds old → Holds new
+pub handed : (x : NodePacket) (old new : Lifecycle) → IsHanded x old new → Holds old → Holds new
 handed x (Up old) (Up new) h b = subst NodeHolds (sym h.0) (up-handed x old b)
 handed x (Collecting old) (Collecting new) h b =
     subst (λ (m : TheCollecting). OwnHolds m.own 0) (sym h.0) (own-holds old.own (collecting.handed x old).own 0 (collecting_handed x old) (logs.same old.own.logs (collecting.handed x old).own.logs (logs.collecting_handed x old)) b)
@@ -304,7 +304,7 @@ handed x (Replayed old) (Replayed new) h b =
 handed x Passing new h b = subst Holds (sym h) b
 handed x old new h b = absurd h
 
-pub ticks : (old new : Course) → Ticks old new → Holds old → Holds new
+pub ticks : (old new : Lifecycle) → Ticks old new → Holds old → Holds new
 ticks (Up old) (Up new) h b = subst NodeHolds (sym h.0) (up-ticked old b)
 ticks (Collecting old) (Collecting new) h b =
     subst (λ (m : TheCollecting). OwnHolds m.own 0) (sym h.0) (own-holds old.own (collecting.asked old).own 0 (asked old) (logs.same old.own.logs (collecting.asked old).own.logs (logs.asked old)) b)
@@ -315,7 +315,7 @@ ticks (Replayed old) new h b = subst Holds (sym h) b
 ticks Passing new h b = subst Holds (sym h) b
 ticks old new h b = absurd h
 
-pub takes : (o : Option NodePacket) (old new : Course) → Takes o old new → Holds old → Holds new
+pub takes : (o : Option NodePacket) (old new : Lifecycle) → Takes o old new → Holds old → Holds new
 takes None (Up old) (Up new) h b = subst NodeHolds (sym h.1) b
 takes (Some x) (Up old) (Up new) h b = up-took x old new h.0 b
 takes None (Collecting old) (Collecting new) h b = subst (λ m. Holds (Collecting m)) (sym h.1) b
@@ -333,12 +333,12 @@ freezes-as : (s : Bool) (old new : TheNode) → is_storable old ≡ s → Freeze
 freezes-as true old new e h b = subst NodeHolds (sym h.0) (up-froze old e b)
 freezes-as false old new e h b = subst NodeHolds (sym h) b
 
-pub freezes : (old new : Course) → Freezes old new → Holds old → Holds new
+pub freezes : (old new : Lifecycle) → Freezes old new → Holds old → Holds new
 freezes (Up old) (Up new) h b = freezes-as (is_storable old) old new refl h b
 freezes (Up old) new h b = absurd h
 freezes old new h b = subst Holds (sym h) b
 
-pub thaws : (old new : Course) → Thaws old new → Holds old → Holds new
+pub thaws : (old new : Lifecycle) → Thaws old new → Holds old → Holds new
 thaws (Up old) (Up new) h b = subst NodeHolds (sym h.0) (up-saved old b)
 thaws (Up old) new h b = absurd h
 thaws old new h b = subst Holds (sym h) b
@@ -355,7 +355,7 @@ replayed state xs (Some j) n is few b =
     let less : n.done < length n.plan = nodes.some-within n.plan n.done j is in
     (record { allowed = b.0.allowed; logs = omega arith; packets = b.0.packets }, (omega arith, b.1.1))
 
-pub takes_in : (state : List ℕ) (xs : List Given) (old new : Course) → MayTakeIn old xs → TakesIn state xs old new → Holds old → Holds new
+pub takes_in : (state : List ℕ) (xs : List Given) (old new : Lifecycle) → MayTakeIn old xs → TakesIn state xs old new → Holds old → Holds new
 takes_in state xs (Up old) (Up new) may h b = subst NodeHolds (sym h.0) (up-worked state xs old.working old refl may.few b)
 takes_in state xs (Replaying old) (Replaying new) may h b = subst (λ m. Holds (Replaying m)) (sym h.0) (replayed state xs (replaying.next_job old) old refl may.few b)
 takes_in state xs (Up old) new may h b = absurd h
@@ -370,7 +370,7 @@ recovered n r is few b =
     let none = is.none in
     (subst (λ k. OwnHolds r.own k) (sym is.none) (subst (λ o. OwnHolds o 0) (sym is.own) b), (omega arith, few))
 
-pub recovers : (old new : Course) → Recovers old new → Holds old → Holds new
+pub recovers : (old new : Lifecycle) → Recovers old new → Holds old → Holds new
 recovers (Collecting n) (Replaying r) h b = recovered n r h.1 h.3 b
 recovers old new h b = subst Holds (sym h) b
 
@@ -383,12 +383,12 @@ ended n over b =
     let few = b.1.1 in
     (record { allowed = b.0.allowed; logs = omega arith; packets = b.0.packets }, record { few = omega arith; flags = flags.0 ∙ sym many; none = flags.1 })
 
-pub finishes : (old new : Course) → Finishes old new → Holds old → Holds new
+pub finishes : (old new : Lifecycle) → Finishes old new → Holds old → Holds new
 finishes (Replaying n) (Replayed r) h b = subst (λ m. Holds (Replayed m)) (sym h.1) (ended n h.0 b)
 finishes (Replaying n) new h b = subst Holds (sym h.1) b
 finishes old new h b = subst Holds (sym h) b
 
-pub begins : (old new : Course) → Begun old new → Holds old → Holds new
+pub begins : (old new : Lifecycle) → Begun old new → Holds old → Holds new
 begins (Replayed r) (Restoring n) h b =
     let first = restoring.begins r in
     subst (λ (m : TheRestoring). Holds (Restoring m)) (sym h.0) (back-holds first (restoring.asked first) (restoring_asked first) (logs.same first.own.logs (restoring.asked first).own.logs (logs.restoring_asked first)) b)
@@ -415,7 +415,7 @@ back-up n b =
       stored = λ f2. absurd (cc (f2));
     }
 
-returns : (old new : Course) → Returns old new → Holds old → Holds new
+returns : (old new : Lifecycle) → Returns old new → Holds old → Holds new
 returns (Restoring n) (Up m) h b =
     let first : TheNode = h.1.0 in
     let up_is : NodeHolds first = subst NodeHolds (sym h.1.1.0) (back-up n b) in
@@ -423,7 +423,7 @@ returns (Restoring n) (Up m) h b =
 returns (Restoring n) new h b = subst Holds (sym h.1) b
 returns old new h b = subst Holds (sym h) b
 
-pub passes : (old new : Course) → Passes old new → Holds old → Holds new
+pub passes : (old new : Lifecycle) → Passes old new → Holds old → Holds new
 passes old new p b = returns p.asks new p.returns (begins p.ran p.asks p.begins (finishes p.told p.ran p.finishes (recovers old p.told p.recovers b)))
 
 -- ---- how it begins
@@ -483,7 +483,7 @@ opened limits me count len allowed =
 
 -- ---- what a host reads
 
-pub bounded : (c : Course) → Holds c → IsBounded (standing_at c)
+pub bounded : (c : Lifecycle) → Holds c → IsBounded (standing_at c)
 bounded (Up n) b =
     let few = b.numbers.receipts in
     let logs_hold = b.logs in
@@ -505,7 +505,7 @@ bounded (Restoring n) b =
     record { receipts = omega arith; entries = b.0.logs; most = omega arith; packets = b.0.packets }
 bounded Passing b = record { receipts = omega arith; entries = omega arith; most = omega arith; packets = omega arith }
 
-pub few-wait : (c : Course) → Holds c → waiting_of c ≤ WINDOW
+pub few-wait : (c : Lifecycle) → Holds c → waiting_of c ≤ WINDOW
 few-wait (Up n) b = let many = b.numbers.counted in let few = b.numbers.waits in omega arith
 few-wait (Collecting n) b = omega arith
 few-wait (Replaying n) b = omega arith
@@ -521,10 +521,10 @@ saved n m f e = e ∙ ap (λ b. if b then saving.thaws n else n) f
 pub saved_drops : SavedDrops
 saved_drops = record { none = none }
   where
-    none : (old new : TheProcess) → is_frozen old.course ≡ true → Stays Thaws old new → ((standing_at new.course).receipts ≡ 0) × (((standing_at new.course).base ≡ (standing_at old.course).length) × (waiting_of new.course ≡ 0))
-    none old new f s = by-stage old.course new.course f s.does
+    none : (old new : TheProcess) → is_frozen old.lifecycle ≡ true → Stays Thaws old new → ((standing_at new.lifecycle).receipts ≡ 0) × (((standing_at new.lifecycle).base ≡ (standing_at old.lifecycle).length) × (waiting_of new.lifecycle ≡ 0))
+    none old new f s = by-stage old.lifecycle new.lifecycle f s.does
       where
-        by-stage : (c d : Course) → is_frozen c ≡ true → Thaws c d → ((standing_at d).receipts ≡ 0) × (((standing_at d).base ≡ (standing_at c).length) × (waiting_of d ≡ 0))
+        by-stage : (c d : Lifecycle) → is_frozen c ≡ true → Thaws c d → ((standing_at d).receipts ≡ 0) × (((standing_at d).base ≡ (standing_at c).length) × (waiting_of d ≡ 0))
         by-stage (Up n) (Up m) e h =
             let is : m ≡ saving.thaws n = saved n m e h.0 in
             let covers = nodes.covers n in (

@@ -2,8 +2,8 @@
 use Rattle.std.proofs.Common.{◌≡◌, List, [], ◌∷◌, sym, ap, ◌∙◌, subst}
 use Rattle.std.specs.Prelude.{Option, Some, None}
 use Rattle.packets.specs.declared.packet.NodePacket.{NodePacket}
-use Rattle.process.specs.declared.course.Course.{Course}
-use Rattle.process.specs.declared.course.Course.TheVariants.{Up, Collecting, Replaying, Replayed, Restoring, Passing}
+use Rattle.process.specs.declared.lifecycle.Lifecycle.{Lifecycle}
+use Rattle.process.specs.declared.lifecycle.Lifecycle.TheVariants.{Up, Collecting, Replaying, Replayed, Restoring, Passing}
 use Rattle.process.specs.Process.{TheProcess, out_of}
 use Rattle.process.specs.Calls.{Takes, Stays}
 
@@ -14,7 +14,7 @@ same-first out rest more x y a b = let both : y ∷ more ≡ x ∷ rest = sym a 
 none-first : (out rest : List NodePacket) (x : NodePacket) → out ≡ [] → out ≡ x ∷ rest → None ≡ Some x
 none-first out rest x a b = let both : [] ≡ x ∷ rest = sym a ∙ b in absurd (cc)
 
-pub taken : (o : Option NodePacket) (a b : Course) (x : NodePacket) (rest : List NodePacket) → Takes o a b → out_of a ≡ x ∷ rest → o ≡ Some x
+pub taken : (o : Option NodePacket) (a b : Lifecycle) (x : NodePacket) (rest : List NodePacket) → Takes o a b → out_of a ≡ x ∷ rest → o ≡ Some x
 taken None (Up n) (Up m) x rest h e = none-first n.out rest x h.0 e
 taken (Some y) (Up n) (Up m) x rest h e = same-first n.out rest m.out x y (ap (λ v. v.out) h.0) e
 taken None (Collecting n) (Collecting m) x rest h e = none-first n.own.out rest x h.0 e
@@ -77,7 +77,7 @@ taken None (Restoring n) Passing x rest h e = absurd h
 taken (Some y) (Restoring n) Passing x rest h e = absurd h
 taken o Passing b x rest h e = absurd (cc)
 
-pub stays-front : (o : Option NodePacket) (p q : TheProcess) (x : NodePacket) (rest : List NodePacket) → Stays (Takes o) p q → out_of p.course ≡ x ∷ rest → Stays (Takes (Some x)) p q
+pub stays-front : (o : Option NodePacket) (p q : TheProcess) (x : NodePacket) (rest : List NodePacket) → Stays (Takes o) p q → out_of p.lifecycle ≡ x ∷ rest → Stays (Takes (Some x)) p q
 stays-front o p q x rest s e =
     let P : Option NodePacket → Type 0 = λ v. Stays (Takes v) p q in
-    subst P (taken o p.course q.course x rest s.does e) s
+    subst P (taken o p.lifecycle q.lifecycle x rest s.does e) s

@@ -5,7 +5,7 @@ pub mod Fronts
 mod Workings
 pub mod Rooms
 mod Holdings
-mod Courses
+mod Lifecycles
 pub mod Bounds
 mod Bounded
 mod Ranges

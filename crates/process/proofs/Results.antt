@@ -12,8 +12,8 @@ use Rattle.world.specs.History.{Payload}
 use Rattle.node.specs.declared.job.OpenJob.{OpenJob}
 use Rattle.node.specs.declared.job.Given.{Given}
 use Rattle.node.specs.declared.node.TheConstants.{MOST_GIVEN}
-use Rattle.process.specs.declared.course.Course.{Course}
-use Rattle.process.specs.declared.course.Course.TheVariants.{Up, Collecting, Replaying, Replayed, Restoring, Passing}
+use Rattle.process.specs.declared.lifecycle.Lifecycle.{Lifecycle}
+use Rattle.process.specs.declared.lifecycle.Lifecycle.TheVariants.{Up, Collecting, Replaying, Replayed, Restoring, Passing}
 use Rattle.process.specs.Work.{is_other, sent_by, shown_of, shown_by, given_of, job_as, job_at, MayTakeIn}
 
 -- it goes to another one
@@ -94,7 +94,7 @@ moved who me count given is goes i g at =
     let there = goes i g at in (omega (arith, is.1, there.0), (λ (e : g.to ≡ me). there.1 (e ∙ sym is.0)))
 
 -- what it gives on the message that is next may be taken in
-pub may-take : (c : Course) (j : OpenJob) (who : Who) (e : Emitted) → job_at c ≡ Some (j, who) → length (given_of who e) ≤ MOST_GIVEN → MayTakeIn c (given_of who e)
+pub may-take : (c : Lifecycle) (j : OpenJob) (who : Who) (e : Emitted) → job_at c ≡ Some (j, who) → length (given_of who e) ≤ MOST_GIVEN → MayTakeIn c (given_of who e)
 may-take (Up n) j who e at few =
     record { few = few; others = moved who n.me n.count (given_of who e) (seat-of n.me n.count n.working j who at) (given-goes who e) }
 may-take (Replaying n) j who e at few =

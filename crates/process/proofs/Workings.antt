@@ -17,12 +17,12 @@ use Rattle.process.specs.Job.{TheJob, IsAnswerTo, IsNext, IsCallOf, TakesBack}
 use Rattle.process.proofs.Results.{may-take}
 
 -- what is given on the message that is next may be taken in
-pub may-take-back : (p : TheProcess) (j : OpenJob) (who : Who) (e : Emitted) (given : List Given) → IsNext p j who → given ≡ given_of who e → length given ≤ MOST_GIVEN → MayTakeIn p.course given
+pub may-take-back : (p : TheProcess) (j : OpenJob) (who : Who) (e : Emitted) (given : List Given) → IsNext p j who → given ≡ given_of who e → length given ≤ MOST_GIVEN → MayTakeIn p.lifecycle given
 may-take-back p j who e given is same few =
     let small : length (given_of who e) ≤ MOST_GIVEN = subst (λ (v : List Given). length v ≤ MOST_GIVEN) same few in
-    subst (λ (v : List Given). MayTakeIn p.course v) (sym same) (may-take p.course j who e is.next small)
+    subst (λ (v : List Given). MayTakeIn p.lifecycle v) (sym same) (may-take p.lifecycle j who e is.next small)
 
-pub works : (old new : TheProcess) (j : OpenJob) (who : Who) (state : List ℕ) (h : Handled) (given : List Given) → IsNext old j who → state ≡ state_of old.course
+pub works : (old new : TheProcess) (j : OpenJob) (who : Who) (state : List ℕ) (h : Handled) (given : List Given) → IsNext old j who → state ≡ state_of old.lifecycle
     → answer_by old.image who state j.payload ≡ Some h → given ≡ given_of who h.effects → TakesBack h.state given old new → Works old new
 works old new j who state h given is is_state a g t =
     record {
@@ -33,7 +33,7 @@ works old new j who state h given is is_state a g t =
       image = t.image;
       next = is.next;
       answers = sym (ap (λ (s : List ℕ). answer_by old.image who s j.payload) is_state) ∙ a;
-      takes = subst (λ (v : List Given). TakesIn h.state v old.course t.mid) g t.takes;
+      takes = subst (λ (v : List Given). TakesIn h.state v old.lifecycle t.mid) g t.takes;
       passes = t.passes;
     }
 

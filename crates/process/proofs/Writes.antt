@@ -24,8 +24,8 @@ use Rattle.recovery.specs.Replays as replaying
 use Rattle.recovery.specs.Replays.{TheReplaying}
 use Rattle.recovery.specs.Restoration as restoring
 use Rattle.recovery.specs.Restoration.{TheRestoring, has_answered}
-use Rattle.process.specs.declared.course.Course.{Course}
-use Rattle.process.specs.declared.course.Course.TheVariants.{Up, Collecting, Replaying, Replayed, Restoring, Passing}
+use Rattle.process.specs.declared.lifecycle.Lifecycle.{Lifecycle}
+use Rattle.process.specs.declared.lifecycle.Lifecycle.TheVariants.{Up, Collecting, Replaying, Replayed, Restoring, Passing}
 use Rattle.process.specs.Process.{is_node, out_of}
 use Rattle.process.specs.Transitions.{Recovers, Finishes, Begun, Returns}
 use Rattle.process.specs.Calls.{IsHanded, Ticks, Takes, Freezes, Thaws}
@@ -64,7 +64,7 @@ restores-on n m w r = (goes-on n.own m.own w r.says, r.above, subst (λ p. has_a
 
 -- ---- one stage
 
-pub handed : (x : NodePacket) (old new : Course) → IsHanded x old new → Holds old → Writes old → Writes new
+pub handed : (x : NodePacket) (old new : Lifecycle) → IsHanded x old new → Holds old → Writes old → Writes new
 handed x (Up old) (Up new) h b w = tt
 handed x (Collecting old) (Collecting new) h b w =
     let c = collecting-handed old.own.me old.own.count w.0.inside w.0.within w.0.few x old (record { says = says old.own w.0; cursors = w.1 }) in
@@ -79,7 +79,7 @@ handed x (Replayed old) (Replayed new) h b w =
 handed x Passing new h b w = subst Writes (sym h) w
 handed x old new h b w = absurd h
 
-pub ticks : (old new : Course) → Ticks old new → Holds old → Writes old → Writes new
+pub ticks : (old new : Lifecycle) → Ticks old new → Holds old → Writes old → Writes new
 ticks (Up old) (Up new) h b w = tt
 ticks (Collecting old) (Collecting new) h b w =
     let c = asked old.own.me old.own.count w.0.inside w.0.within w.0.few old (record { says = says old.own w.0; cursors = w.1 }) in
@@ -96,7 +96,7 @@ ticks old new h b w = absurd h
 taken : (x : NodePacket) (o : TheOwn) → OwnWrites (record o { out = x ∷ o.out }) → OwnWrites o
 taken x o w = record { inside = w.inside; within = w.within; few = w.few; alive = w.alive; young = w.young; out = w.out.1 }
 
-pub takes : (o : Option NodePacket) (old new : Course) → Takes o old new → Writes old → Writes new
+pub takes : (o : Option NodePacket) (old new : Lifecycle) → Takes o old new → Writes old → Writes new
 takes o (Up old) (Up new) h w = tt
 takes None (Collecting old) (Collecting new) h w = subst (λ m. Writes (Collecting m)) (sym h.1) w
 takes (Some x) (Collecting old) (Collecting new) h w = let g = subst (λ m. Writes (Collecting m)) h.0 w in (taken x new.own g.0, g.1)
@@ -109,12 +109,12 @@ takes (Some x) (Restoring old) (Restoring new) h w = let g = subst (λ m. Writes
 takes o Passing new h w = subst Writes (sym h.1) w
 takes o old new h w = absurd h
 
-pub freezes : (old new : Course) → Freezes old new → Writes old → Writes new
+pub freezes : (old new : Lifecycle) → Freezes old new → Writes old → Writes new
 freezes (Up old) (Up new) h w = tt
 freezes (Up old) new h w = absurd h
 freezes old new h w = subst Writes (sym h) w
 
-pub thaws : (old new : Course) → Thaws old new → Writes old → Writes new
+pub thaws : (old new : Lifecycle) → Thaws old new → Writes old → Writes new
 thaws (Up old) (Up new) h w = tt
 thaws (Up old) new h w = absurd h
 thaws old new h w = subst Writes (sym h) w
@@ -125,7 +125,7 @@ replayed : (state : List ℕ) (xs : List Given) (o : Option OpenJob) (n : TheRep
 replayed state xs None n w = w
 replayed state xs (Some j) n w = record { inside = w.inside; within = w.within; few = w.few; alive = w.alive; young = w.young; out = w.out }
 
-pub takes_in : (state : List ℕ) (xs : List Given) (old new : Course) → TakesIn state xs old new → Writes old → Writes new
+pub takes_in : (state : List ℕ) (xs : List Given) (old new : Lifecycle) → TakesIn state xs old new → Writes old → Writes new
 takes_in state xs (Up old) (Up new) h w = tt
 takes_in state xs (Replaying old) (Replaying new) h w = subst (λ m. Writes (Replaying m)) (sym h.0) (replayed state xs (replaying.next_job old) old w)
 takes_in state xs (Up old) new h w = absurd h
@@ -134,16 +134,16 @@ takes_in state xs old new h w = subst Writes (sym h) w
 
 -- ---- from one stage to the next
 
-pub recovers : (old new : Course) → Recovers old new → Writes old → Writes new
+pub recovers : (old new : Lifecycle) → Recovers old new → Writes old → Writes new
 recovers (Collecting n) (Replaying r) h w = subst OwnWrites (sym h.1.own) w.0
 recovers old new h w = subst Writes (sym h) w
 
-pub finishes : (old new : Course) → Finishes old new → Writes old → Writes new
+pub finishes : (old new : Lifecycle) → Finishes old new → Writes old → Writes new
 finishes (Replaying n) (Replayed r) h w = subst (λ m. Writes (Replayed m)) (sym h.1) w
 finishes (Replaying n) new h w = subst Writes (sym h.1) w
 finishes old new h w = subst Writes (sym h) w
 
-pub begins : (old new : Course) → Begun old new → Holds old → Writes old → Writes new
+pub begins : (old new : Lifecycle) → Begun old new → Holds old → Writes old → Writes new
 begins (Replayed r) (Restoring n) h b w =
     let first = restoring.begins r in
     let began : Restores r.own.me r.own.count first = record {
@@ -156,7 +156,7 @@ begins (Replayed r) (Restoring n) h b w =
     subst (λ (m : TheRestoring). Writes (Restoring m)) (sym h.0) (restores-on first (restoring.asked first) w all)
 begins old new h b w = subst Writes (sym h) w
 
-pub returns : (old new : Course) → Returns old new → Writes old → Writes new
+pub returns : (old new : Lifecycle) → Returns old new → Writes old → Writes new
 returns (Restoring n) (Up m) h w = tt
 returns (Restoring n) new h w = subst Writes (sym h.1) w
 returns old new h w = subst Writes (sym h) w
@@ -188,7 +188,7 @@ came-back limits k life comes positive =
 
 -- ---- what waits first
 
-pub first-written : (c : Course) (x : NodePacket) (rest : List NodePacket) → is_node c ≡ false → Writes c → out_of c ≡ x ∷ rest → is_written x ≡ true
+pub first-written : (c : Lifecycle) (x : NodePacket) (rest : List NodePacket) → is_node c ≡ false → Writes c → out_of c ≡ x ∷ rest → is_written x ≡ true
 first-written (Up n) x rest up w e = absurd (cc)
 first-written (Collecting n) x rest up w e = let all : Each W (x ∷ rest) = subst (Each W) e w.0.out in all.0
 first-written (Replaying n) x rest up w e = let all : Each W (x ∷ rest) = subst (Each W) e w.out in all.0

@@ -10,8 +10,8 @@ use Rattle.node.specs.Limit.{AreAllowed}
 use Rattle.node.specs.Node.{TheNode}
 use Rattle.node.specs.Status.{entries_kept}
 use Rattle.recovery.specs.Own.{TheOwn}
-use Rattle.process.specs.declared.course.Course.{Course}
-use Rattle.process.specs.declared.course.Course.TheVariants.{Up, Collecting, Replaying, Replayed, Restoring, Passing}
+use Rattle.process.specs.declared.lifecycle.Lifecycle.{Lifecycle}
+use Rattle.process.specs.declared.lifecycle.Lifecycle.TheVariants.{Up, Collecting, Replaying, Replayed, Restoring, Passing}
 use Rattle.process.specs.declared.queries.TheConstants.{MOST_STORED, MOST_ENTRIES}
 use Rattle.process.specs.Process.{is_settled}
 use Rattle.process.specs.Packets.{Writes}
@@ -32,7 +32,7 @@ unacknowledged (true ∷ flags) = unacknowledged flags
 unacknowledged (false ∷ flags) = suc (unacknowledged flags)
 
 -- how many of its RSNs since its checkpoint aren't. A process that collects has none, and one that replays waits for none
-abbrev pub waiting_of : Course → ℕ
+abbrev pub waiting_of : Lifecycle → ℕ
 waiting_of (Up n) = unacknowledged n.receipts.acknowledged
 waiting_of (Replayed n) = unacknowledged n.receipts.acknowledged
 waiting_of (Restoring n) = unacknowledged n.receipts.acknowledged
@@ -74,7 +74,7 @@ pub record ReceiptsHold (r : Received) : Type 0 where
   pub none : unacknowledged r.acknowledged ≡ 0
 
 -- in each stage
-abbrev pub Holds : Course → Type 0
+abbrev pub Holds : Lifecycle → Type 0
 Holds (Up n) = NodeHolds n
 Holds (Collecting n) = OwnHolds n.own 0
 Holds (Replaying n) = OwnHolds n.own n.done × ((n.done ≤ length n.plan) × (length n.plan ≤ LIMIT))
@@ -83,7 +83,7 @@ Holds (Restoring n) = OwnHolds n.own (length n.receipts.senders) × ReceiptsHold
 Holds Passing = Unit {0}
 
 -- it isn't between two stages, keeps these limits, and its packets can be written
-pub record IsWithin (c : Course) : Type 0 where
+pub record IsWithin (c : Lifecycle) : Type 0 where
   pub settled : is_settled c ≡ true
   pub holds : Holds c
   pub writes : Writes c

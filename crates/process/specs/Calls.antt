@@ -19,13 +19,13 @@ use Rattle.recovery.specs.Queries.{collecting_standing, replaying_standing, repl
 use Rattle.recovery.specs.Restoration as restoring
 use Rattle.recovery.specs.RestorationStands as restoring_owes
 use Rattle.recovery.specs.RestorationQueries.{restoring_standing}
-use Rattle.process.specs.declared.course.Course.{Course}
-use Rattle.process.specs.declared.course.Course.TheVariants.{Up, Collecting, Replaying, Replayed, Restoring, Passing}
+use Rattle.process.specs.declared.lifecycle.Lifecycle.{Lifecycle}
+use Rattle.process.specs.declared.lifecycle.Lifecycle.TheVariants.{Up, Collecting, Replaying, Replayed, Restoring, Passing}
 use Rattle.process.specs.Process.{TheProcess}
 use Rattle.process.specs.Transitions.{Passes}
 
 -- takes a packet
-abbrev pub IsHanded : NodePacket → Course → Course → Type 0
+abbrev pub IsHanded : NodePacket → Lifecycle → Lifecycle → Type 0
 IsHanded x (Up old) (Up new) = (new ≡ up.handed x old) × up_owes.IsHanded x old new
 IsHanded x (Collecting old) (Collecting new) = (new ≡ collecting.handed x old) × collecting_owes.IsHanded x old new
 IsHanded x (Restoring old) (Restoring new) = (new ≡ restoring.handed x old) × restoring_owes.IsHanded x old new
@@ -35,7 +35,7 @@ IsHanded x Passing new = new ≡ Passing
 IsHanded x old new = ⊥
 
 -- sends again what isn't answered
-abbrev pub Ticks : Course → Course → Type 0
+abbrev pub Ticks : Lifecycle → Lifecycle → Type 0
 Ticks (Up old) (Up new) = (new ≡ ticked old) × up_owes.Acts old new
 Ticks (Collecting old) (Collecting new) = (new ≡ collecting.asked old) × collecting_owes.Acts old new
 Ticks (Restoring old) (Restoring new) = (new ≡ restoring.asked old) × restoring_owes.Acts old new
@@ -45,19 +45,19 @@ Ticks Passing new = new ≡ Passing
 Ticks old new = ⊥
 
 -- one call of the stage, after which it may go on to the next; the image stays
-pub record Calls (Does : Course → Course → Type 0) (old new : TheProcess) : Type 0 where
+pub record Calls (Does : Lifecycle → Lifecycle → Type 0) (old new : TheProcess) : Type 0 where
   pub image : new.image ≡ old.image
-  pub mid : Course
-  pub does : Does old.course mid
-  pub passes : Passes mid new.course
+  pub mid : Lifecycle
+  pub does : Does old.lifecycle mid
+  pub passes : Passes mid new.lifecycle
 
 -- one call of the stage, in which it stays; the image stays
-pub record Stays (Does : Course → Course → Type 0) (old new : TheProcess) : Type 0 where
+pub record Stays (Does : Lifecycle → Lifecycle → Type 0) (old new : TheProcess) : Type 0 where
   pub image : new.image ≡ old.image
-  pub does : Does old.course new.course
+  pub does : Does old.lifecycle new.lifecycle
 
 -- takes the first packet that waits. A process that has finished its replay owes nothing else
-abbrev pub Takes : Option NodePacket → Course → Course → Type 0
+abbrev pub Takes : Option NodePacket → Lifecycle → Lifecycle → Type 0
 Takes o (Up old) (Up new) = up_owes.Takes o old new
 Takes o (Collecting old) (Collecting new) = collecting_owes.Takes o old new
 Takes o (Replaying old) (Replaying new) = replaying_owes.Takes o old new
@@ -72,12 +72,12 @@ abbrev pub is_storable : TheNode → Bool
 is_storable n = nat_lt (entries_kept n.logs) MOST_KEPT
 
 -- a checkpoint can be made: it is up, with no job open, waits for no checkpoint, and its logs fit one
-abbrev pub may_freeze : Course → Bool
+abbrev pub may_freeze : Lifecycle → Bool
 may_freeze (Up n) = saving.may_freeze n && is_storable n
 may_freeze other = false
 
 -- it waits for a checkpoint
-abbrev pub is_frozen : Course → Bool
+abbrev pub is_frozen : Lifecycle → Bool
 is_frozen (Up n) = n.frozen
 is_frozen other = false
 
@@ -87,19 +87,19 @@ FreezesAs true old new = (new ≡ saving.froze old) × up_owes.Acts old new
 FreezesAs false old new = new ≡ old
 
 -- what `freeze` leaves: a process that is up waits for its checkpoint, any other stays as it is
-abbrev pub Freezes : Course → Course → Type 0
+abbrev pub Freezes : Lifecycle → Lifecycle → Type 0
 Freezes (Up old) (Up new) = FreezesAs (is_storable old) old new
 Freezes (Up old) new = ⊥
 Freezes old new = new ≡ old
 
 -- the checkpoint is durable
-abbrev pub Thaws : Course → Course → Type 0
+abbrev pub Thaws : Lifecycle → Lifecycle → Type 0
 Thaws (Up old) (Up new) = (new ≡ saving.saved old) × up_owes.Saves old new
 Thaws (Up old) new = ⊥
 Thaws old new = new ≡ old
 
 -- its status
-abbrev pub standing_at : Course → Standing
+abbrev pub standing_at : Lifecycle → Standing
 standing_at (Up n) = standing_of n
 standing_at (Collecting n) = collecting_standing n
 standing_at (Replaying n) = replaying_standing n

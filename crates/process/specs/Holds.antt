@@ -6,7 +6,7 @@ use Rattle.node.specs.declared.job.Given.{Given}
 use Rattle.node.specs.Queue.{TheQueue}
 use Rattle.node.specs.Node.{TheNode, log_at}
 use Rattle.node.specs.Calls.{is_for}
-use Rattle.process.specs.declared.course.Course.TheVariants.{Up}
+use Rattle.process.specs.declared.lifecycle.Lifecycle.TheVariants.{Up}
 use Rattle.process.specs.Process.{TheProcess}
 use Rattle.process.specs.Calls.{Calls, Stays, IsHanded, Ticks, Takes, Freezes, Thaws, is_frozen, standing_at}
 use Rattle.process.specs.Bounds.{waiting_of}
@@ -14,7 +14,7 @@ use Rattle.process.specs.Job.{TakesBack}
 
 -- how many messages its logs keep, as a host reads it
 abbrev pub entries_of : TheProcess → ℕ
-entries_of p = (standing_at p.course).entries
+entries_of p = (standing_at p.lifecycle).entries
 
 -- the process keeps no more after a call
 abbrev pub KeepsNoMore : TheProcess → TheProcess → Type 0
@@ -37,12 +37,12 @@ sent_in q = q.dropped + length q.payloads
 
 -- a node that is up is told that the first messages to a receiver are covered for good: its log for that one keeps none of these
 pub record CoveredAreDropped : Type 0 where
-  pub dropped : (x : NodePacket) (k : ℕ) (n : TheNode) (old new : TheProcess) → old.course ≡ Up n → x.body ≡ Saved k → is_for n x ≡ true
+  pub dropped : (x : NodePacket) (k : ℕ) (n : TheNode) (old new : TheProcess) → old.lifecycle ≡ Up n → x.body ≡ Saved k → is_for n x ≡ true
       → Calls (IsHanded x) old new
-      → (m : TheNode) × (new.course ≡ Up m) × (length (log_at m.logs x.from).payloads ≤ sent_in (log_at n.logs x.from) - k)
+      → (m : TheNode) × (new.lifecycle ≡ Up m) × (length (log_at m.logs x.from).payloads ≤ sent_in (log_at n.logs x.from) - k)
 
 -- the checkpoint for which a process waits is durable: it covers all that the process received, so it keeps no receipt, and no RSN waits
 pub record SavedDrops : Type 0 where
-  pub none : (old new : TheProcess) → is_frozen old.course ≡ true → Stays Thaws old new
-      → ((standing_at new.course).receipts ≡ 0)
-      × (((standing_at new.course).base ≡ (standing_at old.course).length) × (waiting_of new.course ≡ 0))
+  pub none : (old new : TheProcess) → is_frozen old.lifecycle ≡ true → Stays Thaws old new
+      → ((standing_at new.lifecycle).receipts ≡ 0)
+      × (((standing_at new.lifecycle).base ≡ (standing_at old.lifecycle).length) × (waiting_of new.lifecycle ≡ 0))

@@ -14,7 +14,7 @@ use Rattle.handlers.specs.CallArray.{HoldsEntry, state_in}
 use Rattle.handlers.specs.Answer.{MayRunAs, shown, answer_by}
 use Rattle.node.specs.declared.job.OpenJob.{OpenJob}
 use Rattle.node.specs.declared.job.Given.{Given}
-use Rattle.process.specs.declared.course.Course.{Course}
+use Rattle.process.specs.declared.lifecycle.Lifecycle.{Lifecycle}
 use Rattle.process.specs.declared.call.HandlerTicket.{HandlerTicket}
 use Rattle.process.specs.declared.fault.Undone.{Undone}
 use Rattle.process.specs.declared.fault.Undone.TheVariants as why
@@ -41,7 +41,7 @@ abbrev pub IsAnswerTo : TheJob → Handled → Type 0
 IsAnswerTo j h = answer_by j.image j.who j.state j.payload ≡ Some h
 
 -- the ticket of the next job
-abbrev pub ticket_at : Course → HandlerTicket
+abbrev pub ticket_at : Lifecycle → HandlerTicket
 ticket_at c = record { incarnation = (standing_at c).incarnation; received = (standing_at c).length }
 
 -- the handler can be called with this identity on this state: the state has the image's length
@@ -51,8 +51,8 @@ pub record IsCallable (image : AnyImage) (who : Who) (state : List ℕ) : Type 0
 
 -- this message is next, and the handler can be called on it
 pub record IsNext (p : TheProcess) (message : OpenJob) (who : Who) : Type 0 where
-  pub next : job_at p.course ≡ Some (message, who)
-  pub callable : IsCallable p.image who (state_of p.course)
+  pub next : job_at p.lifecycle ≡ Some (message, who)
+  pub callable : IsCallable p.image who (state_of p.lifecycle)
 
 -- the job has this ticket, this identity, this message and this state
 pub record IsSame (j : TheJob) (ticket : HandlerTicket) (who : Who) (payload state : List ℕ) : Type 0 where
@@ -68,7 +68,7 @@ pub record HasSameCode (one other : AnyImage) : Type 0 where
 
 -- the job is the call of the process's handler on this message
 abbrev pub IsCallOf : TheProcess → OpenJob → Who → TheJob → Type 0
-IsCallOf p message who j = IsSame j (ticket_at p.course) who message.payload (state_of p.course) × HasSameCode p.image j.image
+IsCallOf p message who j = IsSame j (ticket_at p.lifecycle) who message.payload (state_of p.lifecycle) × HasSameCode p.image j.image
 
 -- it is the job of the next message
 pub record IsJobOf (p : TheProcess) (j : TheJob) : Type 0 where
@@ -104,24 +104,24 @@ IsLaid (Span image) state payload array = IsSpanLaid image.len state payload arr
 
 -- this state and these messages and outputs are taken as the handler's, and the process goes on; the image stays
 pub record TakesBack (state : List ℕ) (given : List Given) (old new : TheProcess) : Type 0 where
-  pub mid : Course
+  pub mid : Lifecycle
   pub image : new.image ≡ old.image
-  pub takes : TakesIn state given old.course mid
-  pub passes : Passes mid new.course
+  pub takes : TakesIn state given old.lifecycle mid
+  pub passes : Passes mid new.lifecycle
 
 -- they are taken as the answer to the next message, of this ticket, whatever the handler would have answered
 pub record IsAnswered (ticket : HandlerTicket) (state : List ℕ) (e : Emitted) (old new : TheProcess) : Type 0 where
   pub message : OpenJob
   pub who : Who
-  pub next : job_at old.course ≡ Some (message, who)
-  pub ticket_is : ticket_at old.course ≡ ticket
+  pub next : job_at old.lifecycle ≡ Some (message, who)
+  pub ticket_is : ticket_at old.lifecycle ≡ ticket
   pub taken : TakesBack state (given_of who e) old new
 
 -- if the handler answers the same, the process has worked
 abbrev pub WorksAs : List ℕ → Emitted → TheProcess → TheProcess → Type 0
 WorksAs state e old new =
-    (message : OpenJob) (who : Who) (h : Handled) → job_at old.course ≡ Some (message, who)
-    → answer_to old.image who (state_of old.course) message ≡ Some h
+    (message : OpenJob) (who : Who) (h : Handled) → job_at old.lifecycle ≡ Some (message, who)
+    → answer_to old.image who (state_of old.lifecycle) message ≡ Some h
     → h.state ≡ state → h.effects ≡ e → Works old new
 
 -- ---- refusals
@@ -139,7 +139,7 @@ IsUndone p j why.State = ⊥
 
 -- the same of an answer of which only the ticket and the state are known
 abbrev pub IsUnanswered : TheProcess → HandlerTicket → List ℕ → Undone → Type 0
-IsUnanswered p ticket state why.Memory = HasNext p × (ticket_at p.course ≡ ticket) × (length state ≡ image_state p.image)
+IsUnanswered p ticket state why.Memory = HasNext p × (ticket_at p.lifecycle ≡ ticket) × (length state ≡ image_state p.image)
 IsUnanswered p ticket state why.Absent = Rests p
-IsUnanswered p ticket state why.Other = HasNext p × (ticket_at p.course ≢ ticket)
-IsUnanswered p ticket state why.State = HasNext p × (ticket_at p.course ≡ ticket) × (length state ≢ image_state p.image)
+IsUnanswered p ticket state why.Other = HasNext p × (ticket_at p.lifecycle ≢ ticket)
+IsUnanswered p ticket state why.State = HasNext p × (ticket_at p.lifecycle ≡ ticket) × (length state ≢ image_state p.image)

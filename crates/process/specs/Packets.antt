@@ -11,8 +11,8 @@ use Rattle.node.specs.Stands.{Each}
 use Rattle.recovery.specs.Own.{TheOwn}
 use Rattle.recovery.specs.Collection.{told_of}
 use Rattle.recovery.specs.Restoration.{above_of, has_answered}
-use Rattle.process.specs.declared.course.Course.{Course}
-use Rattle.process.specs.declared.course.Course.TheVariants.{Collecting, Replaying, Replayed, Restoring}
+use Rattle.process.specs.declared.lifecycle.Lifecycle.{Lifecycle}
+use Rattle.process.specs.declared.lifecycle.Lifecycle.TheVariants.{Collecting, Replaying, Replayed, Restoring}
 use Rattle.process.specs.Process.{TheProcess, out_of}
 use Rattle.process.specs.Calls.{Takes, Stays}
 
@@ -39,7 +39,7 @@ pub record OwnWrites (o : TheOwn) : Type 0 where
   pub out : Each (λ x. is_written x ≡ true) o.out
 
 -- so it is in each stage; and the questions that it asks next can be written too. A node that is up has this by its type
-abbrev pub Writes : Course → Type 0
+abbrev pub Writes : Lifecycle → Type 0
 Writes (Collecting n) = OwnWrites n.own × ((q : ℕ) → is_number (told_of n.told q).cursor ≡ true)
 Writes (Replaying n) = OwnWrites n.own
 Writes (Replayed n) = OwnWrites n.own
@@ -48,7 +48,7 @@ Writes other = Unit {0}
 
 -- these are the bytes of the first packet that waits
 abbrev pub IsFront : TheProcess → List ℕ → Type 0
-IsFront p bytes = (x : NodePacket) × IsPacket x bytes × ((rest : List NodePacket) × (out_of p.course ≡ x ∷ rest))
+IsFront p bytes = (x : NodePacket) × IsPacket x bytes × ((rest : List NodePacket) × (out_of p.lifecycle ≡ x ∷ rest))
 
 -- so they are, and that packet is taken
 abbrev pub GivesBytes : List ℕ → TheProcess → TheProcess → Type 0

@@ -15,7 +15,7 @@ use Rattle.node.specs.Node.{new_node}
 use Rattle.recovery.specs.Own.{comes_back}
 use Rattle.recovery.specs.Collection.{revived}
 use Rattle.recovery.specs.Stands.{Revives}
-use Rattle.process.specs.declared.course.Course.TheVariants.{Up, Collecting}
+use Rattle.process.specs.declared.lifecycle.Lifecycle.TheVariants.{Up, Collecting}
 use Rattle.process.specs.declared.fault.Unrevived.{Unrevived}
 use Rattle.process.specs.declared.fault.Unrevived.TheVariants as why
 use Rattle.process.specs.Process.{TheProcess}
@@ -23,7 +23,7 @@ use Rattle.process.specs.Process.{TheProcess}
 -- a process that received nothing: it agrees with the opening, in which its handler has a state of zeros
 pub record IsOpened (image : AnyImage) (limits : Limits) (me count : ℕ) (p : TheProcess) : Type 0 where
   pub image_is : p.image ≡ image
-  pub course_is : p.course ≡ Up (new_node limits me count (state_of image))
+  pub lifecycle_is : p.lifecycle ≡ Up (new_node limits me count (state_of image))
   pub stands : (f : Handlers) → BeginsWith f me (state_of image) → Stands (new_node limits me count (state_of image)) (opening count f) me
 
 -- a process may come back from these bytes, with a state as long as the image's
@@ -37,7 +37,7 @@ pub record IsRevived (image : AnyImage) (limits : Limits) (bytes : List ℕ) (li
   pub kept : Kept
   pub is_kept : IsKeptFor image kept bytes
   pub image_is : p.image ≡ image
-  pub course_is : p.course ≡ Collecting (revived limits kept life)
+  pub lifecycle_is : p.lifecycle ≡ Collecting (revived limits kept life)
   pub revives : Revives kept life (revived limits kept life)
 
 -- no process comes back from them: they have more messages than a process can have received or sent

@@ -17,8 +17,8 @@ use Rattle.recovery.specs.Own.{MayGive}
 use Rattle.node.specs.Stands as up_owes
 use Rattle.recovery.specs.Replays.{next_job, did_replay}
 use Rattle.recovery.specs.StandsAtReplay as replaying_owes
-use Rattle.process.specs.declared.course.Course.{Course}
-use Rattle.process.specs.declared.course.Course.TheVariants.{Up, Replaying}
+use Rattle.process.specs.declared.lifecycle.Lifecycle.{Lifecycle}
+use Rattle.process.specs.declared.lifecycle.Lifecycle.TheVariants.{Up, Replaying}
 use Rattle.process.specs.Process.{TheProcess, state_of}
 use Rattle.process.specs.Transitions.{Passes}
 
@@ -28,7 +28,7 @@ job_as me count None = None
 job_as me count (Some j) = Some (j, record { me = me; from = j.sender; count = count })
 
 -- the message of the open job, or the next one of the replay
-abbrev pub job_at : Course → Option (OpenJob × Who)
+abbrev pub job_at : Lifecycle → Option (OpenJob × Who)
 job_at (Up n) = job_as n.me n.count n.working
 job_at (Replaying n) = job_as n.own.me n.own.count (next_job n)
 job_at other = None
@@ -55,7 +55,7 @@ abbrev pub given_of : Who → Emitted → List Given
 given_of who e = sent_by who e.sends ++ shown_by who e.outputs
 
 -- the handler left this state, and sent this
-abbrev pub TakesIn : List ℕ → List Given → Course → Course → Type 0
+abbrev pub TakesIn : List ℕ → List Given → Lifecycle → Lifecycle → Type 0
 TakesIn state given (Up old) (Up new) = (new ≡ did_work state given old.working old)
     × up_owes.Owes (up_owes.Handles state given old) old new
 TakesIn state given (Replaying old) (Replaying new) =
@@ -65,18 +65,18 @@ TakesIn state given (Replaying old) new = ⊥
 TakesIn state given old new = new ≡ old
 
 -- these may be sent
-abbrev pub MayTakeIn : Course → List Given → Type 0
+abbrev pub MayTakeIn : Lifecycle → List Given → Type 0
 MayTakeIn (Up n) given = MaySend n given
 MayTakeIn (Replaying n) given = MayGive n.own given
 MayTakeIn other given = Unit {0}
 
 -- a message is next, and the handler may not be run as this process, which can be only in form 3
 abbrev pub IsNone : TheProcess → Type 0
-IsNone p = (job : OpenJob) × (who : Who) × (job_at p.course ≡ Some (job, who)) × ¬ MayRunAs p.image who
+IsNone p = (job : OpenJob) × (who : Who) × (job_at p.lifecycle ≡ Some (job, who)) × ¬ MayRunAs p.image who
 
 -- there is nothing to run on, the state doesn't have the image's length, or the handler may not be run as this process
 abbrev pub Rests : TheProcess → Type 0
-Rests p = (job_at p.course ≡ None) ⊎ (length (state_of p.course) ≢ image_state p.image) ⊎ IsNone p
+Rests p = (job_at p.lifecycle ≡ None) ⊎ (length (state_of p.lifecycle) ≢ image_state p.image) ⊎ IsNone p
 
 -- what the handler answers to a message, called with this identity on this state
 abbrev pub answer_to : AnyImage → Who → List ℕ → OpenJob → Option Handled
@@ -87,9 +87,9 @@ pub record Works (old new : TheProcess) : Type 0 where
   pub job : OpenJob
   pub who : Who
   pub answer : Handled
-  pub mid : Course
+  pub mid : Lifecycle
   pub image : new.image ≡ old.image
-  pub next : job_at old.course ≡ Some (job, who)
-  pub answers : answer_to old.image who (state_of old.course) job ≡ Some answer
-  pub takes : TakesIn answer.state (given_of who answer.effects) old.course mid
-  pub passes : Passes mid new.course
+  pub next : job_at old.lifecycle ≡ Some (job, who)
+  pub answers : answer_to old.image who (state_of old.lifecycle) job ≡ Some answer
+  pub takes : TakesIn answer.state (given_of who answer.effects) old.lifecycle mid
+  pub passes : Passes mid new.lifecycle

@@ -100,7 +100,7 @@ impl Member {
 
     /// The ticket of the next job.
     fn ticket(&self) -> HandlerTicket
-        ensures { result ≡ ticket_at self.now.course }
+        ensures { result ≡ ticket_at self.now.lifecycle }
     {
         let standing = self.standing();
         HandlerTicket {

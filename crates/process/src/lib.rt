@@ -28,24 +28,24 @@
 
 mod call;
 mod checkpoints;
-mod course;
 mod done;
 mod exchange;
 mod fault;
 mod job;
 mod laws;
 mod layout;
+mod lifecycle;
 mod process;
 mod queries;
 mod traffic;
 mod work;
 
 pub use call::{HandlerCall, HandlerTicket};
-pub use course::Course;
 pub use done::FinishedCall;
 pub use fault::{Undone, Unrevived};
 pub use job::HandlerJob;
 pub use laws::{covered_are_dropped, entries_are_given, saved_drops};
+pub use lifecycle::Lifecycle;
 pub use process::Member;
 pub use queries::{MOST_ENTRIES, MOST_STORED};
 pub use recovery::Cause;

@@ -8,8 +8,8 @@ ghost use Rattle.packets.specs.Kept.{IsKept};
 ghost use Rattle.recovery.specs.Own.{comes_back};
 ghost use Rattle.process.specs.Revival.{IsOpened, IsRevived, IsUnrevived, IsUnread};
 
-use crate::course::Course;
 use crate::fault::Unrevived;
+use crate::lifecycle::Lifecycle;
 use handlers::Handler;
 use helpers::{Effects, Refused};
 use node::{Limits, Node};
@@ -23,7 +23,7 @@ use std::sync::Arc;
 #[derive(Drop)]
 pub struct Member {
     pub(crate) image: Arc<Handler>,
-    pub(crate) course: Course,
+    pub(crate) lifecycle: Lifecycle,
     /// Memory for what its handler sends, which is no part of its value.
     pub(crate) effects: Effects,
     /// What helpers refused its handler in this incarnation, which is no part of its value either.
@@ -39,9 +39,9 @@ impl Model for Member {
 
     ghost use Rattle.process.specs.Bounds.{IsWithin};
 
-    ghost view = { λ p. record { image = image_of (arc_value p.image); course = p.course } };
+    ghost view = { λ p. record { image = image_of (arc_value p.image); lifecycle = p.lifecycle } };
 
-    ghost invariant = { λ p. IsWithin p.course };
+    ghost invariant = { λ p. IsWithin p.lifecycle };
 }
 
 impl Member {
@@ -61,7 +61,7 @@ impl Member {
         let node = Node::open(alloc, limits, me, count, image.state_len())?;
         Ok(Member {
             image,
-            course: Course::Up(node),
+            lifecycle: Lifecycle::Up(node),
             effects: Effects::new(),
             refused: Refused::default(),
         })
@@ -90,7 +90,7 @@ impl Member {
         match Collecting::revive(alloc, limits, &kept, incarnation) {
             Ok(process) => Ok(Member {
                 image,
-                course: Course::Collecting(process),
+                lifecycle: Lifecycle::Collecting(process),
                 effects: Effects::new(),
                 refused: Refused::default(),
             }),

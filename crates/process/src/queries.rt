@@ -8,7 +8,7 @@ ghost use Rattle.node.specs.declared.node.TheConstants.{WINDOW};
 ghost use Rattle.process.specs.Calls.{standing_at};
 ghost use Rattle.process.specs.Bounds.{IsBounded, waiting_of};
 
-use crate::course::Course;
+use crate::lifecycle::Lifecycle;
 use crate::process::Member;
 use handlers::Handler;
 use helpers::Refused;
@@ -46,29 +46,29 @@ impl Member {
 
     /// The first packet that waits, if there is one.
     pub fn front(&self) -> Option<&NodePacket>
-        ensures { MatchOption result (out_of self.now.course ≡ []) (λ x. (rest : List NodePacket) × (out_of self.now.course ≡ x.now ∷ rest)) }
+        ensures { MatchOption result (out_of self.now.lifecycle ≡ []) (λ x. (rest : List NodePacket) × (out_of self.now.lifecycle ≡ x.now ∷ rest)) }
     {
-        match &self.course {
-            Course::Up(process) => process.front(),
-            Course::Collecting(process) => process.front(),
-            Course::Replaying(process) => process.front(),
-            Course::Replayed(process) => process.front(),
-            Course::Restoring(process) => process.front(),
-            Course::Passing => None,
+        match &self.lifecycle {
+            Lifecycle::Up(process) => process.front(),
+            Lifecycle::Collecting(process) => process.front(),
+            Lifecycle::Replaying(process) => process.front(),
+            Lifecycle::Replayed(process) => process.front(),
+            Lifecycle::Restoring(process) => process.front(),
+            Lifecycle::Passing => None,
         }
     }
 
     /// The state that its handler left last; while it collects, the state of its checkpoint.
     pub fn state(&self) -> &[u8]
-        ensures { result.now ≡ state_of self.now.course }
+        ensures { result.now ≡ state_of self.now.lifecycle }
     {
-        match &self.course {
-            Course::Up(process) => process.state(),
-            Course::Collecting(process) => process.state(),
-            Course::Replaying(process) => process.state(),
-            Course::Replayed(process) => process.state(),
-            Course::Restoring(process) => process.state(),
-            Course::Passing => &[],
+        match &self.lifecycle {
+            Lifecycle::Up(process) => process.state(),
+            Lifecycle::Collecting(process) => process.state(),
+            Lifecycle::Replaying(process) => process.state(),
+            Lifecycle::Replayed(process) => process.state(),
+            Lifecycle::Restoring(process) => process.state(),
+            Lifecycle::Passing => &[],
         }
     }
 
@@ -76,25 +76,25 @@ impl Member {
     /// checkpoint, with those that it has still to replay; messages in its logs; packets that wait;
     /// and RSNs that wait for their acknowledgement.
     pub fn standing(&self) -> Standing
-        ensures value { result ≡ standing_at self.now.course }
+        ensures value { result ≡ standing_at self.now.lifecycle }
         ensures bounded { IsBounded result }
-        ensures waits { waiting_of self.now.course ≤ WINDOW }
+        ensures waits { waiting_of self.now.lifecycle ≤ WINDOW }
     {
-        self.course.standing()
+        self.lifecycle.standing()
     }
 }
 
-impl Course {
+impl Lifecycle {
     fn standing(&self) -> Standing
         ensures { result ≡ standing_at self.now }
     {
         match self {
-            Course::Up(process) => process.standing(),
-            Course::Collecting(process) => process.standing(),
-            Course::Replaying(process) => process.standing(),
-            Course::Replayed(process) => process.standing(),
-            Course::Restoring(process) => process.standing(),
-            Course::Passing => NONE,
+            Lifecycle::Up(process) => process.standing(),
+            Lifecycle::Collecting(process) => process.standing(),
+            Lifecycle::Replaying(process) => process.standing(),
+            Lifecycle::Replayed(process) => process.standing(),
+            Lifecycle::Restoring(process) => process.standing(),
+            Lifecycle::Passing => NONE,
         }
     }
 }

@@ -10,7 +10,7 @@ ghost use Rattle.process.specs.Calls.{Calls, Stays, IsHanded, Ticks, Takes};
 ghost use Rattle.process.specs.Packets.{IsFront, GivesBytes};
 ghost use Rattle.process.specs.Transitions.{Passes, is_held, IsHeld};
 
-use crate::course::Course;
+use crate::lifecycle::Lifecycle;
 use crate::process::Member;
 use packets::{NodePacket, PacketError, decode, encode, one_packet};
 use recovery::Cause;
@@ -41,7 +41,7 @@ impl Member {
         ensures calls { OnOk result (Calls (IsHanded packet.now) self.old self.new) }
         ensures err { OnErr result (self.new ≡ self.old) }
     {
-        self.course.hand(alloc, packet)?;
+        self.lifecycle.hand(alloc, packet)?;
         let _held = self.pass(alloc);
         Ok(())
     }
@@ -50,10 +50,10 @@ impl Member {
     /// go on, and says why if it still can't.
     pub fn tick(&mut self, alloc: Global) -> Result<(), Cause>
         ensures calls { Calls Ticks self.old self.new }
-        ensures on { OnOk result (is_held self.new.course ≡ false) }
-        ensures held { IfErr result (λ why. IsHeld why self.new.course) }
+        ensures on { OnOk result (is_held self.new.lifecycle ≡ false) }
+        ensures held { IfErr result (λ why. IsHeld why self.new.lifecycle) }
     {
-        self.course.send_again();
+        self.lifecycle.send_again();
         self.pass(alloc)
     }
 
@@ -61,13 +61,13 @@ impl Member {
     pub fn take(&mut self) -> Option<NodePacket>
         ensures { Stays (Takes result) self.old self.new }
     {
-        self.course.pop()
+        self.lifecycle.pop()
     }
 
     /// Takes the first packet that waits, if there is one, as bytes. A refusal, which is by memory,
     /// changes nothing.
     pub fn take_bytes(&mut self, alloc: Global) -> Result<Option<Vec<u8>>, AllocError>
-        ensures none { IfOk result (λ o. IfNone o ((self.new ≡ self.old) × (out_of self.old.course ≡ []))) }
+        ensures none { IfOk result (λ o. IfNone o ((self.new ≡ self.old) × (out_of self.old.lifecycle ≡ []))) }
         ensures some { IfOk result (λ o. IfSome o (λ v. GivesBytes v.items self.old self.new)) }
         ensures err { OnErr result (self.new ≡ self.old) }
     {
@@ -82,17 +82,17 @@ impl Member {
 
     /// Drops the first packet that waits.
     fn discard(&mut self)
-        ensures { (x : NodePacket) (rest : List NodePacket) → out_of self.old.course ≡ x ∷ rest → Stays (Takes (Some x)) self.old self.new }
+        ensures { (x : NodePacket) (rest : List NodePacket) → out_of self.old.lifecycle ≡ x ∷ rest → Stays (Takes (Some x)) self.old self.new }
     {
         let _packet = self.take();
     }
 
     /// The bytes of the first packet that waits, if there is one. It still waits.
     pub fn front_bytes(&self, alloc: Global) -> Result<Option<Vec<u8>>, AllocError>
-        ensures none { IfOk result (λ o. IfNone o (out_of self.now.course ≡ [])) }
+        ensures none { IfOk result (λ o. IfNone o (out_of self.now.lifecycle ≡ [])) }
         ensures some { IfOk result (λ o. IfSome o (λ v. IsFront self.now v.items)) }
     {
-        if let Course::Up(node) = &self.course {
+        if let Lifecycle::Up(node) = &self.lifecycle {
             return match node.front() {
                 Some(packet) => written(alloc, packet),
                 None => Ok(None),
@@ -107,10 +107,10 @@ impl Member {
     /// Goes on to the next stage if its stage is over, or says why it can't.
     pub(crate) fn pass(&mut self, alloc: Global) -> Result<(), Cause>
         ensures passes { Stays Passes self.old self.new }
-        ensures on { OnOk result (is_held self.new.course ≡ false) }
-        ensures held { IfErr result (λ why. IsHeld why self.new.course) }
+        ensures on { OnOk result (is_held self.new.lifecycle ≡ false) }
+        ensures held { IfErr result (λ why. IsHeld why self.new.lifecycle) }
     {
-        if self.course.is_up() {
+        if self.lifecycle.is_up() {
             return Ok(());
         }
         self.pass_on(alloc)
@@ -120,45 +120,45 @@ impl Member {
     #[inline(never)]
     fn pass_on(&mut self, alloc: Global) -> Result<(), Cause>
         ensures passes { Stays Passes self.old self.new }
-        ensures on { OnOk result (is_held self.new.course ≡ false) }
-        ensures held { IfErr result (λ why. IsHeld why self.new.course) }
+        ensures on { OnOk result (is_held self.new.lifecycle ≡ false) }
+        ensures held { IfErr result (λ why. IsHeld why self.new.lifecycle) }
     {
-        let course = replace(&mut self.course, Course::Passing);
-        match course.passed(alloc) {
-            Ok(course) => {
-                self.course = course;
+        let lifecycle = replace(&mut self.lifecycle, Lifecycle::Passing);
+        match lifecycle.passed(alloc) {
+            Ok(lifecycle) => {
+                self.lifecycle = lifecycle;
                 Ok(())
             }
             Err(held) => {
-                self.course = held.course;
+                self.lifecycle = held.lifecycle;
                 Err(held.cause)
             }
         }
     }
 }
 
-impl Course {
+impl Lifecycle {
     /// Takes a packet. A refusal changes nothing.
     fn hand(&mut self, alloc: Global, packet: &NodePacket) -> Result<(), AllocError>
         ensures ok { OnOk result (IsHanded packet.now self.old self.new) }
         ensures err { OnErr result (self.new ≡ self.old) }
     {
         match self {
-            Course::Up(process) => process.receive(alloc, packet),
-            Course::Collecting(process) => process.receive(alloc, packet),
-            Course::Replaying(process) => {
+            Lifecycle::Up(process) => process.receive(alloc, packet),
+            Lifecycle::Collecting(process) => process.receive(alloc, packet),
+            Lifecycle::Replaying(process) => {
                 process.receive(alloc, packet);
                 Ok(())
             }
-            Course::Replayed(process) => {
+            Lifecycle::Replayed(process) => {
                 process.receive(alloc, packet);
                 Ok(())
             }
-            Course::Restoring(process) => {
+            Lifecycle::Restoring(process) => {
                 process.receive(alloc, packet);
                 Ok(())
             }
-            Course::Passing => Ok(()),
+            Lifecycle::Passing => Ok(()),
         }
     }
 
@@ -167,12 +167,12 @@ impl Course {
         ensures { Ticks self.old self.new }
     {
         match self {
-            Course::Up(process) => process.tick(),
-            Course::Collecting(process) => process.tick(),
-            Course::Restoring(process) => process.tick(),
-            Course::Replaying(_) => {}
-            Course::Replayed(_) => {}
-            Course::Passing => {}
+            Lifecycle::Up(process) => process.tick(),
+            Lifecycle::Collecting(process) => process.tick(),
+            Lifecycle::Restoring(process) => process.tick(),
+            Lifecycle::Replaying(_) => {}
+            Lifecycle::Replayed(_) => {}
+            Lifecycle::Passing => {}
         }
     }
 
@@ -181,12 +181,12 @@ impl Course {
         ensures { Takes result self.old self.new }
     {
         match self {
-            Course::Up(process) => process.take(),
-            Course::Collecting(process) => process.take(),
-            Course::Replaying(process) => process.take(),
-            Course::Replayed(process) => process.pop(),
-            Course::Restoring(process) => process.take(),
-            Course::Passing => None,
+            Lifecycle::Up(process) => process.take(),
+            Lifecycle::Collecting(process) => process.take(),
+            Lifecycle::Replaying(process) => process.take(),
+            Lifecycle::Replayed(process) => process.pop(),
+            Lifecycle::Restoring(process) => process.take(),
+            Lifecycle::Passing => None,
         }
     }
 }

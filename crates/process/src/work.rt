@@ -7,7 +7,7 @@ ghost use Rattle.process.specs.Job.{IsCallable, TakesBack, HasNext, IsNext};
 ghost use Rattle.process.specs.Holds.{entries_of};
 ghost use Rattle.process.specs.Work.{job_at, is_other, given_of, sent_by, shown_of, TakesIn, MayTakeIn, Works, Rests};
 
-use crate::course::Course;
+use crate::lifecycle::Lifecycle;
 use crate::process::Member;
 use helpers::{Effects, Payload, Refused, Sent, Who};
 use node::{Given, OpenJob};
@@ -17,14 +17,14 @@ impl Member {
     /// The message that the handler is to run on, and the identity that it is called with: the
     /// message of the open job, or the next one of the replay, if there is one.
     fn next_job(&self) -> Option<(OpenJob, Who)>
-        ensures { result ≡ job_at self.now.course }
+        ensures { result ≡ job_at self.now.lifecycle }
     {
-        match &self.course {
-            Course::Up(node) => {
+        match &self.lifecycle {
+            Lifecycle::Up(node) => {
                 let job = node.job()?;
                 Some((job, node.who(job.sender)))
             }
-            Course::Replaying(process) => {
+            Lifecycle::Replaying(process) => {
                 let job = process.job()?;
                 Some((job, process.who(job.sender)))
             }
@@ -50,7 +50,7 @@ impl Member {
 
     /// Whether there is no message to run on.
     fn is_idle(&self) -> bool
-        ensures { result ≡ true → job_at self.now.course ≡ None }
+        ensures { result ≡ true → job_at self.now.lifecycle ≡ None }
     {
         self.next_job().is_none()
     }
@@ -102,20 +102,20 @@ impl Member {
         given: &[Given],
         refused: Refused,
     ) -> Result<(), AllocError>
-        requires { MayTakeIn self.old.course given.now }
+        requires { MayTakeIn self.old.lifecycle given.now }
         ensures ok { OnOk result (TakesBack state.items given.now self.old self.new) }
         ensures few { OnOk result (entries_of self.new ≤ entries_of self.old + MOST_GIVEN) }
         ensures err { OnErr result (self.new ≡ self.old) }
     {
-        let refused = self.course.counted(self.refused, refused);
-        self.course.take_in(state, given)?;
+        let refused = self.lifecycle.counted(self.refused, refused);
+        self.lifecycle.take_in(state, given)?;
         self.refused = refused;
         let _held = self.pass(alloc);
         Ok(())
     }
 }
 
-impl Course {
+impl Lifecycle {
     /// The earlier count, plus this one unless the call was a replay.
     fn counted(&self, before: Refused, refused: Refused) -> Refused {
         let mut all = before;
@@ -132,8 +132,8 @@ impl Course {
         ensures err { OnErr result (self.new ≡ self.old) }
     {
         match self {
-            Course::Up(node) => node.work(state, given),
-            Course::Replaying(process) => process.work(state, given),
+            Lifecycle::Up(node) => node.work(state, given),
+            Lifecycle::Replaying(process) => process.work(state, given),
             _ => Ok(()),
         }
     }

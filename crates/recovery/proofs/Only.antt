@@ -1,9 +1,9 @@
 -- What the rules let one do that replays
-use Rattle.std.proofs.Common.{◌≡◌, ◌⊎◌, inl, inr, ℕ, true, false, refl, sym, ◌∙◌, subst, arith}
+use Rattle.std.proofs.Common.{zero, suc, None, Some, ◌≡◌, ◌⊎◌, inl, inr, ℕ, true, false, refl, sym, ◌∙◌, subst, arith}
 use Rattle.world.specs.Phases.{Replaying, todo_of, has, is_replaying}
 use Rattle.cluster.specs.Parcels.{Body, Delivery, Number, Acknowledgement, Ask, Told, Resume, Restored, Saved}
 use Rattle.cluster.specs.Cluster.{Cluster, Live, Frozen, Dead, Collecting, is_well, takes}
-use Rattle.cluster.specs.Rules.{Input, Puts, Starts, Shows, Works, Replays, Records, Counts, Drops, Hears, Collects, Recovers, Obeys, Enters, Restores, Greets, Freezes, Keeps, Thaws, Dies, Opens, MayPut}
+use Rattle.cluster.specs.Rules.{Input, Puts, Arrives, Works, Replays, Recovers, Freezes, Keeps, Thaws, Dies, Opens, MayPut}
 use Rattle.recovery.specs.Replays.{TheReplaying, is_over}
 use Rattle.recovery.specs.StandsAtReplay.{StandsReplaying, IsReplay, OnlyReplays}
 
@@ -50,23 +50,23 @@ module _ (n : TheReplaying) (c : Cluster) (p : ℕ) (s : StandsReplaying n c p) 
 pub only-replays : OnlyReplays
 only-replays n c p (Input d x) s left may by = absurd (omega (arith, by, s.own.inside.0))
 only-replays n c p (Puts q d x) s left may by = let P : ℕ → Type 0 = λ z. MayPut c z d x → IsReplay n (Puts z d x) in subst P (sym by) (puts-only n c p s left d x) may.3
-only-replays n c p (Starts q d i ssn x) s left may by = let P : ℕ → Type 0 = λ z. takes c z ≡ true in not-takes n c p s left (subst P by may.2)
-only-replays n c p (Shows q i ssn x) s left may by = absurd (omega (arith, by, s.own.inside.0))
+only-replays n c p (Arrives q (suc d) (Delivery i ssn x)) s left may by = let P : ℕ → Type 0 = λ z. takes c z ≡ true in not-takes n c p s left (subst P by may.1.1)
+only-replays n c p (Arrives q zero (Delivery i ssn x)) s left may by = absurd (omega (arith, by, s.own.inside.0))
 only-replays n c p (Works q m) s left may by = let P : ℕ → Type 0 = λ z. takes c z ≡ true in not-takes n c p s left (subst P by may.1)
 only-replays n c p (Replays q j) s left may by = let P : ℕ → Type 0 = λ z. c.phase z ≡ Replaying j false false in replays-next n c p s left j (subst P by may.2)
-only-replays n c p (Records r q i ssn k) s left may by = let P : ℕ → Type 0 = λ z. takes c z ≡ true in not-takes n c p s left (subst P by may.1)
-only-replays n c p (Counts q r i k) s left may by = let P : ℕ → Type 0 = λ z. takes c z ≡ true in not-takes n c p s left (subst P by may.2)
-only-replays n c p (Drops d q k) s left may by = let P : ℕ → Type 0 = λ z. takes c z ≡ true in not-takes n c p s left (subst P by may.1)
-only-replays n c p (Hears r q i k) s left may by = let P : ℕ → Type 0 = λ z. (takes c z ≡ true) ⊎ (c.stage z ≡ Collecting) in hears-none n c p s left (subst P by may.2)
-only-replays n c p (Collects r q i j k u f) s left may by = let P : ℕ → Type 0 = λ z. c.stage z ≡ Collecting in not-collecting n c p s left (subst P by may.1)
+only-replays n c p (Arrives r q (Number i ssn k)) s left may by = let P : ℕ → Type 0 = λ z. takes c z ≡ true in not-takes n c p s left (subst P by may.1.0)
+only-replays n c p (Arrives q r (Acknowledgement i k)) s left may by = let P : ℕ → Type 0 = λ z. takes c z ≡ true in not-takes n c p s left (subst P by may.1.1)
+only-replays n c p (Arrives d q (Saved k)) s left may by = let P : ℕ → Type 0 = λ z. takes c z ≡ true in not-takes n c p s left (subst P by may.1)
+only-replays n c p (Arrives r q (Ask i k)) s left may by = let P : ℕ → Type 0 = λ z. (takes c z ≡ true) ⊎ (c.stage z ≡ Collecting) in hears-none n c p s left (subst P by may.1.1)
+only-replays n c p (Arrives r q (Told i j k u f)) s left may by = let P : ℕ → Type 0 = λ z. c.stage z ≡ Collecting in not-collecting n c p s left (subst P by may.1.0)
 only-replays n c p (Recovers q k) s left may by = let P : ℕ → Type 0 = λ z. c.stage z ≡ Collecting in not-collecting n c p s left (subst P by may.1)
-only-replays n c p (Obeys r q i k t) s left may by = let P : ℕ → Type 0 = λ z. takes c z ≡ true in not-takes n c p s left (subst P by may.1)
-only-replays n c p (Enters r q i j k t u f) s left may by = let P : ℕ → Type 0 = λ z. has (todo_of (c.phase z)) r ≡ true in none-to-do n c p s left r (subst P by may.4)
-only-replays n c p (Restores r q i j k t f) s left may by = let P : ℕ → Type 0 = λ z. has (todo_of (c.phase z)) r ≡ true in none-to-do n c p s left r (subst P by may.4)
-only-replays n c p (Greets q i j k t f) s left may by =
+only-replays n c p (Arrives r q (Resume i k t)) s left may by = let P : ℕ → Type 0 = λ z. takes c z ≡ true in not-takes n c p s left (subst P by may.1.0)
+only-replays n c p (Arrives r q (Restored i j k t (Some u) f)) s left may by = let P : ℕ → Type 0 = λ z. has (todo_of (c.phase z)) r ≡ true in none-to-do n c p s left r (subst P by may.1.3)
+only-replays n c p (Arrives (suc r) q (Restored i j k t None f)) s left may by = let P : ℕ → Type 0 = λ z. has (todo_of (c.phase z)) (suc r) ≡ true in none-to-do n c p s left (suc r) (subst P by may.1.3)
+only-replays n c p (Arrives zero q (Restored i j k t None f)) s left may by =
     let P : ℕ → Type 0 = λ z. is_replaying (c.phase z) ≡ false in
     let f : is_replaying (c.phase p) ≡ true = rw (phase-is n c p s left) refl in
-    absurd (cc (subst P by may.4, f))
+    absurd (cc (subst P by may.1.3, f))
 only-replays n c p (Freezes q) s left may by = let P : ℕ → Type 0 = λ z. takes c z ≡ true in not-takes n c p s left (subst P by may.1)
 only-replays n c p (Keeps q) s left may by = let P : ℕ → Type 0 = λ z. c.stage z ≡ Frozen in not-frozen n c p s left (subst P by may.1)
 only-replays n c p (Thaws q) s left may by = let P : ℕ → Type 0 = λ z. c.stage z ≡ Frozen in not-frozen n c p s left (subst P by may.1)

@@ -7,7 +7,7 @@ use Rattle.theorems.proofs.Changes.{at-itself}
 use Rattle.theorems.proofs.Tests.{both}
 use Rattle.cluster.specs.Parcels.{Body, Ask, Told, In, parcel, reaches}
 use Rattle.cluster.specs.Cluster.{Cluster, Collected}
-use Rattle.cluster.specs.Rules.{Act, Hears, Collects, Asks, May, does, with_page as with_told}
+use Rattle.cluster.specs.Rules.{Act, Arrives, Asks, May, does, with_page as with_told}
 use Rattle.packets.specs.Packet.{is_done, is_lost, is_exact, in_range}
 use Rattle.packets.specs.declared.page.LoggedMessage.{LoggedMessage}
 use Rattle.packets.specs.declared.page.Flags.{Flags}
@@ -63,7 +63,7 @@ module _ (n : TheCollecting) (c : Cluster) (from i j k : ℕ) (flags : Flags) (p
   base = n.own.base
 
   abbrev act : Act
-  act = Collects from me i j k (told_end flags k page) f
+  act = Arrives from me (Told i j k (told_end flags k page) f)
 
   abbrev c' : Cluster
   c' = does c act
@@ -81,7 +81,7 @@ module _ (n : TheCollecting) (c : Cluster) (from i j k : ℕ) (flags : Flags) (p
   asked = rw (s.own.saved, ok.cursor) ((s.told from within).asks ok.open_is)
 
   may : May c act
-  may = (given, s.stage, ok.life ∙ sym s.life, (let e = s.own.heard from within in omega (arith, e, ok.young)), asked)
+  may = (given, (s.stage, ok.life ∙ sym s.life, (let e = s.own.heard from within in omega (arith, e, ok.young)), asked))
 
   heard-is : (q : ℕ) → q ≤ c.count → c'.heard me q ≡ slice_index_or (slice_set n.own.heard from j) q 0
   heard-is q l = at-itself me (λ t. (if t && (q == from) then j else c.heard me q) ≡ slice_index_or (slice_set n.own.heard from j) q 0)
@@ -133,7 +133,7 @@ module _ (n : TheCollecting) (c : Cluster) (from i k : ℕ) (s : StandsCollectin
   p = n.own.me
 
   abbrev hear : Act
-  hear = Hears from p i k
+  hear = Arrives from p (Ask i k)
 
   abbrev d' : Cluster
   d' = does c hear
@@ -145,7 +145,7 @@ module _ (n : TheCollecting) (c : Cluster) (from i k : ℕ) (s : StandsCollectin
   from-in = omega (arith, low, s.own.count)
 
   may-hear : May c hear
-  may-hear = (given, (let l : heard_of from n.own < i = grind (arith, nat_tests) in let e = s.own.heard from from-in in omega (arith, l, e)), inr s.stage)
+  may-hear = (given, ((let l : heard_of from n.own < i = grind (arith, nat_tests) in let e = s.own.heard from from-in in omega (arith, l, e)), inr s.stage))
 
   heard-anew : (q : ℕ) → q ≤ c.count → d'.heard p q ≡ slice_index_or (slice_set n.own.heard from i) q 0
   heard-anew q l = at-itself p (λ t. (if t && (q == from) then i else c.heard p q) ≡ slice_index_or (slice_set n.own.heard from i) q 0)

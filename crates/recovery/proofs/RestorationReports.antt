@@ -10,7 +10,8 @@ use Rattle.theorems.proofs.Changes.{at-itself}
 use Rattle.theorems.proofs.Tests.{both}
 use Rattle.cluster.specs.Parcels.{Body, Restored, In, parcel, reaches}
 use Rattle.cluster.specs.Cluster.{Cluster, seen}
-use Rattle.cluster.specs.Rules.{Act, Enters, Restores, Greets, May, IsNode, does, entered, takes_in as taken_in}
+use Rattle.cluster.specs.Rules.{Act, Arrives, Awaits, May, IsNode, does, goes_on, entered, takes_in as taken_in}
+use Rattle.cluster.proofs.Nodes.{may-restore, restores}
 use Rattle.packets.specs.Packet.{is_done, is_exact, in_range}
 use Rattle.packets.specs.declared.page.Pair.{Pair}
 use Rattle.packets.specs.declared.page.Flags.{Flags}
@@ -140,6 +141,9 @@ module _ (n : TheRestoring) (c : Cluster) (from i j covered s : ℕ) (flags : Fl
   to-do : has (todo_of (c.phase p)) from ≡ true
   to-do = let e : todo_of (c.phase p) ≡ left n = ap todo_of st.phase ∙ todo-is (left n) in rw e (left-has n from some low ok.open_is)
 
+  waited : Awaits c p from i j s
+  waited = (node, st.stage, ok.life ∙ sym st.life, to-do, place-is, heard-low)
+
   page-keeps : KeepsOf (noted pairs (dropped_to covered (log_at n.own.logs from))) (max (c.trims p from) covered) (c.handlers.sends p (c.history p) from) (entered c p from s upto f)
   page-keeps =
       keeps-page (log_at n.own.logs from) (c.trims p from) covered s (c.handlers.sends p (c.history p) from) (c.numbers p from) f flags pairs (st.own.logs from from-in (other-of n c from i j covered s flags pairs f st low w ok)) ok.some page ok.last
@@ -163,10 +167,10 @@ module _ (n : TheRestoring) (c : Cluster) (from i j covered s : ℕ) (flags : Fl
   -- the last page
   module _ (done : is_done flags ≡ true) where
     abbrev last : Act
-    last = Restores from p i j covered s f
+    last = Arrives from p (Restored i j covered s None f)
 
     abbrev c' : Cluster
-    c' = does c last
+    c' = goes_on (taken_in c p from j covered s None f) p (without (todo_of (c.phase p)) from)
 
     abbrev m : TheRestoring
     m = record n { own = own; answered = slice_set n.answered from true }
@@ -175,7 +179,7 @@ module _ (n : TheRestoring) (c : Cluster) (from i j covered s : ℕ) (flags : Fl
     end-is = rw done refl
 
     may-last : May c last
-    may-last = (let P : Option ℕ → Type 0 = λ u. In (parcel from p (Restored i j covered s u f)) c.parcels in (subst P end-is given, node, st.stage, ok.life ∙ sym st.life, to-do, place-is, heard-low))
+    may-last = let P : Option ℕ → Type 0 = λ u. In (parcel from p (Restored i j covered s u f)) c.parcels in may-restore c from p i j covered s f (subst P end-is given) waited
 
     left-is : without (todo_of (c.phase p)) from ≡ left m
     left-is =
@@ -224,7 +228,7 @@ module _ (n : TheRestoring) (c : Cluster) (from i j covered s : ℕ) (flags : Fl
             subst P end-is (numbers-other q ssn apart ∙ st.fresh q ssn l (sym (answered-other n from q apart) ∙ open_is) above)
 
     goes-last : GoesTo p (At m p) c
-    goes-last = goes-one p (At m p) c last may-last refl stands-last
+    goes-last = goes-one p (At m p) c last may-last refl (subst (At m p) (sym (restores c from p i j covered s f some)) stands-last)
 
   -- one that isn't the last
   module _ (more : is_done flags ≡ false) where
@@ -232,7 +236,7 @@ module _ (n : TheRestoring) (c : Cluster) (from i j covered s : ℕ) (flags : Fl
     u = last_ssn s pairs
 
     abbrev next : Act
-    next = Enters from p i j covered s u f
+    next = Arrives from p (Restored i j covered s (Some u) f)
 
     abbrev cn : Cluster
     cn = does c next
@@ -244,7 +248,7 @@ module _ (n : TheRestoring) (c : Cluster) (from i j covered s : ℕ) (flags : Fl
     end-next = rw more refl
 
     may-next : May c next
-    may-next = (let P : Option ℕ → Type 0 = λ v. In (parcel from p (Restored i j covered s v f)) c.parcels in (subst P end-next given, node, st.stage, ok.life ∙ sym st.life, to-do, place-is, heard-low))
+    may-next = let P : Option ℕ → Type 0 = λ v. In (parcel from p (Restored i j covered s v f)) c.parcels in (subst P end-next given, waited)
 
     above-is : (q : ℕ) → q ≤ c.count → cn.restoring p q ≡ above_of q mn
     above-is q l = at-itself p (λ b. (if b && (q == from) then u else c.restoring p q) ≡ slice_index_or (slice_set n.above from u) q 0)
@@ -308,7 +312,7 @@ module _ (n : TheRestoring) (c : Cluster) (i j covered s : ℕ) (flags : Flags) 
   g = n.own.me
 
   abbrev greets : Act
-  greets = Greets g i j covered s f
+  greets = Arrives 0 g (Restored i j covered s None f)
 
   abbrev d' : Cluster
   d' = does c greets
@@ -323,7 +327,7 @@ module _ (n : TheRestoring) (c : Cluster) (i j covered s : ℕ) (flags : Flags) 
   may-greet =
       let end : restored_end flags s pairs ≡ None = rw done refl in
       let P : Option ℕ → Type 0 = λ u. In (parcel 0 g (Restored i j covered s u f)) c.parcels in
-      (subst P end given, st.stage, ok.life ∙ sym st.life, st.greeted ∙ ok.open_is, ap is_replaying st.phase ∙ not-replaying (left n))
+      (subst P end given, (st.stage, ok.life ∙ sym st.life, st.greeted ∙ ok.open_is, ap is_replaying st.phase ∙ not-replaying (left n)))
 
   covered-keeps : KeepsOf (noted [] (dropped_to covered (log_at n.own.logs 0))) (max (c.trims g 0) covered) (c.handlers.sends g (c.history g) 0) (c.numbers g 0)
   covered-keeps = keeps-covered (log_at n.own.logs 0) (c.trims g 0) covered (c.handlers.sends g (c.history g) 0) (c.numbers g 0) (st.own.logs 0 (omega arith) (other-of n c 0 i j covered s flags pairs f st (omega arith) w ok)) ok.some

@@ -49,23 +49,23 @@ HasNotWorked old new other = ⊥
 
 -- it sent again what isn't answered, and went on if its stage is over
 abbrev pub HasTicked : Option TheProcess → Option TheProcess → Type 0
-HasTicked old new = OfBoth old new (λ p p'. calls.Calls calls.Ticks p p' × (passing.is_held p'.course ≡ false))
+HasTicked old new = OfBoth old new (λ p p'. calls.Calls calls.Ticks p p' × (passing.is_held p'.lifecycle ≡ false))
 
 -- why it didn't: it sent again, and its stage is over, but memory ran out or it would keep more messages than a process takes; or the
 -- handle is closed
 abbrev pub IsHeldBack : Option TheProcess → Option TheProcess → NodeFault → Type 0
-IsHeldBack old new Memory = OfBoth old new (λ p p'. calls.Calls calls.Ticks p p' × passing.IsHeld cause.Memory p'.course)
-IsHeldBack old new Limit = OfBoth old new (λ p p'. calls.Calls calls.Ticks p p' × passing.IsHeld cause.TooMany p'.course)
+IsHeldBack old new Memory = OfBoth old new (λ p p'. calls.Calls calls.Ticks p p' × passing.IsHeld cause.Memory p'.lifecycle)
+IsHeldBack old new Limit = OfBoth old new (λ p p'. calls.Calls calls.Ticks p p' × passing.IsHeld cause.TooMany p'.lifecycle)
 IsHeldBack old new Handle = StaysClosed old new
 IsHeldBack old new other = ⊥
 
 -- the checkpoint for which it waited is durable
 abbrev pub HasSaved : Option TheProcess → Option TheProcess → Type 0
-HasSaved old new = OfBoth old new (λ p p'. (calls.is_frozen p.course ≡ true) × calls.Stays calls.Thaws p p')
+HasSaved old new = OfBoth old new (λ p p'. (calls.is_frozen p.lifecycle ≡ true) × calls.Stays calls.Thaws p p')
 
 -- why it still waits or isn't waiting: it waits for none, memory ran out, or the handle is closed. Nothing has changed
 abbrev pub HasNotSaved : Option TheProcess → Option TheProcess → NodeFault → Type 0
 HasNotSaved old new Memory = OfSame old new (λ p. Unit {0})
-HasNotSaved old new Unready = OfSame old new (λ p. calls.is_frozen p.course ≡ false)
+HasNotSaved old new Unready = OfSame old new (λ p. calls.is_frozen p.lifecycle ≡ false)
 HasNotSaved old new Handle = StaysClosed old new
 HasNotSaved old new other = ⊥

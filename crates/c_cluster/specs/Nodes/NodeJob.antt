@@ -112,9 +112,9 @@ pub record IsLeftByNone (array bytes : List ℕ) (p : TheProcess) : Type 0 where
 -- memory ran out. Nothing has changed
 abbrev pub LeavesOut : HandlerTicket → List ℕ → List ℕ → TheProcess → NodeFault → Type 0
 LeavesOut ticket array bytes p Absent = Rests p
-LeavesOut ticket array bytes p Unready = HasNext p × (ticket_at p.course ≢ ticket)
-LeavesOut ticket array bytes p Left = IsLeftByNone array bytes p × (ticket_at p.course ≡ ticket)
-LeavesOut ticket array bytes p Memory = HasNext p × (ticket_at p.course ≡ ticket)
+LeavesOut ticket array bytes p Unready = HasNext p × (ticket_at p.lifecycle ≢ ticket)
+LeavesOut ticket array bytes p Left = IsLeftByNone array bytes p × (ticket_at p.lifecycle ≡ ticket)
+LeavesOut ticket array bytes p Memory = HasNext p × (ticket_at p.lifecycle ≡ ticket)
 LeavesOut ticket array bytes p other = ⊥
 
 -- why it isn't taken: one of these, or the handle is closed

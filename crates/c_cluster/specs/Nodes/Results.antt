@@ -22,7 +22,7 @@ IsTaken out out' size to old new = OfBoth old new (TakesOut out out' size to)
 
 -- why none is taken, if the handle is open: none waits, the buffer is too short for it, or memory ran out
 abbrev pub LeavesIn : List ℕ → List ℕ → ℕ → ℕ → TheProcess → TheProcess → NodeFault → Type 0
-LeavesIn out out' was size p p' Absent = (p' ≡ p) × (out_of p.course ≡ []) × IsUntouched out out' was size
+LeavesIn out out' was size p p' Absent = (p' ≡ p) × (out_of p.lifecycle ≡ []) × IsUntouched out out' was size
 LeavesIn out out' was size p p' Room = (p' ≡ p) × ((bytes : List ℕ) × IsFront p bytes × IsUncopied bytes out out' size)
 LeavesIn out out' was size p p' Memory = (p' ≡ p) × IsUntouched out out' was size
 LeavesIn out out' was size p p' other = ⊥
@@ -34,7 +34,7 @@ IsUntaken out out' was size old new why = OfBoth old new (λ p p'. LeavesIn out 
 
 -- a checkpoint is made, and its bytes are in the buffer
 abbrev pub Makes : List ℕ → List ℕ → ℕ → TheProcess → TheProcess → Type 0
-Makes out out' size p p' = IsSavable p.course × ((bytes : List ℕ) × Keeps p.course bytes × IsCopied bytes out out' size)
+Makes out out' size p p' = IsSavable p.lifecycle × ((bytes : List ℕ) × Keeps p.lifecycle bytes × IsCopied bytes out out' size)
     × Stays Freezes p p'
 
 -- the bytes of its checkpoint were written
@@ -43,10 +43,10 @@ IsMade out out' size old new = OfBoth old new (Makes out out' size)
 
 -- why none is made, if the handle is open: it can't be made now, the buffer is too short for it, or memory ran out
 abbrev pub DoesNotMake : List ℕ → List ℕ → ℕ → ℕ → TheProcess → TheProcess → NodeFault → Type 0
-DoesNotMake out out' was size p p' Unready = (p' ≡ p) × (¬ IsSavable p.course) × IsUntouched out out' was size
-DoesNotMake out out' was size p p' Room = (p' ≡ p) × IsSavable p.course
-    × ((bytes : List ℕ) × Keeps p.course bytes × IsUncopied bytes out out' size)
-DoesNotMake out out' was size p p' Memory = (p' ≡ p) × IsSavable p.course × IsUntouched out out' was size
+DoesNotMake out out' was size p p' Unready = (p' ≡ p) × (¬ IsSavable p.lifecycle) × IsUntouched out out' was size
+DoesNotMake out out' was size p p' Room = (p' ≡ p) × IsSavable p.lifecycle
+    × ((bytes : List ℕ) × Keeps p.lifecycle bytes × IsUncopied bytes out out' size)
+DoesNotMake out out' was size p p' Memory = (p' ≡ p) × IsSavable p.lifecycle × IsUntouched out out' was size
 DoesNotMake out out' was size p p' other = ⊥
 
 -- why none is made: one of these, or the handle is closed. Nothing else has changed
@@ -56,10 +56,10 @@ IsUnmade out out' was size old new why = OfBoth old new (λ p p'. DoesNotMake ou
 
 -- its state is in the buffer
 abbrev pub IsRead : List ℕ → List ℕ → ℕ → Option TheProcess → Option TheProcess → Type 0
-IsRead out out' size old new = OfSame old new (λ p. IsCopied (state_of p.course) out out' size)
+IsRead out out' size old new = OfSame old new (λ p. IsCopied (state_of p.lifecycle) out out' size)
 
 -- why it isn't: the buffer is too short for it, or the handle is closed
 abbrev pub IsUnread : List ℕ → List ℕ → ℕ → ℕ → Option TheProcess → Option TheProcess → NodeFault → Type 0
-IsUnread out out' was size old new Room = OfSame old new (λ p. IsUncopied (state_of p.course) out out' size)
+IsUnread out out' was size old new Room = OfSame old new (λ p. IsUncopied (state_of p.lifecycle) out out' size)
 IsUnread out out' was size old new Handle = StaysClosed old new × IsUntouched out out' was size
 IsUnread out out' was size old new other = ⊥

@@ -25,4 +25,4 @@ words_of s =
 
 -- these words are the status of the process of an open handle
 abbrev pub IsStanding : NodeStanding → Option TheProcess → Option TheProcess → Type 0
-IsStanding s old new = OfSame old new (λ p. s ≡ words_of (standing_at p.course))
+IsStanding s old new = OfSame old new (λ p. s ≡ words_of (standing_at p.lifecycle))

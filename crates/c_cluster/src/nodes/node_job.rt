@@ -167,7 +167,7 @@ fn done_of(
 
 /// Whether the next call of a process has this ticket.
 fn is_next(process: &Member, ticket: HandlerTicket) -> bool
-    ensures { IsTrue result ↔ (ticket_at process.now.course ≡ ticket) }
+    ensures { IsTrue result ↔ (ticket_at process.now.lifecycle ≡ ticket) }
 {
     let standing = process.standing();
     standing.incarnation == ticket.incarnation && standing.length == ticket.received

@@ -10,4 +10,4 @@ none-some e = cc
 
 pub returns : goal.returns
 unfolding WINDOW
-returns c g x = (((omega arith, omega arith), ((omega arith, omega arith, (λ e. omega arith), (refl, refl, omega arith, omega arith, refl)), ((inl refl, (omega arith, omega arith), refl, refl, refl, refl, omega arith), (((omega arith, omega arith), refl, refl), (((omega arith, omega arith), refl, refl), (((omega arith, omega arith), refl), (((omega arith, omega arith), refl, refl), ((omega arith, omega arith, (λ e. omega arith), (refl, refl, omega arith, omega arith, refl)), ((inl refl, (omega arith, omega arith), refl, refl, refl, refl, omega arith), (((omega arith, omega arith), refl, refl), ((omega arith, omega arith, (λ e. omega arith), (refl, refl, record { message = message 1 1 x; at = refl; sender = refl; ssn = refl })), ((inl refl, refl, refl, refl), ((inl refl, (omega arith, omega arith), refl, refl, omega arith, refl), ((omega arith, omega arith, (λ e. omega arith), (refl, refl, omega arith, omega arith, refl)), ((inl refl, refl, refl), (((omega arith, omega arith), live-dead), (((omega arith, omega arith), live-dead), (((omega arith, omega arith), refl), (((omega arith, omega arith), refl), ((omega arith, omega arith, (λ e. omega arith), (refl, refl, refl)), ((inl refl, omega arith, inl refl), ((omega arith, omega arith, (λ e. omega arith), (refl, refl, refl, (λ v e. absurd (none-some e)), λ m _ _. refl)), ((inl refl, refl, refl, omega arith, refl), ((omega arith, omega arith, (λ e. omega arith), (refl, refl, refl)), ((inl refl, omega arith, inr refl), ((inl refl, refl, inr (refl, refl)), ((inl refl, refl, refl, omega arith, refl), (((omega arith, omega arith), refl, for-two _ refl refl, omega arith, refl, refl), tt)))))))))))))))))))))))))))), refl, refl, λ h. none-some (h.shown 0 (message 2 1 x) refl))
+returns c g x = (((omega arith, omega arith), ((omega arith, omega arith, (λ e. omega arith), (refl, refl, omega arith, omega arith, refl)), ((inl refl, ((omega arith, omega arith), refl, refl, refl, refl, omega arith)), (((omega arith, omega arith), refl, refl), (((omega arith, omega arith), refl, refl), (((omega arith, omega arith), refl), (((omega arith, omega arith), refl, refl), ((omega arith, omega arith, (λ e. omega arith), (refl, refl, omega arith, omega arith, refl)), ((inl refl, ((omega arith, omega arith), refl, refl, refl, refl, omega arith)), (((omega arith, omega arith), refl, refl), ((omega arith, omega arith, (λ e. omega arith), (refl, refl, record { message = message 1 1 x; at = refl; sender = refl; ssn = refl })), ((inl refl, (refl, refl, refl)), ((inl refl, ((omega arith, omega arith), refl, refl, omega arith, refl)), ((omega arith, omega arith, (λ e. omega arith), (refl, refl, omega arith, omega arith, refl)), ((inl refl, (refl, refl)), (((omega arith, omega arith), live-dead), (((omega arith, omega arith), live-dead), (((omega arith, omega arith), refl), (((omega arith, omega arith), refl), ((omega arith, omega arith, (λ e. omega arith), (refl, refl, refl)), ((inl refl, (omega arith, inl refl)), ((omega arith, omega arith, (λ e. omega arith), (refl, refl, refl, (λ v e. absurd (none-some e)), λ m _ _. refl)), ((inl refl, (refl, refl, omega arith, refl)), ((omega arith, omega arith, (λ e. omega arith), (refl, refl, refl)), ((inl refl, (omega arith, inr refl)), ((inl refl, refl, inr (refl, refl)), ((inl refl, (refl, refl, omega arith, refl)), (((omega arith, omega arith), refl, for-two _ refl refl, omega arith, refl, refl), tt)))))))))))))))))))))))))))), refl, refl, λ h. none-some (h.shown 0 (message 2 1 x) refl))

@@ -1,5 +1,5 @@
-use Rattle.process.proofs.Courses as courses
+use Rattle.process.proofs.Lifecycles as lifecycles
 use Rattle.process.proofs.laws.entries_are_given.Goals as goal
 
 pub returns : goal.returns
-returns c = courses.entries_are_given
+returns c = lifecycles.entries_are_given

@@ -11,7 +11,7 @@ pub returns-clause-taken : goal.returns-clause-taken
 returns-clause-taken c =
     let front : IsFront c.args.process.now c.in-Ok-Some.bytes.items = first_of (search rules, grind (arith, common_steps)) in
     let x = front.0 in
-    let given : c.take.result ≡ Some x = taken c.take.result c.args.process.now.course c.take.new.self.course x front.2.0 c.take.ensures.does front.2.1 in
+    let given : c.take.result ≡ Some x = taken c.take.result c.args.process.now.lifecycle c.take.new.self.lifecycle x front.2.0 c.take.ensures.does front.2.1 in
     let copied : IsCopied c.in-Ok-Some.bytes.items c.args.out.now c.copy.new.out c.copy.new.size = first_of (search rules, grind (arith, common_steps)) in
     let to : c.match-take.to ≡ x.to = elim c.match-take.branch [
       | in-Some+in-Told-1 w ↦ first_of (search rules, grind (arith, common_steps), cc)

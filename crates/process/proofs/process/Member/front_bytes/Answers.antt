@@ -8,8 +8,8 @@ use Rattle.process.proofs.process.Member.front_bytes.Goals as goal
 
 pub written-requires-in-Some-front : goal.written-requires-in-Some-front
 written-requires-in-Some-front c =
-    let course = c.self.inside.course in
+    let lifecycle = c.self.inside.lifecycle in
     let x = c.in-Some-front.packet.now in
-    let down : is_node course ≡ false = first_of (search rules, grind (arith, common_steps)) in
-    let front : (rest : List NodePacket) × (out_of course ≡ x ∷ rest) = first_of (search rules, grind (arith, common_steps)) in
-    written-fits x (first-written course x front.0 down c.self.invariant.writes front.1)
+    let down : is_node lifecycle ≡ false = first_of (search rules, grind (arith, common_steps)) in
+    let front : (rest : List NodePacket) × (out_of lifecycle ≡ x ∷ rest) = first_of (search rules, grind (arith, common_steps)) in
+    written-fits x (first-written lifecycle x front.0 down c.self.invariant.writes front.1)

@@ -15,7 +15,7 @@ use Rattle.process.proofs.process.Member.run.Goals as goal
 pub take_back-requires : goal.take_back-requires
 take_back-requires c =
     let e = c.call-end.new.out in
-    let old : TheProcess = record { image = image_of (arc_value c.self.inside.image); course = c.self.inside.course } in
+    let old : TheProcess = record { image = image_of (arc_value c.self.inside.image); lifecycle = c.self.inside.lifecycle } in
     let given = c.deref-2.result.now in
     let next : IsNext old c.in-Some.job c.in-Some.who = first_of (search rules, grind (arith, common_steps)) in
     let items : given ≡ given_of c.in-Some.who e = first_of (search rules, grind (arith, common_steps)) in
@@ -25,13 +25,13 @@ take_back-requires c =
 pub returns-clause-works : goal.returns-clause-works
 returns-clause-works c = λ yes.
     let image = image_of (arc_value c.self.inside.image) in
-    let old : TheProcess = record { image = image; course = c.self.inside.course } in
+    let old : TheProcess = record { image = image; lifecycle = c.self.inside.lifecycle } in
     let new = c.take_back.new.self in
     let h : Handled = record { state = c.call-end.new.state; effects = c.call-end.new.out; r0 = c.call-end.result.r0; steps = c.call-end.result.steps } in
     let given = c.deref-2.result.now in
     let state = c.as_mut_slice.result.now in
     let next : IsNext old c.in-Some.job c.in-Some.who = first_of (search rules, grind (arith, common_steps)) in
-    let is_state : state ≡ state_of old.course = first_of (search rules, grind (arith, common_steps)) in
+    let is_state : state ≡ state_of old.lifecycle = first_of (search rules, grind (arith, common_steps)) in
     let a : answer_by image c.in-Some.who state c.in-Some.job.payload ≡ Some h = first_of (search rules, grind (arith, common_steps)) in
     let items : given ≡ given_of c.in-Some.who h.effects = first_of (search rules, grind (arith, common_steps)) in
     let taken : TakesBack h.state given old new = first_of (search rules, grind (arith, common_steps)) in

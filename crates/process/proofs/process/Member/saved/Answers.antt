@@ -9,6 +9,6 @@ pub invariant_of-self : goal.invariant_of-self
 invariant_of-self c =
     elim c.match-self.branch [
       | in-Up w ↦
-          subst IsWithin (sym (ap (λ i. i.course) w.self-inside-is)) (within.saved w.saved.result w.in-Up.node w.saved.new.self w.saved.ensures.value w.saved.ensures.err (subst IsWithin w.in-Up.is c.self.invariant))
+          subst IsWithin (sym (ap (λ i. i.lifecycle) w.self-inside-is)) (within.saved w.saved.result w.in-Up.node w.saved.new.self w.saved.ensures.value w.saved.ensures.err (subst IsWithin w.in-Up.is c.self.invariant))
       | in_default w ↦ first_of (search rules, grind (arith, common_steps))
     ]

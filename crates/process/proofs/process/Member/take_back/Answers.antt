@@ -1,7 +1,7 @@
 use Rattle.std.proofs.Common.{rules, arith}
 use Rattle.std.proofs.lemmas.Grind.{common_steps}
 use Rattle.process.specs.Job.{TakesBack}
-use Rattle.process.proofs.Courses.{few_more}
+use Rattle.process.proofs.Lifecycles.{few_more}
 use Rattle.process.specs.Work.{TakesIn, MayTakeIn}
 use Rattle.process.proofs.Within as within
 use Rattle.process.proofs.process.Member.take_back.Goals as goal
@@ -13,6 +13,6 @@ returns-clause-few c =
 
 pub invariant_of-self-2 : goal.invariant_of-self-2
 invariant_of-self-2 c =
-    let may : MayTakeIn c.self.inside.course c.args.given.now = first_of (search rules, grind (arith, common_steps)) in
-    let h : TakesIn c.args.state.items c.args.given.now c.self.inside.course c.take_in.new.self = first_of (search rules, grind (arith, common_steps)) in
-    within.takes-in c.args.state.items c.args.given.now c.self.inside.course c.take_in.new.self may h c.self.invariant
+    let may : MayTakeIn c.self.inside.lifecycle c.args.given.now = first_of (search rules, grind (arith, common_steps)) in
+    let h : TakesIn c.args.state.items c.args.given.now c.self.inside.lifecycle c.take_in.new.self = first_of (search rules, grind (arith, common_steps)) in
+    within.takes-in c.args.state.items c.args.given.now c.self.inside.lifecycle c.take_in.new.self may h c.self.invariant

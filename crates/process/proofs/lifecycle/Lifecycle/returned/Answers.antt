@@ -1,13 +1,13 @@
 use Rattle.std.proofs.Common.{◌≡◌, true, sym, subst}
 use Rattle.recovery.specs.Restoration.{is_up}
-use Rattle.process.specs.declared.course.Course.{Course}
-use Rattle.process.specs.declared.course.Course.TheVariants.{Up}
+use Rattle.process.specs.declared.lifecycle.Lifecycle.{Lifecycle}
+use Rattle.process.specs.declared.lifecycle.Lifecycle.TheVariants.{Up}
 use Rattle.process.specs.Transitions.{Returns}
-use Rattle.process.proofs.course.Course.returned.Goals as goal
+use Rattle.process.proofs.lifecycle.Lifecycle.returned.Goals as goal
 
 pub returns-else-not-is_up : goal.returns-else-not-is_up
 returns-else-not-is_up c =
-    let P : Course → Type 0 = λ v. Returns v (Up c.tick.new.self) in
+    let P : Lifecycle → Type 0 = λ v. Returns v (Up c.tick.new.self) in
     let now : is_up c.in-Restoring.process ≡ true = search in
     subst P (sym c.in-Restoring.is)
     (now, (c.into_node-node.result, (c.into_node-node.ensures.value, c.into_node-node.ensures.stands, c.tick.ensures.value, c.tick.ensures.acts)))

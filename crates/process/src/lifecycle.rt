@@ -10,7 +10,7 @@ use std::alloc::Global;
 
 /// A process in its stage.
 #[derive(Drop)]
-pub enum Course {
+pub enum Lifecycle {
     /// It is up.
     Up(Node),
     /// It asks its peers what their logs hold for it.
@@ -28,29 +28,29 @@ pub enum Course {
 /// The process that couldn't go on to the next stage, and why.
 #[derive(Drop)]
 pub(crate) struct Held {
-    pub(crate) course: Course,
+    pub(crate) lifecycle: Lifecycle,
     pub(crate) cause: Cause,
 }
 
-impl Course {
+impl Lifecycle {
     /// Whether it is up.
     pub(crate) fn is_up(&self) -> bool
         ensures { result ≡ is_node self.now }
     {
         match self {
-            Course::Up(_) => true,
-            Course::Collecting(_) => false,
-            Course::Replaying(_) => false,
-            Course::Replayed(_) => false,
-            Course::Restoring(_) => false,
-            Course::Passing => false,
+            Lifecycle::Up(_) => true,
+            Lifecycle::Collecting(_) => false,
+            Lifecycle::Replaying(_) => false,
+            Lifecycle::Replayed(_) => false,
+            Lifecycle::Restoring(_) => false,
+            Lifecycle::Passing => false,
         }
     }
 
     /// Goes on as many stages as it can, unless memory is refused.
-    pub(crate) fn passed(self, alloc: Global) -> Result<Course, Held>
+    pub(crate) fn passed(self, alloc: Global) -> Result<Lifecycle, Held>
         ensures passed { IfOk result (λ c. Passes self c × (is_held c ≡ false)) }
-        ensures held { IfErr result (λ h. Passes self h.course × IsHeld h.cause h.course) }
+        ensures held { IfErr result (λ h. Passes self h.lifecycle × IsHeld h.cause h.lifecycle) }
     {
         let told = self.recovered(alloc)?;
         let ran = told.finished();
@@ -59,19 +59,19 @@ impl Course {
     }
 
     /// If all peers have told all, it replays what it keeps.
-    fn recovered(self, alloc: Global) -> Result<Course, Held>
+    fn recovered(self, alloc: Global) -> Result<Lifecycle, Held>
         ensures told { IfOk result (λ c. Recovers self c × (has_heard c ≡ false)) }
-        ensures held { IfErr result (λ h. (h.course ≡ self) × (has_heard self ≡ true) × IsHeld h.cause self) }
+        ensures held { IfErr result (λ h. (h.lifecycle ≡ self) × (has_heard self ≡ true) × IsHeld h.cause self) }
     {
         match self {
-            Course::Collecting(process) => {
+            Lifecycle::Collecting(process) => {
                 if !process.has_all() {
-                    return Ok(Course::Collecting(process));
+                    return Ok(Lifecycle::Collecting(process));
                 }
                 match process.recover(alloc) {
-                    Ok(process) => Ok(Course::Replaying(process)),
+                    Ok(process) => Ok(Lifecycle::Replaying(process)),
                     Err(refused) => Err(Held {
-                        course: Course::Collecting(refused.collecting),
+                        lifecycle: Lifecycle::Collecting(refused.collecting),
                         cause: refused.cause,
                     }),
                 }
@@ -81,30 +81,30 @@ impl Course {
     }
 
     /// If nothing is left to replay, its replay is over.
-    fn finished(self) -> Course
+    fn finished(self) -> Lifecycle
         ensures { Finishes self result }
     {
         match self {
-            Course::Replaying(process) => {
+            Lifecycle::Replaying(process) => {
                 if !process.is_over() {
-                    return Course::Replaying(process);
+                    return Lifecycle::Replaying(process);
                 }
-                Course::Replayed(process.finish())
+                Lifecycle::Replayed(process.finish())
             }
             other => other,
         }
     }
 
     /// If its replay is over, it asks its peers for its RSNs.
-    fn begun(self, alloc: Global) -> Result<Course, Held>
+    fn begun(self, alloc: Global) -> Result<Lifecycle, Held>
         ensures begun { IfOk result (λ c. Begun self c × (has_run c ≡ false)) }
-        ensures held { IfErr result (λ h. (h.course ≡ self) × (has_run self ≡ true) × IsHeld h.cause self) }
+        ensures held { IfErr result (λ h. (h.lifecycle ≡ self) × (has_run self ≡ true) × IsHeld h.cause self) }
     {
         match self {
-            Course::Replayed(process) => match Restoring::begin(alloc, process) {
-                Ok(process) => Ok(Course::Restoring(process)),
+            Lifecycle::Replayed(process) => match Restoring::begin(alloc, process) {
+                Ok(process) => Ok(Lifecycle::Restoring(process)),
                 Err(process) => Err(Held {
-                    course: Course::Replayed(process),
+                    lifecycle: Lifecycle::Replayed(process),
                     cause: Cause::Memory,
                 }),
             },
@@ -113,17 +113,17 @@ impl Course {
     }
 
     /// If all peers have answered, it is up, and sends what it released.
-    fn returned(self) -> Course
+    fn returned(self) -> Lifecycle
         ensures { Returns self result }
     {
         match self {
-            Course::Restoring(process) => {
+            Lifecycle::Restoring(process) => {
                 if !process.is_up() {
-                    return Course::Restoring(process);
+                    return Lifecycle::Restoring(process);
                 }
                 let mut node = process.into_node();
                 node.tick();
-                Course::Up(node)
+                Lifecycle::Up(node)
             }
             other => other,
         }
