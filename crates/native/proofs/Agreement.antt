@@ -14,7 +14,8 @@ use Rattle.x86.specs.declared.instruction.Alu.TheVariants as alu
 use Rattle.x86.specs.declared.instruction.Instr.TheVariants as instr
 use Rattle.x86.specs.Encoding.{bytes_of}
 use Rattle.x86.specs.Machine.{Value, Word, At, Array, Record, Flags, Unknown, State, Outcome, Goes, Stuck, value, with_value, with_word, word_or_stuck, put, behind, extended, one, computed, operated, act, HasAt}
-use Rattle.native.specs.Code.{gpr, codes, clear, flushed}
+use Rattle.native.specs.Code.{gpr, codes, clear}
+use Rattle.native.specs.SlotCode.{flushed}
 use Rattle.native.specs.Correct.{Keeps}
 use Rattle.native.proofs.Registers.{named, below_sixteen, another, alone}
 use Rattle.native.proofs.Runs.{extended_small, Ends, goes, has_front}

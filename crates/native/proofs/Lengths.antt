@@ -17,13 +17,17 @@ use Rattle.native.specs.declared.body.Body.{Body}
 use Rattle.native.specs.declared.body.Body.TheVariants.{Empty, One, Two, Three}
 use Rattle.native.specs.declared.emission.Helper.{Helper}
 use Rattle.native.specs.declared.emission.Helper.TheVariants as helper
-use Rattle.native.specs.declared.task.SlotTask.{SlotTask}
-use Rattle.native.specs.declared.task.SlotTask.TheVariants as task
-use Rattle.native.specs.declared.saved.SavedRegisters.{SavedRegisters}
-use Rattle.native.specs.Saved.{pop_if, restoring}
-use Rattle.native.specs.SlotTasks.{task_at}
+use Rattle.native_tasks.specs.declared.task.SlotTask.{SlotTask}
+use Rattle.native_tasks.specs.declared.task.SlotTask.TheVariants as task
+use Rattle.native_tasks.specs.declared.saved.SavedRegisters.{SavedRegisters}
+use Rattle.native.specs.Openings.{pop_if, restoring, ending, leaving}
+use Rattle.native_tasks.specs.SlotTasks.{task_at}
 use Rattle.native.specs.Laid.{Fuses, ServesBy}
-use Rattle.native.specs.Code.{seen, codes, two_size, copy_code, sized_code, good_end, send_good, output_good, send_sized_good, output_sized_good, good_of, body_of, IsBody, IsDone, condition_of, compare_code, jump_code, jump_if_code, flushed, skipped, ending, leaving, Plain, Serves}
+use Rattle.native.specs.Code.{seen, codes, body_of, IsBody}
+use Rattle.native.specs.Quotient.{two_size}
+use Rattle.native.specs.Emission.{copy_code, sized_code, good_end, send_good, output_good, send_sized_good, output_sized_good, good_of}
+use Rattle.native.specs.SlotCode.{IsDone, jump_code, jump_if_code, flushed, skipped, Plain, Serves}
+use Rattle.native.specs.Comparison.{condition_of, compare_code}
 
 number_short : (v : ℕ) → length (number v) ≤ 4
 number_short v = by_test (is_small v)

@@ -1,36 +1,17 @@
 -- Two tasks that one instruction does: a register is copied, and a number is added to the copy.
-use Rattle.std.specs.Prelude.{ℕ, zero, suc, ◌+◌, ◌-◌, ◌==◌, ℤ, Bool, true, false, ◌&&◌, nat_lt, is_some, List, Option, Some, None, length}
-use Rattle.std.specs.Prelude.{replicate, slice_index_or, slice_set, if◌then◌else◌}
+use Rattle.std.specs.Prelude.{ℕ, ◌+◌, ◌-◌, ◌==◌, ℤ, Bool, true, ◌&&◌, nat_lt, is_some, List, Option, Some, None, slice_index_or}
+use Rattle.std.specs.Prelude.{if◌then◌else◌}
 use Rattle.decode.specs.declared.insn.AluOp.TheVariants as op
 use Rattle.decode.specs.declared.insn.Width.TheVariants.{W64}
 use Rattle.decode.specs.declared.insn.Operand.TheVariants as operand
 use Rattle.operations.specs.Operations.{word_of}
 use Rattle.x86.specs.declared.instruction.Instr.{Instr}
 use Rattle.x86.specs.declared.instruction.Instr.TheVariants as instr
-use Rattle.native.specs.declared.task.SlotTask.{SlotTask}
-use Rattle.native.specs.declared.task.SlotTask.TheVariants as task
-use Rattle.native.specs.Tasks.{holds_word}
+use Rattle.native_tasks.specs.declared.task.SlotTask.{SlotTask}
+use Rattle.native_tasks.specs.declared.task.SlotTask.TheVariants as task
+use Rattle.native_tasks.specs.Tasks.{holds_word}
 use Rattle.native.specs.Code.{gpr}
-
--- ---- slots to which a call may come from elsewhere than the slot before
-
--- a task marks the slot where it leads, if that isn't the next one
-abbrev pub marked_by : List Bool → ℕ → SlotTask → List Bool
-marked_by xs slot (task.Branch x w dst o to) = slice_set xs to true
-marked_by xs slot (task.Leap to) = slice_set xs to true
-marked_by xs slot (task.Wide dst value) = slice_set xs (slot + 2) true
-marked_by xs slot t = xs
-
--- the marks of the first n tasks
-abbrev pub marked : List SlotTask → ℕ → List Bool
-marked tasks zero = replicate (length tasks) false
-marked tasks (suc n) = marked_by (marked tasks n) n (slice_index_or tasks n task.Dead)
-
--- the marks of all tasks
-abbrev pub targets_in : List SlotTask → List Bool
-targets_in tasks = marked tasks (length tasks)
-
--- ---- what is fused
+use Rattle.native_tasks.specs.Targets.{targets_in}
 
 -- the instruction for copying s to d and then adding a number to e, if e is d
 abbrev pub sum_by : ℕ → ℕ → ℕ → ℤ → Option Instr

@@ -1,7 +1,7 @@
 //! The comparison of a conditional jump, and the flags that it tests.
 
 ghost use Rattle.std.specs.Prelude.{◌≡◌};
-ghost use Rattle.native.specs.Code as codes;
+ghost use Rattle.native.specs.Comparison as codes;
 ghost use Rattle.native.specs.Code.{IsShort};
 
 use crate::body::{gpr, number};

@@ -1,71 +1,15 @@
 //! Two tasks that one instruction does: a register is copied, and a number is added to the copy.
 
-ghost use Rattle.std.specs.Prelude.{◌≡◌, ◌<◌, ◌≤◌, true, false, length, replicate, slice_index_or, slice_set, IfOk};
+ghost use Rattle.std.specs.Prelude.{◌≡◌, ◌<◌, true, slice_index_or};
 ghost use Rattle.limits.specs.declared.TheConstants.{SLOTS};
 ghost use Rattle.native.specs.Fusion as specs;
+ghost use Rattle.native_tasks.specs.Targets.{targets_in};
 
 use crate::body::{gpr, number};
-use crate::eligible::holds_word;
-use crate::task::SlotTask;
 use decode::{AluOp, Operand, Reg, Width};
 use limits::SLOTS;
-use std::alloc::{AllocError, Global};
+use native_tasks::{SlotTask, holds_word, task_at};
 use x86::Instr;
-
-// The task of a slot; `Dead` after the end.
-pub(crate) fn task_at(tasks: &[SlotTask], slot: usize) -> SlotTask
-    ensures { result ≡ slice_index_or tasks.now slot SlotTask.Dead }
-{
-    if slot < tasks.len() {
-        tasks[slot]
-    } else {
-        SlotTask::Dead
-    }
-}
-
-// `count` slots, none of them marked.
-fn unmarked(alloc: Global, count: usize) -> Result<Vec<bool>, AllocError>
-    ensures { IfOk result (λ targets. targets.items ≡ replicate count false) }
-{
-    let mut targets = Vec::with_capacity(alloc, count)?;
-    'fill: for _ in 0..count {
-        targets.push(false)?;
-    }
-    Ok(targets)
-}
-
-fn mark(targets: &mut Vec<bool>, slot: usize)
-    ensures { targets.new.items ≡ slice_set targets.old.items slot true }
-{
-    if slot < targets.len() {
-        targets[slot] = true;
-    }
-}
-
-// Marks the slot where a task leads, if it isn't the next one.
-fn mark_behind(targets: &mut Vec<bool>, slot: usize, task: SlotTask)
-    requires { slot < SLOTS }
-    ensures { targets.new.items ≡ specs.marked_by targets.old.items slot task }
-{
-    match task {
-        SlotTask::Branch { to, .. } => mark(targets, to as usize),
-        SlotTask::Leap { to } => mark(targets, to as usize),
-        SlotTask::Wide { .. } => mark(targets, slot + 2),
-        _ => {}
-    }
-}
-
-/// Which slots a call may come to from elsewhere than the slot before.
-pub(crate) fn targets_of(alloc: Global, tasks: &[SlotTask]) -> Result<Vec<bool>, AllocError>
-    requires { length tasks.now ≤ SLOTS }
-    ensures { IfOk result (λ targets. targets.items ≡ specs.targets_in tasks.now) }
-{
-    let mut targets = unmarked(alloc, tasks.len())?;
-    'slots: for slot in 0..tasks.len() {
-        mark_behind(&mut targets, slot, task_at(tasks, slot));
-    }
-    Ok(targets)
-}
 
 fn is_target(targets: &[bool], slot: usize) -> bool
     ensures { result ≡ slice_index_or targets.now slot true }
@@ -123,7 +67,7 @@ fn sum_of(first: SlotTask, second: SlotTask) -> Option<Instr>
 /// The one instruction of a slot and the next, if a call comes to the next only from this slot.
 pub(crate) fn fused(tasks: &[SlotTask], targets: &[bool], slot: usize) -> Option<Instr>
     requires few { slot < SLOTS }
-    requires targets { targets.now ≡ specs.targets_in tasks.now }
+    requires targets { targets.now ≡ targets_in tasks.now }
     ensures { result ≡ specs.fused tasks.now slot }
 {
     if is_target(targets, slot + 1) {
@@ -136,7 +80,7 @@ pub(crate) fn fused(tasks: &[SlotTask], targets: &[bool], slot: usize) -> Option
 /// Whether the instruction of the slot before also does this slot's task.
 pub(crate) fn is_covered(tasks: &[SlotTask], targets: &[bool], slot: usize) -> bool
     requires few { slot < SLOTS }
-    requires targets { targets.now ≡ specs.targets_in tasks.now }
+    requires targets { targets.now ≡ targets_in tasks.now }
     ensures { result ≡ specs.is_covered tasks.now slot }
 {
     slot > 0 && fused(tasks, targets, slot - 1).is_some()

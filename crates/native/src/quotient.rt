@@ -2,7 +2,7 @@
 
 ghost use Rattle.std.specs.Prelude.{◌≡◌, ◌≤◌, ◌+◌, ◌-◌, ◌*◌, ◌^◌, [], ◌∷◌, ◌++◌, OnOk};
 ghost use Rattle.x86.specs.declared.instruction.Instr.TheVariants as instr;
-ghost use Rattle.native.specs.Code as specs;
+ghost use Rattle.native.specs.Quotient as specs;
 ghost use Rattle.native.specs.Code.{codes, IsShort};
 
 use crate::body::{gpr, number};

@@ -21,8 +21,8 @@ use Rattle.spans.specs.Concrete.{array_size, operand_word, address}
 use Rattle.spans.specs.Typing.{target}
 use Rattle.span_steps.specs.Acts.{insn_act, IsReached}
 use Rattle.span_steps.specs.Machine.{machine}
-use Rattle.native.specs.declared.task.SlotTask.TheVariants as task
-use Rattle.native.specs.Tasks.{operand_of, position_by, sized_at, task_act, holds_word, is_word, is_read, is_eligible}
+use Rattle.native_tasks.specs.declared.task.SlotTask.TheVariants as task
+use Rattle.native_tasks.specs.Tasks.{operand_of, position_by, sized_at, task_act, holds_word, is_word, is_read, is_eligible}
 use Rattle.span_native.specs.SpanTasks.{operand_in, stack_at, slot_of, store_imm_task, store_task, helper_task, task_in}
 use Rattle.span_native.proofs.Blind.{blind, blind_is}
 

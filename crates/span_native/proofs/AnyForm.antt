@@ -11,7 +11,7 @@ use Rattle.images.specs.declared.file_form.FileForm.TheVariants.{Sbi1, Sbi2, Sbi
 use Rattle.images.specs.declared.any_image.AnyImage.TheVariants.{Flat}
 use Rattle.images.specs.ImageFile.{IsTypable}
 use Rattle.handlers.specs.Image.{as_image}
-use Rattle.native.specs.declared.prologue.Opening.TheVariants as opening
+use Rattle.native_tasks.specs.declared.prologue.Opening.TheVariants as opening
 use Rattle.native.specs.Correct.{IsNative}
 use Rattle.native.specs.Written as flat
 use Rattle.native.proofs.One.{one_code, written_one}

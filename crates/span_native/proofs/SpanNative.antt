@@ -10,16 +10,14 @@ use Rattle.interp.specs.Words.{AreBytes}
 use Rattle.x86.specs.Machine.{State, Runs}
 use Rattle.spans.specs.Concrete.{array_size}
 use Rattle.images.specs.Typed.{IsTypable}
-use Rattle.native.specs.declared.prologue.Opening.TheVariants as opening
+use Rattle.native_tasks.specs.declared.prologue.Opening.TheVariants as opening
 use Rattle.native.specs.Correct.{IsCalled}
-use Rattle.native.specs.Needs.{saved_in}
-use Rattle.native.specs.Openings.{saved_for}
-use Rattle.native.specs.Pending.{pending_in}
-use Rattle.native.specs.Saved.{may_write}
+use Rattle.native_tasks.specs.Saved.{saved_in, saved_for, may_write}
+use Rattle.native_tasks.specs.Pending.{pending_in}
 use Rattle.native.specs.Written.{IsServed}
 use Rattle.native.proofs.Ends.{opening_words, opening_is, opening_small, entered_by, enters_by, agrees_by}
 use Rattle.native.proofs.Successors.{follows}
-use Rattle.native.proofs.Preservation.{added_may}
+use Rattle.native_tasks.proofs.Preservation.{added_may}
 use Rattle.native.proofs.Native.{laid_in, begins_in, tails_in, entry_in}
 use Rattle.span_native.specs.Correct.{IsSpanNative}
 use Rattle.span_native.specs.SpanTasks.{tasks_in}

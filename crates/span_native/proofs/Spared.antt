@@ -12,9 +12,9 @@ use Rattle.helpers.specs.declared.effects.Who.{Who}
 use Rattle.helpers.specs.Effects.{Emitted}
 use Rattle.spans.specs.Concrete.{array_size, address}
 use Rattle.span_steps.specs.Acts.{IsReached}
-use Rattle.native.specs.declared.task.SlotTask.{SlotTask}
-use Rattle.native.specs.declared.task.SlotTask.TheVariants as task
-use Rattle.native.specs.Tasks.{position_by, task_act, holds_word, is_read, is_eligible, TaskFits, TaskReaches}
+use Rattle.native_tasks.specs.declared.task.SlotTask.{SlotTask}
+use Rattle.native_tasks.specs.declared.task.SlotTask.TheVariants as task
+use Rattle.native_tasks.specs.Tasks.{position_by, task_act, holds_word, is_read, is_eligible, TaskFits, TaskReaches}
 use Rattle.span_native.specs.SpanTasks.{stack_at, store_imm_task, store_task, helper_task, task_in}
 use Rattle.span_native.proofs.Blind.{blind, blind_is, SparesTen}
 use Rattle.span_native.proofs.Acts.{below_ten, is_ten, not_ten}

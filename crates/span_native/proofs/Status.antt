@@ -47,7 +47,7 @@ use Rattle.handlers.specs.SpanCall.{called}
 use Rattle.handlers.proofs.Replies.{replies-few}
 use Rattle.handlers.proofs.Entries.{called-is, ended_leaves, entry_behind, entry_between, same_slices}
 use Rattle.handlers.proofs.Progress.{EndsBy, Going, Over, ends_by, going_entry, going_next, over, run, some_left, within}
-use Rattle.native.specs.Tasks.{task_act, is_eligible}
+use Rattle.native_tasks.specs.Tasks.{task_act, is_eligible}
 use Rattle.native.proofs.Successors.{Call}
 use Rattle.span_native.specs.SpanTasks.{task_in, tasks_in}
 use Rattle.span_native.proofs.Blind.{blind, blind_is, SparesTen, does_blind}

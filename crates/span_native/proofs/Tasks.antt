@@ -4,7 +4,7 @@ use Rattle.std.specs.Prelude.{slice_get}
 use Rattle.std.proofs.lemmas.Bool.{cases_lt}
 use Rattle.decode.specs.declared.insn.Insn.{Insn}
 use Rattle.decode.specs.Slots.{insn_at}
-use Rattle.native.specs.declared.task.SlotTask.{SlotTask}
+use Rattle.native_tasks.specs.declared.task.SlotTask.{SlotTask}
 use Rattle.span_native.specs.SpanTasks.{task_in, task_there, tasks_in}
 
 pub tasks_long : (slots : List (Option Insn)) (len n : ℕ) → length (tasks_in slots len n) ≡ n

@@ -11,9 +11,9 @@ use Rattle.decode.specs.declared.insn.SignedSize.{SignedSize}
 use Rattle.decode.specs.Slots.{insn_at}
 use Rattle.spans.specs.Concrete.{array_size}
 use Rattle.spans.specs.Typing.{target}
-use Rattle.native.specs.declared.task.SlotTask.{SlotTask}
-use Rattle.native.specs.declared.task.SlotTask.TheVariants as task
-use Rattle.native.specs.Tasks.{position_by}
+use Rattle.native_tasks.specs.declared.task.SlotTask.{SlotTask}
+use Rattle.native_tasks.specs.declared.task.SlotTask.TheVariants as task
+use Rattle.native_tasks.specs.Tasks.{position_by}
 
 -- r10 is the end of the array
 abbrev pub operand_in : ℕ → Operand → Operand

@@ -2,7 +2,7 @@
 use Rattle.std.specs.Prelude.{◌≡◌, ℕ, List, length}
 use Rattle.decode.specs.declared.insn.Insn.{Insn}
 use Rattle.decode.specs.Slots.{slots_of}
-use Rattle.native.specs.declared.prologue.Opening.TheVariants as opening
+use Rattle.native_tasks.specs.declared.prologue.Opening.TheVariants as opening
 use Rattle.native.specs.Written.{IsWritten}
 use Rattle.span_native.specs.SpanTasks.{tasks_in}
 

@@ -7,7 +7,8 @@ ghost use Rattle.span_native.specs.Written.{IsCodeOf};
 use crate::slot_tasks::tasks_of;
 use decode::lay_out;
 use images::SpanImage;
-use native::{Opening, write_tasks};
+use native::write_tasks;
+use native_tasks::Opening;
 use std::alloc::{AllocError, Global};
 
 /// The machine code of an image. It fails only if memory runs out.

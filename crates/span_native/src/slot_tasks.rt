@@ -8,7 +8,7 @@ ghost use Rattle.span_native.specs.SpanTasks as specs;
 
 use decode::{Insn, Operand, Reg, SignedSize, Size};
 use limits::{SLOTS, STACK_BYTES, STATE_BYTES};
-use native::SlotTask;
+use native_tasks::SlotTask;
 use operations::word_of_imm;
 use std::alloc::{AllocError, Global};
 

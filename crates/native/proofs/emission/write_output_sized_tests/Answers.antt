@@ -1,6 +1,6 @@
 use Rattle.std.proofs.Common.{◌+◌}
 use Rattle.std.proofs.lemmas.Result.{on_ok_weaker}
-use Rattle.native.specs.Code.{room_test, length_test}
+use Rattle.native.specs.Emission.{room_test, length_test}
 use Rattle.native.proofs.Emitted.{some_then}
 use Rattle.native.proofs.emission.write_output_sized_tests.Goals as goal
 

@@ -1,5 +1,5 @@
 use Rattle.std.proofs.lemmas.Result.{on_ok_weaker}
-use Rattle.native.specs.Code as specs
+use Rattle.native.specs.Emission as specs
 use Rattle.native.proofs.Emitted.{three_then}
 use Rattle.native.proofs.emission.write_peer_tests.Goals as goal
 

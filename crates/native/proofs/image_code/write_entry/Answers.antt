@@ -1,7 +1,7 @@
 use Rattle.std.proofs.Common.{[], ◌∷◌, ◌++◌, sym, ap, ◌∙◌}
 use Rattle.x86.specs.declared.instruction.Instr.TheVariants as instr
-use Rattle.native.specs.Code.{codes, entering}
-use Rattle.native.specs.Openings.{entering_by, placing}
+use Rattle.native.specs.Code.{codes}
+use Rattle.native.specs.Openings.{entering, entering_by, placing}
 use Rattle.native.proofs.Emitted.{some_then}
 use Rattle.native.proofs.image_code.write_entry.Goals as goal
 

@@ -1,5 +1,5 @@
 use Rattle.std.proofs.Common.{[], ◌∷◌}
-use Rattle.native.specs.Code.{divisor_test}
+use Rattle.native.specs.Quotient.{divisor_test}
 use Rattle.native.proofs.Emitted.{where_ok, some_then}
 use Rattle.native.proofs.quotient.write_divisor.Goals as goal
 

@@ -1,6 +1,7 @@
 use Rattle.std.proofs.Common.{[], ◌∷◌, ◌+◌, ◌++◌, ap, ◌∙◌}
 use Rattle.x86.specs.declared.instruction.Instr.TheVariants as instr
-use Rattle.native.specs.Code.{codes, divisor_test, division_code, width_size}
+use Rattle.native.specs.Code.{codes}
+use Rattle.native.specs.Quotient.{divisor_test, division_code, width_size}
 use Rattle.native.proofs.Emitted.{where_ok, three_then}
 use Rattle.native.proofs.quotient.write_quotient.Goals as goal
 

@@ -1,6 +1,6 @@
 use Rattle.std.proofs.Common.{[], ◌∷◌, ◌+◌, ◌-◌, ◌*◌, ◌^◌, ◌++◌}
 use Rattle.x86.specs.declared.instruction.Instr.TheVariants as instr
-use Rattle.native.specs.Code.{divisor_test, division_code, width_size}
+use Rattle.native.specs.Quotient.{divisor_test, division_code, width_size}
 use Rattle.native.proofs.Emitted.{where_ok, some_then}
 use Rattle.native.proofs.quotient.write_signed.Goals as goal
 

@@ -1,6 +1,6 @@
 use Rattle.std.proofs.Common.{[], ◌∷◌, ◌+◌}
 use Rattle.x86.specs.declared.instruction.Instr.TheVariants as instr
-use Rattle.native.specs.Code.{division_code}
+use Rattle.native.specs.Quotient.{division_code}
 use Rattle.native.proofs.Emitted.{where_ok, some_then}
 use Rattle.native.proofs.quotient.write_signed_ways.Goals as goal
 

@@ -1,4 +1,4 @@
-use Rattle.native.specs.Saved as specs
+use Rattle.native.specs.Openings as specs
 use Rattle.native.proofs.Emitted.{where_ok, six_then}
 use Rattle.native.proofs.saved.write_saving.Goals as goal
 

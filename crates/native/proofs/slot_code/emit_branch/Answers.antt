@@ -1,5 +1,7 @@
 use Rattle.std.proofs.Common.{[], ◌∷◌, ◌+◌, ◌++◌, refl, ap, ◌∙◌, sym}
-use Rattle.native.specs.Code.{codes, flushed, condition_of, compare_code, jump_if_code}
+use Rattle.native.specs.Code.{codes}
+use Rattle.native.specs.SlotCode.{flushed, jump_if_code}
+use Rattle.native.specs.Comparison.{condition_of, compare_code}
 use Rattle.native.proofs.Emitted.{where_ok, some_then}
 use Rattle.native.proofs.slot_code.emit_branch.Goals as goal
 

@@ -1,15 +1,15 @@
 use Rattle.std.proofs.Common.{[], ◌∷◌, ◌+◌, ◌-◌, ◌++◌, refl, arith}
-use Rattle.native.specs.Code.{flushed, skipped}
+use Rattle.native.specs.SlotCode.{flushed, skipped}
 use Rattle.native.proofs.Emitted.{where_ok, three_then}
 use Rattle.native.proofs.slot_code.emit_fused.Goals as goal
 
 pub returns : goal.returns
 returns c =
     let a = c.args in
-    let k = c.at.result + 2 - c.at-2.result in
+    let k = c.number_at.result + 2 - c.number_at-2.result in
     let d = c.distance-past.result in
-    let here = c.at.ensures in
-    let there = c.at-2.ensures in
+    let here = c.number_at.ensures in
+    let there = c.number_at-2.ensures in
     where_ok c.skip.result c.skip.ensures (λ e. (
       a.instr ∷ (flushed k ++ skipped d),
       record {

@@ -1,5 +1,6 @@
 use Rattle.std.proofs.Common.{[], ◌∷◌, ◌++◌, refl, ap, ◌∙◌}
-use Rattle.native.specs.Code.{codes, flushed, jump_code}
+use Rattle.native.specs.Code.{codes}
+use Rattle.native.specs.SlotCode.{flushed, jump_code}
 use Rattle.native.proofs.Emitted.{where_ok, some_then}
 use Rattle.native.proofs.slot_code.emit_leap.Goals as goal
 

@@ -1,5 +1,5 @@
 use Rattle.std.proofs.Common.{◌+◌, ◌++◌, refl, ap, subst}
-use Rattle.native.specs.Code.{flushed, skipped, Counts, Reaches}
+use Rattle.native.specs.SlotCode.{flushed, skipped, Counts, Reaches}
 use Rattle.native.proofs.Emitted.{where_ok, three_then}
 use Rattle.native.proofs.slot_code.emit_plain.Goals as goal
 

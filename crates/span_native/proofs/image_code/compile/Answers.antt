@@ -1,6 +1,6 @@
 use Rattle.std.proofs.Common.{◌≡◌, ◌≤◌, length, ap, ◌∙◌, subst, arith}
 use Rattle.decode.specs.Slots.{slots_of}
-use Rattle.native.specs.declared.prologue.Opening.TheVariants as opening
+use Rattle.native_tasks.specs.declared.prologue.Opening.TheVariants as opening
 use Rattle.native.specs.Written.{IsServed, IsWritten}
 use Rattle.span_native.specs.SpanTasks.{tasks_in}
 use Rattle.span_native.proofs.SpanNative.{span_native}

@@ -1,0 +1,7 @@
+use Rattle.std.proofs.lemmas.Result.{on_ok_weaker}
+use Rattle.native.specs.Emission as specs
+use Rattle.native.proofs.Emitted.{four_then}
+use Rattle.native.proofs.effect.write_send_by.Goals as goal
+
+pub returns : goal.returns
+returns c = on_ok_weaker c.write_good_end.result (four_then c.args.code.now.items c.write_place.new.code.items c.write_aim.new.code.items c.write_copy_by.new.code.items c.write_good_end.new.code.items (specs.place_code 64) specs.aim_code (specs.copy_by_code 12) (specs.good_end 0 12) c.in_ok-write_place.ensures c.in_ok-write_aim.ensures c.in_ok-write_copy_by.ensures) c.write_good_end.ensures

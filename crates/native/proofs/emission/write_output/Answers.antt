@@ -1,7 +1,0 @@
-use Rattle.std.proofs.lemmas.Result.{on_ok_weaker}
-use Rattle.native.specs.Code as specs
-use Rattle.native.proofs.Emitted.{three_then}
-use Rattle.native.proofs.emission.write_output.Goals as goal
-
-pub returns : goal.returns
-returns c = on_ok_weaker c.write_good_end.result (three_then c.args.code.now.items c.write_place.new.code.items c.write_copy.new.code.items c.write_good_end.new.code.items (specs.place_code 2240) (specs.copy_code c.args.at) (specs.good_end 8 5) c.in_ok-write_place.ensures c.in_ok-write_copy.ensures) c.write_good_end.ensures

@@ -1,7 +1,0 @@
-use Rattle.std.proofs.lemmas.Result.{on_ok_weaker}
-use Rattle.native.specs.Code as specs
-use Rattle.native.proofs.Emitted.{four_then}
-use Rattle.native.proofs.emission.write_send_sized.Goals as goal
-
-pub returns : goal.returns
-returns c = on_ok_weaker c.write_good_end.result (four_then c.args.code.now.items c.write_place.new.code.items c.write_aim.new.code.items c.write_sized.new.code.items c.write_good_end.new.code.items (specs.place_code 64) specs.aim_code (specs.sized_code c.args.at 9) (specs.good_end 0 19) c.in_ok-write_place.ensures c.in_ok-write_aim.ensures c.in_ok-write_sized.ensures) c.write_good_end.ensures

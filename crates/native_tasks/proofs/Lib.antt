@@ -1,0 +1,6 @@
+pub mod FormTasks
+pub mod Reached
+pub mod Told
+pub mod TaskActs
+pub mod Uncounted
+pub mod Preservation
