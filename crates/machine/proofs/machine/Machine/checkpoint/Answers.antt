@@ -1,7 +1,6 @@
 use Rattle.std.proofs.Common.{arith, ◌≡◌, ◌≤◌, ◌+◌, ◌-◌, subst, sym, ap, ◌∙◌, slice_index_or, length, map, set, true, false}
 use Rattle.std.proofs.lemmas.List.{length-set, length-map, get_or_default, get_or-set_same}
 use Rattle.limits.specs.declared.TheConstants.{ENTRIES, PROCESSES}
-use Rattle.handlers.specs.Image.{TheImage, image_in}
 use Rattle.checkpoint.specs.Saved.{TheSaved, saved_of}
 use Rattle.world.specs.declared.call.Call.TheVariants.{Checkpoint}
 use Rattle.world.specs.declared.answer.Answer.TheVariants.{Saved}
@@ -21,7 +20,7 @@ snapshot-requires-clause-state c =
     let n = length xs in
     let positive = c.in_default.ensures.none.0 in
     let within : p ≤ length xs = subst (λ (v : TheMachine). p ≤ length v.processes) (sym c.self.view_is) c.in_default.ensures.none.1 in
-    let image : TheImage = some-of (map image_in c.self.inside.images.items) (omega (arith, length-map c.self.inside.images.items image_in, c.self.invariant.images, c.self.invariant.some)) in
+    let image : ℕ = 0 in
     let sound = sound_at c.self.inside c.self.invariant p (idle_process 0 0 0) image positive within in
     let at : c.process.result.now ≡ process_at (view_of c.self.inside) p = c.process.ensures.value ∙ ap (λ (v : TheMachine). process_at v p) (sym c.self.view_is) in
     let count : c.count.result ≡ n = c.count.ensures.value ∙ ap (λ (v : TheMachine). length v.processes) (sym c.self.view_is) in
@@ -37,7 +36,7 @@ snapshot-requires-clause-senders c =
     let n = length xs in
     let positive = c.in_default.ensures.none.0 in
     let within : p ≤ length xs = subst (λ (v : TheMachine). p ≤ length v.processes) (sym c.self.view_is) c.in_default.ensures.none.1 in
-    let image : TheImage = some-of (map image_in c.self.inside.images.items) (omega (arith, length-map c.self.inside.images.items image_in, c.self.invariant.images, c.self.invariant.some)) in
+    let image : ℕ = 0 in
     let sound = sound_at c.self.inside c.self.invariant p (idle_process 0 0 0) image positive within in
     let at : c.process.result.now ≡ process_at (view_of c.self.inside) p = c.process.ensures.value ∙ ap (λ (v : TheMachine). process_at v p) (sym c.self.view_is) in
     let count : c.count.result ≡ n = c.count.ensures.value ∙ ap (λ (v : TheMachine). length v.processes) (sym c.self.view_is) in
@@ -50,7 +49,7 @@ snapshot-requires-clause-owner c =
     let n = length xs in
     let positive = c.in_default.ensures.none.0 in
     let within : p ≤ length xs = subst (λ (v : TheMachine). p ≤ length v.processes) (sym c.self.view_is) c.in_default.ensures.none.1 in
-    let image : TheImage = some-of (map image_in c.self.inside.images.items) (omega (arith, length-map c.self.inside.images.items image_in, c.self.invariant.images, c.self.invariant.some)) in
+    let image : ℕ = 0 in
     let sound = sound_at c.self.inside c.self.invariant p (idle_process 0 0 0) image positive within in
     let at : c.process.result.now ≡ process_at (view_of c.self.inside) p = c.process.ensures.value ∙ ap (λ (v : TheMachine). process_at v p) (sym c.self.view_is) in
     let count : c.count.result ≡ n = c.count.ensures.value ∙ ap (λ (v : TheMachine). length v.processes) (sym c.self.view_is) in
@@ -63,7 +62,7 @@ snapshot-requires-clause-queues c =
     let n = length xs in
     let positive = c.in_default.ensures.none.0 in
     let within : p ≤ length xs = subst (λ (v : TheMachine). p ≤ length v.processes) (sym c.self.view_is) c.in_default.ensures.none.1 in
-    let image : TheImage = some-of (map image_in c.self.inside.images.items) (omega (arith, length-map c.self.inside.images.items image_in, c.self.invariant.images, c.self.invariant.some)) in
+    let image : ℕ = 0 in
     let sound = sound_at c.self.inside c.self.invariant p (idle_process 0 0 0) image positive within in
     let at : c.process.result.now ≡ process_at (view_of c.self.inside) p = c.process.ensures.value ∙ ap (λ (v : TheMachine). process_at v p) (sym c.self.view_is) in
     let count : c.count.result ≡ n = c.count.ensures.value ∙ ap (λ (v : TheMachine). length v.processes) (sym c.self.view_is) in
@@ -76,7 +75,7 @@ invariant_of-self c =
     let p = c.args.p in
     let m = view_of c.self.inside in
     let xs = c.self.inside.processes.items in
-    let images = map image_in c.self.inside.images.items in
+    let lengths = c.self.inside.lengths.items in
     let was = c.index_mut-process.result.now in
     let y = c.save.new.self in
     let positive = c.in_default.ensures.none.0 in
@@ -89,13 +88,13 @@ invariant_of-self c =
     let stable : c.in_ok-stable.stable ≡ saved_of p (length xs) was.state was.receipts was.outbox.log = c.in_ok-stable.ensures ∙ (λ j. saved_of p (count j) (taken j).state (taken j).receipts (taken j).outbox.log) ∙ ap (λ (x : TheProcess). saved_of p (length xs) x.state x.receipts x.outbox.log) (sym at) in
     let is : IsSaved (saved_of p (length xs) was.state was.receipts was.outbox.log) was y = subst (λ (z : TheSaved). IsSaved z was y) stable c.save.ensures in
     let len = length-set xs (p - 1) y in
-    let now : (e : TheImage) → IsSoundAt (length xs) p (slice_index_or images (p - 1) e).len (c.self.inside.calls + 1) y =
-    λ e. saved-sound (length xs) p _ c.self.inside.calls was y is (let up = subst (λ (v : TheMachine). is_up_at v p ≡ true) (sym c.self.view_is) c.in_default.ensures.none.3 in ap (λ (x : TheProcess). is_live x.mode) at ∙ is_live-at m p positive up) (subst (IsSoundAt (length xs) p (slice_index_or images (p - 1) e).len c.self.inside.calls) (sym here) (sound_at c.self.inside i p was e positive within)) in
+    let now : (e : ℕ) → IsSoundAt (length xs) p (slice_index_or lengths (p - 1) e) (c.self.inside.calls + 1) y =
+    λ e. saved-sound (length xs) p _ c.self.inside.calls was y is (let up = subst (λ (v : TheMachine). is_up_at v p ≡ true) (sym c.self.view_is) c.in_default.ensures.none.3 in ap (λ (x : TheProcess). is_live x.mode) at ∙ is_live-at m p positive up) (subst (IsSoundAt (length xs) p (slice_index_or lengths (p - 1) e) c.self.inside.calls) (sym here) (sound_at c.self.inside i p was e positive within)) in
     record {
       some = omega (arith, len, i.some);
       few = omega (arith, len, i.few);
-      images = i.images ∙ sym len;
-      processes = sound-set xs images p c.self.inside.calls y positive within i.processes now;
+      lengths = i.lengths ∙ sym len;
+      processes = sound-set xs lengths p c.self.inside.calls y positive within i.processes now;
       outside = subst (λ n. IsLogOf n 0 c.self.inside.outside.log) (sym len) i.outside;
       calls = omega (arith, calls, c.in_default.ensures.none.2);
       started = omega (arith, i.started);
@@ -118,7 +117,7 @@ returns-clause-step c w s =
     let few : length m.processes ≤ PROCESSES = subst (λ (v : TheMachine). length v.processes ≤ PROCESSES) c.self.view_is c.self.invariant.few in
     let here : was ≡ slice_index_or xs (p - 1) was = c.index_mut-process.ensures.value in
     let at : was ≡ process_at m p = here ∙ get_or_default xs (p - 1) was (idle_process 0 0 0) (omega (arith, positive, inside)) ∙ ap (λ (v : TheMachine). process_at v p) c.self.view_is in
-    let image : TheImage = some-of (map image_in c.self.inside.images.items) (omega (arith, length-map c.self.inside.images.items image_in, c.self.invariant.images, c.self.invariant.some)) in
+    let image : ℕ = 0 in
     let sound = sound_at c.self.inside c.self.invariant p (idle_process 0 0 0) image positive inside in
     let width : length (process_at m p).outbox.log.queues ≡ length m.processes + 1 = subst (λ (v : TheMachine). length (process_at v p).outbox.log.queues ≡ length v.processes + 1) c.self.view_is (let wide = sound.log.width in omega (arith, wide)) in
     let x = process_at m p in

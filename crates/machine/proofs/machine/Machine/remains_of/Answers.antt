@@ -1,6 +1,5 @@
 use Rattle.std.proofs.Common.{◌≡◌, ◌<◌, ◌≤◌, length, map, subst, sym, ap, ◌∙◌, arith}
 use Rattle.std.proofs.lemmas.List.{length-map}
-use Rattle.handlers.specs.Image.{TheImage, image_in}
 use Rattle.rsn.specs.Receipts.{Received}
 use Rattle.checkpoint.specs.declared.form.CheckpointForm.TheVariants.{Second}
 use Rattle.checkpoint.specs.Saved.{TheSaved, Fits, log_again, receipts_again}
@@ -23,7 +22,7 @@ returns c =
     let saved : c.stable-stable.result.now ≡ x.saved = c.stable-stable.ensures ∙ ap (λ (z : TheProcess). z.saved) c.process.ensures.value in
     let receipts : c.in_ok-receipts.receipts ≡ receipts_again x.saved = c.in_ok-receipts.ensures.receipts ∙ ap receipts_again saved in
     let senders = ap (λ (r : Received). r.senders) receipts in
-    let image : TheImage = some-of (map image_in c.self.inside.images.items) (omega (arith, length-map c.self.inside.images.items image_in, c.self.invariant.images, c.self.invariant.some)) in
+    let image : ℕ = 0 in
     let old : TheMachine = view_of c.self.inside in
     let x_is : (process_at old p).saved ≡ x.saved = ap (λ (v : TheMachine). (process_at v p).saved) c.self.view_is in
     let fits : Fits Second (process_at old p).saved = subst (Fits Second) (saved ∙ sym x_is) c.in_ok-receipts.ensures.fits in
