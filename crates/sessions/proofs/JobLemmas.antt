@@ -1,9 +1,10 @@
 -- Jobs: what a machine hands out, with its image, and what it takes back
 use Rattle.std.proofs.Common.{◌≡◌, ℕ, zero, suc, ◌-◌, ◌<◌, ◌≤◌, List, [], ◌∷◌, ◌++◌, length, map, true, refl, sym, ap, ◌∙◌, subst, arith}
-use Rattle.std.specs.Prelude.{Option, Some, None, Ok, slice_index_or}
+use Rattle.std.specs.Prelude.{Option, Some, None, Ok, slice_get, slice_index_or}
+use Rattle.std.specs.Option.{option_map}
 use Rattle.std.proofs.lemmas.Bool.Decides.{nat_tests}
 use Rattle.std.proofs.lemmas.List.{get_or-map}
-use Rattle.std.proofs.lemmas.Option.{slice_get-get_or}
+use Rattle.std.proofs.lemmas.Option.{slice_get-get_or, slice_get-map}
 use Rattle.helpers.specs.declared.effects.Who.{Who}
 use Rattle.handlers.specs.Image.{TheImage}
 use Rattle.handlers.specs.Answer.{Handled, answered, run_of, shown}
@@ -41,6 +42,13 @@ nth-inside xs zero d h k = absurd (omega arith)
 nth-inside xs (suc p) d h k =
     let back : suc p - 1 ≡ p = omega arith in
     slice_get-get_or xs p d (omega arith) ∙ ap (λ q. Some (slice_index_or xs q d)) (sym back)
+
+-- one of a list's values by its number, from 1
+pub nth-map : {X Y : Type 0} (f : X → Y) (xs : List X) (p : ℕ) → 0 < p → option_map f (slice_get xs (p - 1)) ≡ nth (map f xs) p
+nth-map f xs zero h = absurd (omega arith)
+nth-map f xs (suc p) h =
+    let back : suc p - 1 ≡ p = omega arith in
+    ap (λ k. option_map f (slice_get xs k)) back ∙ sym (slice_get-map f xs p)
 
 -- the image of a process, by its number
 image-at : (images : List TheImage) (p : ℕ) (image : TheImage) → nth images p ≡ Some image → (0 < p) × (p ≤ length images) × ((e : TheImage) → slice_index_or images (p - 1) e ≡ image)

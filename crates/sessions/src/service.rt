@@ -157,14 +157,21 @@ impl Service {
     pub(crate) fn handler_for(&self, call: &Call) -> Result<Option<Arc<Handler>>, AllocError>
         ensures { IfOk result (λ handler. option_map image_in handler ≡ nth self.now.images (starter (world_at self.now) call.now)) }
     {
-        let process = match call {
-            Call::Arrive { key } => self.machine.receiver(*key),
-            Call::ReplayBegin { process } => *process,
-            _ => 0,
-        };
+        let process = self.starter(call);
         match self.image(process) {
             Some(image) => Ok(Some(Arc::try_clone(image)?)),
             None => Ok(None),
+        }
+    }
+
+    // The process whose job a call starts, if it starts one.
+    fn starter(&self, call: &Call) -> u8
+        ensures { result ≡ starter (world_at self.now) call.now }
+    {
+        match call {
+            Call::Arrive { key } => self.machine.receiver(*key),
+            Call::ReplayBegin { process } => *process,
+            _ => 0,
         }
     }
 
