@@ -80,8 +80,3 @@ pub sound-set : (xs : List TheProcess) (lengths : List ℕ) (to calls : ℕ) (y 
     → ((e : ℕ) → IsSoundAt (length xs) to (slice_index_or lengths (to - 1) e) (calls + 1) y)
     → (p : ℕ) (d : TheProcess) (e : ℕ) → p < length (set xs (to - 1) y) → IsSoundAt (length (set xs (to - 1) y)) (suc p) (slice_index_or lengths p e) (calls + 1) (slice_index_or (set xs (to - 1) y) p d)
 sound-set xs lengths to calls y positive within all = sound-put xs lengths to (calls + 1) y positive within (λ q d e h. later _ _ _ _ _ (all q d e h))
-
--- an element of a list that isn't empty
-pub some-of : {X : Type 0} (xs : List X) → 0 < length xs → X
-some-of [] h = absurd (omega (arith, h))
-some-of (x ∷ xs) h = x

@@ -1,4 +1,4 @@
-use Rattle.std.proofs.Common.{arith, ◌≡◌, ◌≤◌, ◌+◌, ◌-◌, subst, sym, ap, ◌∙◌, slice_index_or, length, map, set, true, false}
+use Rattle.std.proofs.Common.{arith, ◌≡◌, ◌≤◌, ◌+◌, ◌-◌, subst, sym, ap, ◌∙◌, slice_index_or, length, map, set, true, false, ℕ}
 use Rattle.std.proofs.lemmas.List.{length-set, length-map, get_or_default, get_or-set_same}
 use Rattle.limits.specs.declared.TheConstants.{ENTRIES, PROCESSES}
 use Rattle.checkpoint.specs.Saved.{TheSaved, saved_of}
@@ -10,7 +10,7 @@ use Rattle.machine.specs.Fields.{view_of, AreCarried, IsLogOf, IsSoundAt}
 use Rattle.machine.specs.Simulation.{TheMachine, Steps, process_at, is_up_at}
 use Rattle.machine.proofs.Status.{is_live-at, live-lost}
 use Rattle.machine.proofs.CheckpointLemmas.{checkpoint-step, saved-sound}
-use Rattle.machine.proofs.Soundness.{sound_at, sound-set, some-of}
+use Rattle.machine.proofs.Soundness.{sound_at, sound-set}
 use Rattle.machine.proofs.machine.Machine.checkpoint.Goals as goal
 
 pub snapshot-requires-clause-state : goal.snapshot-requires-clause-state
@@ -20,8 +20,7 @@ snapshot-requires-clause-state c =
     let n = length xs in
     let positive = c.in_default.ensures.none.0 in
     let within : p ≤ length xs = subst (λ (v : TheMachine). p ≤ length v.processes) (sym c.self.view_is) c.in_default.ensures.none.1 in
-    let image : ℕ = 0 in
-    let sound = sound_at c.self.inside c.self.invariant p (idle_process 0 0 0) image positive within in
+    let sound = sound_at c.self.inside c.self.invariant p (idle_process 0 0 0) 0 positive within in
     let at : c.process.result.now ≡ process_at (view_of c.self.inside) p = c.process.ensures.value ∙ ap (λ (v : TheMachine). process_at v p) (sym c.self.view_is) in
     let count : c.count.result ≡ n = c.count.ensures.value ∙ ap (λ (v : TheMachine). length v.processes) (sym c.self.view_is) in
     let up : is_up_at (view_of c.self.inside) p ≡ true = subst (λ (v : TheMachine). is_up_at v p ≡ true) (sym c.self.view_is) c.in_default.ensures.none.3 in
@@ -36,8 +35,7 @@ snapshot-requires-clause-senders c =
     let n = length xs in
     let positive = c.in_default.ensures.none.0 in
     let within : p ≤ length xs = subst (λ (v : TheMachine). p ≤ length v.processes) (sym c.self.view_is) c.in_default.ensures.none.1 in
-    let image : ℕ = 0 in
-    let sound = sound_at c.self.inside c.self.invariant p (idle_process 0 0 0) image positive within in
+    let sound = sound_at c.self.inside c.self.invariant p (idle_process 0 0 0) 0 positive within in
     let at : c.process.result.now ≡ process_at (view_of c.self.inside) p = c.process.ensures.value ∙ ap (λ (v : TheMachine). process_at v p) (sym c.self.view_is) in
     let count : c.count.result ≡ n = c.count.ensures.value ∙ ap (λ (v : TheMachine). length v.processes) (sym c.self.view_is) in
     rw (at, count) sound.senders
@@ -49,8 +47,7 @@ snapshot-requires-clause-owner c =
     let n = length xs in
     let positive = c.in_default.ensures.none.0 in
     let within : p ≤ length xs = subst (λ (v : TheMachine). p ≤ length v.processes) (sym c.self.view_is) c.in_default.ensures.none.1 in
-    let image : ℕ = 0 in
-    let sound = sound_at c.self.inside c.self.invariant p (idle_process 0 0 0) image positive within in
+    let sound = sound_at c.self.inside c.self.invariant p (idle_process 0 0 0) 0 positive within in
     let at : c.process.result.now ≡ process_at (view_of c.self.inside) p = c.process.ensures.value ∙ ap (λ (v : TheMachine). process_at v p) (sym c.self.view_is) in
     let count : c.count.result ≡ n = c.count.ensures.value ∙ ap (λ (v : TheMachine). length v.processes) (sym c.self.view_is) in
     rw at sound.log.owner
@@ -62,8 +59,7 @@ snapshot-requires-clause-queues c =
     let n = length xs in
     let positive = c.in_default.ensures.none.0 in
     let within : p ≤ length xs = subst (λ (v : TheMachine). p ≤ length v.processes) (sym c.self.view_is) c.in_default.ensures.none.1 in
-    let image : ℕ = 0 in
-    let sound = sound_at c.self.inside c.self.invariant p (idle_process 0 0 0) image positive within in
+    let sound = sound_at c.self.inside c.self.invariant p (idle_process 0 0 0) 0 positive within in
     let at : c.process.result.now ≡ process_at (view_of c.self.inside) p = c.process.ensures.value ∙ ap (λ (v : TheMachine). process_at v p) (sym c.self.view_is) in
     let count : c.count.result ≡ n = c.count.ensures.value ∙ ap (λ (v : TheMachine). length v.processes) (sym c.self.view_is) in
     let wide : length c.process.result.now.outbox.log.queues ≡ length (process_at (view_of c.self.inside) p).outbox.log.queues = ap (λ (x : TheProcess). length x.outbox.log.queues) at in
@@ -117,8 +113,7 @@ returns-clause-step c w s =
     let few : length m.processes ≤ PROCESSES = subst (λ (v : TheMachine). length v.processes ≤ PROCESSES) c.self.view_is c.self.invariant.few in
     let here : was ≡ slice_index_or xs (p - 1) was = c.index_mut-process.ensures.value in
     let at : was ≡ process_at m p = here ∙ get_or_default xs (p - 1) was (idle_process 0 0 0) (omega (arith, positive, inside)) ∙ ap (λ (v : TheMachine). process_at v p) c.self.view_is in
-    let image : ℕ = 0 in
-    let sound = sound_at c.self.inside c.self.invariant p (idle_process 0 0 0) image positive inside in
+    let sound = sound_at c.self.inside c.self.invariant p (idle_process 0 0 0) 0 positive inside in
     let width : length (process_at m p).outbox.log.queues ≡ length m.processes + 1 = subst (λ (v : TheMachine). length (process_at v p).outbox.log.queues ≡ length v.processes + 1) c.self.view_is (let wide = sound.log.width in omega (arith, wide)) in
     let x = process_at m p in
     let stable : c.in_ok-stable.stable ≡ saved_of p (length m.processes) x.state x.receipts x.outbox.log = c.in_ok-stable.ensures ∙ (λ j. saved_of p (c.count.ensures.value j) (c.process.ensures.value j).state (c.process.ensures.value j).receipts (c.process.ensures.value j).outbox.log) in

@@ -1,4 +1,4 @@
-use Rattle.std.proofs.Common.{rules, arith, ◌≡◌, ◌≤◌, ◌+◌, ◌-◌, subst, sym, ap, ◌∙◌, slice_index_or, length, map, set}
+use Rattle.std.proofs.Common.{rules, arith, ◌≡◌, ◌≤◌, ◌+◌, ◌-◌, subst, sym, ap, ◌∙◌, slice_index_or, length, map, set, ℕ}
 use Rattle.std.proofs.lemmas.Grind.{common_steps}
 use Rattle.std.proofs.lemmas.List.{length-set, length-map, get_or_default, get_or-set_same}
 use Rattle.limits.specs.declared.TheConstants.{ENTRIES}
@@ -9,7 +9,7 @@ use Rattle.session_process.specs.Outbox.{empty_outbox}
 use Rattle.machine.specs.Fields.{AreCarried, IsLogOf, IsSoundAt}
 use Rattle.machine.specs.Simulation.{TheMachine, Steps, process_at}
 use Rattle.machine.proofs.Crashes.{crash-step, crashed-sound}
-use Rattle.machine.proofs.Soundness.{sound_at, sound-set, some-of}
+use Rattle.machine.proofs.Soundness.{sound_at, sound-set}
 use Rattle.machine.proofs.machine.Machine.crash.Goals as goal
 
 pub crash-requires-clause-incarnation : goal.crash-requires-clause-incarnation
@@ -18,11 +18,10 @@ crash-requires-clause-incarnation c =
     let p = c.args.p in
     let xs = c.self.inside.processes.items in
     let was = c.index_mut-process.result.now in
-    let image : ℕ = 0 in
     let positive = c.in_default.ensures.none.0 in
     let within : p ≤ length xs = subst (λ (v : TheMachine). p ≤ length v.processes) (sym c.self.view_is) c.in_default.ensures.none.1 in
     let here : was ≡ slice_index_or xs (p - 1) was = first_of (search rules, grind (arith, common_steps)) in
-    let s = sound_at c.self.inside i p was image positive within in
+    let s = sound_at c.self.inside i p was 0 positive within in
     omega (arith, s.incarnation, i.calls, ap (λ (x : TheProcess). x.incarnation) here)
 
 pub invariant_of-self : goal.invariant_of-self

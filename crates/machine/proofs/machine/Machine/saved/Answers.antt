@@ -6,7 +6,7 @@ use Rattle.checkpoint.specs.Saved.{TheSaved}
 use Rattle.session_process.specs.Process.{TheProcess, idle_process}
 use Rattle.machine.specs.Simulation.{Saves, TheMachine, process_at}
 use Rattle.machine.proofs.Status.{at_process}
-use Rattle.machine.proofs.Soundness.{sound_at, some-of}
+use Rattle.machine.proofs.Soundness.{sound_at}
 use Rattle.machine.proofs.machine.Machine.saved.Goals as goal
 
 pub returns : goal.returns
@@ -16,8 +16,7 @@ returns c w s =
     let i = c.self.invariant in
     let positive = c.requires.0 in
     let within : p ≤ length c.self.inside.processes.items = subst (λ (v : TheMachine). p ≤ length v.processes) (sym c.self.view_is) c.requires.1 in
-    let image : ℕ = 0 in
-    let sound = sound_at c.self.inside i p (idle_process 0 0 0) image positive within in
+    let sound = sound_at c.self.inside i p (idle_process 0 0 0) 0 positive within in
     let x = process_at m p in
     let bytes : IsCheckpoint Second x.saved c.bytes.result.now = subst (λ (z : TheSaved). IsCheckpoint Second z c.bytes.result.now) (c.stable.ensures ∙ ap (λ (y : TheProcess). y.saved) c.process.ensures.value) c.bytes.ensures in
     record {
