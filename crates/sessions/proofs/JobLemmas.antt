@@ -1,10 +1,11 @@
 -- Jobs: what a machine hands out, with its image, and what it takes back
-use Rattle.std.proofs.Common.{◌≡◌, ℕ, zero, suc, ◌-◌, ◌<◌, ◌≤◌, List, [], ◌∷◌, ◌++◌, length, map, true, refl, sym, ap, ◌∙◌, subst, arith}
-use Rattle.std.specs.Prelude.{Option, Some, None, Ok, slice_get, slice_index_or}
+use Rattle.std.proofs.Common.{Bor, ◌≡◌, ℕ, zero, suc, ◌-◌, ◌<◌, ◌≤◌, List, [], ◌∷◌, ◌++◌, length, map, true, refl, sym, ap, ◌∙◌, subst, arith}
+use Rattle.std.specs.Prelude.{Option, Some, None, Ok, option_copied, slice_get, slice_index_or}
 use Rattle.std.specs.Option.{option_map}
+use Rattle.std.specs.Slice.{IsItemAt}
 use Rattle.std.proofs.lemmas.Bool.Decides.{nat_tests}
 use Rattle.std.proofs.lemmas.List.{get_or-map}
-use Rattle.std.proofs.lemmas.Option.{slice_get-get_or, slice_get-map}
+use Rattle.std.proofs.lemmas.Option.{slice_get-get_or, slice_get-map, slice_get_past, slice_get_read}
 use Rattle.helpers.specs.declared.effects.Who.{Who}
 use Rattle.handlers.specs.Image.{TheImage}
 use Rattle.handlers.specs.Answer.{Handled, answered, run_of, shown}
@@ -43,12 +44,16 @@ nth-inside xs (suc p) d h k =
     let back : suc p - 1 ≡ p = omega arith in
     slice_get-get_or xs p d (omega arith) ∙ ap (λ q. Some (slice_index_or xs q d)) (sym back)
 
--- one of a list's values by its number, from 1
-pub nth-map : {X Y : Type 0} (f : X → Y) (xs : List X) (p : ℕ) → 0 < p → option_map f (slice_get xs (p - 1)) ≡ nth (map f xs) p
-nth-map f xs zero h = absurd (omega arith)
-nth-map f xs (suc p) h =
+-- what is read at the place before is the value with this number
+pub nth-read : {X Y : Type 0} (f : X → Y) (xs : List X) (p : ℕ) (r : Option (Bor X)) → 0 < p → IsItemAt xs (p - 1) r → option_map f (option_copied r) ≡ nth (map f xs) p
+nth-read f xs zero r h at = absurd (omega arith)
+nth-read {X = X} f xs (suc p) r h at =
     let back : suc p - 1 ≡ p = omega arith in
-    ap (λ k. option_map f (slice_get xs k)) back ∙ sym (slice_get-map f xs p)
+    read r (rw back at at) ∙ sym (slice_get-map f xs p)
+  where
+    read : (r : Option (Bor X)) → IsItemAt xs p r → option_map f (option_copied r) ≡ option_map f (slice_get xs p)
+    read None at = ap (option_map f) (sym (slice_get_past xs p at.3))
+    read (Some x) at = ap (option_map f) (sym (slice_get_read xs (length xs) p x.now refl at.3.0 at.1))
 
 -- the image of a process, by its number
 image-at : (images : List TheImage) (p : ℕ) (image : TheImage) → nth images p ≡ Some image → (0 < p) × (p ≤ length images) × ((e : TheImage) → slice_index_or images (p - 1) e ≡ image)
@@ -155,11 +160,11 @@ starts s m p (Some t) handler opened stands count at =
     rw is (opened.0, opens-job s.images (world_at s) count t found.0 is_open found.1)
 
 -- and the state of its task is as long as that says
-pub is-sized : (images : List TheImage) (m m' : TheMachine) (w' : World) (p : Option ℕ) (task : Option TheTask) (handler : Option TheImage) → Opened m' p task → m'.lengths ≡ m.lengths → m.lengths ≡ lengths_of images
+pub is-sized : (images : List TheImage) (m m' : TheMachine) (p : Option ℕ) (task : Option TheTask) (handler : Option TheImage) → Opened m' p task → m'.lengths ≡ m.lengths → m.lengths ≡ lengths_of images
     → ((q : ℕ) → p ≡ Some q → handler ≡ nth images q) → IsSized task handler
-is-sized images m m' w' p None handler opened same lengths at = tt
-is-sized images m m' w' p (Some t) None opened same lengths at = tt
-is-sized images m m' w' p (Some t) (Some image) opened same lengths at =
+is-sized images m m' p None handler opened same lengths at = tt
+is-sized images m m' p (Some t) None opened same lengths at = tt
+is-sized images m m' p (Some t) (Some image) opened same lengths at =
     sized images m' t image (same ∙ lengths) opened.1.0 (sym (at t.who.me opened.0))
 
 -- what holds of the job that an arrival hands out, by what else does

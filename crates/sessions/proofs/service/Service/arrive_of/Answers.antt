@@ -48,7 +48,8 @@ placed c =
     let is = map image_in c.self.inside.images.items in
     let w = here is c.self.inside.journal.entries in
     let a = c.in_ok-arrival.arrival in
-    let found = rw (← c.self.view_is) c.in-Ok.ensures in
+    let found : option_map image_in c.in-Ok.handler ≡ nth is (starter (here is c.self.inside.journal.entries) (Arrive c.args.key)) =
+    subst (λ (s : TheSession). option_map image_in c.in-Ok.handler ≡ nth s.images (starter (world_at s) (Arrive c.args.key))) (sym c.self.view_is) c.in-Ok.ensures in
     of-job (λ (t : TheTask). starter w (Arrive c.args.key) ≡ t.who.me) (λ (t : TheTask). option_map image_in c.in-Ok.handler ≡ nth is t.who.me) a (λ t e h. found ∙ ap (nth is) h)
     (arrives-at c.self.inside.machine c.arrive.new.self c.room-room.result c.args.key a c.in_ok-arrival.ensures.step c.in_ok-arrival.ensures.job c.in_ok-arrival.ensures.target w c.self.invariant.0.leads)
 

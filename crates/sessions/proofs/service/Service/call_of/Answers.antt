@@ -77,7 +77,8 @@ handler-at : (c : After-append) (q : ℕ) → job_of (here (map image_in c.self.
 handler-at c q e =
     let is = map image_in c.self.inside.images.items in
     let w = here is c.self.inside.journal.entries in
-    let found = rw (← c.self.view_is) c.in-Ok.ensures in
+    let found : option_map image_in c.in-Ok.handler ≡ nth is (starter w c.args.call.now) =
+    subst (λ (s : TheSession). option_map image_in c.in-Ok.handler ≡ nth s.images (starter (world_at s) c.args.call.now)) (sym c.self.view_is) c.in-Ok.ensures in
     found ∙ ap (nth is) (starts-at w c.args.call.now c.in_ok-reply.reply.answer q e)
 
 pub joined-requires : goal.joined-requires
