@@ -21,7 +21,7 @@ use crate::journal::Journal;
 use crate::refused::RefusedEffects;
 use crate::slip::Brief;
 use handlers::Handler;
-use limits::{ENTRIES, STATE_BYTES};
+use limits::{ENTRIES, PROCESSES, STATE_BYTES};
 use machine::{Finished, Machine, Reply};
 use std::alloc::{AllocError, Global};
 use std::marker::Model;
@@ -71,6 +71,9 @@ impl Service {
     pub fn open(alloc: Global, images: Vec<Arc<Handler>>) -> Result<Service, Refusal>
         ensures { OpensAlone (map image_in images.items) result }
     {
+        if images.is_empty() || images.len() > PROCESSES {
+            return Err(Refusal::NoSuchProcess);
+        }
         let lengths = lengths(alloc, images.as_slice())?;
         let machine = Machine::open(alloc, lengths)?;
         let journal = Journal::new(alloc);
