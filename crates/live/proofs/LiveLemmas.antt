@@ -8,7 +8,7 @@ use Rattle.std.proofs.lemmas.List.Sums.{sum_by-append}
 use Rattle.limits.specs.declared.TheConstants.{SEATS, WORKERS}
 use Rattle.handlers.specs.Image.{TheImage}
 use Rattle.world.specs.declared.entry.Entry.{Entry}
-use Rattle.replay.specs.Fold.{handlers_of}
+use Rattle.sessions.specs.Fold.{handlers_of}
 use Rattle.world.specs.Legal.{Legal, world_of}
 use Rattle.sessions.specs.Journal.{IsLegal, TheSession}
 use Rattle.sessions.specs.Seats.{TheSeat, IsWhole, answered_by, listed, new_seats, seat_at, seats_from}

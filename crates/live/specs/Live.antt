@@ -3,7 +3,7 @@ use Rattle.std.specs.Prelude.{◌≡◌, ◌≢◌, ◌≤◌, ◌+◌, true, �
 use Rattle.handlers.specs.Image.{TheImage}
 use Rattle.world.specs.declared.entry.Entry.{Entry}
 use Rattle.world.specs.declared.refusal.Refusal.TheVariants.{Memory}
-use Rattle.replay.specs.Fold.{handlers_of}
+use Rattle.sessions.specs.Fold.{handlers_of}
 use Rattle.world.specs.Legal.{Legal, world_of}
 use Rattle.sessions.specs.declared.share.End.TheVariants.{Budget, Refused}
 use Rattle.workers.specs.Continues.{are_allowed}

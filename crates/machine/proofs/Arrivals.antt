@@ -48,10 +48,10 @@ some-of (suc n) other = omega arith
 
 -- the answer that a packet gets whose target is up
 module _ (m : TheMachine) (w : World) (s : Stands m w) (room key : ℕ) (accepted : refusal_of w room (Arrive key) ≡ None) (packet : Packet) (found : slice_index_or m.slots key None ≡ Some packet) (up : is_up (w.phase (target_of packet)) ≡ true) where
-  pub arrives : (new : TheMachine) (a : Answer) → ReceivesUp w key packet a → Shows new (arrive w key (Some packet) a) → new.images ≡ m.images → Steps m new room (Arrive key) a w
-  arrives new a fits shows images =
+  pub arrives : (new : TheMachine) (a : Answer) → ReceivesUp w key packet a → Shows new (arrive w key (Some packet) a) → new.lengths ≡ m.lengths → Steps m new room (Arrive key) a w
+  arrives new a fits shows lengths =
       let is : w.wire key ≡ Some packet = s.shows.wire key ∙ found in
-      step m new room (Arrive key) a w s accepted (rw is (rw up fits)) (rw is shows) images
+      step m new room (Arrive key) a w s accepted (rw is (rw up fits)) (rw is shows) lengths
 
 -- the answer that it gets where its target isn't
 module _ (m : TheMachine) (w : World) (s : Stands m w) (room key calls : ℕ) (slots : List (Option Packet)) (accepted : refusal_of w room (Arrive key) ≡ None) where
@@ -174,7 +174,6 @@ module _ (m : TheMachine) (w : World) (s : Stands m w) (room key to calls : ℕ)
         arrives m w s room key accepted (Delivery to x) found up new (Started serial) (receives to positive Next verdict (Started serial) (ap Started (serial_is ∙ ap (λ k. k + 1) (sym s.shows.started))))
         (record {
           count = s.shows.count ∙ sym len;
-          handlers = s.shows.handlers;
           process = λ p d h. rw len (set-is P m.processes to y positive within there s.shows.process p d h);
           logs = λ p d h k apart back. kept new p d (log-same m to y positive within new refl refl refl p) (s.shows.logs p d (omega (arith, len, h)) (omega (arith, len, k)) apart (not-down p back));
           gates = λ p d h k to_d apart now_up. at-set m to y positive within (λ q b z. q ≤ length m.processes → q ≢ d → is_up (if b then Busy x else w.phase q) ≡ true → Holds d z.outbox.gate (run_of w q) (length (w.history q)) (w.released q d) (sent_by w q d)) (λ a other u. s.shows.gates to d positive a (omega (arith, len, to_d)) other up) (λ q b a other u. s.shows.gates q d b a (omega (arith, len, to_d)) other u) p h (omega (arith, len, k)) apart now_up;
@@ -229,7 +228,6 @@ module _ (m : TheMachine) (w : World) (s : Stands m w) (room key calls : ℕ) (x
       arrives m w s room key accepted (Delivery 0 x) found (ap is_up s.shows.outside) (record m { outside = record m.outside { shown = m.outside.shown ++ x ∷ [] }; slots = slots; calls = calls }) (Shown x.ssn) (rw verdict refl)
       (record {
         count = s.shows.count;
-        handlers = s.shows.handlers;
         process = s.shows.process;
         logs = s.shows.logs;
         gates = s.shows.gates;
@@ -340,8 +338,8 @@ module _ (m : TheMachine) (w : World) (s : Stands m w) (room key r t i k incarna
     good : ((incarnation == w.incarnation r) && is_entry w t r i) ≡ true
     good = let e : (incarnation == (process_at m r).incarnation) ≡ true = eq-eqb incarnation (process_at m r).incarnation current in rw (present, e, entry, logged) refl
 
-    notes : (new : TheMachine) → Shows new (note w key r t i k incarnation key) → new.images ≡ m.images → Steps m new room (Arrive key) (Numbered key) w
-    notes new shows images = arrives m w s room key accepted (Number r t i k incarnation) found sender_up new (Numbered key) (rw good (key, (rw wire-is low, vacated w key), refl)) shows images
+    notes : (new : TheMachine) → Shows new (note w key r t i k incarnation key) → new.lengths ≡ m.lengths → Steps m new room (Arrive key) (Numbered key) w
+    notes new shows lengths = arrives m w s room key accepted (Number r t i k incarnation) found sender_up new (Numbered key) (rw good (key, (rw wire-is low, vacated w key), refl)) shows lengths
 
     wire : (j : ℕ) → put (put w.wire key None) key (Some (Acknowledgement t r k incarnation)) j ≡ slice_index_or slots j None
     wire j = replaced m w s key calls slots (Some (Number r t i k incarnation)) (Acknowledgement t r k incarnation) puts j
@@ -353,7 +351,6 @@ module _ (m : TheMachine) (w : World) (s : Stands m w) (room key r t i k incarna
         notes new
         (record {
           count = s.shows.count;
-          handlers = s.shows.handlers;
           process = s.shows.process;
           logs = kept new (λ p. log_is p (p == 0) refl);
           gates = s.shows.gates;
@@ -396,7 +393,6 @@ module _ (m : TheMachine) (w : World) (s : Stands m w) (room key r t i k incarna
         notes new
         (record {
           count = s.shows.count ∙ sym len;
-          handlers = s.shows.handlers;
           process = λ p d h. rw len (set-is P m.processes t y some from there s.shows.process p d h);
           logs = λ p d h h2. kept new (λ q. log_is q (process_at new q) (q == 0) refl (at-set m t y some from (λ j b z. z.outbox.log ≡ (if b then l else (process_at m j).outbox.log)) refl (λ j a. refl) q)) p d (omega (arith, len, h)) (omega (arith, len, h2));
           gates = λ p d h k to_d other. at-set m t y some from (λ q b z. q ≤ length m.processes → q ≢ d → is_up (w.phase q) ≡ true → Holds d z.outbox.gate (run_of w q) (length (w.history q)) (w.released q d) (sent_by w q d)) (λ a. s.shows.gates t d some a (omega (arith, len, to_d))) (λ q b a. s.shows.gates q d b a (omega (arith, len, to_d))) p h (omega (arith, len, k)) other;
@@ -526,7 +522,6 @@ module _ (m : TheMachine) (w : World) (s : Stands m w) (room key t r k incarnati
         arrives m w s room key accepted (Acknowledgement t r k incarnation) found running new Acknowledged (rw fresh refl)
         (record {
           count = s.shows.count ∙ sym len;
-          handlers = s.shows.handlers;
           process = λ p d h. rw len (set-is P m.processes r y inside within there s.shows.process p d h);
           logs = λ p d h h2 apart back. subst (λ l. Keeps (queue_of d l) (w.trims p d) (sent w p d) (w.numbers p d)) (sym (log-same m r y inside within new refl refl same_log p)) (s.shows.logs p d (omega (arith, len, h)) (omega (arith, len, h2)) apart back);
           gates = λ p d h h2 to apart. at-set m r y inside within (G d) (λ u other on. holds d (omega (arith, len, to)) other) (λ q u v. s.shows.gates q d u v (omega (arith, len, to))) p h (omega (arith, len, h2)) apart;

@@ -12,7 +12,7 @@ use Rattle.rsn.specs.Receipts.{Received}
 use Rattle.sender_log.specs.Log.{queue_of}
 use Rattle.send_gate.specs.declared.gate.Held.{Held}
 use Rattle.send_gate.specs.Gate.{TheGate, count_to}
-use Rattle.replay.specs.Task.{TheTask, IsAnswer, answer_of}
+use Rattle.replay.specs.Task.{TheTask, TheCompletion, Answers}
 use Rattle.world.specs.declared.message.Message.{Message}
 use Rattle.world.specs.declared.packet.Packet.{Packet}
 use Rattle.world.specs.declared.packet.Packet.TheVariants.{Number}
@@ -20,7 +20,7 @@ use Rattle.world.specs.declared.call.Call.TheVariants.{Finish}
 use Rattle.world.specs.declared.answer.Answer.TheVariants.{Committed}
 use Rattle.world.specs.History.{count_of}
 use Rattle.world.specs.Phases.{Up, Busy}
-use Rattle.replay.specs.Fold.{emitted_to}
+use Rattle.replay.specs.Emission.{emitted_to}
 use Rattle.world.specs.World.{World, put}
 use Rattle.world.specs.Logs.{sent, run_to, run_of}
 use Rattle.theorems.specs.Invariants.Sound.{JobNext}
@@ -103,7 +103,10 @@ live-idle n modes.Down e = absurd (false≢true e)
 live-idle n (modes.Replaying plan alone) e = absurd (false≢true e)
 live-idle n (modes.Resync peers) e = absurd (false≢true e)
 
-module _ (m : TheMachine) (w : World) (s : Stands m w) (t : TheTask) (k : Matches m t) (a : IsAnswer t (answer_of t)) (sizes : length m.images ≡ length m.processes) (y : TheProcess) (c : Commits t (process_at m t.who.me) y) (up : is_up_at m t.who.me ≡ true) where
+module _ (m : TheMachine) (w : World) (s : Stands m w) (b : TheCompletion) (k : Matches m b.task) (a : Answers w.handlers b) (y : TheProcess) (c : Commits b (process_at m b.task.who.me) y) (up : is_up_at m b.task.who.me ≡ true) where
+  abbrev t : TheTask
+  t = b.task
+
   abbrev me : ℕ
   me = t.who.me
 
@@ -120,8 +123,8 @@ module _ (m : TheMachine) (w : World) (s : Stands m w) (t : TheTask) (k : Matche
   was = process_at m me
 
   -- the job is open in the world
-  pub is_open : IsOpen m.images t w
-  is_open = opens m t w s sizes k
+  pub is_open : IsOpen t w
+  is_open = opens m t w s k
 
   at_me : StandsAt (length m.processes) me was (w.handlers.state me) (w.handlers.sends me) h (w.phase me) (w.incarnation me) (w.acknowledged me) (w.saved me) (w.saved_trims me)
   at_me = at_process m w s me k.inside k.within
@@ -143,6 +146,9 @@ module _ (m : TheMachine) (w : World) (s : Stands m w) (t : TheTask) (k : Matche
 
   state_was : was.state ≡ w.handlers.state me h
   state_was = at_me.state_is (live-lost was.mode live) ∙ ap (w.handlers.state me) held
+
+  state_is : t.state ≡ w.handlers.state me h
+  state_is = sym k.state ∙ state_was
 
   senders_was : was.receipts.senders ≡ map (λ (z : Message). z.sender) h
   senders_was = at_me.senders ∙ ap (map (λ (z : Message). z.sender)) held
@@ -194,7 +200,7 @@ module _ (m : TheMachine) (w : World) (s : Stands m w) (t : TheTask) (k : Matche
   stands_after : StandsAt (length m.processes) me y (w.handlers.state me) (w.handlers.sends me) hx Up (w.incarnation me) (w.acknowledged me) (w.saved me) (w.saved_trims me)
   stands_after =
       record {
-        state_is = λ e. c.state ∙ sym (state_after m w s t k a sizes h state_was) ∙ sym (ap (w.handlers.state me) held_now);
+        state_is = λ e. c.state ∙ sym (state_after w b a h state_is) ∙ sym (ap (w.handlers.state me) held_now);
         gone = λ e. absurd (false≢true (sym (live-lost y.mode live_now) ∙ e));
         senders = ap (λ (r : Received). r.senders) c.receipts ∙ ap (λ xs. xs ++ x.sender ∷ []) senders_was ∙ sym (map_push (λ (z : Message). z.sender) h x) ∙ sym (ap (map (λ (z : Message). z.sender)) held_now);
         flags = ap (λ (r : Received). length r.acknowledged) c.receipts ∙ length-append was.receipts.acknowledged (false ∷ []) ∙ ap (λ j. j + 1) flags_was ∙ sym longer ∙ sym received_now;
@@ -223,7 +229,7 @@ module _ (m : TheMachine) (w : World) (s : Stands m w) (t : TheTask) (k : Matche
     keeps_after : Keeps (queue_of d y.outbox.log) (w.trims me d) (w.handlers.sends me (take (length hx) hx) d) (w.numbers me d)
     keeps_after =
         subst (λ ps. Keeps (queue_of d y.outbox.log) (w.trims me d) ps (w.numbers me d)) (sym (ap (λ l. w.handlers.sends me l d) (take-all hx)))
-        (keeps-given m w s t k a sizes h state_was d was.outbox y.outbox c.outbox (dest-of (length m.processes) me d was.outbox log_of to other) kept numbers_within)
+        (keeps-given w b a h state_is d was.outbox y.outbox c.outbox (dest-of (length m.processes) me d was.outbox log_of to other) kept numbers_within)
 
     module _ (sent_all : HasSent was) where
       run_same : run_to (w.acknowledged me) (length hx) ≡ run_of w me
@@ -238,10 +244,10 @@ module _ (m : TheMachine) (w : World) (s : Stands m w) (t : TheTask) (k : Matche
       by_all =
           let whole : take (length h + 1) hx ≡ hx = ap (λ j. take j hx) (sym longer) ∙ take-all hx in
           let before : take (length h) h ≡ h = take-all h in
-          let counted : count_to d c.outbox.held ≡ length (emitted_to d (answer_of t).effects) = c.outbox.counts d (dest-of (length m.processes) me d was.outbox log_of to other) in
+          let counted : count_to d c.outbox.held ≡ length (emitted_to d b.effects) = c.outbox.counts d (dest-of (length m.processes) me d was.outbox log_of to other) in
           ap (λ l. length (w.handlers.sends me l d)) whole
-          ∙ ap length (sends_after m w s t k a sizes h state_was d)
-          ∙ length-append (w.handlers.sends me h d) (emitted_to d (answer_of t).effects)
+          ∙ ap length (sends_after w b a h state_is d)
+          ∙ length-append (w.handlers.sends me h d) (emitted_to d b.effects)
           ∙ (λ i. length (w.handlers.sends me (sym before i) d) + sym counted i)
 
       made_is : was.outbox.made ≡ length h

@@ -4,11 +4,9 @@ use Rattle.std.specs.Prelude.{Option, Some, None, slice_get, slice_index_or}
 use Rattle.std.proofs.lemmas.Bool.Decides.{nat_tests}
 use Rattle.std.proofs.lemmas.List.{get_or-set_same, length-set}
 use Rattle.std.proofs.lemmas.Option.{slice_get-get_or}
-use Rattle.decode.specs.declared.insn.Insn.{Insn}
 use Rattle.helpers.specs.declared.effects.Who.{Who}
-use Rattle.handlers.specs.Image.{TheImage}
 use Rattle.replay.specs.Task.{TheTask}
-use Rattle.theorems.proofs.ListLemmas.{nth-within, take-length}
+use Rattle.theorems.proofs.ListLemmas.{take-length}
 use Rattle.world.specs.declared.message.Message.{Message}
 use Rattle.world.specs.declared.packet.Packet.{Packet}
 use Rattle.world.specs.History.{nth}
@@ -21,7 +19,7 @@ use Rattle.session_process.specs.declared.mode.Mode.TheVariants as modes
 use Rattle.machine.specs.Simulation.{TheMachine, StandsAt, Stands, process_at}
 use Rattle.machine.specs.Work.{phase_of, MayWork}
 use Rattle.machine.specs.Jobs.{Begins, Matches}
-use Rattle.machine.specs.Arrival.{HasCode, HasForm, IsOpen}
+use Rattle.machine.specs.Arrival.{HasItsLength, IsHandedOut, IsOpen}
 use Rattle.machine.proofs.Status.{at_process, down_is}
 use Rattle.machine.proofs.Readings.{length-back, state-back}
 
@@ -48,18 +46,6 @@ working-back modes.Down o saved h x may e = absurd (cc)
 working-back (modes.Replaying plan alone) o saved h x may e = refl
 working-back (modes.Resync peers) o saved h x may e = refl
 
--- an element by its number, from 1, is the one at the place before
-pub nth-inside : {X : Type 0} (xs : List X) (p : ℕ) (d : X) → 0 < p → p ≤ length xs → nth xs p ≡ Some (slice_index_or xs (p - 1) d)
-nth-inside xs zero d h k = absurd (omega arith)
-nth-inside xs (suc p) d h k =
-    let back : suc p - 1 ≡ p = omega arith in
-    slice_get-get_or xs p d (omega arith) ∙ ap (λ q. Some (slice_index_or xs q d)) (sym back)
-
--- an image of this number is one of the images
-image-within : (images : List TheImage) (p : ℕ) (code : List Insn) (o : Option TheImage) → nth images p ≡ o → HasCode o code → p ≤ length images
-image-within images p code None e has = absurd has
-image-within images p code (Some x) e has = (nth-within images p x e).1
-
 module _ (m : TheMachine) (t : TheTask) (w : World) (s : Stands m w) where
   module _ (inside : 0 < t.who.me) (within : t.who.me ≤ length m.processes) where
     at : StandsAt (length m.processes) t.who.me (process_at m t.who.me) (w.handlers.state t.who.me) (w.handlers.sends t.who.me) (w.history t.who.me) (w.phase t.who.me) (w.incarnation t.who.me) (w.acknowledged t.who.me) (w.saved t.who.me) (w.saved_trims t.who.me)
@@ -81,13 +67,9 @@ module _ (m : TheMachine) (t : TheTask) (w : World) (s : Stands m w) where
       state_is : (process_at m t.who.me).state ≡ state_of w t.who.me
       state_is = state-back m w s t.who.me inside within (down_is m w s t.who.me inside within ∙ lost)
 
-  -- what matches the fields is open
-  pub opens-at : t.who.me ≤ length m.images → Matches m t → IsOpen m.images t w
-  opens-at image k =
-      let code : HasCode (nth m.images t.who.me) t.image.code =
-      subst (λ o. HasCode o t.image.code) (sym (nth-inside m.images t.who.me t.image k.inside image)) (k.code t.image) in
-      let form : HasForm (nth m.images t.who.me) t.image.form =
-      subst (λ o. HasForm o t.image.form) (sym (nth-inside m.images t.who.me t.image k.inside image)) (k.form t.image) in
+  -- a task that matches its process is that of an open job in the world
+  pub opens : Matches m t → IsOpen t w
+  opens k =
       record {
         inside = grind (arith, nat_tests, s.shows.count, k.inside, k.within);
         incarnation = sym k.incarnation ∙ sym (incarnation_is k.inside k.within);
@@ -96,16 +78,10 @@ module _ (m : TheMachine) (t : TheTask) (w : World) (s : Stands m w) where
         message = open_is k.inside k.within ∙ k.message;
         from = k.from;
         count = k.count ∙ sym s.shows.count;
-        code = code;
-        form = form;
       }
 
-  -- a task that matches its process is that of an open job in the world
-  pub opens : length m.images ≡ length m.processes → Matches m t → IsOpen m.images t w
-  opens sizes k = opens-at (omega (arith, sizes, k.within)) k
-
   -- and the other way round
-  pub matches : IsOpen m.images t w → Matches m t
+  pub matches : IsOpen t w → Matches m t
   matches o =
       let inside : 0 < t.who.me = grind (arith, nat_tests, o.inside) in
       let within : t.who.me ≤ length m.processes = grind (arith, nat_tests, o.inside, s.shows.count) in
@@ -119,19 +95,16 @@ module _ (m : TheMachine) (t : TheTask) (w : World) (s : Stands m w) where
         state = state_is inside within message ∙ sym o.state;
         from = o.from;
         count = o.count ∙ s.shows.count;
-        code = λ e. subst (λ k. HasCode k t.image.code) (nth-inside m.images t.who.me e inside (image-within m.images t.who.me t.image.code (nth m.images t.who.me) refl o.code)) o.code;
-        form = λ e. subst (λ k. HasForm k t.image.form) (nth-inside m.images t.who.me e inside (image-within m.images t.who.me t.image.code (nth m.images t.who.me) refl o.code)) o.form;
       }
 
 -- the job that a process begins matches, whatever is on the wire
-pub begun-matches : (m new : TheMachine) (to : ℕ) (x : Message) (t : TheTask) (slots : List (Option Packet)) → Begins m new to x t → 0 < to → to ≤ length m.processes → Matches (record new { slots = slots }) t
+begun-matches : (m new : TheMachine) (to : ℕ) (x : Message) (t : TheTask) (slots : List (Option Packet)) → Begins m new to x t → 0 < to → to ≤ length m.processes → Matches (record new { slots = slots }) t
 begun-matches m new to x t slots b positive within =
     let y : TheProcess = record (process_at m to) { working = Some x } in
     let me_is : t.who.me ≡ to = ap (λ (q : Who). q.me) b.who in
     let len : length new.processes ≡ length m.processes = ap (λ (v : TheMachine). length v.processes) b.becomes ∙ length-set m.processes (to - 1) y in
     let kept : process_at new to ≡ y = ap (λ (v : TheMachine). process_at v to) b.becomes ∙ get_or-set_same m.processes (to - 1) y (idle_process 0 0 0) (omega arith) in
     let at : process_at new t.who.me ≡ y = ap (process_at new) me_is ∙ kept in
-    let images : new.images ≡ m.images = ap (λ (v : TheMachine). v.images) b.becomes in
     record {
       inside = omega (arith, me_is);
       within = omega (arith, me_is, len);
@@ -141,6 +114,16 @@ begun-matches m new to x t slots b positive within =
       state = ap (λ (z : TheProcess). z.state) at ∙ sym b.state;
       from = ap (λ (q : Who). q.from) b.who ∙ ap (λ (z : Message). z.sender) (sym b.message_is);
       count = ap (λ (q : Who). q.count) b.who ∙ sym len;
-      form = λ e. ap (λ (z : TheImage). z.form) (ap (λ zs. slice_index_or zs (t.who.me - 1) e) images ∙ ap (λ q. slice_index_or m.images (q - 1) e) me_is ∙ sym (b.image e));
-      code = λ e. ap (λ (z : TheImage). z.code) (ap (λ zs. slice_index_or zs (t.who.me - 1) e) images ∙ ap (λ q. slice_index_or m.images (q - 1) e) me_is ∙ sym (b.image e));
     }
+
+-- its state is as long as that of its process
+begun-length : (m new : TheMachine) (to : ℕ) (x : Message) (t : TheTask) → Begins m new to x t → HasItsLength new t
+begun-length m new to x t b e =
+    let me_is : to ≡ t.who.me = sym (ap (λ (q : Who). q.me) b.who) in
+    let same : m.lengths ≡ new.lengths = sym (ap (λ (v : TheMachine). v.lengths) b.becomes) in
+    b.size e ∙ (λ i. slice_index_or (same i) (me_is i - 1) e)
+
+-- the task that a process begins is that of its open job, whatever is on the wire
+pub handed-out : (m new : TheMachine) (to : ℕ) (x : Message) (t : TheTask) (slots : List (Option Packet)) → Begins m new to x t → 0 < to → to ≤ length m.processes → IsHandedOut (record new { slots = slots }) t
+handed-out m new to x t slots b positive within =
+    (begun-length m new to x t b, λ w s. opens (record new { slots = slots }) t w s (begun-matches m new to x t slots b positive within))

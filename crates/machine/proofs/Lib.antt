@@ -20,7 +20,7 @@ pub mod Preservation
 pub mod KeepLemmas
 pub mod Arrivals
 pub mod Replies
-pub mod Completion
+pub mod ResultLemmas
 pub mod Commitment
 pub mod Recall
 pub mod ReplaySteps

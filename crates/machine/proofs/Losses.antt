@@ -4,7 +4,6 @@ use Rattle.std.specs.Prelude.{◌==◌, if◌then◌else◌, nat_lt, Option, Som
 use Rattle.std.proofs.lemmas.Bool.Decides.{nat_tests}
 use Rattle.std.proofs.lemmas.List.{append_assoc, drop_more, get_or-append_right, get_or-map, get_or-set_same, get_or-set_other, length-map, length-set, length-take-le, map-append, set_at, set-get_or, take_more}
 use Rattle.std.proofs.Math.ListN.{get_or-eq_default}
-use Rattle.handlers.specs.Image.{TheImage}
 use Rattle.sender_log.specs.Queue.{TheQueue, no_queue, unnumbered, up_to}
 use Rattle.sender_log.specs.Log.{TheLog, queue_of, with_queue}
 use Rattle.world.specs.History.{Payload}
@@ -130,14 +129,14 @@ module _ {X : Type 0} (f : X → X) (xs ys : List X) (i : ℕ) (x v : X) where
       ∙ sym (append_assoc front (f here ∷ []) rest) ∙ ap (λ l. l ++ rest) (sym more)
 
 -- all processes are sound
-pub processes-forgot : (xs : List TheProcess) (images : List TheImage) (p k calls : ℕ) → ((q : ℕ) (d : TheProcess) (e : TheImage) → q < length xs → IsSoundAt (length xs) (suc q) (slice_index_or images q e).len calls (slice_index_or xs q d))
-    → (ys : List TheProcess) → ys ≡ map (unnumbered_at p k) xs → (q : ℕ) (d : TheProcess) (e : TheImage) → q < length ys → IsSoundAt (length ys) (suc q) (slice_index_or images q e).len calls (slice_index_or ys q d)
-processes-forgot xs images p k calls all ys is q d e h =
+pub processes-forgot : (xs : List TheProcess) (lengths : List ℕ) (p k calls : ℕ) → ((q : ℕ) (d : TheProcess) (e : ℕ) → q < length xs → IsSoundAt (length xs) (suc q) (slice_index_or lengths q e) calls (slice_index_or xs q d))
+    → (ys : List TheProcess) → ys ≡ map (unnumbered_at p k) xs → (q : ℕ) (d : TheProcess) (e : ℕ) → q < length ys → IsSoundAt (length ys) (suc q) (slice_index_or lengths q e) calls (slice_index_or ys q d)
+processes-forgot xs lengths p k calls all ys is q d e h =
     let len : length ys ≡ length xs = ap length is ∙ length-map xs (unnumbered_at p k) in
     let low : q < length xs = omega (arith, len, h) in
     let at : slice_index_or ys q d ≡ unnumbered_at p k (slice_index_or xs q d) = ap (λ l. slice_index_or l q d) is ∙ get_or-map (unnumbered_at p k) xs q d d low in
-    subst (λ n. IsSoundAt n (suc q) (slice_index_or images q e).len calls (slice_index_or ys q d)) (sym len)
-    (subst (IsSoundAt (length xs) (suc q) (slice_index_or images q e).len calls) (sym at) (sound-forgot (length xs) (suc q) p k (slice_index_or xs q d) (slice_index_or images q e).len calls (all q d e low)))
+    subst (λ n. IsSoundAt n (suc q) (slice_index_or lengths q e) calls (slice_index_or ys q d)) (sym len)
+    (subst (IsSoundAt (length xs) (suc q) (slice_index_or lengths q e) calls) (sym at) (sound-forgot (length xs) (suc q) p k (slice_index_or xs q d) (slice_index_or lengths q e) calls (all q d e low)))
 
 -- as many inputs
 pub inputs-forgot : (p k calls : ℕ) (old new : TheOutside) → new ≡ record old { log = forgot p k old.log } → ((d : ℕ) → (queue_of d old.log).first + length (queue_of d old.log).payloads ≤ calls + 1)
@@ -192,7 +191,6 @@ module _ (m : TheMachine) (p k : ℕ) where
       record {
         width = forgotten-width;
         count = b.count;
-        handlers = b.handlers;
         process = λ q d h other. subst (λ x. StandsFor w (length m.processes) (suc q) x (life w (suc q))) (sym (get_or-map (unnumbered_at p k) m.processes q d d h)) (stands-forgot (length m.processes) (suc q) p k (slice_index_or m.processes q d) w (life w (suc q)) (b.process q d h other));
         logs = λ q d other from to apart back. keeps-forgot w q d from (b.logs q d other from to apart back) (d == p) refl;
         gates = λ q d other positive from to apart up. rw (gate-forgot q positive from) (b.gates q d other positive from to apart up);

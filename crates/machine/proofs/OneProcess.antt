@@ -139,7 +139,6 @@ module _ (m : TheMachine) (w : World) (shows : Shows m w) (p : ℕ) (positive : 
   shows-one here keeps holds shut =
       record {
         count = shows.count ∙ sym size;
-        handlers = shows.handlers;
         process = λ q d h. rw size (processes_stand here q d h);
         logs = λ q d from to. logs_keep keeps q d (omega (arith, from, size)) (omega (arith, to, size));
         gates = λ q d inside from to. gates_hold holds q d inside (omega (arith, from, size)) (omega (arith, to, size));

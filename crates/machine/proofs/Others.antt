@@ -6,7 +6,6 @@ use Rattle.std.proofs.lemmas.List.{get_or_default, get_or-set_same, get_or-set_o
 use Rattle.sender_log.specs.Log.{queue_of}
 use Rattle.world.specs.declared.message.Message.{Message}
 use Rattle.world.specs.Phases.{Phase, Up, is_up, is_down}
-use Rattle.replay.specs.Fold.{handlers_of}
 use Rattle.world.specs.World.{World}
 use Rattle.world.specs.Logs.{length_in, sent, run_of, run_to}
 use Rattle.session_process.specs.Process.{TheProcess, idle_process}
@@ -64,7 +63,6 @@ pub record ShowsAt (n p : ℕ) (m : TheMachine) (w : World) (a : TheLife) : Type
 pub record ShowsBut (n p : ℕ) (m : TheMachine) (w : World) : Type 0 where
   pub width : length m.processes ≡ n
   pub count : w.count ≡ n
-  pub handlers : w.handlers ≡ handlers_of m.images
   pub process : (q : ℕ) (d : TheProcess) → q < n → suc q ≢ p → StandsFor w n (suc q) (slice_index_or m.processes q d) (life w (suc q))
   pub logs : (q d : ℕ) → q ≢ p → q ≤ n → d ≤ n → q ≢ d → is_down (w.phase q) ≡ false → KeepsFor w m q d (life w q)
   pub gates : (q d : ℕ) → q ≢ p → 0 < q → q ≤ n → d ≤ n → q ≢ d → is_up (w.phase q) ≡ true → HoldsFor w m q d (life w q)
@@ -81,7 +79,6 @@ others m w p s =
     record {
       width = refl;
       count = s.count;
-      handlers = s.handlers;
       process = λ q d h other. s.process q d h;
       logs = λ q d other within to apart back. s.logs q d within to apart back;
       gates = λ q d other inside within to apart up. s.gates q d inside within to apart up;
@@ -125,7 +122,6 @@ module _ (m : TheMachine) (w : World) (p : ℕ) (inside : 0 < p) (within : p ≤
   whole =
       record {
         count = b.count;
-        handlers = b.handlers;
         process = λ q d h. all_processes q d h (suc q == p) refl;
         logs = λ q d from to apart back. all_logs q d from to apart back (q == p) refl;
         gates = λ q d positive from to apart up. all_gates q d positive from to apart up (q == p) refl;
@@ -175,7 +171,6 @@ module _ (m : TheMachine) (p : ℕ) (y : TheProcess) (inside : 0 < p) (within : 
       record {
         width = same_width ∙ b.width;
         count = b.count;
-        handlers = b.handlers;
         process = λ q d h other. subst (λ x. StandsFor w n (suc q) x (life w (suc q))) (sym (get_or-set_other m.processes (p - 1) q y d (λ e. other (omega (arith, e, inside))))) (b.process q d h other);
         logs = λ q d other from to apart back. subst (λ l. Keeps (queue_of d l) (w.trims q d) (sent w q d) (w.numbers q d)) (sym (log_other q other)) (b.logs q d other from to apart back);
         gates = λ q d other positive from to apart up. subst (λ (x : TheProcess). Holds d x.outbox.gate (run_of w q) (length (w.history q)) (w.released q d) (sent_by w q d)) (sym (others_at q positive other)) (b.gates q d other positive from to apart up);
@@ -200,7 +195,6 @@ module _ (p : ℕ) (inside : 0 < p) (m : TheMachine) (w v : World)
       subst (ShowsBut n p m) (sym rest) (record {
         width = b.width;
         count = b.count;
-        handlers = b.handlers;
         process = λ q d h other. subst (StandsFor w n (suc q) (slice_index_or m.processes q d)) (sym (same (suc q) other)) (b.process q d h other);
         logs = λ q d other from to apart back. subst (KeepsFor w m q d) (sym (same q other)) (b.logs q d other from to apart (ap (λ (a : TheLife). is_down a.phase) (sym (same q other)) ∙ back));
         gates = λ q d other positive from to apart up. subst (HoldsFor w m q d) (sym (same q other)) (b.gates q d other positive from to apart (ap (λ (a : TheLife). is_up a.phase) (sym (same q other)) ∙ up));
@@ -217,7 +211,6 @@ pub shows-calls : (m : TheMachine) (w : World) (calls : ℕ) → Shows m w → S
 shows-calls m w calls s =
     record {
       count = s.count;
-      handlers = s.handlers;
       process = s.process;
       logs = s.logs;
       gates = s.gates;

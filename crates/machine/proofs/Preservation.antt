@@ -63,7 +63,7 @@ sound-wire m slots key was is i calls puts fits keys =
     record {
       some = i.some;
       few = i.few;
-      images = i.images;
+      lengths = i.lengths;
       processes = λ p d e h. later (length m.processes.items) _ _ m.calls _ (i.processes p d e h);
       outside = i.outside;
       calls = omega (arith, calls);

@@ -7,7 +7,7 @@ use Rattle.std.proofs.lemmas.List.{get_or_append_left, get_or-set_same, get_or-s
 use Rattle.rsn.specs.Receipts.{Received}
 use Rattle.sender_log.specs.Log.{queue_of}
 use Rattle.replay.specs.Plan.{ThePlan}
-use Rattle.replay.specs.Task.{TheTask, IsAnswer, answer_of}
+use Rattle.replay.specs.Task.{TheTask, TheCompletion, Answers}
 use Rattle.world.specs.declared.message.Message.{Message}
 use Rattle.world.specs.declared.call.Call.TheVariants.{Finish}
 use Rattle.world.specs.declared.answer.Answer.TheVariants.{Replayed}
@@ -38,8 +38,11 @@ use Rattle.machine.proofs.Replies.{state_after, keeps-given, dest-of}
 use Rattle.machine.proofs.Others.{life, others, together, replaced, now_at, but-replaced, but-world, shows-calls, up-but, ShowsBut}
 use Rattle.machine.proofs.Settlement.{IsCaughtUp, peers-are, peers-within, settled}
 
-module _ (m : TheMachine) (w : World) (s : Stands m w) (t : TheTask) (k : Matches m t) (a : IsAnswer t (answer_of t)) (sizes : length m.images ≡ length m.processes) (y : TheProcess) (c : Recalls t (process_at m t.who.me) y)
-    (plan : ThePlan) (alone : Bool) (mode_is : (process_at m t.who.me).mode ≡ modes.Replaying plan alone) (log_of : IsLogOf (length m.processes) t.who.me (process_at m t.who.me).outbox.log) where
+module _ (m : TheMachine) (w : World) (s : Stands m w) (b : TheCompletion) (k : Matches m b.task) (a : Answers w.handlers b) (y : TheProcess) (c : Recalls b (process_at m b.task.who.me) y)
+    (plan : ThePlan) (alone : Bool) (mode_is : (process_at m b.task.who.me).mode ≡ modes.Replaying plan alone) (log_of : IsLogOf (length m.processes) b.task.who.me (process_at m b.task.who.me).outbox.log) where
+  abbrev t : TheTask
+  t = b.task
+
   abbrev n : ℕ
   n = length m.processes
 
@@ -59,8 +62,8 @@ module _ (m : TheMachine) (w : World) (s : Stands m w) (t : TheTask) (k : Matche
   then = record plan { replayed = plan.replayed + 1 }
 
   -- the job is open in the world
-  pub open_now : IsOpen m.images t w
-  open_now = opens m t w s sizes k
+  pub open_now : IsOpen t w
+  open_now = opens m t w s k
 
   at_me : StandsAt n me was (w.handlers.state me) (w.handlers.sends me) h (w.phase me) (w.incarnation me) (w.acknowledged me) (w.saved me) (w.saved_trims me)
   at_me = at_process m w s me k.inside k.within
@@ -111,6 +114,9 @@ module _ (m : TheMachine) (w : World) (s : Stands m w) (t : TheTask) (k : Matche
   state_was : was.state ≡ w.handlers.state me g
   state_was = at_me.state_is (ap is_lost mode_is) ∙ ap (λ z. w.handlers.state me (held_by z (w.saved me) h)) mode_is
 
+  state_is : t.state ≡ w.handlers.state me g
+  state_is = sym k.state ∙ state_was
+
   senders_was : was.receipts.senders ≡ senders g
   senders_was = at_me.senders ∙ ap (λ z. senders (held_by z (w.saved me) h)) mode_is
 
@@ -131,7 +137,7 @@ module _ (m : TheMachine) (w : World) (s : Stands m w) (t : TheTask) (k : Matche
   mode_now = c.mode ∙ ap advanced mode_is
 
   state_now : y.state ≡ w.handlers.state me gx
-  state_now = c.state ∙ sym (state_after m w s t k a sizes g state_was)
+  state_now = c.state ∙ sym (state_after w b a g state_is)
 
   senders_now : y.receipts.senders ≡ senders gx
   senders_now = ap (λ (r : Received). r.senders) c.receipts ∙ ap (λ xs. xs ++ x.sender ∷ []) senders_was ∙ sym (map_push (λ (z : Message). z.sender) g x)
@@ -189,7 +195,7 @@ module _ (m : TheMachine) (w : World) (s : Stands m w) (t : TheTask) (k : Matche
     numbers_within i j e = let l : i ≤ length (sent w me d) = ((s.tidy me).numbered d i j e).1 in omega (arith, l, ap length sent_is)
 
     keeps_now : Keeps (queue_of d y.outbox.log) (w.trims me d) (w.handlers.sends me gx d) (w.numbers me d)
-    keeps_now = keeps-given m w s t k a sizes g state_was d was.outbox y.outbox c.outbox (dest-of n me d was.outbox log_of to other) kept numbers_within
+    keeps_now = keeps-given w b a g state_is d was.outbox y.outbox c.outbox (dest-of n me d was.outbox log_of to other) kept numbers_within
 
   shut_now : (d : ℕ) → slice_index_or y.outbox.gate.released d 0 ≡ 0
   shut_now d = ap (λ rs. slice_index_or rs d 0) c.outbox.released ∙ s.shows.shut me d k.inside k.within (ap is_up phase_was)

@@ -1,12 +1,10 @@
 -- The step by which a job is replayed
 use Rattle.std.proofs.Common.{◌≡◌, ◌≢◌, ℕ, ◌+◌, ◌-◌, ◌<◌, ◌≤◌, List, length, take, set, Bool, true, false, refl, sym, ap, ◌∙◌, subst, arith}
 use Rattle.std.specs.Prelude.{◌==◌, nat_lt, Option, Some, None, Result, Ok, Err, IfOk, IfErr, slice_get, slice_index_or}
-use Rattle.std.proofs.Math.ListN.{get_or-eq_default}
 use Rattle.std.proofs.lemmas.Bool.{false≢true}
 use Rattle.std.proofs.lemmas.Bool.Decides.{nat_tests}
 use Rattle.sender_log.specs.Log.{queue_of}
 use Rattle.helpers.specs.declared.effects.Who.{Who}
-use Rattle.handlers.specs.Image.{TheImage}
 use Rattle.replay.specs.Plan.{ThePlan}
 use Rattle.replay.specs.Task.{TheTask}
 use Rattle.world.specs.declared.message.Message.{Message}
@@ -26,9 +24,8 @@ use Rattle.session_process.specs.declared.mode.Mode.TheVariants as modes
 use Rattle.machine.specs.Work.{phase_of, MayWork, Replays}
 use Rattle.machine.specs.Simulation.{TheMachine, StandsAt, Keeps, Shows, Stands, Steps, Simulates, answering, process_at, log_at}
 use Rattle.machine.specs.Jobs.{Begins}
-use Rattle.machine.specs.Arrival.{IsOpen}
 use Rattle.machine.proofs.Status.{at_process, keeps_at}
-use Rattle.machine.proofs.JobLemmas.{slice_get-behind, opens-at, begun-matches}
+use Rattle.machine.proofs.JobLemmas.{slice_get-behind}
 use Rattle.machine.proofs.Steps.{step}
 use Rattle.machine.proofs.OneProcess.{Same, shows-one}
 use Rattle.machine.proofs.Crashes.{self-same}
@@ -118,28 +115,6 @@ module _ (m : TheMachine) (w : World) (s : Stands m w) (room p calls : ℕ) (x :
       step m (record m { processes = set m.processes (p - 1) begun; started = m.started + 1; calls = calls }) room (ReplayBegin p) (Started serial) w s accepted (ap Started (is ∙ ap (λ k. k + 1) (sym s.shows.started)))
       (rw phase_was shows_after)
       refl
-
--- a job that is handed out is open: its image is one of the machine's
-image-at : (t : TheImage) (images : List TheImage) (k : ℕ) → ((e : TheImage) → t ≡ slice_index_or images k e) → k < length images
-image-at t images k all = by_place (nat_lt k (length images)) refl
-  where
-    by_place : (b : Bool) → nat_lt k (length images) ≡ b → k < length images
-    by_place true e = grind (arith, nat_tests)
-    by_place false e =
-        let past : length images ≤ k = grind (arith, nat_tests) in
-        let a : TheImage = record t { len = 0 } in
-        let b : TheImage = record t { len = 1 } in
-        let zero_is : t.len ≡ 0 = ap (λ (x : TheImage). x.len) (all a ∙ get_or-eq_default images a past) in
-        let one_is : t.len ≡ 1 = ap (λ (x : TheImage). x.len) (all b ∙ get_or-eq_default images b past) in
-        absurd (omega (arith, zero_is, one_is))
-
--- the task that a process begins is that of its open job, in each world that the machine stands for then
-pub handed-out : (m new : TheMachine) (p : ℕ) (x : Message) (t : TheTask) → Begins m new p x t → 0 < p → p ≤ length m.processes → (w : World) → Stands new w → IsOpen new.images t w
-handed-out m new p x t b positive within w s =
-    let images : new.images ≡ m.images = ap (λ (v : TheMachine). v.images) b.becomes in
-    let me_is : t.who.me ≡ p = ap (λ (q : Who). q.me) b.who in
-    let low = image-at t.image m.images (p - 1) b.image in
-    opens-at new t w s (omega (arith, low, me_is, positive, ap length images)) (begun-matches m new p x t new.slots b positive within)
 
 -- what begins is a step
 pub begun-step : (m new : TheMachine) (room p : ℕ) (x : Message) (r : Result TheTask Refusal) → IfOk r (λ job. Begins m new p x job) → IfErr r (λ e. (e ≡ Memory) × (new ≡ m))

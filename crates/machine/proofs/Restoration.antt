@@ -5,7 +5,6 @@ use Rattle.std.specs.List.{list_all}
 use Rattle.std.specs.Vec.{with_item, with_items}
 use Rattle.std.proofs.lemmas.List.{append-nil, drop_all, get_or_default, get_or-set_same, length-map, length-set, take_all}
 use Rattle.limits.specs.declared.TheConstants.{ENTRIES}
-use Rattle.handlers.specs.Image.{TheImage, image_in}
 use Rattle.rsn.specs.Receipts.{run_of}
 use Rattle.checkpoint.specs.declared.form.CheckpointForm.TheVariants.{Second}
 use Rattle.checkpoint.specs.Saved.{TheSaved, Fits, is_sender, log_again, queue_again}
@@ -51,14 +50,14 @@ restored-sound n me len calls x plan alone i fits before fresh =
 
 -- one process takes the place of another
 pub put-sound : (m : Inside) → IsSound m → (p : ℕ) (y : TheProcess) → 0 < p → p ≤ length m.processes.items
-    → ((e : TheImage) → IsSoundAt (length m.processes.items) p (slice_index_or (map image_in m.images.items) (p - 1) e).len m.calls y) → IsSound (record m { processes = with_item m.processes (p - 1) y })
+    → ((e : ℕ) → IsSoundAt (length m.processes.items) p (slice_index_or m.lengths.items (p - 1) e) m.calls y) → IsSound (record m { processes = with_item m.processes (p - 1) y })
 put-sound m i p y positive within now =
     let len = length-set m.processes.items (p - 1) y in
     record {
       some = omega (arith, len, i.some);
       few = omega (arith, len, i.few);
-      images = i.images ∙ sym len;
-      processes = sound-put m.processes.items (map image_in m.images.items) p m.calls y positive within i.processes now;
+      lengths = i.lengths ∙ sym len;
+      processes = sound-put m.processes.items m.lengths.items p m.calls y positive within i.processes now;
       outside = subst (λ n. IsLogOf n 0 m.outside.log) (sym len) i.outside;
       calls = i.calls;
       started = i.started;
@@ -74,7 +73,7 @@ count-sound m i calls =
     record {
       some = i.some;
       few = i.few;
-      images = i.images;
+      lengths = i.lengths;
       processes = λ p d e h. later (length m.processes.items) _ _ m.calls _ (i.processes p d e h);
       outside = i.outside;
       calls = omega (arith, calls);
@@ -100,8 +99,8 @@ forgotten-sound m s p k ys is o out =
     record {
       some = omega (arith, len, s.some);
       few = omega (arith, len, s.few);
-      images = s.images ∙ sym len;
-      processes = processes-forgot was (map image_in m.images.items) p k m.calls s.processes zs zs_are;
+      lengths = s.lengths ∙ sym len;
+      processes = processes-forgot was m.lengths.items p k m.calls s.processes zs zs_are;
       outside = subst (λ (v : TheOutside). IsLogOf (length zs) 0 v.log) (sym out) (subst (λ n. IsLogOf n 0 (forgot p k m.outside.log)) (sym len) (log-forgot (length was) 0 p k m.outside.log s.outside));
       calls = s.calls;
       started = s.started;
@@ -140,8 +139,8 @@ module _ (i : Inside) (m : TheMachine) (p k : ℕ) (plan : ThePlan) (alone : Boo
   back-sound s fits before fresh =
       let saved : (process_at m p).saved ≡ was.saved = sym (ap (λ (x : TheProcess). x.saved) was_is) in
       put-sound i s p y positive inside
-      (λ e. subst (IsSoundAt (length i.processes.items) p (slice_index_or (map image_in i.images.items) (p - 1) e).len i.calls) (sym is)
-      (restored-sound (length i.processes.items) p _ i.calls was plan alone (subst (IsSoundAt (length i.processes.items) p (slice_index_or (map image_in i.images.items) (p - 1) e).len i.calls) (sym here) (sound_at i s p was e positive inside))
+      (λ e. subst (IsSoundAt (length i.processes.items) p (slice_index_or i.lengths.items (p - 1) e) i.calls) (sym is)
+      (restored-sound (length i.processes.items) p _ i.calls was plan alone (subst (IsSoundAt (length i.processes.items) p (slice_index_or i.lengths.items (p - 1) e) i.calls) (sym here) (sound_at i s p was e positive inside))
       (subst (Fits Second) saved fits) (before ∙ ap (λ (z : TheSaved). length z.senders) saved) fresh))
 
   -- the process may settle in it

@@ -65,7 +65,6 @@ module _ (m : TheMachine) (w : World) (s : Stands m w) (room d feed calls n : �
       step m new room (Input d feed x) (Logged n) w s accepted (ap Logged (n_is ∙ last_at m w s 0 d (omega arith) within apart awake))
       (record {
         count = s.shows.count;
-        handlers = s.shows.handlers;
         process = s.shows.process;
         logs = λ p q. keeps p q (p == 0) refl;
         gates = s.shows.gates;
@@ -85,7 +84,7 @@ sound-input m o d x i calls within log shown =
     record {
       some = i.some;
       few = i.few;
-      images = i.images;
+      lengths = i.lengths;
       processes = λ p e t h. later (length m.processes.items) _ _ m.calls _ (i.processes p e t h);
       outside = record { owner = ap (λ (l : TheLog). l.owner) log ∙ i.outside.owner; width = ap (λ (l : TheLog). length l.queues) log ∙ length-set m.outside.log.queues d (appended x (queue_of d m.outside.log)) ∙ i.outside.width };
       calls = omega (arith, calls);

@@ -2,7 +2,6 @@
 use Rattle.std.proofs.Common.{◌≡◌, ℕ, suc, ◌+◌, ◌-◌, ◌<◌, ◌≤◌, List, [], ◌∷◌, length, map, Bool, true, arith, set}
 use Rattle.std.specs.Prelude.{slice_index_or, Option, Some}
 use Rattle.std.proofs.lemmas.List.{length-set}
-use Rattle.handlers.specs.Image.{TheImage, image_in}
 use Rattle.world.specs.declared.message.Message.{Message}
 use Rattle.session_process.specs.Process.{TheProcess, received}
 use Rattle.session_process.specs.declared.mode.Mode.{Mode}
@@ -15,7 +14,7 @@ use Rattle.machine.proofs.Updates.{set-is}
 use Rattle.machine.proofs.Preservation.{later}
 
 -- the process of this number, from 1, is sound
-pub sound_at : (m : Inside) → IsSound m → (p : ℕ) (d : TheProcess) (e : TheImage) → 0 < p → p ≤ length m.processes.items → IsSoundAt (length m.processes.items) p (slice_index_or (map image_in m.images.items) (p - 1) e).len m.calls (slice_index_or m.processes.items (p - 1) d)
+pub sound_at : (m : Inside) → IsSound m → (p : ℕ) (d : TheProcess) (e : ℕ) → 0 < p → p ≤ length m.processes.items → IsSoundAt (length m.processes.items) p (slice_index_or m.lengths.items (p - 1) e) m.calls (slice_index_or m.processes.items (p - 1) d)
 sound_at m i p d e positive within =
     let back : suc (p - 1) ≡ p = omega arith in
     rw back at (i.processes (p - 1) d e (omega arith))
@@ -64,25 +63,20 @@ sound-begun n me len calls x message s next =
     }
 
 -- one process changes, and stays sound
-module _ (xs : List TheProcess) (images : List TheImage) (to calls : ℕ) (y : TheProcess) (positive : 0 < to) (within : to ≤ length xs) where
-  pub sound-put : ((p : ℕ) (d : TheProcess) (e : TheImage) → p < length xs → IsSoundAt (length xs) (suc p) (slice_index_or images p e).len calls (slice_index_or xs p d))
-      → ((e : TheImage) → IsSoundAt (length xs) to (slice_index_or images (to - 1) e).len calls y)
-      → (p : ℕ) (d : TheProcess) (e : TheImage) → p < length (set xs (to - 1) y) → IsSoundAt (length (set xs (to - 1) y)) (suc p) (slice_index_or images p e).len calls (slice_index_or (set xs (to - 1) y) p d)
+module _ (xs : List TheProcess) (lengths : List ℕ) (to calls : ℕ) (y : TheProcess) (positive : 0 < to) (within : to ≤ length xs) where
+  pub sound-put : ((p : ℕ) (d : TheProcess) (e : ℕ) → p < length xs → IsSoundAt (length xs) (suc p) (slice_index_or lengths p e) calls (slice_index_or xs p d))
+      → ((e : ℕ) → IsSoundAt (length xs) to (slice_index_or lengths (to - 1) e) calls y)
+      → (p : ℕ) (d : TheProcess) (e : ℕ) → p < length (set xs (to - 1) y) → IsSoundAt (length (set xs (to - 1) y)) (suc p) (slice_index_or lengths p e) calls (slice_index_or (set xs (to - 1) y) p d)
   sound-put all now p d e h =
-      let P : ℕ → Bool → TheProcess → Type 0 = λ q b x. (e : TheImage) → IsSoundAt (length xs) (suc q) (slice_index_or images q e).len calls x in
+      let P : ℕ → Bool → TheProcess → Type 0 = λ q b x. (e : ℕ) → IsSoundAt (length xs) (suc q) (slice_index_or lengths q e) calls x in
       let back : suc (to - 1) ≡ to = omega arith in
       let there : P (to - 1) true y = rw back now in
       let len : length (set xs (to - 1) y) ≡ length xs = length-set xs (to - 1) y in
       rw len (set-is P xs to y positive within there (λ q d h e. all q d e h) p d h e)
 
 -- as does one that takes part in a call
-pub sound-set : (xs : List TheProcess) (images : List TheImage) (to calls : ℕ) (y : TheProcess) → 0 < to → to ≤ length xs
-    → ((p : ℕ) (d : TheProcess) (e : TheImage) → p < length xs → IsSoundAt (length xs) (suc p) (slice_index_or images p e).len calls (slice_index_or xs p d))
-    → ((e : TheImage) → IsSoundAt (length xs) to (slice_index_or images (to - 1) e).len (calls + 1) y)
-    → (p : ℕ) (d : TheProcess) (e : TheImage) → p < length (set xs (to - 1) y) → IsSoundAt (length (set xs (to - 1) y)) (suc p) (slice_index_or images p e).len (calls + 1) (slice_index_or (set xs (to - 1) y) p d)
-sound-set xs images to calls y positive within all = sound-put xs images to (calls + 1) y positive within (λ q d e h. later _ _ _ _ _ (all q d e h))
-
--- an element of a list that isn't empty
-pub some-of : {X : Type 0} (xs : List X) → 0 < length xs → X
-some-of [] h = absurd (omega (arith, h))
-some-of (x ∷ xs) h = x
+pub sound-set : (xs : List TheProcess) (lengths : List ℕ) (to calls : ℕ) (y : TheProcess) → 0 < to → to ≤ length xs
+    → ((p : ℕ) (d : TheProcess) (e : ℕ) → p < length xs → IsSoundAt (length xs) (suc p) (slice_index_or lengths p e) calls (slice_index_or xs p d))
+    → ((e : ℕ) → IsSoundAt (length xs) to (slice_index_or lengths (to - 1) e) (calls + 1) y)
+    → (p : ℕ) (d : TheProcess) (e : ℕ) → p < length (set xs (to - 1) y) → IsSoundAt (length (set xs (to - 1) y)) (suc p) (slice_index_or lengths p e) (calls + 1) (slice_index_or (set xs (to - 1) y) p d)
+sound-set xs lengths to calls y positive within all = sound-put xs lengths to (calls + 1) y positive within (λ q d e h. later _ _ _ _ _ (all q d e h))

@@ -4,7 +4,6 @@ use Rattle.std.specs.Prelude.{◌==◌, Result, Ok, Err, OnOk, OnErr, slice_inde
 use Rattle.std.specs.Vec.{with_items}
 use Rattle.std.proofs.lemmas.Bool.Decides.{nat_tests}
 use Rattle.std.proofs.lemmas.List.{append-nil, drop_all, take_all, get_or_append_left, get_or-append-add, get_or_default, get_or-set_same, length-set, set-append_left, set-append_right}
-use Rattle.handlers.specs.Image.{TheImage, image_in}
 use Rattle.rsn.specs.Receipts.{Received, numbers_of}
 use Rattle.sender_log.specs.Queue.{renumbered}
 use Rattle.sender_log.specs.Log.{queue_of}
@@ -47,14 +46,14 @@ module _ (i : Inside) (s : IsSound i) (m : TheMachine) (view_is : view_of i ≡ 
       let apart : (p == 0) ≡ false = grind (arith, nat_tests) in
       ap (λ v. log_at v p) split-view ∙ rw apart (ap (λ (x : TheProcess). x.outbox.log) (get_or-set_same m.processes (p - 1) y (idle_process 0 0 0) (omega (arith, positive, within))))
 
-  split-sound : ((e : TheImage) → IsSoundAt (length i.processes.items) p (slice_index_or (map image_in i.images.items) (p - 1) e).len i.calls y) → IsSound (record i { processes = with_items i.processes ys })
+  split-sound : ((e : ℕ) → IsSoundAt (length i.processes.items) p (slice_index_or i.lengths.items (p - 1) e) i.calls y) → IsSound (record i { processes = with_items i.processes ys })
   split-sound now =
       let len = ap length zs_are ∙ length-set i.processes.items (p - 1) y in
       record {
         some = omega (arith, len, s.some);
         few = omega (arith, len, s.few);
-        images = s.images ∙ sym len;
-        processes = subst (λ l. (q : ℕ) (d : TheProcess) (e : TheImage) → q < length l → IsSoundAt (length l) (suc q) (slice_index_or (map image_in i.images.items) q e).len i.calls (slice_index_or l q d)) (sym zs_are) (sound-put i.processes.items (map image_in i.images.items) p i.calls y positive inside s.processes now);
+        lengths = s.lengths ∙ sym len;
+        processes = subst (λ l. (q : ℕ) (d : TheProcess) (e : ℕ) → q < length l → IsSoundAt (length l) (suc q) (slice_index_or i.lengths.items q e) i.calls (slice_index_or l q d)) (sym zs_are) (sound-put i.processes.items i.lengths.items p i.calls y positive inside s.processes now);
         outside = subst (λ n. IsLogOf n 0 i.outside.log) (sym len) s.outside;
         calls = s.calls;
         started = s.started;
@@ -66,20 +65,20 @@ module _ (i : Inside) (s : IsSound i) (m : TheMachine) (view_is : view_of i ≡ 
 
   module _ {X E : Type 0} (answer : Result X E) (receipts : Received)
       (ok : OnOk answer (y ≡ record was { outbox = with_messages r (renumbered (numbers_of p receipts) (queue_of r was.outbox.log)) was.outbox })) (err : OnErr answer (y ≡ was)) where
-    sound-was : (e : TheImage) → IsSoundAt (length i.processes.items) p (slice_index_or (map image_in i.images.items) (p - 1) e).len i.calls was
-    sound-was e = subst (IsSoundAt (length i.processes.items) p (slice_index_or (map image_in i.images.items) (p - 1) e).len i.calls) (sym was_at) (sound_at i s p was e positive inside)
+    sound-was : (e : ℕ) → IsSoundAt (length i.processes.items) p (slice_index_or i.lengths.items (p - 1) e) i.calls was
+    sound-was e = subst (IsSoundAt (length i.processes.items) p (slice_index_or i.lengths.items (p - 1) e) i.calls) (sym was_at) (sound_at i s p was e positive inside)
 
-    renumbered-sound : (e : TheImage) → y ≡ record was { outbox = with_messages r (renumbered (numbers_of p receipts) (queue_of r was.outbox.log)) was.outbox } → IsSoundAt (length i.processes.items) p (slice_index_or (map image_in i.images.items) (p - 1) e).len i.calls y
+    renumbered-sound : (e : ℕ) → y ≡ record was { outbox = with_messages r (renumbered (numbers_of p receipts) (queue_of r was.outbox.log)) was.outbox } → IsSoundAt (length i.processes.items) p (slice_index_or i.lengths.items (p - 1) e) i.calls y
     renumbered-sound e is =
         let old = sound-was e in
-        subst (IsSoundAt (length i.processes.items) p (slice_index_or (map image_in i.images.items) (p - 1) e).len i.calls) (sym is)
+        subst (IsSoundAt (length i.processes.items) p (slice_index_or i.lengths.items (p - 1) e) i.calls) (sym is)
         (sound-outbox (length i.processes.items) p _ i.calls was (with_messages r (renumbered (numbers_of p receipts) (queue_of r was.outbox.log)) was.outbox) old
         (record { owner = old.log.owner; width = length-set was.outbox.log.queues r (renumbered (numbers_of p receipts) (queue_of r was.outbox.log)) ∙ old.log.width }))
 
     -- the machine stays sound, whether numbers are restored or memory runs out
     resynced-sound : IsSound (record i { processes = with_items i.processes ys })
     resynced-sound =
-        split-sound (λ e. either answer ok err (renumbered-sound e) (λ same. subst (IsSoundAt (length i.processes.items) p (slice_index_or (map image_in i.images.items) (p - 1) e).len i.calls) (sym same) (sound-was e)))
+        split-sound (λ e. either answer ok err (renumbered-sound e) (λ same. subst (IsSoundAt (length i.processes.items) p (slice_index_or i.lengths.items (p - 1) e) i.calls) (sym same) (sound-was e)))
 
     if-fine : (a : Result X E) (A B : Type 0) → OnOk a A → (A → B) → OnOk a B
     if-fine (Ok x) A B v f = f v

@@ -70,7 +70,7 @@ begun-for w t (Some (Number r s i k incarnation)) e mine = absurd (true≢false 
 begun-for w t (Some (Acknowledgement s r k incarnation)) e mine = absurd (true≢false (sym e))
 
 -- an arrival hands out the job that its answer tells, and otherwise none
-pub arrival-opens : (old new : TheMachine) (room key : ℕ) (a : Arrival) → Simulates old new room (Arrive key) (Ok (answer_of a)) → IsJobOf new a → IsJobFor (slice_index_or old.slots key None) a
+pub arrival-opens : (old new : TheMachine) (room key : ℕ) (a : Arrival TheTask) → Simulates old new room (Arrive key) (Ok (answer_of a)) → IsJobOf new a → IsJobFor (slice_index_or old.slots key None) a
     → (w : World) → Stands old w → Opened new (job_of w (Arrive key) (answer_of a)) (job_in a)
 arrival-opens old new room key (arrivals.Started t) step job mine w s =
     let found : IsJobFor (w.wire key) (arrivals.Started t) = subst (λ found. IsJobFor found (arrivals.Started t)) (sym (s.shows.wire key)) mine in

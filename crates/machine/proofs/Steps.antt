@@ -25,7 +25,6 @@ pub shows-wire : (m : TheMachine) (w : World) → Stands m w → (calls : ℕ) (
 shows-wire m w s calls slots wire wire_is =
     record {
       count = s.shows.count;
-      handlers = s.shows.handlers;
       process = s.shows.process;
       logs = s.shows.logs;
       gates = s.shows.gates;
@@ -38,8 +37,8 @@ shows-wire m w s calls slots wire wire_is =
     }
 
 -- a step whose new machine shows the new world stands for it: what every call keeps still holds
-pub step : (old new : TheMachine) (room : ℕ) (call : Call) (answer : Answer) (w : World) → Stands old w → refusal_of w room call ≡ None → MayAnswer w call answer → Shows new (after w call answer) → new.images ≡ old.images → Steps old new room call answer w
-step old new room call answer w s accepted answered shows images =
+pub step : (old new : TheMachine) (room : ℕ) (call : Call) (answer : Answer) (w : World) → Stands old w → refusal_of w room call ≡ None → MayAnswer w call answer → Shows new (after w call answer) → new.lengths ≡ old.lengths → Steps old new room call answer w
+step old new room call answer w s accepted answered shows lengths =
     record {
       accepted = accepted;
       answered = answered;
@@ -50,5 +49,5 @@ step old new room call answer w s accepted answered shows images =
         gated = gated-call room w call answer accepted answered s.sound s.gated;
         unsent = unsent-after w room call answer accepted s.unsent;
       };
-      images = images;
+      lengths = lengths;
     }

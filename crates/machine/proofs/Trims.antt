@@ -183,7 +183,6 @@ retrimmed : (m : TheMachine) (w : World) (t t' : ℕ → ℕ → ℕ) → Shows 
 retrimmed m w t t' shows same =
     record {
       count = shows.count;
-      handlers = shows.handlers;
       process = shows.process;
       logs = λ p q from to apart back. rw (same p q from) (shows.logs p q from to apart back);
       gates = shows.gates;
@@ -281,7 +280,6 @@ module _ (m : TheMachine) (w : World) (d : ℕ) (shows : Shows m (world_to w d 0
   outside-drops =
       record {
         count = shows.count;
-        handlers = shows.handlers;
         process = shows.process;
         logs = outside-logs;
         gates = shows.gates;
@@ -418,17 +416,17 @@ trim-step m w s room d calls n wide to accepted count new is =
     let shows : Shows new (world_to w d (suc (length m.processes))) = subst (λ v. Shows v (world_to w d (suc (length m.processes)))) (sym is) all.0 in
     let shown : Shows new (trim w d) = retrimmed new w (trims_to w d (suc (length m.processes))) (λ p. put (w.trims p) d (trimmed_in w d p)) shows (λ p q h. by_end p q (omega (arith, h, size))) in
     step m (record new { calls = calls }) room (Trim d) (Trimmed n) w s accepted (ap Trimmed (count ∙ all.2 ∙ ap (λ k. dropped w d (suc k)) (sym s.shows.count)))
-    (record { count = shown.count; handlers = shown.handlers; process = shown.process; logs = shown.logs; gates = shown.gates; shut = shown.shut; feeds = shown.feeds; shown = shown.shown; wire = shown.wire; started = shown.started; outside = shown.outside })
-    (ap (λ (v : TheMachine). v.images) is ∙ images-to (suc (length m.processes)))
+    (record { count = shown.count; process = shown.process; logs = shown.logs; gates = shown.gates; shut = shown.shut; feeds = shown.feeds; shown = shown.shown; wire = shown.wire; started = shown.started; outside = shown.outside })
+    (ap (λ (v : TheMachine). v.lengths) is ∙ lengths-to (suc (length m.processes)))
   where
     by_end : (p q : ℕ) → p ≤ length m.processes → put (w.trims p) d (trimmed_in w d p) q ≡ trims_to w d (suc (length m.processes)) p q
     by_end p q h = let inside : nat_lt p (suc (length m.processes)) ≡ true = grind (arith, nat_tests) in rw inside refl
 
-    images-without : (v : TheMachine) (k : ℕ) (b c : Bool) → (if b then (if c then record v { outside = record v.outside { log = trimmed_log d (covered_at v 0 d) v.outside.log } } else record v { processes = set v.processes (k - 1) (trimmed_at d (covered_at v k d) (process_at v k)) }) else v).images ≡ v.images
-    images-without v k true true = refl
-    images-without v k true false = refl
-    images-without v k false c = refl
+    lengths-without : (v : TheMachine) (k : ℕ) (b c : Bool) → (if b then (if c then record v { outside = record v.outside { log = trimmed_log d (covered_at v 0 d) v.outside.log } } else record v { processes = set v.processes (k - 1) (trimmed_at d (covered_at v k d) (process_at v k)) }) else v).lengths ≡ v.lengths
+    lengths-without v k true true = refl
+    lengths-without v k true false = refl
+    lengths-without v k false c = refl
 
-    images-to : (k : ℕ) → (trimmed_to d m k).images ≡ m.images
-    images-to zero = refl
-    images-to (suc k) = images-without (trimmed_to d m k) k (drops (trimmed_to d m k) d k) (k == 0) ∙ images-to k
+    lengths-to : (k : ℕ) → (trimmed_to d m k).lengths ≡ m.lengths
+    lengths-to zero = refl
+    lengths-to (suc k) = lengths-without (trimmed_to d m k) k (drops (trimmed_to d m k) d k) (k == 0) ∙ lengths-to k

@@ -26,6 +26,11 @@ IsJobless (Finish p) = ⊥
 IsJobless (ReplayBegin p) = ⊥
 IsJobless other = Unit {0}
 
+-- the process for which a packet is a message
+abbrev pub receiver_of : Option Packet → ℕ
+receiver_of (Some (Delivery d m)) = d
+receiver_of other = 0
+
 -- the process whose job starts, if this is the answer to this packet
 abbrev pub begun_by : Answer → Option Packet → Option ℕ
 begun_by (Started n) (Some (Delivery d m)) = Some d
@@ -43,14 +48,14 @@ Opened m p None = p ≡ None
 Opened m p (Some task) = (p ≡ Some task.who.me) × IsHandedOut m task
 
 -- the answer that a journal keeps
-abbrev pub answer_in : Reply → Answer
+abbrev pub answer_in : {J : Type 0} → Reply J → Answer
 answer_in reply = reply.answer
 
 -- the job that an arrival hands out
-abbrev pub job_in : Arrival → Option TheTask
+abbrev pub job_in : Arrival TheTask → Option TheTask
 job_in (arrivals.Started task) = Some task
 job_in other = None
 
 -- an accepted call hands out the job that it starts
-abbrev pub OpensJob : TheMachine → TheMachine → Call → Reply → Type 0
+abbrev pub OpensJob : TheMachine → TheMachine → Call → Reply TheTask → Type 0
 OpensJob old new call reply = (w : World) → Stands old w → Opened new (job_of w call reply.answer) reply.job

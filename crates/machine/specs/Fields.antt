@@ -2,7 +2,6 @@
 use Rattle.std.specs.Prelude.{◌≡◌, ◌≢◌, ℕ, suc, ◌+◌, ◌<◌, ◌≤◌, List, length, map, Option, Some, None, is_some, true, false, slice_index_or}
 use Rattle.std.specs.List.{list_all}
 use Rattle.limits.specs.declared.TheConstants.{ENTRIES, PACKETS, PROCESSES, STATE_BYTES}
-use Rattle.handlers.specs.Image.{TheImage, image_in}
 use Rattle.sender_log.specs.Log.{TheLog, queue_of}
 use Rattle.world.specs.declared.packet.Packet.{Packet}
 use Rattle.world.specs.declared.packet.Packet.TheVariants.{Delivery, Number, Acknowledgement}
@@ -15,10 +14,10 @@ use Rattle.machine.specs.Work.{IsInPlan}
 use Rattle.machine.specs.Simulation.{TheMachine}
 use Rattle.machine.specs.declared.machine.Machine.TheInside.{Inside}
 
--- a machine as clauses see it: without capacities, and with images by value, whether or not processes share them
+-- a machine as clauses see it: without capacities
 abbrev pub view_of : Inside → TheMachine
 view_of m = record {
-  images = map image_in m.images.items;
+  lengths = m.lengths.items;
   processes = m.processes.items;
   outside = m.outside;
   slots = m.wire;
@@ -65,10 +64,10 @@ pub record IsSoundAt (n me len calls : ℕ) (x : TheProcess) : Type 0 where
 pub record IsSound (m : Inside) : Type 0 where
   pub some : 0 < length m.processes.items
   pub few : length m.processes.items ≤ PROCESSES
-  pub images : length m.images.items ≡ length m.processes.items
-  pub processes : (p : ℕ) (d : TheProcess) (e : TheImage) → p < length m.processes.items
+  pub lengths : length m.lengths.items ≡ length m.processes.items
+  pub processes : (p : ℕ) (d : TheProcess) (e : ℕ) → p < length m.processes.items
       → IsSoundAt (length m.processes.items)
-      (suc p) (slice_index_or (map image_in m.images.items) p e).len m.calls (slice_index_or m.processes.items p d)
+      (suc p) (slice_index_or m.lengths.items p e) m.calls (slice_index_or m.processes.items p d)
   pub outside : IsLogOf (length m.processes.items) 0 m.outside.log
   pub calls : m.calls ≤ ENTRIES + 1
   pub started : m.started ≤ m.calls

@@ -1,7 +1,6 @@
 -- Open jobs, as the fields show them
 use Rattle.std.specs.Prelude.{◌≡◌, ◌≢◌, ◌<◌, ◌≤◌, ℕ, ◌+◌, ◌-◌, length, Some, false, slice_index_or, slice_set}
 use Rattle.limits.specs.declared.TheConstants.{ENTRIES}
-use Rattle.handlers.specs.Image.{TheImage}
 use Rattle.replay.specs.Task.{TheTask}
 use Rattle.world.specs.declared.message.Message.{Message}
 use Rattle.session_process.specs.Process.{received}
@@ -29,8 +28,8 @@ pub record Begins (old new : TheMachine) (me : ℕ) (message : Message) (task : 
   pub serial : task.serial ≡ old.started + 1
   pub incarnation : task.incarnation ≡ (process_at old me).incarnation
   pub rsn : task.rsn ≡ received (process_at old me) + 1
-  pub image : (e : TheImage) → task.image ≡ slice_index_or old.images (me - 1) e
   pub state : task.state ≡ (process_at old me).state
+  pub size : (e : ℕ) → length task.state ≡ slice_index_or old.lengths (me - 1) e
   pub message_is : task.message ≡ message
   pub who : task.who ≡ record { me = me; from = message.sender; count = length old.processes }
 
@@ -44,5 +43,3 @@ pub record Matches (m : TheMachine) (t : TheTask) : Type 0 where
   pub state : (process_at m t.who.me).state ≡ t.state
   pub from : t.who.from ≡ t.message.sender
   pub count : t.who.count ≡ length m.processes
-  pub code : (e : TheImage) → (slice_index_or m.images (t.who.me - 1) e).code ≡ t.image.code
-  pub form : (e : TheImage) → (slice_index_or m.images (t.who.me - 1) e).form ≡ t.image.form

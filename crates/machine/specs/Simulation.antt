@@ -2,7 +2,6 @@
 use Rattle.std.specs.Prelude.{◌≡◌, ◌≢◌, ℕ, suc, ◌+◌, ◌-◌, ◌<◌, ◌≤◌, List, [], ◌++◌, length, map, take, Option, Some, None, Result, Ok, Err}
 use Rattle.std.specs.Prelude.{Bool, true, false, ◌==◌, ◌||◌, nat_le, if◌then◌else◌, slice_index_or}
 use Rattle.std.specs.List.{filter}
-use Rattle.handlers.specs.Image.{TheImage}
 use Rattle.sender_log.specs.Queue.{TheQueue}
 use Rattle.sender_log.specs.Log.{TheLog, queue_of}
 use Rattle.send_gate.specs.Gate.{TheGate, count_to}
@@ -15,7 +14,6 @@ use Rattle.world.specs.declared.refusal.Refusal.{Refusal}
 use Rattle.world.specs.declared.refusal.Refusal.TheVariants.{Memory}
 use Rattle.world.specs.History.{Payload}
 use Rattle.world.specs.Phases.{Phase, Up, is_up, is_down}
-use Rattle.replay.specs.Fold.{handlers_of}
 use Rattle.world.specs.World.{World}
 use Rattle.world.specs.Logs.{sent, run_of}
 use Rattle.world.specs.Calls.{after}
@@ -31,9 +29,9 @@ use Rattle.session_process.specs.Mode.{is_live, is_lost}
 use Rattle.machine.specs.Receipts.{InOrder}
 use Rattle.machine.specs.Work.{held_by, phase_of, MayWork}
 
--- what clauses see of a machine: no capacities. Processes and images are those of the numbers 1, 2, ..
+-- what clauses see of a machine: no capacities. Processes, and the lengths of their states, are those of the numbers 1, 2, ..
 pub record TheMachine : Type 0 where
-  pub images : List TheImage
+  pub lengths : List ℕ
   pub processes : List TheProcess
   pub outside : TheOutside
   pub slots : List (Option Packet)
@@ -107,7 +105,6 @@ sent_by w p d k = length (w.handlers.sends p (take k (w.history p)) d)
 -- the machine shows this world. The log of a process that is down is empty, and the gate of one that isn't up lets nothing out
 pub record Shows (m : TheMachine) (w : World) : Type 0 where
   pub count : w.count ≡ length m.processes
-  pub handlers : w.handlers ≡ handlers_of m.images
   pub process : (p : ℕ) (d : TheProcess) → p < length m.processes
       → StandsAt (length m.processes)
       (suc p) (slice_index_or m.processes p d)
@@ -135,12 +132,12 @@ pub record Stands (m : TheMachine) (w : World) : Type 0 where
   -- the outside has no inputs for itself
   pub unsent : w.inputs 0 ≡ []
 
--- an accepted call is a step of the world, and the new machine, of the same images, stands for the world after it
+-- an accepted call is a step of the world, and the new machine, with states of the same lengths, stands for the world after it
 pub record Steps (old new : TheMachine) (room : ℕ) (call : Call) (answer : Answer) (w : World) : Type 0 where
   pub accepted : refusal_of w room call ≡ None
   pub answered : MayAnswer w call answer
   pub stands : Stands new (after w call answer)
-  pub images : new.images ≡ old.images
+  pub lengths : new.lengths ≡ old.lengths
 
 -- what every call guarantees in each world that the machine stands for. A refusal changes nothing, and tells the least cause
 abbrev pub Simulates : TheMachine → TheMachine → ℕ → Call → Result Answer Refusal → Type 0

@@ -1,16 +1,33 @@
 //! What an arriving packet did, and what a finished job gave.
 
-ghost use Rattle.std.specs.Prelude.{◌≡◌};
-ghost use Rattle.machine.specs.Arrival.{answer_of, finished_of};
+ghost use Rattle.std.specs.Prelude.{◌≡◌, ℕ};
+ghost use Rattle.machine.specs.Arrival.{answer_by, finished_of};
 
-use replay::Job;
+use replay::Invocation;
 use world::Answer;
+
+/// What an arriving message starts. It has the serial number of its job.
+pub trait Serial {
+    ghost number: { Self → ℕ };
+
+    /// The job's number, from 1, among the jobs that the session started.
+    fn serial(&self) -> u32
+        ensures { result ≡ number self.now };
+}
+
+impl Serial for Invocation {
+    ghost number = { λ task. task.serial };
+
+    fn serial(&self) -> u32 {
+        self.task().serial()
+    }
+}
 
 /// What an arriving packet did.
 #[derive(Drop)]
-pub enum Arrival {
+pub enum Arrival<J: Drop> {
     /// The message is the next of its sender, and opened this job.
-    Started(Job),
+    Started(J),
     /// The process already has the message. This is the key of the packet that tells its number
     /// again.
     Duplicate(usize),
@@ -30,13 +47,13 @@ pub enum Arrival {
     Unreachable,
 }
 
-impl Arrival {
+impl<J: Serial + Drop> Arrival<J> {
     /// The answer that a journal keeps. Of a job that is its serial number only.
     pub fn answer(&self) -> Answer
-        ensures { result ≡ answer_of self.now }
+        ensures { result ≡ answer_by J.number self.now }
     {
         match self {
-            Arrival::Started(job) => Answer::Started(job.task().serial()),
+            Arrival::Started(job) => Answer::Started(job.serial()),
             Arrival::Duplicate(key) => Answer::Duplicate(*key),
             Arrival::Early => Answer::Early,
             Arrival::Shown(ssn) => Answer::Shown(*ssn),

@@ -11,19 +11,19 @@ ghost use Rattle.machine.specs.Dispatch.{IsJobless, OpensJob, TakesNoResult, ans
 use crate::arrival::Arrival;
 use crate::machine::Machine;
 use limits::ENTRIES;
-use replay::Job;
+use replay::Invocation;
 use world::{Answer, Call, Feed, Refusal};
 
 /// The result of an accepted call: the answer that a journal keeps, and the job that it started.
 #[derive(Drop)]
-pub struct Reply {
+pub struct Reply<J: Drop> {
     pub answer: Answer,
-    pub job: Option<Job>,
+    pub job: Option<J>,
 }
 
-impl Reply {
+impl Reply<Invocation> {
     // The reply to an arrival.
-    fn of(arrival: Arrival) -> Reply
+    fn of(arrival: Arrival<Invocation>) -> Reply<Invocation>
         ensures answer { result.answer ≡ answer_of arrival }
         ensures job { result.job ≡ job_in arrival }
     {
@@ -71,7 +71,7 @@ impl Machine {
 
     /// Makes a call by the method of its name, and answers what the journal keeps of it and the job
     /// that it started. It isn't for a finish, which takes a result: see `finish`.
-    pub fn step(&mut self, room: u32, call: &Call) -> Result<Reply, Refusal>
+    pub fn step(&mut self, room: u32, call: &Call) -> Result<Reply<Invocation>, Refusal>
         requires result { TakesNoResult call.now }
         requires room { self.old.calls + room ≤ ENTRIES }
         ensures step { Simulates self.old self.new room call.now (answering answer_in result) }

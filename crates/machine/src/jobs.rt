@@ -1,4 +1,4 @@
-//! Jobs: how they are begun, run, compared and finished.
+//! Jobs: how they are begun, compared and finished.
 
 ghost use Rattle.std.specs.Prelude.{◌≡◌, ◌+◌, ◌≤◌, ◌↔◌, true, false, IsTrue, IfOk, IfErr, OnOk};
 ghost use Rattle.world.specs.declared.refusal.Refusal.TheVariants.{Memory};
@@ -8,22 +8,19 @@ ghost use Rattle.machine.specs.Simulation.{is_up_at};
 
 use crate::arrival::Finished;
 use crate::machine::Machine;
-use handlers::Handler;
 use limits::ENTRIES;
-use replay::{Done, Job, Ticket};
-use std::sync::Arc;
+use replay::{Completion, Invocation, Ticket};
 use world::{Message, Packet, Refusal};
 
 impl Machine {
     // Opens a job of a process on a message. It takes its memory first.
-    pub(crate) fn begin(&mut self, me: u8, message: &Message) -> Result<Job, Refusal>
+    pub(crate) fn begin(&mut self, me: u8, message: &Message) -> Result<Invocation, Refusal>
         requires { MayBegin self.old me message.now }
         ensures ok { IfOk result (λ job. Begins self.old self.new me message.now job) }
         ensures err { IfErr result (λ r. (r ≡ Memory) × (self.new ≡ self.old)) }
     {
         let place = me as usize - 1;
         let who = self.who(me, message.sender);
-        let image = Arc::try_clone(&self.images[place])?;
         let process = self.process(me);
         let ticket = Ticket {
             serial: self.started + 1,
@@ -32,15 +29,7 @@ impl Machine {
         };
         let spare = self.spare.take();
         let begun = &self.processes[place];
-        let job = Job::new(
-            self.alloc,
-            spare,
-            ticket,
-            image,
-            begun.state(),
-            *message,
-            who,
-        )?;
+        let job = Invocation::new(self.alloc, spare, ticket, begun.state(), *message, who)?;
         let process = &mut self.processes[place];
         process.begin(*message);
         self.started += 1;
@@ -48,25 +37,17 @@ impl Machine {
         Ok(job)
     }
 
-    /// Calls the handler of a job (replay/src/job.rt). It takes no machine, so no machine changes
-    /// meanwhile.
-    pub fn run(job: Job) -> Done
-        ensures { result ≡ job }
-    {
-        job.run()
-    }
-
     /// The process that receives the message of a job, 1 to 15.
-    pub fn receiver_of(done: &Done) -> u8
-        ensures { result ≡ done.now.who.me }
+    pub fn receiver_of(done: &Completion) -> u8
+        ensures { result ≡ done.now.task.who.me }
     {
         done.task().process()
     }
 
     /// Whether this is the result of the job that its process has open. All that the job took is
     /// compared, except its serial number.
-    pub fn is_open(&self, done: &Done) -> bool
-        ensures { IsTrue result ↔ Matches self.now done.now }
+    pub fn is_open(&self, done: &Completion) -> bool
+        ensures { IsTrue result ↔ Matches self.now done.now.task }
     {
         let task = done.task();
         let me = task.process();
@@ -76,20 +57,15 @@ impl Machine {
         let process = self.process(me);
         let message = task.message_ref();
         let from = message.sender;
-        if !process.works_on(message)
-            || process.incarnation() != task.incarnation()
-            || process.length() + 1 != task.rsn()
-            || process.state() != task.state()
-            || task.who() != self.who(me, from)
-        {
-            return false;
-        }
-        let image: &Handler = &self.images[me as usize - 1];
-        task.is_call_of(image)
+        process.works_on(message)
+            && process.incarnation() == task.incarnation()
+            && process.length() + 1 == task.rsn()
+            && process.state() == task.state()
+            && task.who() == self.who(me, from)
     }
 
     /// Commits the result of the open job. Any other result is refused.
-    pub fn finish(&mut self, done: Done) -> Result<Finished, (Refusal, Done)>
+    pub fn finish(&mut self, done: Completion) -> Result<Finished, (Refusal, Completion)>
         requires { self.old.calls ≤ ENTRIES }
         ensures step { Finishes self.old self.new done result }
         ensures calls { OnOk result (self.new.calls ≡ self.old.calls + 1) }
@@ -106,10 +82,10 @@ impl Machine {
     // Receives the message of a job: the process accepts the receipt, logs the handler's sends and
     // holds them until the RSN is acknowledged, takes the new state, and puts the RSN on the wire
     // to the sender.
-    fn commit(&mut self, done: Done) -> Result<Finished, (Refusal, Done)>
+    fn commit(&mut self, done: Completion) -> Result<Finished, (Refusal, Completion)>
         requires calls { self.old.calls ≤ ENTRIES }
-        requires matches { Matches self.old done }
-        requires up { is_up_at self.old done.who.me ≡ true }
+        requires matches { Matches self.old done.task }
+        requires up { is_up_at self.old done.task.who.me ≡ true }
         ensures step { Finishes self.old self.new done result }
         ensures calls { OnOk result (self.new.calls ≡ self.old.calls + 1) }
     {
@@ -137,10 +113,10 @@ impl Machine {
     // Replays the message of a job: the process accepts the receipt, logs the handler's sends as
     // acknowledged and without RSNs, and takes the new state. After the last message it restores
     // its RSNs, or is up.
-    fn recall(&mut self, done: Done) -> Result<Finished, (Refusal, Done)>
+    fn recall(&mut self, done: Completion) -> Result<Finished, (Refusal, Completion)>
         requires calls { self.old.calls ≤ ENTRIES }
-        requires matches { Matches self.old done }
-        requires down { is_up_at self.old done.who.me ≡ false }
+        requires matches { Matches self.old done.task }
+        requires down { is_up_at self.old done.task.who.me ≡ false }
         ensures step { Finishes self.old self.new done result }
         ensures calls { OnOk result (self.new.calls ≡ self.old.calls + 1) }
     {

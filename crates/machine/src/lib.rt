@@ -7,7 +7,7 @@
 //! free places of the journal, so that they can refuse for a full journal.
 //!
 //! ```text
-//! let mut machine = Machine::open(alloc, images)?;
+//! let mut machine = Machine::open(alloc, lengths)?;
 //! let ssn = machine.input(65_536, &feed)?;
 //! ```
 //!
@@ -17,7 +17,7 @@
 //! | `dispatch` | `cause` and `step` of any call, by the method of its name |
 //! | `transmission` | `input`, `transmit`, `copy`, `lose` |
 //! | `reception` | `arrive` |
-//! | `jobs` | `run`, `finish`, `is_open`, `receiver_of` |
+//! | `jobs` | `finish`, `is_open`, `receiver_of` |
 //! | `checkpoints` | `checkpoint`, `trim` |
 //! | `recoveries` | `crash`, `recover`, `recover_alone` |
 //! | `replays` | `replay_begin`, `resync` |
@@ -35,7 +35,7 @@ mod recoveries;
 mod replays;
 mod transmission;
 
-pub use arrival::{Arrival, Finished};
+pub use arrival::{Arrival, Finished, Serial};
 pub use dispatch::Reply;
 pub use machine::Machine;
-pub use replay::{Done, Job};
+pub use replay::{Completion, Invocation};

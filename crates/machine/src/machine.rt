@@ -1,18 +1,18 @@
 //! A machine, and how it is read.
 
-ghost use Rattle.std.specs.Prelude.{◌≡◌, ℕ, ◌+◌, ◌<◌, ◌≤◌, ◌&&◌, [], true, false, IfOk, is_some, count_by, length, map, nat_lt, nat_le};
-ghost use Rattle.handlers.specs.Image.{image_in};
+ghost use Rattle.std.specs.Prelude.{◌≡◌, ℕ, ◌+◌, ◌<◌, ◌≤◌, ◌&&◌, [], true, false, IfOk, is_some, count_by, length, nat_lt, nat_le};
+ghost use Rattle.std.specs.List.{All};
 ghost use Rattle.world.specs.Phases.{name_of, is_down};
 ghost use Rattle.world.specs.World.{World};
 ghost use Rattle.world.specs.Logs.{state_of, length_of};
+ghost use Rattle.machine.specs.Dispatch.{receiver_of};
 ghost use Rattle.machine.specs.Simulation.{Stands, process_at, log_at, is_up_at};
 ghost use Rattle.machine.specs.Transmission.{live};
 ghost use Rattle.machine.specs.Openings.{Opens, AreIdle};
 ghost use Rattle.machine.specs.Readings.{ReceiptsStand, LogStands, GateStands};
 
-use handlers::Handler;
 use helpers::Who;
-use limits::PROCESSES;
+use limits::{PROCESSES, STATE_BYTES};
 use replay::Spare;
 use rsn::Receipts;
 use send_gate::Gate;
@@ -20,14 +20,14 @@ use sender_log::Log;
 use session_process::{Mode, Outside, Process, Wire};
 use std::alloc::{AllocError, Global};
 use std::marker::Model;
-use std::sync::Arc;
 use world::{Message, Packet, PhaseName, Refusal};
 
 /// Processes 1 to n, the outside and the wire.
 #[derive(Drop)]
 pub struct Machine {
     pub(crate) alloc: Global,
-    pub(crate) images: Vec<Arc<Handler>>,
+    /// How many bytes the state of each process has.
+    pub(crate) lengths: Vec<u16>,
     pub(crate) processes: Vec<Process>,
     pub(crate) outside: Outside,
     pub(crate) wire: Wire,
@@ -49,35 +49,36 @@ impl Model for Machine {
     ghost invariant = { IsSound };
 }
 
-// For each image a process that received nothing, numbered from 1.
-fn idle_processes(alloc: Global, images: &[Arc<Handler>]) -> Result<Vec<Process>, AllocError>
-    requires { length images.now ≤ PROCESSES }
-    ensures { IfOk result (λ v. AreIdle (length images.now) (map image_in images.now) v.items) }
+// For each of these lengths a process that received nothing, numbered from 1.
+fn idle_processes(alloc: Global, lengths: &[u16]) -> Result<Vec<Process>, AllocError>
+    requires few { length lengths.now ≤ PROCESSES }
+    requires short { All (λ len. len ≤ STATE_BYTES) lengths.now }
+    ensures { IfOk result (λ v. AreIdle (length lengths.now) lengths.now v.items) }
 {
-    let n = images.len() as u8;
+    let n = lengths.len() as u8;
     let mut processes = Vec::new(alloc);
-    for image in images {
+    for len in lengths {
         let me = processes.len() as u8 + 1;
-        processes.push(Process::new(alloc, me, n, image.state_len())?)?;
+        processes.push(Process::new(alloc, me, n, *len)?)?;
     }
     Ok(processes)
 }
 
 impl Machine {
-    /// A machine of processes with the handlers of these images, 1 to 15. They have received
-    /// nothing.
-    pub fn open(alloc: Global, images: Vec<Arc<Handler>>) -> Result<Machine, Refusal>
-        ensures { Opens (map image_in images.items) result }
+    /// A machine of 1 to 15 processes with states of these lengths. They have received nothing.
+    pub fn open(alloc: Global, lengths: Vec<u16>) -> Result<Machine, Refusal>
+        requires { All (λ len. len ≤ STATE_BYTES) lengths.items }
+        ensures { Opens lengths.items result }
     {
-        let count = images.len();
+        let count = lengths.len();
         if count == 0 || count > PROCESSES {
             return Err(Refusal::NoSuchProcess);
         }
-        let processes = idle_processes(alloc, images.as_slice())?;
+        let processes = idle_processes(alloc, lengths.as_slice())?;
         let outside = Outside::new(alloc, count as u8)?;
         Ok(Machine {
             alloc,
-            images,
+            lengths,
             processes,
             outside,
             wire: Wire::new(alloc),
@@ -114,6 +115,17 @@ impl Machine {
         ensures { (w : World) → Stands self.now w → result ≡ w.wire key }
     {
         self.wire.get(key)
+    }
+
+    /// The process for which the packet under this key is a message. 0 if it is an output, another
+    /// packet, or none.
+    pub fn receiver(&self, key: usize) -> u8
+        ensures { (w : World) → Stands self.now w → result ≡ receiver_of (w.wire key) }
+    {
+        match self.wire.peek(key) {
+            Some(Packet::Delivery { to, .. }) => *to,
+            _ => 0,
+        }
     }
 
     /// The state of a process, which is empty while the process is down.

@@ -15,6 +15,7 @@ ghost use Rattle.machine.specs.Reception.{IsJudged, IsNumbered, MayArrive, Drops
 use crate::arrival::Arrival;
 use crate::machine::Machine;
 use limits::ENTRIES;
+use replay::Invocation;
 use rsn::Judgement;
 use sender_log::LogError;
 use world::{Call, Message, Packet, Refusal};
@@ -107,7 +108,7 @@ impl Machine {
     }
 
     /// Takes a packet from the wire to its receiver.
-    pub fn arrive(&mut self, room: u32, key: usize) -> Result<Arrival, Refusal>
+    pub fn arrive(&mut self, room: u32, key: usize) -> Result<Arrival<Invocation>, Refusal>
         requires { self.old.calls + room ≤ ENTRIES }
         ensures step { Simulates self.old self.new room (Call.Arrive key) (answering answer_of result) }
         ensures job { IfOk result (IsJobOf self.new) }
@@ -134,7 +135,12 @@ impl Machine {
     }
 
     // An output arrives at the outside.
-    fn show(&mut self, room: u32, key: usize, message: Message) -> Result<Arrival, Refusal>
+    fn show(
+        &mut self,
+        room: u32,
+        key: usize,
+        message: Message,
+    ) -> Result<Arrival<Invocation>, Refusal>
         requires { MayArrive self.old room key (Packet.Delivery 0 message) }
         ensures step { Simulates self.old self.new room (Call.Arrive key) (answering answer_of result) }
         ensures job { IfOk result (IsJobOf self.new) }
@@ -165,7 +171,7 @@ impl Machine {
         key: usize,
         to: u8,
         message: Message,
-    ) -> Result<Arrival, Refusal>
+    ) -> Result<Arrival<Invocation>, Refusal>
         requires to { 0 < to }
         requires may { MayArrive self.old room key (Packet.Delivery to message) }
         ensures step { Simulates self.old self.new room (Call.Arrive key) (answering answer_of result) }
@@ -222,7 +228,12 @@ impl Machine {
     }
 
     // A number arrives at the sender of its message.
-    fn note(&mut self, room: u32, key: usize, packet: Packet) -> Result<Arrival, Refusal>
+    fn note(
+        &mut self,
+        room: u32,
+        key: usize,
+        packet: Packet,
+    ) -> Result<Arrival<Invocation>, Refusal>
         requires may { MayArrive self.old room key packet }
         requires number { IsNumber packet }
         ensures step { Simulates self.old self.new room (Call.Arrive key) (answering answer_of result) }
@@ -265,7 +276,7 @@ impl Machine {
 
     // An acknowledgement arrives at the receiver, which releases the sends that waited for it
     // (`Process::acknowledge`).
-    fn acknowledge(&mut self, room: u32, key: usize, packet: Packet) -> Arrival
+    fn acknowledge(&mut self, room: u32, key: usize, packet: Packet) -> Arrival<Invocation>
         requires may { MayArrive self.old room key packet }
         requires acknowledgement { IsAcknowledgement packet }
         ensures step { Simulates self.old self.new room (Call.Arrive key) (Ok (answer_of result)) }

@@ -13,7 +13,7 @@ ghost use Rattle.machine.specs.Replays.{MayReplay, MayResync, ArePeersLeft, renu
 
 use crate::machine::Machine;
 use limits::ENTRIES;
-use replay::Job;
+use replay::Invocation;
 use session_process::{Mode, Peers};
 use std::alloc::AllocError;
 use world::{Answer, Call, Refusal};
@@ -42,7 +42,7 @@ impl Machine {
     }
 
     /// Opens the next job of a process that replays.
-    pub fn replay_begin(&mut self, room: u32, p: u8) -> Result<Job, Refusal>
+    pub fn replay_begin(&mut self, room: u32, p: u8) -> Result<Invocation, Refusal>
         requires { self.old.calls + room ≤ ENTRIES }
         ensures step { Simulates self.old self.new room (Call.ReplayBegin p) (answering (λ job. Answer.Started job.serial) result) }
         ensures job { IfOk result (IsHandedOut self.new) }

@@ -1,4 +1,3 @@
 pub mod PlanLemmas
-pub mod FoldLemmas
-pub mod HandlerLemmas
+pub mod EmissionLemmas
 pub mod AgreementLemmas

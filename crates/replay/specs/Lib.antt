@@ -1,4 +1,4 @@
+pub mod Emission
 pub mod Task
-pub mod Fold
 pub mod Plan
 pub mod Agreement

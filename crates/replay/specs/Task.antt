@@ -1,48 +1,38 @@
--- What a handler call takes, and its answer
-use Rattle.std.specs.Prelude.{◌≡◌, ◌≢◌, ◌≤◌, ℕ, List, [], length, Option, Some, None}
+-- What a handler call takes, and what it leaves
+use Rattle.std.specs.Prelude.{◌≡◌, ◌≢◌, ◌≤◌, ℕ, List, [], ◌∷◌, ◌++◌}
 use Rattle.limits.specs.declared.TheConstants.{PROCESSES}
 use Rattle.helpers.specs.declared.effects.Who.{Who}
-use Rattle.interp.specs.HandlerCall.{Handled}
-use Rattle.handlers.specs.Image.{TheImage}
-use Rattle.handlers.specs.Answer.{HasRun, answered}
+use Rattle.helpers.specs.Effects.{Emitted}
 use Rattle.world.specs.declared.message.Message.{Message}
+use Rattle.world.specs.Handlers.{Handlers}
+use Rattle.replay.specs.Emission.{emitted_to}
 
--- which job it is, which image is called, and on what
+-- which job it is, and on what the handler is called
 pub record TheTask : Type 0 where
   pub serial : ℕ
   pub incarnation : ℕ
   pub rsn : ℕ
-  pub image : TheImage
   pub state : List ℕ
   pub message : Message
   pub who : Who
 
--- an image may be called with this state, as this process
-pub record MayCall (image : TheImage) (state : List ℕ) (who : Who) : Type 0 where
-  pub state_len : length state ≡ image.len
+-- a process of a session may be called so: for a message of another, or of the outside
+pub record MayCall (who : Who) : Type 0 where
   pub inside : 1 ≤ who.me
   pub within : who.me ≤ who.count
   pub few : who.count ≤ PROCESSES
   pub sender : who.from ≤ who.count
   pub other : who.from ≢ who.me
 
--- what a run of the task's image on its state and message leaves. None if it faults or doesn't exit
-abbrev pub handled : TheTask → Option Handled
-handled t = answered t.image t.who t.state t.message.payload
+-- a task, and the state and the effects that the handler left
+pub record TheCompletion : Type 0 where
+  pub task : TheTask
+  pub state : List ℕ
+  pub effects : Emitted
 
--- what the handler leaves, if it answers
-abbrev pub given : Option Handled → Handled
-given (Some h) = h
-given None = record { state = []; effects = record { sends = []; outputs = [] }; r0 = 0; steps = 0 }
-
--- the handler's answer to a task; an empty one if the run faults or doesn't exit
-abbrev pub answer_of : TheTask → Handled
-answer_of t = given (handled t)
-
--- the handler's answer to this task: the one of a run from entry to exit, which makes at most as many steps as there are
--- instructions
-pub record IsAnswer (t : TheTask) (h : Handled) : Type 0 where
-  pub runs : HasRun t.image t.who t.state t.message.payload h
-  pub answers : handled t ≡ Some h
-  pub within : h.steps ≤ length t.image.code
-  pub state_len : length h.state ≡ t.image.len
+-- these handlers answer so: after each history that leads the process to the task's state, the task's message leads it to
+-- the new state, and these effects are sent after the rest
+pub record Answers (f : Handlers) (d : TheCompletion) : Type 0 where
+  pub state : (h : List Message) → d.task.state ≡ f.state d.task.who.me h → f.state d.task.who.me (h ++ d.task.message ∷ []) ≡ d.state
+  pub sends : (h : List Message) → d.task.state ≡ f.state d.task.who.me h → (to : ℕ)
+      → f.sends d.task.who.me (h ++ d.task.message ∷ []) to ≡ f.sends d.task.who.me h to ++ emitted_to to d.effects

@@ -3,7 +3,7 @@
 ghost use Rattle.std.specs.Prelude.{◌≡◌, ◌==◌, ◌≤◌, ◌+◌, ◌*◌, Some, length};
 ghost use Rattle.replay.specs.Plan.{ThePlan, next_of};
 
-use crate::done::Done;
+use crate::completion::Completion;
 use limits::{PARTIES, RECEIPTS, SENDS};
 use std::marker::Model;
 use world::Message;
@@ -54,8 +54,8 @@ impl Plan {
     }
 
     /// Goes on to the message after the one of this handler call.
-    pub fn advance(&mut self, done: &Done)
-        requires { next_of self.old ≡ Some (done.now.rsn, done.now.message) }
+    pub fn advance(&mut self, done: &Completion)
+        requires { next_of self.old ≡ Some (done.now.task.rsn, done.now.task.message) }
         ensures { self.new ≡ record self.old { replayed = self.old.replayed + 1 } }
     {
         self.replayed = done.task().rsn() - self.before;

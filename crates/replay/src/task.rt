@@ -1,14 +1,11 @@
 //! What a handler call takes.
 
-ghost use Rattle.std.specs.Prelude.{◌≡◌, ◌↔◌, IsTrue};
-ghost use Rattle.handlers.specs.Image.{image_in, the_image};
+ghost use Rattle.std.specs.Prelude.{◌≡◌};
 ghost use Rattle.std.specs.Box.{box_value};
 ghost use Rattle.replay.specs.Task.{TheTask, MayCall};
 
-use handlers::Handler;
 use helpers::{Payload, Who};
 use std::marker::Model;
-use std::sync::Arc;
 use world::Message;
 
 /// What identifies a job in its session.
@@ -22,18 +19,16 @@ pub struct Ticket {
     pub rsn: u32,
 }
 
-/// All that a handler call takes: which job it is, the image, the state, the message and `Who`.
+/// All that a handler takes: which job it is, the state, the message and `Who`.
 #[derive(Drop)]
 pub struct Task {
     ticket: Ticket,
-    image: Arc<Handler>,
     state: Vec<u8>,
     message: Box<Message>,
     who: Who,
 }
 
 impl Model for Task {
-    ghost use Rattle.handlers.specs.Image.{image_in};
     ghost use Rattle.std.specs.Box.{box_value};
     ghost use Rattle.replay.specs.Task.{TheTask, MayCall};
 
@@ -43,29 +38,21 @@ impl Model for Task {
       serial = t.ticket.serial;
       incarnation = t.ticket.incarnation;
       rsn = t.ticket.rsn;
-      image = image_in t.image;
       state = t.state.items;
       message = box_value t.message;
       who = t.who;
     } };
 
-    ghost invariant = { λ t. MayCall (image_in t.image) t.state.items t.who };
+    ghost invariant = { λ t. MayCall t.who };
 }
 
 impl Task {
-    pub(crate) fn new(
-        ticket: Ticket,
-        image: Arc<Handler>,
-        state: Vec<u8>,
-        message: Box<Message>,
-        who: Who,
-    ) -> Task
-        requires { MayCall (image_in image) state.items who }
-        ensures { result ≡ record { serial = ticket.serial; incarnation = ticket.incarnation; rsn = ticket.rsn; image = image_in image; state = state.items; message = box_value message; who = who } }
+    pub(crate) fn new(ticket: Ticket, state: Vec<u8>, message: Box<Message>, who: Who) -> Task
+        requires { MayCall who }
+        ensures { result ≡ record { serial = ticket.serial; incarnation = ticket.incarnation; rsn = ticket.rsn; state = state.items; message = box_value message; who = who } }
     {
         Task {
             ticket,
-            image,
             state,
             message,
             who,
@@ -106,20 +93,6 @@ impl Task {
         self.ticket.rsn
     }
 
-    /// The handler that is called.
-    pub fn image(&self) -> &Handler
-        ensures { the_image result.now ≡ self.now.image }
-    {
-        &self.image
-    }
-
-    /// Whether this handler has the same form and instructions as the one that is called.
-    pub fn is_call_of(&self, handler: &Handler) -> bool
-        ensures { IsTrue result ↔ ((the_image handler.now).form ≡ self.now.image.form) × ((the_image handler.now).code ≡ self.now.image.code) }
-    {
-        handler.same_code(&self.image)
-    }
-
     /// The state before the call.
     pub fn state(&self) -> &[u8]
         ensures { result.now ≡ self.now.state }
@@ -141,8 +114,8 @@ impl Task {
         &self.message
     }
 
-    // The bytes of the message.
-    pub(crate) fn payload(&self) -> &Payload
+    /// The bytes of the message.
+    pub fn payload(&self) -> &Payload
         ensures { result.now ≡ self.now.message.payload }
     {
         &self.message.payload
@@ -151,7 +124,7 @@ impl Task {
     /// Which process is called, for whose message, and among how many.
     pub fn who(&self) -> Who
         ensures value { result ≡ self.now.who }
-        ensures callable { MayCall self.now.image self.now.state self.now.who }
+        ensures callable { MayCall self.now.who }
     {
         self.who
     }

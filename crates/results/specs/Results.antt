@@ -3,7 +3,7 @@ use Rattle.std.specs.Prelude.{ℕ, ◌+◌, List, [], ◌∷◌, ◌++◌, Bool,
 use Rattle.handlers.specs.Image.{TheImage}
 use Rattle.world.specs.declared.message.Message.{Message}
 use Rattle.world.specs.declared.entry.Entry.{Entry}
-use Rattle.replay.specs.Fold.{handlers_of}
+use Rattle.sessions.specs.Fold.{handlers_of}
 use Rattle.world.specs.World.{World}
 use Rattle.world.specs.Phases.{is_down, name_of}
 use Rattle.world.specs.Logs.{length_of, state_of}

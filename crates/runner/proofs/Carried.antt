@@ -2,14 +2,14 @@
 use Rattle.std.proofs.Common.{◌≡◌, ◌∙◌, ℕ, List, [], ◌∷◌, ◌++◌, ◌≤◌, Option, Some, None, Result, Ok, Err, refl, sym, ap, subst, inl, ◌⊎◌}
 use Rattle.std.specs.Prelude.{slice_set}
 use Rattle.std.specs.Result.{result_and}
-use Rattle.machine.specs.Task.{TheTask}
+use Rattle.sessions.specs.Job.{TheJob, IsOpenJob}
 use Rattle.world.specs.declared.call.Call.{Call}
 use Rattle.world.specs.declared.answer.Answer.{Answer}
 use Rattle.world.specs.declared.refusal.Refusal.{Refusal}
 use Rattle.world.specs.declared.refusal.Refusal.TheVariants as refusals
 use Rattle.world.specs.Legal.{WStep}
 use Rattle.world.specs.Refusals.{cause_of}
-use Rattle.machine.specs.Arrival.{IsOpen, Told}
+use Rattle.machine.specs.Arrival.{Told}
 use Rattle.machine.specs.Choice.{IsPick}
 use Rattle.machine.specs.Dispatch.{job_of}
 use Rattle.sessions.specs.Journal as journal
@@ -20,51 +20,51 @@ use Rattle.runner.specs.Orders.{HoldsJob, AcceptsCall, BringsBack, IsDriven, Mak
 use Rattle.runner.specs.Inside.{ComesTo, NoNumber, OnMemory}
 
 -- where a session stands, with these jobs held and so many messages handed in
-abbrev pub at : TheSession → List (Option TheTask) → ℕ → Position
+abbrev pub at : TheSession → List (Option TheJob) → ℕ → Position
 at s held n = record { images = s.images; entries = s.entries; held = held; inputs = n }
 
 -- an accepted call
-pub is-entered : (old new : TheSession) (c : Call) (a : Answer) (held : List (Option TheTask)) (n : ℕ) → Owes old new c (Ok a) → at new held n ≡ with_entry (at old held n) c a
+pub is-entered : (old new : TheSession) (c : Call) (a : Answer) (held : List (Option TheJob)) (n : ℕ) → Owes old new c (Ok a) → at new held n ≡ with_entry (at old held n) c a
 is-entered old new c a held n owes = ap (λ s. at s held n) owes.1
 
-pub is-accepted : (old new : TheSession) (c : Call) (a : Answer) (held : List (Option TheTask)) (n : ℕ) → Owes old new c (Ok a) → AcceptsCall (at old held n) c a
+pub is-accepted : (old new : TheSession) (c : Call) (a : Answer) (held : List (Option TheJob)) (n : ℕ) → Owes old new c (Ok a) → AcceptsCall (at old held n) c a
 is-accepted old new c a held n owes =
     let P : TheSession → Type 0 = λ s. WStep (journal.room_at old) (journal.world_at old) c a (journal.world_at s) in
     subst P owes.1 owes.0
 
 -- a call that starts no job, accepted
-pub quiet : (old new : TheSession) (c : Call) (a : Answer) (held : List (Option TheTask)) (n : ℕ) → Owes old new c (Ok a) → job_of (journal.world_at old) c a ≡ None → MakesCall (at old held n) c (at new held n) None
+pub quiet : (old new : TheSession) (c : Call) (a : Answer) (held : List (Option TheJob)) (n : ℕ) → Owes old new c (Ok a) → job_of (journal.world_at old) c a ≡ None → MakesCall (at old held n) c (at new held n) None
 quiet old new c a held n owes none =
     let P : Option ℕ → Type 0 = λ o. HoldsJob (with_entry (at old held n) c a) o (at new held n) in
     (a, is-accepted old new c a held n owes, subst P (sym none) (is-entered old new c a held n owes))
 
 -- a call that starts a job, which is held
-pub begun : (old new : TheSession) (c : Call) (a : Answer) (task : TheTask) (held : List (Option TheTask)) (n : ℕ) → Owes old new c (Ok a)
-    → job_of (journal.world_at old) c a ≡ Some task.who.me → IsOpenAt new task → MakesCall (at old held n) c (at new (slice_set held task.who.me (Some task)) n) None
-begun old new c a task held n owes job is_open =
+pub begun : (old new : TheSession) (c : Call) (a : Answer) (j : TheJob) (held : List (Option TheJob)) (n : ℕ) → Owes old new c (Ok a)
+    → job_of (journal.world_at old) c a ≡ Some j.task.who.me → IsOpenAt new j → MakesCall (at old held n) c (at new (slice_set held j.task.who.me (Some j)) n) None
+begun old new c a j held n owes job is_open =
     let begins : Position = with_entry (at old held n) c a in
-    let P : Option ℕ → Type 0 = λ o. HoldsJob begins o (at new (slice_set held task.who.me (Some task)) n) in
-    let opens : IsOpen begins.images task (journal.world_at (record old { entries = old.entries ++ entry 0 c a ∷ [] })) = subst (λ s. IsOpenAt s task) owes.1 is_open in
-    let holds : at new (slice_set held task.who.me (Some task)) n ≡ record begins { held = slice_set held task.who.me (Some task) } =
-    ap (λ s. at s (slice_set held task.who.me (Some task)) n) owes.1 in
-    (a, is-accepted old new c a held n owes, subst P (sym job) (task, refl, opens, holds))
+    let P : Option ℕ → Type 0 = λ o. HoldsJob begins o (at new (slice_set held j.task.who.me (Some j)) n) in
+    let opens : IsOpenJob begins.images j (journal.world_at (record old { entries = old.entries ++ entry 0 c a ∷ [] })) = subst (λ s. IsOpenAt s j) owes.1 is_open in
+    let holds : at new (slice_set held j.task.who.me (Some j)) n ≡ record begins { held = slice_set held j.task.who.me (Some j) } =
+    ap (λ s. at s (slice_set held j.task.who.me (Some j)) n) owes.1 in
+    (a, is-accepted old new c a held n owes, subst P (sym job) (j, refl, opens, holds))
 
 -- want of memory has no number
 unnumbered : (r : Refusal) (n : ℕ) → r ≡ refusals.Memory → cause_of r ≡ Some n → ⊥
 unnumbered r n is told = let none : None ≡ Some n = ap cause_of (sym is) ∙ told in cc
 
 -- a call that finds no memory
-pub call-unnumbered : (old new : TheSession) (c : Call) (r : Refusal) (held : List (Option TheTask)) (n : ℕ) → Owes old new c (Err r) → r ≡ refusals.Memory
+pub call-unnumbered : (old new : TheSession) (c : Call) (r : Refusal) (held : List (Option TheJob)) (n : ℕ) → Owes old new c (Err r) → r ≡ refusals.Memory
     → NoNumber (MakesCall (at old held n) c)
 call-unnumbered old new c r held n owes is = λ m next made. unnumbered r m is (sym owes.2 ∙ made.1)
 
 -- a result that finds none
-pub result-unnumbered : (old new : TheSession) (task : TheTask) (r : Refusal × TheTask) (held : List (Option TheTask)) (n : ℕ) → Takes old new (own_seat old) (own_seat new) task (Err r)
-    → r.0 ≡ refusals.Memory → NoNumber (BringsBack (at old held n) (Some task))
-result-unnumbered old new task r held n takes is = λ m next back. back.2 (subst (λ (x : Refusal). Told x (IsOpen old.images task (journal.world_at old))) is takes.3)
+pub result-unnumbered : (old new : TheSession) (j : TheJob) (r : Refusal × TheJob) (held : List (Option TheJob)) (n : ℕ) → Takes old new (own_seat old) (own_seat new) j (Err r)
+    → r.0 ≡ refusals.Memory → NoNumber (BringsBack (at old held n) (Some j))
+result-unnumbered old new j r held n takes is = λ m next back. back.2 (subst (λ (x : Refusal). Told x (IsOpenJob old.images j (journal.world_at old))) is takes.3)
 
 -- a drive
-pub driven : {U : Type 0} (u : U) (budget : ℕ) (old new : TheSession) (r : Result ℕ Refusal) (held : List (Option TheTask)) (n : ℕ)
+pub driven : {U : Type 0} (u : U) (budget : ℕ) (old new : TheSession) (r : Result ℕ Refusal) (held : List (Option TheJob)) (n : ℕ)
     → Driven budget old new (own_seat old) (own_seat new) r → ComesTo (λ refused. IsDriven budget (at old held n) (at new held n) × (refused ≡ None)) (result_and r (Ok u))
 driven u budget old new (Ok k) held n made =
     let ran = made.0 in

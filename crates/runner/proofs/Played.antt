@@ -4,12 +4,12 @@ use Rattle.std.specs.Result.{OnErr}
 use Rattle.std.proofs.lemmas.List.{append-nil, flat_map_more, take_all}
 use Rattle.handlers.specs.Image.{TheImage}
 use Rattle.world.specs.declared.call.Call.{Call}
-use Rattle.replay.specs.Fold.{handlers_of}
+use Rattle.sessions.specs.Fold.{handlers_of}
 use Rattle.world.specs.Legal.{Legal}
 use Rattle.world.specs.declared.refusal.Refusal.{Refusal}
 use Rattle.world.specs.declared.refusal.Refusal.TheVariants as refusals
 use Rattle.world.specs.Refusals.{cause_of, number_of}
-use Rattle.machine.specs.Task.{TheTask}
+use Rattle.sessions.specs.Job.{TheJob}
 use Rattle.machine.specs.Dispatch.{job_of}
 use Rattle.scenario.specs.declared.order.Order.{Order}
 use Rattle.scenario.specs.declared.order.Order.TheVariants as order
@@ -31,10 +31,10 @@ called-images : (at : Position) (c : Call) (new : Position) (r : Option ℕ) →
 called-images at c new None makes = held-images (with_entry at c makes.0) (job_of (world_at at) c makes.0) new makes.2
 called-images at c new (Some n) makes = ap (λ (x : Position). x.images) makes.0
 
-brought-images : (at : Position) (held : Option TheTask) (new : Position) (r : Option ℕ) → BringsBack at held new r → new.images ≡ at.images
+brought-images : (at : Position) (held : Option TheJob) (new : Position) (r : Option ℕ) → BringsBack at held new r → new.images ≡ at.images
 brought-images at None new r finishes = ap (λ (x : Position). x.images) finishes.0
-brought-images at (Some task) new None finishes = ap (λ (x : Position). x.images) finishes.1.2
-brought-images at (Some task) new (Some n) finishes = ap (λ (x : Position). x.images) finishes.0
+brought-images at (Some j) new None finishes = ap (λ (x : Position). x.images) finishes.1.2
+brought-images at (Some j) new (Some n) finishes = ap (λ (x : Position). x.images) finishes.0
 
 carried-images : (at : Position) (o : Order) (new : Position) (r : Option ℕ) → CarriesOut at o new r → new.images ≡ at.images
 carried-images at (order.Input to word) new r does = called-images _ _ new r does

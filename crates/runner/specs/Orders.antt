@@ -3,18 +3,17 @@ use Rattle.std.specs.Prelude.{◌≡◌, ◌≤◌, ◌+◌, ◌-◌, ◌^◌, �
 use Rattle.std.specs.Prelude.{slice_set}
 use Rattle.limits.specs.declared.TheConstants.{ENTRIES, PARTIES}
 use Rattle.handlers.specs.Image.{TheImage}
-use Rattle.machine.specs.Task.{TheTask}
+use Rattle.sessions.specs.Job.{TheJob, IsOpenJob}
 use Rattle.world.specs.declared.call.Call.{Call}
 use Rattle.world.specs.declared.call.Call.TheVariants as call
 use Rattle.world.specs.declared.answer.Answer.{Answer}
 use Rattle.world.specs.declared.entry.Entry.{Entry}
 use Rattle.world.specs.declared.refusal.Refusal.TheVariants.{StaleJob}
-use Rattle.replay.specs.Fold.{handlers_of}
+use Rattle.sessions.specs.Fold.{handlers_of}
 use Rattle.world.specs.History.{Payload}
 use Rattle.world.specs.Legal.{WStep, world_of}
 use Rattle.world.specs.Refusals.{number_of, refusal_of}
 use Rattle.world.specs.World.{World}
-use Rattle.machine.specs.Arrival.{IsOpen}
 use Rattle.machine.specs.Choice.{IsPick}
 use Rattle.machine.specs.Dispatch.{job_of}
 use Rattle.sessions.specs.Journal.{entry}
@@ -28,7 +27,7 @@ use Rattle.results.specs.Word.{message_word}
 pub record Position : Type 0 where
   pub images : List TheImage
   pub entries : List Entry
-  pub held : List (Option TheTask)
+  pub held : List (Option TheJob)
   pub inputs : ℕ
 
 -- nothing was done so far
@@ -57,8 +56,8 @@ AcceptsCall old c a = WStep (room_at old) (world_at old) c a (world_at (with_ent
 abbrev pub HoldsJob : Position → Option ℕ → Position → Type 0
 HoldsJob old None new = new ≡ old
 HoldsJob old (Some p) new =
-    (task : TheTask) × (task.who.me ≡ p) × IsOpen old.images task (world_at old)
-    × (new ≡ record old { held = slice_set old.held p (Some task) })
+    (job : TheJob) × (job.task.who.me ≡ p) × IsOpenJob old.images job (world_at old)
+    × (new ≡ record old { held = slice_set old.held p (Some job) })
 
 -- a call is made: it is accepted, and the job that it starts is held; or it is refused with the least number whose cause holds, and
 -- changes nothing
@@ -73,7 +72,7 @@ HandsIn old to payload new refused = MakesCall (record old { inputs = old.inputs
 -- ---- jobs
 
 -- the job that is held for a process
-abbrev pub held_for : Position → ℕ → Option TheTask
+abbrev pub held_for : Position → ℕ → Option TheJob
 held_for old p = slice_index_or old.held p None
 
 -- none is held for it
@@ -82,12 +81,12 @@ without_job old p = record old { held = slice_set old.held p None }
 
 -- a job that was held is run and its result brought back. Where there was none, that is refused whatever else holds, and otherwise
 -- where it isn't the open job any more
-abbrev pub BringsBack : Position → Option TheTask → Position → Option ℕ → Type 0
+abbrev pub BringsBack : Position → Option TheJob → Position → Option ℕ → Type 0
 BringsBack old None new refused = (new ≡ old) × (refused ≡ Some (number_of StaleJob))
-BringsBack old (Some task) new None =
-    IsOpen old.images task (world_at old)
-    × ((a : Answer) × AcceptsCall old (call.Finish task.who.me) a × (new ≡ with_entry old (call.Finish task.who.me) a))
-BringsBack old (Some task) new (Some n) = (new ≡ old) × (n ≡ number_of StaleJob) × ¬ IsOpen old.images task (world_at old)
+BringsBack old (Some job) new None =
+    IsOpenJob old.images job (world_at old)
+    × ((a : Answer) × AcceptsCall old (call.Finish job.task.who.me) a × (new ≡ with_entry old (call.Finish job.task.who.me) a))
+BringsBack old (Some job) new (Some n) = (new ≡ old) × (n ≡ number_of StaleJob) × ¬ IsOpenJob old.images job (world_at old)
 
 -- useful calls are made, and the jobs that they start are finished at once, until so many were accepted or no call can be picked
 pub record IsDriven (budget : ℕ) (old new : Position) : Type 0 where

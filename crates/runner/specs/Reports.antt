@@ -6,7 +6,7 @@ use Rattle.scenario.specs.declared.scenario.Step.{Step}
 use Rattle.sessions.specs.Journal.{is_exact_of}
 use Rattle.styles.specs.Lines as lines
 use Rattle.styles.specs.Style.{TheStyle}
-use Rattle.replay.specs.Fold.{handlers_of}
+use Rattle.sessions.specs.Fold.{handlers_of}
 use Rattle.world.specs.Legal.{world_of}
 use Rattle.world.specs.Logs.{length_of}
 use Rattle.world.specs.Phases.{name_of}

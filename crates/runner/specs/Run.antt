@@ -6,7 +6,7 @@ use Rattle.world.specs.declared.call.Call.{Call}
 use Rattle.world.specs.declared.call.Call.TheVariants as call
 use Rattle.world.specs.declared.entry.Entry.{Entry}
 use Rattle.world.specs.declared.message.Message.{Message}
-use Rattle.replay.specs.Fold.{handlers_of}
+use Rattle.sessions.specs.Fold.{handlers_of}
 use Rattle.world.specs.History.{Payload}
 use Rattle.world.specs.Legal.{Legal, world_of}
 use Rattle.world.specs.World.{World}

@@ -10,7 +10,7 @@ use sessions::Job;
 impl Player {
     /// Holds a job, in place of an earlier one of its process.
     pub(crate) fn hold(&mut self, job: Job)
-        ensures { position_of self.new ≡ record (position_of self.old) { held = slice_set self.old.held.items job.who.me (Some job) } }
+        ensures { position_of self.new ≡ record (position_of self.old) { held = slice_set self.old.held.items job.task.who.me (Some job) } }
     {
         let place = job.task().who().me as usize;
         self.held[place] = Some(job);

@@ -9,7 +9,7 @@ use Rattle.sender_log.specs.Log.{queue_of}
 use Rattle.checkpoint.specs.Saved.{TheSaved, receipts_again}
 use Rattle.world.specs.declared.message.Message.{Message}
 use Rattle.replay.specs.Plan.{ThePlan, next_of}
-use Rattle.replay.specs.Task.{TheTask, answer_of}
+use Rattle.replay.specs.Task.{TheTask, TheCompletion}
 use Rattle.session_process.specs.Outbox.{TheOutbox, empty_outbox, outbox_again, with_messages, Gives, ReleasesAll}
 use Rattle.session_process.specs.Stable.{idle_saved}
 use Rattle.session_process.specs.Mode.{has_no_peer}
@@ -59,11 +59,11 @@ pub record Acknowledges (rsn : ℕ) (old new : TheProcess) : Type 0 where
   pub releases : Releases (run_of (acknowledged rsn old.receipts).acknowledged) old.outbox.gate new.outbox.gate
   pub others : new ≡ record old { receipts = new.receipts; outbox = record old.outbox { gate = new.outbox.gate } }
 
--- the result of this task is committed
-pub record Commits (t : TheTask) (old new : TheProcess) : Type 0 where
-  pub state : new.state ≡ (answer_of t).state
-  pub receipts : new.receipts ≡ accepted t.message.sender old.receipts
-  pub outbox : Gives (answer_of t).effects old.outbox new.outbox
+-- this result is committed
+pub record Commits (d : TheCompletion) (old new : TheProcess) : Type 0 where
+  pub state : new.state ≡ d.state
+  pub receipts : new.receipts ≡ accepted d.task.message.sender old.receipts
+  pub outbox : Gives d.effects old.outbox new.outbox
   pub working : new.working ≡ None
   pub incarnation : new.incarnation ≡ old.incarnation
   pub saved : new.saved ≡ old.saved
@@ -113,11 +113,11 @@ advanced Down = Down
 advanced (Replaying plan alone) = Replaying (record plan { replayed = plan.replayed + 1 }) alone
 advanced (Resync peers) = Resync peers
 
--- the result of this task, which is replayed, is committed
-pub record Recalls (t : TheTask) (old new : TheProcess) : Type 0 where
-  pub state : new.state ≡ (answer_of t).state
-  pub receipts : new.receipts ≡ acknowledged (received old + 1) (accepted t.message.sender old.receipts)
-  pub outbox : Gives (answer_of t).effects old.outbox new.outbox
+-- this result, whose job is replayed, is committed
+pub record Recalls (d : TheCompletion) (old new : TheProcess) : Type 0 where
+  pub state : new.state ≡ d.state
+  pub receipts : new.receipts ≡ acknowledged (received old + 1) (accepted d.task.message.sender old.receipts)
+  pub outbox : Gives d.effects old.outbox new.outbox
   pub working : new.working ≡ None
   pub incarnation : new.incarnation ≡ old.incarnation
   pub saved : new.saved ≡ old.saved

@@ -10,8 +10,8 @@
 //! ```text
 //! let mut process = Process::new(alloc, 1, 2, state_len)?;
 //! process.begin(message);
-//! let done = job.run();      // of a job that was made of the message
-//! let key = process.commit(&done, &mut wire, packet)?;
+//! // completion is the result of a handler call on the message
+//! let key = process.commit(&completion, &mut wire, packet)?;
 //! process.acknowledge(1);    // what the handler sent may leave
 //! ```
 #![tactic(auto)]

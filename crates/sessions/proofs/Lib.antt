@@ -1,5 +1,8 @@
+pub mod FoldLemmas
+pub mod HandlerLemmas
 pub mod Rooms
 pub mod Steps
+mod JobLemmas
 mod SeatLemmas
 mod Own
 mod Together

@@ -1,13 +1,13 @@
 -- Calls of a service as those of a session, whose callers share it
 use Rattle.std.proofs.Common.{◌≡◌, ℕ, ◌+◌, ◌-◌, ◌≤◌, ◌∷◌, [], List, length, length-append, refl, ap, ◌∙◌, arith}
 use Rattle.std.specs.Prelude.{Option, Result, Ok, Err}
-use Rattle.machine.specs.Task.{TheTask}
 use Rattle.world.specs.declared.call.Call.{Call}
 use Rattle.world.specs.declared.answer.Answer.{Answer}
 use Rattle.world.specs.declared.refusal.Refusal.{Refusal}
 use Rattle.machine.specs.declared.arrival.Arrival.{Arrival}
 use Rattle.machine.specs.declared.arrival.Arrival.TheVariants.{Started, Duplicate, Early, Shown, ShownBefore, Numbered, Acknowledged, Stale, Unreachable}
 use Rattle.machine.specs.declared.arrival.Finished.{Finished}
+use Rattle.sessions.specs.Job.{TheJob}
 use Rattle.sessions.specs.Seats.{TheSeat}
 use Rattle.sessions.specs.Journal.{TheSession, Adds, HandsOut, Takes, answered_more, entry}
 use Rattle.sessions.specs.Driver.{Advances, Driven}
@@ -28,7 +28,7 @@ pub refuses : (seats : List (Option TheSeat)) (old new : TheSession) (by : TheSe
 refuses seats old new by worker call r adds = (ap (with_seats seats) adds.0, refl, adds.2)
 
 -- an arrival hands out what it does of the service
-pub hands : (seats : List (Option TheSeat)) (s : TheSession) (a : Arrival) → HandsOut s a → HandsOut (with_seats seats s) a
+pub hands : (seats : List (Option TheSeat)) (s : TheSession) (a : Arrival TheJob) → HandsOut s a → HandsOut (with_seats seats s) a
 hands seats s (Started task) job = job
 hands seats s (Duplicate key) job = tt
 hands seats s Early job = tt
@@ -40,12 +40,12 @@ hands seats s Stale job = tt
 hands seats s Unreachable job = tt
 
 -- a result that is taken in, and one that isn't
-pub takes : (seats : List (Option TheSeat)) (old new : TheSession) (by by' : TheSeat) (task : TheTask) (f : Finished) → Takes old new (seat_of by.worker old) (seat_of by.worker new) task (Ok f)
+pub takes : (seats : List (Option TheSeat)) (old new : TheSession) (by by' : TheSeat) (task : TheJob) (f : Finished) → Takes old new (seat_of by.worker old) (seat_of by.worker new) task (Ok f)
     → by' ≡ answered_more 1 by → Takes (with_seats seats old) (with_seats seats new) by by' task (Ok f)
 takes seats old new by by' task f owes seat = (owes.0, (owes.1.0, ap (with_seats seats) owes.1.1, seat))
 
 -- a result that is refused leaves all as it was
-pub leaves : (seats : List (Option TheSeat)) (old new : TheSession) (by : TheSeat) (worker : ℕ) (task : TheTask) (r : Refusal × TheTask) → Takes old new (seat_of worker old) (seat_of worker new) task (Err r)
+pub leaves : (seats : List (Option TheSeat)) (old new : TheSession) (by : TheSeat) (worker : ℕ) (task : TheJob) (r : Refusal × TheJob) → Takes old new (seat_of worker old) (seat_of worker new) task (Err r)
     → Takes (with_seats seats old) (with_seats seats new) by by task (Err r)
 leaves seats old new by worker task r owes = (owes.0, ap (with_seats seats) owes.1, refl, owes.3)
 

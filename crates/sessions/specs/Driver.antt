@@ -9,13 +9,12 @@ use Rattle.world.specs.declared.refusal.Refusal.{Refusal}
 use Rattle.world.specs.declared.refusal.Refusal.TheVariants.{Memory}
 use Rattle.world.specs.World.{World}
 use Rattle.world.specs.Calls.{after}
-use Rattle.machine.specs.Task.{TheTask}
-use Rattle.machine.specs.Arrival.{IsOpen}
 use Rattle.machine.specs.Choice.{IsPick}
 use Rattle.machine.specs.Dispatch.{job_of}
 use Rattle.machine.specs.declared.dispatch.Reply.{Reply}
+use Rattle.sessions.specs.Job.{TheJob}
 use Rattle.sessions.specs.Seats.{TheSeat}
-use Rattle.sessions.specs.Journal.{TheSession, world_at, room_at, Adds}
+use Rattle.sessions.specs.Journal.{TheSession, world_at, room_at, Adds, IsOpenAt}
 
 -- each of these entries of a worker is a call that can be picked at that point, before the budget is reached, or the finish of the
 -- job that the entry before it started. job is the process whose job is open before them, and left the one after them
@@ -44,16 +43,16 @@ abbrev pub IsDone : TheSession → Type 0
 IsDone s = (call : Call) → ¬ IsPick (world_at s) ENTRIES call
 
 -- the job of this process is started and open, or there is none
-abbrev pub Starts : TheSession → Option ℕ → Option TheTask → Type 0
+abbrev pub Starts : TheSession → Option ℕ → Option TheJob → Type 0
 Starts s p None = p ≡ None
-Starts s p (Some task) = (p ≡ Some task.who.me) × IsOpen s.images task (world_at s)
+Starts s p (Some job) = (p ≡ Some job.task.who.me) × IsOpenAt s job
 
 -- an accepted call hands out the job that it starts, which is open
-abbrev pub StartsJob : TheSession → TheSession → Call → Reply → Type 0
+abbrev pub StartsJob : TheSession → TheSession → Call → Reply TheJob → Type 0
 StartsJob old new call reply = Starts new (job_of (world_at old) call reply.answer) reply.job
 
 -- what a picked call guarantees: it is accepted, and hands out the job that it starts; or memory ran out, and nothing has changed
-abbrev pub Makes : TheSession → TheSession → TheSeat → TheSeat → Call → Result (Option TheTask) Refusal → Type 0
+abbrev pub Makes : TheSession → TheSession → TheSeat → TheSeat → Call → Result (Option TheJob) Refusal → Type 0
 Makes old new by by' call (Ok job) = (answer : Answer) × Adds old new by by' call (Ok answer)
     × Starts new (job_of (world_at old) call answer) job
 Makes old new by by' call (Err r) = (r ≡ Memory) × (new ≡ old) × (by' ≡ by)

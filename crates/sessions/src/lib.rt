@@ -5,7 +5,11 @@
 //! keeps that the journal is legal, so that each entry is a step of the world from the opening, and
 //! that the journal leads to where the session is: states, lengths and phases are those of the
 //! world after the last entry. Handlers run outside of it: a call hands out the job that it starts,
-//! and `finish` takes the result back. Only `drive` does both itself.
+//! and `finish` takes the result back. The type of [`Done`] keeps that this is the handler's answer
+//! to its job. Only `drive` does both itself.
+//!
+//! `specs/Fold` says what the handlers of images make of a history: the state, and what was sent.
+//! [`handlers_grow`] says of them what the laws of `theorems` ask of handlers.
 //!
 //! ```text
 //! let mut service = Service::open(alloc, images)?;
@@ -35,6 +39,9 @@
 #![tactic(auto)]
 
 mod driver;
+mod fold;
+mod handed;
+mod job;
 mod journal;
 mod named_call;
 mod queries;
@@ -48,7 +55,9 @@ mod slip;
 mod start;
 mod view;
 
-pub use machine::{Arrival, Done, Finished, Job, Reply};
+pub use fold::handlers_grow;
+pub use job::{Done, Job};
+pub use machine::{Arrival, Finished, Reply};
 pub use seat::Seat;
 pub use service::Service;
 pub use session::Session;

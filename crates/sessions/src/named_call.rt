@@ -2,13 +2,14 @@
 //! session", says what each refuses, and in which order.
 
 ghost use Rattle.std.specs.Prelude.{◌≡◌, IfOk};
-ghost use Rattle.machine.specs.Arrival.{IsJobFor, answer_of};
 ghost use Rattle.machine.specs.Simulation.{answering};
+ghost use Rattle.sessions.specs.Job.{IsJobAt, arrival_of};
 ghost use Rattle.sessions.specs.Journal.{HandsOut, IsOpenAt, ReturnsTo, world_at};
 ghost use Rattle.sessions.specs.Service.{Owes};
 
+use crate::job::Job;
 use crate::service::Service;
-use machine::{Arrival, Job};
+use machine::Arrival;
 use world::{Answer, Call, Feed, Refusal};
 
 impl Service {
@@ -82,10 +83,10 @@ impl Service {
     ///     let committed = service.finish(Service::run(job))?;
     /// }
     /// ```
-    pub fn arrive(&mut self, key: usize) -> Result<Arrival, Refusal>
-        ensures adds { Owes self.old self.new (Call.Arrive key) (answering answer_of result) }
+    pub fn arrive(&mut self, key: usize) -> Result<Arrival<Job>, Refusal>
+        ensures adds { Owes self.old self.new (Call.Arrive key) (answering arrival_of result) }
         ensures job { IfOk result (HandsOut self.new) }
-        ensures target { IfOk result (IsJobFor ((world_at self.old).wire key)) }
+        ensures target { IfOk result (IsJobAt ((world_at self.old).wire key)) }
     {
         self.arrive_of(0, key)
     }
@@ -174,9 +175,9 @@ impl Service {
     /// let job = service.replay_begin(1)?;
     /// ```
     pub fn replay_begin(&mut self, p: u8) -> Result<Job, Refusal>
-        ensures adds { Owes self.old self.new (Call.ReplayBegin p) (answering (λ job. Answer.Started job.serial) result) }
+        ensures adds { Owes self.old self.new (Call.ReplayBegin p) (answering (λ job. Answer.Started job.task.serial) result) }
         ensures job { IfOk result (IsOpenAt self.new) }
-        ensures target { IfOk result (λ job. job.who.me ≡ p) }
+        ensures target { IfOk result (λ job. job.task.who.me ≡ p) }
     {
         self.replay_begin_of(0, p)
     }

@@ -2,14 +2,15 @@
 //! says what each refuses, and in which order.
 
 ghost use Rattle.std.specs.Prelude.{◌≡◌, IfOk, true};
-ghost use Rattle.machine.specs.Arrival.{IsJobFor, answer_of};
 ghost use Rattle.machine.specs.Simulation.{answering};
 ghost use Rattle.world.specs.Useful.{may_call};
+ghost use Rattle.sessions.specs.Job.{IsJobAt, arrival_of};
 ghost use Rattle.sessions.specs.Journal.{Adds, HandsOut, IsOpenAt, ReturnsTo, world_at};
 
+use crate::job::Job;
 use crate::seat::Seat;
 use crate::session::Session;
-use machine::{Arrival, Job};
+use machine::Arrival;
 use std::sync::ledger::Ledger;
 use world::{Answer, Call, Feed, Refusal};
 
@@ -99,12 +100,12 @@ impl<L: Ledger> Session<L> {
     ///     let committed = session.finish(&mut seat, Service::run(job))?;
     /// }
     /// ```
-    pub fn arrive(&mut self, by: &mut Seat<L>, key: usize) -> Result<Arrival, Refusal>
+    pub fn arrive(&mut self, by: &mut Seat<L>, key: usize) -> Result<Arrival<Job>, Refusal>
         requires { may_call (world_at self.old) by.old.worker (Call.Arrive key) ≡ true }
-        ensures adds { Adds self.old self.new by.old by.new (Call.Arrive key) (answering answer_of result) }
+        ensures adds { Adds self.old self.new by.old by.new (Call.Arrive key) (answering arrival_of result) }
         ensures worker { by.new.worker ≡ by.old.worker }
         ensures job { IfOk result (HandsOut self.new) }
-        ensures target { IfOk result (IsJobFor ((world_at self.old).wire key)) }
+        ensures target { IfOk result (IsJobAt ((world_at self.old).wire key)) }
     {
         let arrival = self.service.arrive_of(by.worker(), key)?;
         by.answer(&mut self.book, 1);
@@ -206,10 +207,10 @@ impl<L: Ledger> Session<L> {
     /// ```
     pub fn replay_begin(&mut self, by: &mut Seat<L>, p: u8) -> Result<Job, Refusal>
         requires { may_call (world_at self.old) by.old.worker (Call.ReplayBegin p) ≡ true }
-        ensures adds { Adds self.old self.new by.old by.new (Call.ReplayBegin p) (answering (λ job. Answer.Started job.serial) result) }
+        ensures adds { Adds self.old self.new by.old by.new (Call.ReplayBegin p) (answering (λ job. Answer.Started job.task.serial) result) }
         ensures worker { by.new.worker ≡ by.old.worker }
         ensures job { IfOk result (IsOpenAt self.new) }
-        ensures target { IfOk result (λ job. job.who.me ≡ p) }
+        ensures target { IfOk result (λ job. job.task.who.me ≡ p) }
     {
         let job = self.service.replay_begin_of(by.worker(), p)?;
         by.answer(&mut self.book, 1);

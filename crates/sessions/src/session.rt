@@ -12,12 +12,13 @@ ghost use Rattle.sessions.specs.Service.{Returns, alone};
 ghost use Rattle.sessions.specs.Shares.{answers_of};
 ghost use Rattle.sessions.specs.Journal.{IsLegal, world_at, room_at, Adds, Takes, OpensWith};
 
+use crate::job::{Done, Job};
 use crate::seat::{Seat, settle};
 use crate::service::Service;
 use crate::share::Share;
 use handlers::Handler;
 use limits::SEATS;
-use machine::{Done, Finished, Job, Reply};
+use machine::{Finished, Reply};
 use std::alloc::{AllocError, Global};
 use std::marker::Model;
 use std::sync::Arc;
@@ -148,7 +149,7 @@ impl<L: Ledger> Session<L> {
     }
 
     /// Makes a call as a [`Service`] does: any that has a method of its own.
-    pub fn call(&mut self, by: &mut Seat<L>, call: &Call) -> Result<Reply, Refusal>
+    pub fn call(&mut self, by: &mut Seat<L>, call: &Call) -> Result<Reply<Job>, Refusal>
         requires result { TakesNoResult call.now }
         requires may { may_call (world_at self.old) by.old.worker call.now ≡ true }
         ensures adds { Adds self.old self.new by.old by.new call.now (answering answer_in result) }

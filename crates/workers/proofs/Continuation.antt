@@ -6,7 +6,7 @@ use Rattle.world.specs.declared.call.Call.{Call}
 use Rattle.world.specs.declared.call.Call.TheVariants.{Input, Transmit, Copy, Lose, Arrive, Finish, Checkpoint, Trim, Crash, Recover, RecoverAlone, ReplayBegin, Resync}
 use Rattle.world.specs.declared.answer.Answer.{Answer}
 use Rattle.world.specs.declared.entry.Entry.{Entry}
-use Rattle.replay.specs.Fold.{handlers_of}
+use Rattle.sessions.specs.Fold.{handlers_of}
 use Rattle.world.specs.World.{World, opening}
 use Rattle.world.specs.Calls.{after}
 use Rattle.world.specs.Useful.{may_call}

@@ -1,7 +1,6 @@
-use Rattle.std.proofs.Common.{length, map, take}
-use Rattle.handlers.specs.Image.{image_in}
+use Rattle.std.proofs.Common.{length, take}
 use Rattle.machine.specs.Openings.{AreIdle}
 use Rattle.machine.proofs.machine.idle_processes.Given as goal
 
-abbrev pub invariant-loop-image : goal.invariant-loop-image
-invariant-loop-image l = AreIdle (length l.images) (map image_in (take l.image-index l.images)) l.processes.items
+abbrev pub invariant-loop-len : goal.invariant-loop-len
+invariant-loop-len l = AreIdle (length l.lengths) (take l.len-index l.lengths) l.processes.items

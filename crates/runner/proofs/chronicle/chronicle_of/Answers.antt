@@ -2,7 +2,7 @@ use Rattle.std.proofs.Common.{◌≡◌, ◌∙◌, ap, List, length, map, subst
 use Rattle.handlers.specs.Image.{TheImage, image_in}
 use Rattle.world.specs.declared.entry.Entry.{Entry}
 use Rattle.world.specs.declared.message.Message.{Message}
-use Rattle.replay.specs.Fold.{handlers_of}
+use Rattle.sessions.specs.Fold.{handlers_of}
 use Rattle.world.specs.Legal.{world_of}
 use Rattle.scenario.specs.declared.scenario.Step.{Step}
 use Rattle.runner.specs.Inside.{AreNoted, notes_of, position_of}

@@ -6,4 +6,4 @@ use Rattle.workers.proofs.turn.finish_job.Goals as goal
 
 pub returns-in-Ok-clause-session : goal.returns-in-Ok-clause-session
 returns-in-Ok-clause-session g c =
-    continues-one c.args.session.now c.finish.new.self c.args.seat.now c.finish.new.by (Finish c.args.done.who.me) (finished_of c.in-Ok.field-0) c.in-Ok.ensures.takes.1 refl
+    continues-one c.args.session.now c.finish.new.self c.args.seat.now c.finish.new.by (Finish c.args.done.task.who.me) (finished_of c.in-Ok.field-0) c.in-Ok.ensures.takes.1 refl

@@ -1,14 +1,14 @@
-use Rattle.std.proofs.Common.{rules, ◌≡◌, ◌<◌, ◌≤◌, ◌+◌, ◌-◌, false, arith, subst, sym, ap, ◌∙◌, length, map, slice_index_or}
+use Rattle.std.proofs.Common.{rules, ◌≡◌, ℕ, ◌<◌, ◌≤◌, ◌+◌, ◌-◌, false, arith, subst, sym, ap, ◌∙◌, length, slice_index_or}
 use Rattle.std.specs.Prelude.{Some}
 use Rattle.std.proofs.lemmas.Grind.{common_steps}
-use Rattle.std.proofs.lemmas.List.{length-set, get_or-map, get_or_default}
+use Rattle.std.proofs.lemmas.List.{length-set, get_or_default}
 use Rattle.limits.specs.declared.TheConstants.{ENTRIES}
 use Rattle.helpers.specs.declared.effects.Who.{Who}
-use Rattle.handlers.specs.Image.{TheImage, image_in, the_image}
 use Rattle.session_process.specs.Process.{TheProcess, idle_process}
 use Rattle.session_process.specs.Mode.{is_lost}
 use Rattle.machine.specs.Simulation.{TheMachine, process_at}
-use Rattle.machine.specs.Fields.{view_of, AreCarried, IsLogOf, IsSoundAt}
+use Rattle.machine.specs.Fields.{view_of, AreCarried, IsLogOf, IsSound, IsSoundAt}
+use Rattle.machine.specs.declared.machine.Machine.TheInside.{Inside}
 use Rattle.machine.specs.Work.{IsNextFor}
 use Rattle.machine.proofs.Soundness.{sound_at, sound-begun, sound-set}
 use Rattle.machine.proofs.machine.Machine.begin.Goals as goal
@@ -19,26 +19,21 @@ new-requires c =
     let me = c.args.me in
     let within : me ≤ length m.processes = subst (λ (v : TheMachine). me ≤ length v.processes) (sym c.self.view_is) c.requires.within in
     let sender : c.args.message.now.sender ≤ length m.processes = subst (λ (v : TheMachine). c.args.message.now.sender ≤ length v.processes) (sym c.self.view_is) c.requires.from in
-    let positive = c.requires.inside in
-    let inside : me - 1 < length c.self.inside.images.items = omega (arith, c.self.invariant.images, within, positive) in
-    let image = image_in c.in_ok-image.image in
-    let image_is : slice_index_or m.images (me - 1) image ≡ image = get_or-map image_in c.self.inside.images.items (me - 1) c.index.result.now image inside ∙ ap image_in (sym c.index.ensures) ∙ sym (ap the_image c.in_ok-image.ensures) in
-    let xs = c.self.inside.processes.items in
-    let begun = c.index-begun.result.now in
-    let at : begun ≡ process_at m me = c.index-begun.ensures ∙ get_or_default xs (me - 1) begun (idle_process 0 0 0) (omega (arith, within, positive)) in
-    let state_is : c.state.result.now ≡ (process_at m me).state = c.state.ensures ∙ ap (λ (x : TheProcess). x.state) at in
-    let few = c.self.invariant.few in
-    let back : is_lost (process_at m me).mode ≡ false = subst (λ (v : TheMachine). is_lost (process_at v me).mode ≡ false) (sym c.self.view_is) c.requires.back in
     let called : TheMachine → Who = λ v. record { me = me; from = c.args.message.now.sender; count = length v.processes } in
     let who : c.who-who.result ≡ record { me = me; from = c.args.message.now.sender; count = length m.processes } = c.who-who.ensures ∙ ap called (sym c.self.view_is) in
-    let len : length c.state.result.now ≡ image.len = ap length state_is ∙ (sound_at c.self.inside c.self.invariant me (idle_process 0 0 0) image positive within).state back ∙ ap (λ (e : TheImage). e.len) image_is in
-    rw who (record { state_len = len; inside = positive; within = within; few = few; sender = sender; other = c.requires.other })
+    rw who (record { inside = c.requires.inside; within = within; few = c.self.invariant.few; sender = sender; other = c.requires.other })
+
+-- the state of a process that isn't down has its length
+begun-state : (i : Inside) (s : IsSound i) (m : TheMachine) (view_is : view_of i ≡ m) (me : ℕ) → 0 < me → me ≤ length m.processes → is_lost (process_at m me).mode ≡ false → (e : ℕ) → length (process_at m me).state ≡ slice_index_or m.lengths (me - 1) e
+begun-state i s m view_is me positive =
+    let P : TheMachine → Type 0 = λ v. me ≤ length v.processes → is_lost (process_at v me).mode ≡ false → (e : ℕ) → length (process_at v me).state ≡ slice_index_or v.lengths (me - 1) e in
+    subst P view_is (λ within back e. (sound_at i s me (idle_process 0 0 0) e positive within).state back)
 
 -- where the job isn't made, the places of the last one are gone, and nothing else
 pub invariant_of-self : goal.invariant_of-self
 invariant_of-self c =
     let i = c.self.invariant in
-    record { some = i.some; few = i.few; images = i.images; processes = i.processes; outside = i.outside; calls = i.calls; started = i.started; inputs = i.inputs; shown = i.shown; wire = i.wire; keys = i.keys }
+    record { some = i.some; few = i.few; lengths = i.lengths; processes = i.processes; outside = i.outside; calls = i.calls; started = i.started; inputs = i.inputs; shown = i.shown; wire = i.wire; keys = i.keys }
 
 pub invariant_of-self-2 : goal.invariant_of-self-2
 invariant_of-self-2 c =
@@ -46,7 +41,7 @@ invariant_of-self-2 c =
     let me = c.args.me in
     let i = c.self.invariant in
     let xs = c.self.inside.processes.items in
-    let images = map image_in c.self.inside.images.items in
+    let lengths = c.self.inside.lengths.items in
     let y = c.begin.new.self in
     let was = c.index_mut-process.result.now in
     let positive = c.requires.inside in
@@ -55,16 +50,16 @@ invariant_of-self-2 c =
     let here : was ≡ slice_index_or xs (me - 1) was = first_of (search rules, grind (arith, common_steps)) in
     let begins : y ≡ record was { working = Some c.args.message.now } = first_of (search rules, grind (arith, common_steps)) in
     let at : was ≡ process_at c.args.self.now me = here ∙ get_or_default xs (me - 1) was (idle_process 0 0 0) (omega (arith, positive, within)) ∙ ap (λ (v : TheMachine). process_at v me) c.self.view_is in
-    let sound : (e : TheImage) → IsSoundAt (length xs) me (slice_index_or images (me - 1) e).len c.self.inside.calls was = λ e. subst (IsSoundAt (length xs) me (slice_index_or images (me - 1) e).len c.self.inside.calls) (sym here) (sound_at c.self.inside i me was e positive within) in
-    let now : (e : TheImage) → IsSoundAt (length xs) me (slice_index_or images (me - 1) e).len (c.self.inside.calls + 1) y =
-    λ e. subst (IsSoundAt (length xs) me (slice_index_or images (me - 1) e).len (c.self.inside.calls + 1)) (sym begins)
+    let sound : (e : ℕ) → IsSoundAt (length xs) me (slice_index_or lengths (me - 1) e) c.self.inside.calls was = λ e. subst (IsSoundAt (length xs) me (slice_index_or lengths (me - 1) e) c.self.inside.calls) (sym here) (sound_at c.self.inside i me was e positive within) in
+    let now : (e : ℕ) → IsSoundAt (length xs) me (slice_index_or lengths (me - 1) e) (c.self.inside.calls + 1) y =
+    λ e. subst (IsSoundAt (length xs) me (slice_index_or lengths (me - 1) e) (c.self.inside.calls + 1)) (sym begins)
     (sound-begun (length xs) me _ c.self.inside.calls was c.args.message.now (sound e) (subst (λ (x : TheProcess). IsNextFor x.mode c.args.message.now) (sym at) c.requires.next)) in
     let len = length-set xs (me - 1) y in
     record {
       some = omega (arith, len, i.some);
       few = omega (arith, len, i.few);
-      images = i.images ∙ sym len;
-      processes = sound-set xs images me c.self.inside.calls y positive within i.processes now;
+      lengths = i.lengths ∙ sym len;
+      processes = sound-set xs lengths me c.self.inside.calls y positive within i.processes now;
       outside = subst (λ n. IsLogOf n 0 c.self.inside.outside.log) (sym len) i.outside;
       calls = omega (arith, calls);
       started = omega (arith, i.started);

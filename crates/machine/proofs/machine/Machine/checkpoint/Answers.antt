@@ -1,7 +1,6 @@
-use Rattle.std.proofs.Common.{arith, ◌≡◌, ◌≤◌, ◌+◌, ◌-◌, subst, sym, ap, ◌∙◌, slice_index_or, length, map, set, true, false}
+use Rattle.std.proofs.Common.{arith, ◌≡◌, ◌≤◌, ◌+◌, ◌-◌, subst, sym, ap, ◌∙◌, slice_index_or, length, map, set, true, false, ℕ}
 use Rattle.std.proofs.lemmas.List.{length-set, length-map, get_or_default, get_or-set_same}
 use Rattle.limits.specs.declared.TheConstants.{ENTRIES, PROCESSES}
-use Rattle.handlers.specs.Image.{TheImage, image_in}
 use Rattle.checkpoint.specs.Saved.{TheSaved, saved_of}
 use Rattle.world.specs.declared.call.Call.TheVariants.{Checkpoint}
 use Rattle.world.specs.declared.answer.Answer.TheVariants.{Saved}
@@ -11,7 +10,7 @@ use Rattle.machine.specs.Fields.{view_of, AreCarried, IsLogOf, IsSoundAt}
 use Rattle.machine.specs.Simulation.{TheMachine, Steps, process_at, is_up_at}
 use Rattle.machine.proofs.Status.{is_live-at, live-lost}
 use Rattle.machine.proofs.CheckpointLemmas.{checkpoint-step, saved-sound}
-use Rattle.machine.proofs.Soundness.{sound_at, sound-set, some-of}
+use Rattle.machine.proofs.Soundness.{sound_at, sound-set}
 use Rattle.machine.proofs.machine.Machine.checkpoint.Goals as goal
 
 pub snapshot-requires-clause-state : goal.snapshot-requires-clause-state
@@ -21,8 +20,7 @@ snapshot-requires-clause-state c =
     let n = length xs in
     let positive = c.in_default.ensures.none.0 in
     let within : p ≤ length xs = subst (λ (v : TheMachine). p ≤ length v.processes) (sym c.self.view_is) c.in_default.ensures.none.1 in
-    let image : TheImage = some-of (map image_in c.self.inside.images.items) (omega (arith, length-map c.self.inside.images.items image_in, c.self.invariant.images, c.self.invariant.some)) in
-    let sound = sound_at c.self.inside c.self.invariant p (idle_process 0 0 0) image positive within in
+    let sound = sound_at c.self.inside c.self.invariant p (idle_process 0 0 0) 0 positive within in
     let at : c.process.result.now ≡ process_at (view_of c.self.inside) p = c.process.ensures.value ∙ ap (λ (v : TheMachine). process_at v p) (sym c.self.view_is) in
     let count : c.count.result ≡ n = c.count.ensures.value ∙ ap (λ (v : TheMachine). length v.processes) (sym c.self.view_is) in
     let up : is_up_at (view_of c.self.inside) p ≡ true = subst (λ (v : TheMachine). is_up_at v p ≡ true) (sym c.self.view_is) c.in_default.ensures.none.3 in
@@ -37,8 +35,7 @@ snapshot-requires-clause-senders c =
     let n = length xs in
     let positive = c.in_default.ensures.none.0 in
     let within : p ≤ length xs = subst (λ (v : TheMachine). p ≤ length v.processes) (sym c.self.view_is) c.in_default.ensures.none.1 in
-    let image : TheImage = some-of (map image_in c.self.inside.images.items) (omega (arith, length-map c.self.inside.images.items image_in, c.self.invariant.images, c.self.invariant.some)) in
-    let sound = sound_at c.self.inside c.self.invariant p (idle_process 0 0 0) image positive within in
+    let sound = sound_at c.self.inside c.self.invariant p (idle_process 0 0 0) 0 positive within in
     let at : c.process.result.now ≡ process_at (view_of c.self.inside) p = c.process.ensures.value ∙ ap (λ (v : TheMachine). process_at v p) (sym c.self.view_is) in
     let count : c.count.result ≡ n = c.count.ensures.value ∙ ap (λ (v : TheMachine). length v.processes) (sym c.self.view_is) in
     rw (at, count) sound.senders
@@ -50,8 +47,7 @@ snapshot-requires-clause-owner c =
     let n = length xs in
     let positive = c.in_default.ensures.none.0 in
     let within : p ≤ length xs = subst (λ (v : TheMachine). p ≤ length v.processes) (sym c.self.view_is) c.in_default.ensures.none.1 in
-    let image : TheImage = some-of (map image_in c.self.inside.images.items) (omega (arith, length-map c.self.inside.images.items image_in, c.self.invariant.images, c.self.invariant.some)) in
-    let sound = sound_at c.self.inside c.self.invariant p (idle_process 0 0 0) image positive within in
+    let sound = sound_at c.self.inside c.self.invariant p (idle_process 0 0 0) 0 positive within in
     let at : c.process.result.now ≡ process_at (view_of c.self.inside) p = c.process.ensures.value ∙ ap (λ (v : TheMachine). process_at v p) (sym c.self.view_is) in
     let count : c.count.result ≡ n = c.count.ensures.value ∙ ap (λ (v : TheMachine). length v.processes) (sym c.self.view_is) in
     rw at sound.log.owner
@@ -63,8 +59,7 @@ snapshot-requires-clause-queues c =
     let n = length xs in
     let positive = c.in_default.ensures.none.0 in
     let within : p ≤ length xs = subst (λ (v : TheMachine). p ≤ length v.processes) (sym c.self.view_is) c.in_default.ensures.none.1 in
-    let image : TheImage = some-of (map image_in c.self.inside.images.items) (omega (arith, length-map c.self.inside.images.items image_in, c.self.invariant.images, c.self.invariant.some)) in
-    let sound = sound_at c.self.inside c.self.invariant p (idle_process 0 0 0) image positive within in
+    let sound = sound_at c.self.inside c.self.invariant p (idle_process 0 0 0) 0 positive within in
     let at : c.process.result.now ≡ process_at (view_of c.self.inside) p = c.process.ensures.value ∙ ap (λ (v : TheMachine). process_at v p) (sym c.self.view_is) in
     let count : c.count.result ≡ n = c.count.ensures.value ∙ ap (λ (v : TheMachine). length v.processes) (sym c.self.view_is) in
     let wide : length c.process.result.now.outbox.log.queues ≡ length (process_at (view_of c.self.inside) p).outbox.log.queues = ap (λ (x : TheProcess). length x.outbox.log.queues) at in
@@ -76,7 +71,7 @@ invariant_of-self c =
     let p = c.args.p in
     let m = view_of c.self.inside in
     let xs = c.self.inside.processes.items in
-    let images = map image_in c.self.inside.images.items in
+    let lengths = c.self.inside.lengths.items in
     let was = c.index_mut-process.result.now in
     let y = c.save.new.self in
     let positive = c.in_default.ensures.none.0 in
@@ -89,13 +84,13 @@ invariant_of-self c =
     let stable : c.in_ok-stable.stable ≡ saved_of p (length xs) was.state was.receipts was.outbox.log = c.in_ok-stable.ensures ∙ (λ j. saved_of p (count j) (taken j).state (taken j).receipts (taken j).outbox.log) ∙ ap (λ (x : TheProcess). saved_of p (length xs) x.state x.receipts x.outbox.log) (sym at) in
     let is : IsSaved (saved_of p (length xs) was.state was.receipts was.outbox.log) was y = subst (λ (z : TheSaved). IsSaved z was y) stable c.save.ensures in
     let len = length-set xs (p - 1) y in
-    let now : (e : TheImage) → IsSoundAt (length xs) p (slice_index_or images (p - 1) e).len (c.self.inside.calls + 1) y =
-    λ e. saved-sound (length xs) p _ c.self.inside.calls was y is (let up = subst (λ (v : TheMachine). is_up_at v p ≡ true) (sym c.self.view_is) c.in_default.ensures.none.3 in ap (λ (x : TheProcess). is_live x.mode) at ∙ is_live-at m p positive up) (subst (IsSoundAt (length xs) p (slice_index_or images (p - 1) e).len c.self.inside.calls) (sym here) (sound_at c.self.inside i p was e positive within)) in
+    let now : (e : ℕ) → IsSoundAt (length xs) p (slice_index_or lengths (p - 1) e) (c.self.inside.calls + 1) y =
+    λ e. saved-sound (length xs) p _ c.self.inside.calls was y is (let up = subst (λ (v : TheMachine). is_up_at v p ≡ true) (sym c.self.view_is) c.in_default.ensures.none.3 in ap (λ (x : TheProcess). is_live x.mode) at ∙ is_live-at m p positive up) (subst (IsSoundAt (length xs) p (slice_index_or lengths (p - 1) e) c.self.inside.calls) (sym here) (sound_at c.self.inside i p was e positive within)) in
     record {
       some = omega (arith, len, i.some);
       few = omega (arith, len, i.few);
-      images = i.images ∙ sym len;
-      processes = sound-set xs images p c.self.inside.calls y positive within i.processes now;
+      lengths = i.lengths ∙ sym len;
+      processes = sound-set xs lengths p c.self.inside.calls y positive within i.processes now;
       outside = subst (λ n. IsLogOf n 0 c.self.inside.outside.log) (sym len) i.outside;
       calls = omega (arith, calls, c.in_default.ensures.none.2);
       started = omega (arith, i.started);
@@ -118,8 +113,7 @@ returns-clause-step c w s =
     let few : length m.processes ≤ PROCESSES = subst (λ (v : TheMachine). length v.processes ≤ PROCESSES) c.self.view_is c.self.invariant.few in
     let here : was ≡ slice_index_or xs (p - 1) was = c.index_mut-process.ensures.value in
     let at : was ≡ process_at m p = here ∙ get_or_default xs (p - 1) was (idle_process 0 0 0) (omega (arith, positive, inside)) ∙ ap (λ (v : TheMachine). process_at v p) c.self.view_is in
-    let image : TheImage = some-of (map image_in c.self.inside.images.items) (omega (arith, length-map c.self.inside.images.items image_in, c.self.invariant.images, c.self.invariant.some)) in
-    let sound = sound_at c.self.inside c.self.invariant p (idle_process 0 0 0) image positive inside in
+    let sound = sound_at c.self.inside c.self.invariant p (idle_process 0 0 0) 0 positive inside in
     let width : length (process_at m p).outbox.log.queues ≡ length m.processes + 1 = subst (λ (v : TheMachine). length (process_at v p).outbox.log.queues ≡ length v.processes + 1) c.self.view_is (let wide = sound.log.width in omega (arith, wide)) in
     let x = process_at m p in
     let stable : c.in_ok-stable.stable ≡ saved_of p (length m.processes) x.state x.receipts x.outbox.log = c.in_ok-stable.ensures ∙ (λ j. saved_of p (c.count.ensures.value j) (c.process.ensures.value j).state (c.process.ensures.value j).receipts (c.process.ensures.value j).outbox.log) in

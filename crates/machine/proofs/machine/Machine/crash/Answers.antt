@@ -1,8 +1,7 @@
-use Rattle.std.proofs.Common.{rules, arith, ◌≡◌, ◌≤◌, ◌+◌, ◌-◌, subst, sym, ap, ◌∙◌, slice_index_or, length, map, set}
+use Rattle.std.proofs.Common.{rules, arith, ◌≡◌, ◌≤◌, ◌+◌, ◌-◌, subst, sym, ap, ◌∙◌, slice_index_or, length, map, set, ℕ}
 use Rattle.std.proofs.lemmas.Grind.{common_steps}
 use Rattle.std.proofs.lemmas.List.{length-set, length-map, get_or_default, get_or-set_same}
 use Rattle.limits.specs.declared.TheConstants.{ENTRIES}
-use Rattle.handlers.specs.Image.{TheImage, image_in}
 use Rattle.world.specs.declared.call.Call.TheVariants.{Crash}
 use Rattle.world.specs.declared.answer.Answer.TheVariants.{Crashed}
 use Rattle.session_process.specs.Process.{TheProcess, idle_process, crashed}
@@ -10,7 +9,7 @@ use Rattle.session_process.specs.Outbox.{empty_outbox}
 use Rattle.machine.specs.Fields.{AreCarried, IsLogOf, IsSoundAt}
 use Rattle.machine.specs.Simulation.{TheMachine, Steps, process_at}
 use Rattle.machine.proofs.Crashes.{crash-step, crashed-sound}
-use Rattle.machine.proofs.Soundness.{sound_at, sound-set, some-of}
+use Rattle.machine.proofs.Soundness.{sound_at, sound-set}
 use Rattle.machine.proofs.machine.Machine.crash.Goals as goal
 
 pub crash-requires-clause-incarnation : goal.crash-requires-clause-incarnation
@@ -19,11 +18,10 @@ crash-requires-clause-incarnation c =
     let p = c.args.p in
     let xs = c.self.inside.processes.items in
     let was = c.index_mut-process.result.now in
-    let image : TheImage = some-of (map image_in c.self.inside.images.items) (omega (arith, length-map c.self.inside.images.items image_in, i.images, i.some)) in
     let positive = c.in_default.ensures.none.0 in
     let within : p ≤ length xs = subst (λ (v : TheMachine). p ≤ length v.processes) (sym c.self.view_is) c.in_default.ensures.none.1 in
     let here : was ≡ slice_index_or xs (p - 1) was = first_of (search rules, grind (arith, common_steps)) in
-    let s = sound_at c.self.inside i p was image positive within in
+    let s = sound_at c.self.inside i p was 0 positive within in
     omega (arith, s.incarnation, i.calls, ap (λ (x : TheProcess). x.incarnation) here)
 
 pub invariant_of-self : goal.invariant_of-self
@@ -31,7 +29,7 @@ invariant_of-self c =
     let i = c.self.invariant in
     let p = c.args.p in
     let xs = c.self.inside.processes.items in
-    let images = map image_in c.self.inside.images.items in
+    let lengths = c.self.inside.lengths.items in
     let was = c.index_mut-process.result.now in
     let y = c.crash.new.self in
     let positive = c.in_default.ensures.none.0 in
@@ -41,13 +39,13 @@ invariant_of-self c =
     let outbox : c.in_ok-outbox.outbox ≡ empty_outbox p (length xs) = c.in_ok-outbox.ensures ∙ ap (empty_outbox p) (c.count.ensures.value ∙ ap (λ (v : TheMachine). length v.processes) (sym c.self.view_is)) in
     let is : y ≡ crashed c.in_ok-outbox.outbox was = c.crash.ensures in
     let len = length-set xs (p - 1) y in
-    let now : (e : TheImage) → IsSoundAt (length xs) p (slice_index_or images (p - 1) e).len (c.self.inside.calls + 1) y =
-    λ e. rw is (crashed-sound (length xs) p _ c.self.inside.calls was c.in_ok-outbox.outbox outbox (subst (IsSoundAt (length xs) p (slice_index_or images (p - 1) e).len c.self.inside.calls) (sym here) (sound_at c.self.inside i p was e positive within))) in
+    let now : (e : ℕ) → IsSoundAt (length xs) p (slice_index_or lengths (p - 1) e) (c.self.inside.calls + 1) y =
+    λ e. rw is (crashed-sound (length xs) p _ c.self.inside.calls was c.in_ok-outbox.outbox outbox (subst (IsSoundAt (length xs) p (slice_index_or lengths (p - 1) e) c.self.inside.calls) (sym here) (sound_at c.self.inside i p was e positive within))) in
     record {
       some = omega (arith, len, i.some);
       few = omega (arith, len, i.few);
-      images = i.images ∙ sym len;
-      processes = sound-set xs images p c.self.inside.calls y positive within i.processes now;
+      lengths = i.lengths ∙ sym len;
+      processes = sound-set xs lengths p c.self.inside.calls y positive within i.processes now;
       outside = subst (λ n. IsLogOf n 0 c.self.inside.outside.log) (sym len) i.outside;
       calls = omega (arith, calls, c.in_default.ensures.none.2);
       started = omega (arith, i.started);

@@ -1,7 +1,6 @@
-use Rattle.std.proofs.Common.{rules, arith, ◌≡◌, ◌<◌, ◌≤◌, ◌-◌, subst, sym, ◌∙◌, slice_index_or, length, map}
+use Rattle.std.proofs.Common.{rules, arith, ◌≡◌, ◌<◌, ◌≤◌, ◌-◌, subst, sym, ◌∙◌, slice_index_or, length, map, ℕ}
 use Rattle.std.proofs.lemmas.Grind.{common_steps}
 use Rattle.std.proofs.lemmas.List.{length-set}
-use Rattle.handlers.specs.Image.{TheImage, image_in}
 use Rattle.session_process.specs.Process.{trimmed_at}
 use Rattle.machine.specs.Fields.{AreCarried, IsLogOf, IsSoundAt}
 use Rattle.machine.specs.Simulation.{TheMachine}
@@ -14,7 +13,7 @@ invariant_of-self-2 c =
     let i = c.self.invariant in
     let p = c.args.s in
     let xs = c.self.inside.processes.items in
-    let images = map image_in c.self.inside.images.items in
+    let lengths = c.self.inside.lengths.items in
     let was = c.index_mut.result.now in
     let y = c.trim-2.new.self in
     let positive : 0 < p = omega (arith, c.if-s-eq0.false) in
@@ -22,13 +21,13 @@ invariant_of-self-2 c =
     let here : was ≡ slice_index_or xs (p - 1) was = first_of (search rules, grind (arith, common_steps)) in
     let is : y ≡ trimmed_at c.args.d c.covered-covered.result was = c.trim-2.ensures.after in
     let len = length-set xs (p - 1) y in
-    let now : (e : TheImage) → IsSoundAt (length xs) p (slice_index_or images (p - 1) e).len c.self.inside.calls y =
-    λ e. rw is (trimmed-sound (length xs) p _ c.self.inside.calls c.args.d c.covered-covered.result was (subst (IsSoundAt (length xs) p (slice_index_or images (p - 1) e).len c.self.inside.calls) (sym here) (sound_at c.self.inside i p was e positive within))) in
+    let now : (e : ℕ) → IsSoundAt (length xs) p (slice_index_or lengths (p - 1) e) c.self.inside.calls y =
+    λ e. rw is (trimmed-sound (length xs) p _ c.self.inside.calls c.args.d c.covered-covered.result was (subst (IsSoundAt (length xs) p (slice_index_or lengths (p - 1) e) c.self.inside.calls) (sym here) (sound_at c.self.inside i p was e positive within))) in
     record {
       some = omega (arith, len, i.some);
       few = omega (arith, len, i.few);
-      images = i.images ∙ sym len;
-      processes = sound-put xs images p c.self.inside.calls y positive within i.processes now;
+      lengths = i.lengths ∙ sym len;
+      processes = sound-put xs lengths p c.self.inside.calls y positive within i.processes now;
       outside = subst (λ n. IsLogOf n 0 c.self.inside.outside.log) (sym len) i.outside;
       calls = i.calls;
       started = i.started;

@@ -12,7 +12,7 @@ invariant_of-self c =
     record {
       some = i.some;
       few = i.few;
-      images = i.images;
+      lengths = i.lengths;
       processes = λ p d e h. later n _ _ c.self.inside.calls _ (i.processes p d e h);
       outside = i.outside;
       calls = omega (arith, calls);

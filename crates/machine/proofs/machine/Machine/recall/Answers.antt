@@ -4,7 +4,7 @@ use Rattle.std.specs.Vec.{with_item}
 use Rattle.std.proofs.lemmas.Bool.Decides.{nat_tests}
 use Rattle.world.specs.declared.call.Call.TheVariants.{Finish}
 use Rattle.world.specs.declared.answer.Answer.TheVariants.{Replayed}
-use Rattle.replay.specs.Task.{TheTask, MayCall, IsAnswer, answer_of}
+use Rattle.replay.specs.Task.{TheTask, MayCall}
 use Rattle.replay.specs.Plan.{ThePlan}
 use Rattle.session_process.specs.Process.{received, Recalls}
 use Rattle.session_process.specs.Mode.{is_replayed}
@@ -13,7 +13,7 @@ use Rattle.machine.specs.Fields.{view_of}
 use Rattle.machine.specs.Simulation.{TheMachine, Steps}
 use Rattle.machine.proofs.JobLemmas.{opens}
 use Rattle.machine.proofs.Restoration.{count-sound}
-use Rattle.machine.proofs.Completion.{sizes, sound, fits-at, next-of, undone-sound, undone-view, replays-at, recalled-sound, recalled-settles, recalled-view, recalls-at, mode-then}
+use Rattle.machine.proofs.ResultLemmas.{sound, fits-at, next-of, undone-sound, undone-view, replays-at, recalled-sound, recalled-settles, recalled-view, recalls-at, mode-then}
 use Rattle.machine.proofs.Recall.{works, goes-on, settles}
 use Rattle.machine.proofs.machine.Machine.recall.Goals as goal
 use Rattle.machine.proofs.machine.Machine.recall.Goals.{in-Some, in_default}
@@ -45,101 +45,108 @@ pub recall-requires-clause-room : goal.recall-requires-clause-room
 recall-requires-clause-room c =
     let i = c.self.inside in
     let m = c.args.self.now in
-    let t = c.args.done in
+    let b = c.args.done in
+    let t = b.task in
     let k = c.requires.matches in
     let p = c.who-me.result.me in
-    let p_is : p ≡ t.who.me = ap (λ z. z.me) c.who-me.ensures.value ∙ ap (λ (z : TheTask). z.who.me) c.task.ensures in
+    let p_is : p ≡ t.who.me = ap (λ z. z.me) c.who-me.ensures.value ∙ ap (λ (z : TheTask). z.who.me) c.task.ensures.value in
     let was = c.index_mut-process.result.now in
     let calls = ap (λ (v : TheMachine). v.calls) c.self.view_is in
-    let fits = fits-at i c.self.invariant m c.self.view_is t k c.requires.down p p_is was c.index_mut-process.ensures.value in
+    let fits = fits-at i c.self.invariant m c.self.view_is b k c.requires.down p p_is was c.index_mut-process.ensures.value in
     omega (arith, fits, calls, c.requires.calls)
 
 pub recall-requires-clause-next : goal.recall-requires-clause-next
 recall-requires-clause-next c =
     let i = c.self.inside in
     let m = c.args.self.now in
-    let t = c.args.done in
+    let b = c.args.done in
+    let t = b.task in
     let k = c.requires.matches in
     let p = c.who-me.result.me in
-    let p_is : p ≡ t.who.me = ap (λ z. z.me) c.who-me.ensures.value ∙ ap (λ (z : TheTask). z.who.me) c.task.ensures in
+    let p_is : p ≡ t.who.me = ap (λ z. z.me) c.who-me.ensures.value ∙ ap (λ (z : TheTask). z.who.me) c.task.ensures.value in
     let was = c.index_mut-process.result.now in
-    next-of i c.self.invariant m c.self.view_is t k c.requires.down p p_is was c.index_mut-process.ensures.value
+    next-of i c.self.invariant m c.self.view_is b k c.requires.down p p_is was c.index_mut-process.ensures.value
 
 pub invariant_of-self : goal.invariant_of-self
 invariant_of-self c =
     let i = c.self.inside in
     let m = c.args.self.now in
-    let t = c.args.done in
+    let b = c.args.done in
+    let t = b.task in
     let k = c.requires.matches in
     let p = c.who-me.result.me in
-    let p_is : p ≡ t.who.me = ap (λ z. z.me) c.who-me.ensures.value ∙ ap (λ (z : TheTask). z.who.me) c.task.ensures in
+    let p_is : p ≡ t.who.me = ap (λ z. z.me) c.who-me.ensures.value ∙ ap (λ (z : TheTask). z.who.me) c.task.ensures.value in
     let was = c.index_mut-process.result.now in
-    undone-sound i c.self.invariant m c.self.view_is t k c.requires.down p p_is was c.index_mut-process.ensures.value c.recall.new.self (refused c.recall.result (sym c.is_err.ensures.value ∙ c.if-is_err.true) c.recall.ensures.err)
+    undone-sound i c.self.invariant m c.self.view_is b k c.requires.down p p_is was c.index_mut-process.ensures.value c.recall.new.self (refused c.recall.result (sym c.is_err.ensures.value ∙ c.if-is_err.true) c.recall.ensures.err)
 
 pub returns-then-is_err-clause-step : goal.returns-then-is_err-clause-step
 returns-then-is_err-clause-step c =
     let i = c.self.inside in
     let m = c.args.self.now in
-    let t = c.args.done in
+    let b = c.args.done in
+    let t = b.task in
     let k = c.requires.matches in
     let p = c.who-me.result.me in
-    let p_is : p ≡ t.who.me = ap (λ z. z.me) c.who-me.ensures.value ∙ ap (λ (z : TheTask). z.who.me) c.task.ensures in
+    let p_is : p ≡ t.who.me = ap (λ z. z.me) c.who-me.ensures.value ∙ ap (λ (z : TheTask). z.who.me) c.task.ensures.value in
     let was = c.index_mut-process.result.now in (
       refl,
-      undone-view i c.self.invariant m c.self.view_is t k c.requires.down p p_is was c.index_mut-process.ensures.value c.recall.new.self (refused c.recall.result (sym c.is_err.ensures.value ∙ c.if-is_err.true) c.recall.ensures.err),
-      λ w s. opens m t w s (sizes i c.self.invariant m c.self.view_is t k) k,
+      undone-view i c.self.invariant m c.self.view_is b k c.requires.down p p_is was c.index_mut-process.ensures.value c.recall.new.self (refused c.recall.result (sym c.is_err.ensures.value ∙ c.if-is_err.true) c.recall.ensures.err),
+      λ w s. opens m t w s k,
     )
 
 pub invariant_of-self-in-Some : goal.invariant_of-self-in-Some
 invariant_of-self-in-Some c =
     let i = c.self.inside in
     let m = c.args.self.now in
-    let t = c.args.done in
+    let b = c.args.done in
+    let t = b.task in
     let k = c.requires.matches in
     let p = c.who-me.result.me in
-    let p_is : p ≡ t.who.me = ap (λ z. z.me) c.who-me.ensures.value ∙ ap (λ (z : TheTask). z.who.me) c.task.ensures in
+    let p_is : p ≡ t.who.me = ap (λ z. z.me) c.who-me.ensures.value ∙ ap (λ (z : TheTask). z.who.me) c.task.ensures.value in
     let was = c.index_mut-process.result.now in
     let y = c.recall.new.self in
-    let may : MayCall t.image t.state t.who = subst (λ (z : TheTask). MayCall z.image z.state z.who) c.task.ensures c.who-me.ensures.callable in
+    let may : MayCall t.who = subst (λ (z : TheTask). MayCall z.who) c.task.ensures.value c.who-me.ensures.callable in
     let fine : is_err c.recall.result ≡ false = sym c.is_err.ensures.value ∙ c.if-is_err.false in
-    let recalls : Recalls t was y = taken c.recall.result fine c.recall.ensures.process in
+    let recalls : Recalls b was y = taken c.recall.result fine c.recall.ensures.process in
     let flags : length was.receipts.acknowledged ≡ received was = taken c.recall.result fine c.recall.ensures.flags in
-    let a : IsAnswer t (answer_of t) = taken c.recall.result fine c.recall.ensures.answer in
-    recalled-sound i c.self.invariant m c.self.view_is t k c.requires.down p p_is was c.index_mut-process.ensures.value y recalls flags a may
+    let size = c.task.ensures.size in
+    recalled-sound i c.self.invariant m c.self.view_is b k c.requires.down p p_is was c.index_mut-process.ensures.value y recalls flags size may
 
 pub settle-requires : goal.settle-requires
 settle-requires c =
     let i = c.self.inside in
     let m = c.args.self.now in
-    let t = c.args.done in
+    let b = c.args.done in
+    let t = b.task in
     let k = c.requires.matches in
     let p = c.who-me.result.me in
-    let p_is : p ≡ t.who.me = ap (λ z. z.me) c.who-me.ensures.value ∙ ap (λ (z : TheTask). z.who.me) c.task.ensures in
+    let p_is : p ≡ t.who.me = ap (λ z. z.me) c.who-me.ensures.value ∙ ap (λ (z : TheTask). z.who.me) c.task.ensures.value in
     let was = c.index_mut-process.result.now in
     let y = c.recall.new.self in
-    let may : MayCall t.image t.state t.who = subst (λ (z : TheTask). MayCall z.image z.state z.who) c.task.ensures c.who-me.ensures.callable in
+    let may : MayCall t.who = subst (λ (z : TheTask). MayCall z.who) c.task.ensures.value c.who-me.ensures.callable in
     let fine : is_err c.recall.result ≡ false = sym c.is_err.ensures.value ∙ c.if-is_err.false in
-    let recalls : Recalls t was y = taken c.recall.result fine c.recall.ensures.process in
+    let recalls : Recalls b was y = taken c.recall.result fine c.recall.ensures.process in
     let flags : length was.receipts.acknowledged ≡ received was = taken c.recall.result fine c.recall.ensures.flags in
-    let a : IsAnswer t (answer_of t) = taken c.recall.result fine c.recall.ensures.answer in
-    recalled-settles i c.self.invariant m c.self.view_is t k c.requires.down p p_is was c.index_mut-process.ensures.value y recalls flags a may
+    let size = c.task.ensures.size in
+    recalled-settles i c.self.invariant m c.self.view_is b k c.requires.down p p_is was c.index_mut-process.ensures.value y recalls flags size may
 
 pub invariant_of-self-in_default : goal.invariant_of-self-in_default
 invariant_of-self-in_default c =
     let i = c.self.inside in
     let m = c.args.self.now in
-    let t = c.args.done in
+    let b = c.args.done in
+    let t = b.task in
     let k = c.requires.matches in
     let p = c.who-me.result.me in
-    let p_is : p ≡ t.who.me = ap (λ z. z.me) c.who-me.ensures.value ∙ ap (λ (z : TheTask). z.who.me) c.task.ensures in
+    let p_is : p ≡ t.who.me = ap (λ z. z.me) c.who-me.ensures.value ∙ ap (λ (z : TheTask). z.who.me) c.task.ensures.value in
     let was = c.index_mut-process.result.now in
     let y = c.recall.new.self in
-    let may : MayCall t.image t.state t.who = subst (λ (z : TheTask). MayCall z.image z.state z.who) c.task.ensures c.who-me.ensures.callable in
+    let may : MayCall t.who = subst (λ (z : TheTask). MayCall z.who) c.task.ensures.value c.who-me.ensures.callable in
     let fine : is_err c.recall.result ≡ false = sym c.is_err.ensures.value ∙ c.if-is_err.false in
-    let recalls : Recalls t was y = taken c.recall.result fine c.recall.ensures.process in
+    let recalls : Recalls b was y = taken c.recall.result fine c.recall.ensures.process in
     let flags : length was.receipts.acknowledged ≡ received was = taken c.recall.result fine c.recall.ensures.flags in
-    let a : IsAnswer t (answer_of t) = taken c.recall.result fine c.recall.ensures.answer in
-    recalled-sound i c.self.invariant m c.self.view_is t k c.requires.down p p_is was c.index_mut-process.ensures.value y recalls flags a may
+    let size = c.task.ensures.size in
+    recalled-sound i c.self.invariant m c.self.view_is b k c.requires.down p p_is was c.index_mut-process.ensures.value y recalls flags size may
 
 pub invariant_of-self-2 : goal.invariant_of-self-2
 invariant_of-self-2 c =
@@ -147,55 +154,55 @@ invariant_of-self-2 c =
     let before : c.self.inside.calls ≡ c.args.self.now.calls = ap calls c.self.view_is in
     let same : c.self-2.inside.calls ≡ c.self.inside.calls =
     elim c.match-is_replayed.branch [
-      | in-Some b ↦ ap calls (c.self-2.view_is ∙ b.self-is ∙ b.settle.ensures.becomes)
-      | in_default b ↦ ap calls (c.self-2.view_is ∙ b.self-is)
+      | in-Some v ↦ ap calls (c.self-2.view_is ∙ v.self-is ∙ v.settle.ensures.becomes)
+      | in_default v ↦ ap calls (c.self-2.view_is ∙ v.self-is)
     ] in
     let i = count-sound c.self-2.inside c.self-2.invariant (omega (arith, same, before, c.requires.calls)) in
-    record { some = i.some; few = i.few; images = i.images; processes = i.processes; outside = i.outside; calls = i.calls; started = i.started; inputs = i.inputs; shown = i.shown; wire = i.wire; keys = i.keys }
+    record { some = i.some; few = i.few; lengths = i.lengths; processes = i.processes; outside = i.outside; calls = i.calls; started = i.started; inputs = i.inputs; shown = i.shown; wire = i.wire; keys = i.keys }
 
 pub returns-clause-step : goal.returns-clause-step
 returns-clause-step c w s =
     let i = c.self.inside in
     let m = c.args.self.now in
-    let t = c.args.done in
+    let b = c.args.done in
+    let t = b.task in
     let k = c.requires.matches in
     let p = c.who-me.result.me in
-    let p_is : p ≡ t.who.me = ap (λ z. z.me) c.who-me.ensures.value ∙ ap (λ (z : TheTask). z.who.me) c.task.ensures in
+    let p_is : p ≡ t.who.me = ap (λ z. z.me) c.who-me.ensures.value ∙ ap (λ (z : TheTask). z.who.me) c.task.ensures.value in
     let was = c.index_mut-process.result.now in
     let y = c.recall.new.self in
-    let may : MayCall t.image t.state t.who = subst (λ (z : TheTask). MayCall z.image z.state z.who) c.task.ensures c.who-me.ensures.callable in
+    let may : MayCall t.who = subst (λ (z : TheTask). MayCall z.who) c.task.ensures.value c.who-me.ensures.callable in
     let fine : is_err c.recall.result ≡ false = sym c.is_err.ensures.value ∙ c.if-is_err.false in
-    let recalls : Recalls t was y = taken c.recall.result fine c.recall.ensures.process in
+    let recalls : Recalls b was y = taken c.recall.result fine c.recall.ensures.process in
     let flags : length was.receipts.acknowledged ≡ received was = taken c.recall.result fine c.recall.ensures.flags in
-    let a : IsAnswer t (answer_of t) = taken c.recall.result fine c.recall.ensures.answer in
-    let many = sizes i c.self.invariant m c.self.view_is t k in
-    let rsn_is : c.rsn-rsn.result ≡ t.rsn = c.rsn-rsn.ensures ∙ ap (λ (z : TheTask). z.rsn) c.task-2.ensures in
+    let size = c.task.ensures.size in
+    let rsn_is : c.rsn-rsn.result ≡ t.rsn = c.rsn-rsn.ensures ∙ ap (λ (z : TheTask). z.rsn) c.task-2.ensures.value in
     let calls = c.self-2.inside.calls + 1 in
-    let log_of = (sound i c.self.invariant m c.self.view_is t k t.image).log in
-    let replays = replays-at i c.self.invariant m c.self.view_is t k c.requires.down p p_is was c.index_mut-process.ensures.value in
+    let log_of = (sound i c.self.invariant m c.self.view_is t k 0).log in
+    let replays = replays-at i c.self.invariant m c.self.view_is b k c.requires.down p p_is was c.index_mut-process.ensures.value in
     let plan : ThePlan = replays.0 in
-    let then_is = mode-then i c.self.invariant m c.self.view_is t k c.requires.down p p_is was c.index_mut-process.ensures.value y recalls flags a may in
-    let at = recalls-at i c.self.invariant m c.self.view_is t k c.requires.down p p_is was c.index_mut-process.ensures.value y recalls flags a may in
-    let view = recalled-view i c.self.invariant m c.self.view_is t k c.requires.down p p_is was c.index_mut-process.ensures.value y recalls flags a may in
-    let left = (works m w s t k a many y at plan replays.1 replays.2 log_of).left in
+    let then_is = mode-then i c.self.invariant m c.self.view_is b k c.requires.down p p_is was c.index_mut-process.ensures.value y recalls flags size may in
+    let at = recalls-at i c.self.invariant m c.self.view_is b k c.requires.down p p_is was c.index_mut-process.ensures.value y recalls flags size may in
+    let view = recalled-view i c.self.invariant m c.self.view_is b k c.requires.down p p_is was c.index_mut-process.ensures.value y recalls flags size may in
     let told : (if nat_lt (plan.replayed + 1) (length plan.messages) then None else Some replays.1) ≡ c.is_replayed.result = ap is_replayed (sym then_is) ∙ ap is_replayed (sym c.mode.ensures) ∙ sym c.is_replayed.ensures in
     let P : TheMachine → Type 0 = λ v. Steps m (record v { calls = calls }) 0 (Finish t.who.me) (Replayed t.rsn) w in (
-      opens m t w s many k,
-      subst (λ r. Steps m (record (view_of c.self-2.inside) { calls = calls }) 0 (Finish t.who.me) (Replayed r) w) (sym rsn_is)
+      opens m t w s k,
+      λ a. let left = (works m w s b k a y at plan replays.1 replays.2 log_of).left in
+          subst (λ r. Steps m (record (view_of c.self-2.inside) { calls = calls }) 0 (Finish t.who.me) (Replayed r) w) (sym rsn_is)
           (elim c.match-is_replayed.branch [
-            | in-Some b ↦
-                let e = ended (nat_lt (plan.replayed + 1) (length plan.messages)) replays.1 b.in-Some.alone (told ∙ b.in-Some.is) in
+            | in-Some v ↦
+                let e = ended (nat_lt (plan.replayed + 1) (length plan.messages)) replays.1 v.in-Some.alone (told ∙ v.in-Some.is) in
                 let none = e.0 in
                 let last : plan.replayed + 1 ≡ length plan.messages = ends-at plan.replayed (length plan.messages) left none in
                 let old : TheMachine = view_of (record i { processes = with_item i.processes (p - 1) y }) in
-                let new : TheMachine = b.settle.new.self in
-                let by_number : SettlesAt t.who.me b.in-Some.alone old new = subst (λ q. SettlesAt q b.in-Some.alone old new) p_is b.settle.ensures in
+                let new : TheMachine = v.settle.new.self in
+                let by_number : SettlesAt t.who.me v.in-Some.alone old new = subst (λ q. SettlesAt q v.in-Some.alone old new) p_is v.settle.ensures in
                 let by_kind : SettlesAt t.who.me replays.1 old new = subst (λ z. SettlesAt t.who.me z old new) (sym e.1) by_number in
                 let there : SettlesAt t.who.me replays.1 (record m { processes = set m.processes (t.who.me - 1) y }) new = subst (λ v. SettlesAt t.who.me replays.1 v new) view by_kind in
-                subst P (sym (c.self-2.view_is ∙ b.self-is)) (settles m w s t k a many y at plan replays.1 replays.2 log_of last calls new there)
-            | in_default b ↦
-                let some = going (nat_lt (plan.replayed + 1) (length plan.messages)) replays.1 (told ∙ b.in_default.is) in
+                subst P (sym (c.self-2.view_is ∙ v.self-is)) (settles m w s b k a y at plan replays.1 replays.2 log_of last calls new there)
+            | in_default v ↦
+                let some = going (nat_lt (plan.replayed + 1) (length plan.messages)) replays.1 (told ∙ v.in_default.is) in
                 let more : plan.replayed + 1 < length plan.messages = goes-at plan.replayed (length plan.messages) some in
-                subst P (sym (c.self-2.view_is ∙ b.self-is ∙ view)) (goes-on m w s t k a many y at plan replays.1 replays.2 log_of more calls)
+                subst P (sym (c.self-2.view_is ∙ v.self-is ∙ view)) (goes-on m w s b k a y at plan replays.1 replays.2 log_of more calls)
           ]),
     )

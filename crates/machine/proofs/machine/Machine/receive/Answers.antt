@@ -1,20 +1,16 @@
 use Rattle.std.proofs.Common.{arith, ◌≡◌, ◌<◌, ◌+◌, subst, sym, ap, ◌∙◌, slice_index_or, length}
 use Rattle.std.specs.Prelude.{Some, None}
 use Rattle.helpers.specs.declared.effects.Who.{Who}
-use Rattle.std.proofs.lemmas.List.{length-map}
 use Rattle.limits.specs.declared.TheConstants.{ENTRIES}
-use Rattle.handlers.specs.Image.{image_in}
 use Rattle.world.specs.declared.packet.Packet.TheVariants.{Delivery, Number}
 use Rattle.world.specs.declared.call.Call.TheVariants.{Arrive}
 use Rattle.world.specs.declared.answer.Answer.TheVariants.{Started, Duplicate, Early}
-use Rattle.world.specs.World.{World}
 use Rattle.session_process.specs.Process.{TheProcess}
 use Rattle.session_process.specs.Wire.{Puts}
-use Rattle.machine.specs.Fields.{view_of}
-use Rattle.machine.specs.Arrival.{IsOpen}
-use Rattle.machine.specs.Simulation.{TheMachine, Stands, Steps, process_at}
+use Rattle.machine.specs.Arrival.{IsHandedOut}
+use Rattle.machine.specs.Simulation.{TheMachine, Steps, process_at}
 use Rattle.machine.proofs.Arrivals.{early, started, again}
-use Rattle.machine.proofs.JobLemmas.{opens, begun-matches}
+use Rattle.machine.proofs.JobLemmas.{handed-out}
 use Rattle.machine.proofs.Preservation.{later, carried-put, keys-put}
 use Rattle.machine.proofs.Status.{key-low}
 use Rattle.machine.proofs.machine.Machine.receive.Goals as goal
@@ -32,7 +28,7 @@ invariant_of-self-in-Duplicate c =
     record {
       some = i.some;
       few = i.few;
-      images = i.images;
+      lengths = i.lengths;
       processes = λ p d e h. later n _ _ c.self.inside.calls _ (i.processes p d e h);
       outside = i.outside;
       calls = omega (arith, calls);
@@ -86,14 +82,10 @@ returns-in_ok-job-in-Next-clause-step c w s =
 
 pub returns-in_ok-job-in-Next-clause-job : goal.returns-in_ok-job-in-Next-clause-job
 returns-in_ok-job-in-Next-clause-job c =
-    let m = c.args.self.now in
     let slots = c.remove.new.self in
-    let b = c.in_ok-job-in-Next.ensures.ok in
-    let v = c.begin.new.self in
-    let inside = c.self-in-Next.inside in
-    let sizes : length (view_of inside).images ≡ length (view_of inside).processes = length-map inside.images.items image_in ∙ c.self-in-Next.invariant.images in
-    let P : TheMachine → Type 0 = λ u. length u.images ≡ length u.processes → (w : World) → Stands (record u { slots = slots }) w → IsOpen u.images c.in_ok-job-in-Next.job w in
-    subst P (sym c.self-in-Next.view_is) (λ sizes w s. opens (record v { slots = slots }) c.in_ok-job-in-Next.job w s sizes (begun-matches m v c.args.to c.args.message c.in_ok-job-in-Next.job slots b c.requires.to c.requires.may.carried.0)) sizes
+    let job = c.in_ok-job-in-Next.job in
+    subst (λ (v : TheMachine). IsHandedOut (record v { slots = slots }) job) (sym c.self-in-Next.view_is)
+    (handed-out c.args.self.now c.begin.new.self c.args.to c.args.message job slots c.in_ok-job-in-Next.ensures.ok c.requires.to c.requires.may.carried.0)
 
 pub returns-in_ok-job-in-Next-clause-target : goal.returns-in_ok-job-in-Next-clause-target
 returns-in_ok-job-in-Next-clause-target c =

@@ -5,7 +5,8 @@ use Rattle.session_process.specs.Mode.{next_job}
 use Rattle.machine.specs.Arrival.{IsHandedOut}
 use Rattle.machine.specs.Jobs.{Begins}
 use Rattle.machine.specs.Simulation.{process_at}
-use Rattle.machine.proofs.ReplaySteps.{from-another, begun-step, handed-out}
+use Rattle.machine.proofs.JobLemmas.{handed-out}
+use Rattle.machine.proofs.ReplaySteps.{from-another, begun-step}
 use Rattle.machine.proofs.machine.Machine.replay_begin.Goals as goal
 use Rattle.machine.proofs.machine.Machine.replay_begin.Goals.{then-message-count-via-then-message-count, then-message-count-via-else-message-count+then-message-p}
 
@@ -42,4 +43,4 @@ returns-clause-job c =
     let m = c.args.self.now in
     let x = c.in-Some-next_job.message in
     let may = c.in_default.ensures.none.0 in
-    if-ok c.begin.result (λ job. Begins m c.begin.new.self c.args.p x job) (IsHandedOut c.begin.new.self) c.begin.ensures.ok (λ job b. handed-out m c.begin.new.self c.args.p x job b may.inside may.within)
+    if-ok c.begin.result (λ job. Begins m c.begin.new.self c.args.p x job) (IsHandedOut c.begin.new.self) c.begin.ensures.ok (λ job b. handed-out m c.begin.new.self c.args.p x job c.begin.new.self.slots b may.inside may.within)

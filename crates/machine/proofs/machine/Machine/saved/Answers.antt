@@ -1,13 +1,12 @@
 use Rattle.std.proofs.Common.{◌≡◌, ◌≤◌, length, map, take, sym, ap, ◌∙◌, subst, arith}
 use Rattle.std.proofs.lemmas.List.{length-map}
-use Rattle.handlers.specs.Image.{TheImage, image_in}
 use Rattle.checkpoint.specs.declared.form.CheckpointForm.TheVariants.{Second}
 use Rattle.checkpoint.specs.Format.{IsCheckpoint}
 use Rattle.checkpoint.specs.Saved.{TheSaved}
 use Rattle.session_process.specs.Process.{TheProcess, idle_process}
 use Rattle.machine.specs.Simulation.{Saves, TheMachine, process_at}
 use Rattle.machine.proofs.Status.{at_process}
-use Rattle.machine.proofs.Soundness.{sound_at, some-of}
+use Rattle.machine.proofs.Soundness.{sound_at}
 use Rattle.machine.proofs.machine.Machine.saved.Goals as goal
 
 pub returns : goal.returns
@@ -17,8 +16,7 @@ returns c w s =
     let i = c.self.invariant in
     let positive = c.requires.0 in
     let within : p ≤ length c.self.inside.processes.items = subst (λ (v : TheMachine). p ≤ length v.processes) (sym c.self.view_is) c.requires.1 in
-    let image : TheImage = some-of (map image_in c.self.inside.images.items) (omega (arith, length-map c.self.inside.images.items image_in, i.images, i.some)) in
-    let sound = sound_at c.self.inside i p (idle_process 0 0 0) image positive within in
+    let sound = sound_at c.self.inside i p (idle_process 0 0 0) 0 positive within in
     let x = process_at m p in
     let bytes : IsCheckpoint Second x.saved c.bytes.result.now = subst (λ (z : TheSaved). IsCheckpoint Second z c.bytes.result.now) (c.stable.ensures ∙ ap (λ (y : TheProcess). y.saved) c.process.ensures.value) c.bytes.ensures in
     record {

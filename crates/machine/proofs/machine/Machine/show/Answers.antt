@@ -24,7 +24,7 @@ invariant_of-self-in-Next c =
     record {
       some = i.some;
       few = i.few;
-      images = i.images;
+      lengths = i.lengths;
       processes = λ p d e h. later n _ _ c.self.inside.calls _ (i.processes p d e h);
       outside = subst (λ (o : TheOutside). IsLogOf n 0 o.log) (sym o_is) i.outside;
       calls = omega (arith, calls);

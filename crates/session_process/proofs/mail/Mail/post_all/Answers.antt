@@ -2,7 +2,7 @@ use Rattle.std.proofs.Common.{◌≡◌, ◌≤◌, ◌+◌, ℕ, List, length, 
 use Rattle.limits.specs.declared.TheConstants.{EFFECTS}
 use Rattle.helpers.specs.declared.effects.Sent.{Sent}
 use Rattle.world.specs.History.{Payload}
-use Rattle.replay.specs.Fold.{emitted_to}
+use Rattle.replay.specs.Emission.{emitted_to}
 use Rattle.session_process.specs.declared.mail.Mail.{Mail}
 use Rattle.session_process.proofs.MailLemmas.{Gave, gave-same, gave-more, gave-narrow, gave-order, gave-room, gave-all, sends_of, outputs_of, sends-more, sends-skip, sends-few, outputs-more, outputs-all, outputs-few, emitted-few}
 use Rattle.session_process.proofs.mail.Mail.post_all.Goals.{then-sent-ne0+in_ok-post, else-sent-ne0}

@@ -1,10 +1,9 @@
 use Rattle.std.proofs.Common.{ℕ, sym, subst}
 use Rattle.std.specs.Prelude.{Option}
-use Rattle.machine.specs.Task.{TheTask}
-use Rattle.machine.specs.Arrival.{IsOpen}
 use Rattle.machine.specs.Dispatch.{job_of}
-use Rattle.sessions.specs.Journal.{room_at, world_at}
+use Rattle.sessions.specs.Journal.{IsOpenAt, room_at, world_at}
 use Rattle.sessions.specs.Driver.{Advances, Starts}
+use Rattle.sessions.specs.Job.{TheJob}
 use Rattle.sessions.specs.Service.{seat_of}
 use Rattle.sessions.proofs.Driven.{told-memory, advance-one, may-pick}
 use Rattle.sessions.proofs.service.Service.advance.Goals as goal
@@ -20,9 +19,9 @@ returns-clause-err c =
     let left : Option ℕ = job_of (world_at old) call reply.answer in
     let one = advance-one old mid by (seat_of c.args.worker mid) call reply.answer c.requires.pick c.in_ok-reply.ensures.adds in
     let started = subst (Starts mid left) c.in-Some.is c.in_ok-reply.ensures.job in
-    let given : IsOpen mid.images c.run.result (world_at mid) = subst (λ (t : TheTask). IsOpen mid.images t (world_at mid)) (sym c.run.ensures) (rw c.in-Some.is started.1) in
+    let given : IsOpenAt mid c.run.result = subst (λ (j : TheJob). IsOpenAt mid j) (sym c.run.ensures) (rw c.in-Some.is started.1) in
     let takes = c.in-Err.ensures.takes in (
-      told-memory c.in-Err.refusal (IsOpen mid.images c.run.result (world_at mid)) takes.3 given,
+      told-memory c.in-Err.refusal (IsOpenAt mid c.run.result) takes.3 given,
       (1, left, subst (λ s. Advances 1 old s by (seat_of c.args.worker new) 1 left) (sym takes.1) (subst (λ s. Advances 1 old mid by s 1 left) (sym takes.2) one)),
     )
 

@@ -1,8 +1,9 @@
-use Rattle.std.proofs.Common.{length, arith, subst}
-use Rattle.replay.specs.Fold.{handlers_of}
+use Rattle.std.proofs.Common.{length, arith, subst, map}
+use Rattle.handlers.specs.Image.{image_in}
+use Rattle.sessions.specs.Fold.{handlers_of}
 use Rattle.theorems.specs.Kept.{HasKept}
 use Rattle.theorems.specs.Orphans.{NoOrphan, ShownBegin}
-use Rattle.replay.proofs.HandlerLemmas.{handlers-grow, single-of}
+use Rattle.sessions.proofs.HandlerLemmas.{handlers-grow, single-of}
 use Rattle.theorems.proofs.KeptLemmas.{has-kept}
 use Rattle.theorems.proofs.OrphanLemmas.{no-orphan, output-once}
 use Rattle.sessions.specs.Journal.{TheSession, IsExact, world_at}
@@ -13,21 +14,21 @@ returns-clause-bound c = rw (← c.self.view_is) (omega (arith, c.self.invariant
 
 pub returns-clause-kept : goal.returns-clause-kept
 returns-clause-kept c =
-    let images = c.self.inside.machine.images in
+    let images = map image_in c.self.inside.images.items in
     let es = c.self.inside.journal.entries in
     let P : TheSession → Type 0 = λ s. HasKept (world_at s) in
     subst P c.self.view_is (has-kept (length images) (handlers_of images) es (handlers-grow images) c.self.invariant.0.legal)
 
 pub returns-clause-no_orphan : goal.returns-clause-no_orphan
 returns-clause-no_orphan c =
-    let images = c.self.inside.machine.images in
+    let images = map image_in c.self.inside.images.items in
     let es = c.self.inside.journal.entries in
     let P : TheSession → Type 0 = λ s. IsExact s → NoOrphan (world_at s) in
     subst P c.self.view_is (λ e. no-orphan (length images) (handlers_of images) es (single-of images es c.self.invariant.0.legal e))
 
 pub returns-clause-output_once : goal.returns-clause-output_once
 returns-clause-output_once c =
-    let images = c.self.inside.machine.images in
+    let images = map image_in c.self.inside.images.items in
     let es = c.self.inside.journal.entries in
     let P : TheSession → Type 0 = λ s. IsExact s → ShownBegin (world_at s) in
     subst P c.self.view_is (λ e. output-once (length images) (handlers_of images) es (single-of images es c.self.invariant.0.legal e))

@@ -1,4 +1,5 @@
-use Rattle.std.proofs.Common.{◌≡◌, ◌≢◌, ◌≤◌, ◌∙◌, Some, arith, ap, length, subst, sym}
+use Rattle.std.proofs.Common.{◌≡◌, ◌≢◌, ◌≤◌, ◌∙◌, Some, arith, ap, length, subst, sym, map}
+use Rattle.handlers.specs.Image.{image_in}
 use Rattle.sessions.specs.Journal.{TheSession, world_at}
 use Rattle.sessions.specs.Logged.{logged}
 use Rattle.sessions.proofs.LoggedLemmas.{logged-missing, logged-there}
@@ -8,7 +9,7 @@ use Rattle.sessions.proofs.service.Service.logged.Goals as goal
 pub returns-in_err-bytes : goal.returns-in_err-bytes
 returns-in_err-bytes c =
     let m = c.self.inside.machine in
-    let w = here m c.self.inside.journal.entries in
+    let w = here (map image_in c.self.inside.images.items) c.self.inside.journal.entries in
     let within : c.args.from ≤ length m.processes = omega (arith, c.if-from-count.false, c.count-count.ensures.value) in
     let there : c.args.to ≤ length m.processes = omega (arith, c.if-to-count.false, c.count-count.ensures.value) in
     let apart : c.args.from ≢ c.args.to = c.if-from-to.false in
@@ -20,7 +21,7 @@ returns-in_err-bytes c =
 pub returns : goal.returns
 returns c =
     let m = c.self.inside.machine in
-    let w = here m c.self.inside.journal.entries in
+    let w = here (map image_in c.self.inside.images.items) c.self.inside.journal.entries in
     let within : c.args.from ≤ length m.processes = omega (arith, c.if-from-count.false, c.count-count.ensures.value) in
     let there : c.args.to ≤ length m.processes = omega (arith, c.if-to-count.false, c.count-count.ensures.value) in
     let apart : c.args.from ≢ c.args.to = c.if-from-to.false in

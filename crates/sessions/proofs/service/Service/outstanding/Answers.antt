@@ -1,6 +1,7 @@
-use Rattle.std.proofs.Common.{subst}
+use Rattle.std.proofs.Common.{subst, map}
 use Rattle.std.specs.Prelude.{IfNone, IfSome}
 use Rattle.limits.specs.declared.TheConstants.{ENTRIES}
+use Rattle.handlers.specs.Image.{image_in}
 use Rattle.machine.specs.Choice.{IsPick}
 use Rattle.machine.proofs.Picks.{if_none, if_some}
 use Rattle.sessions.specs.Journal.{TheSession, world_at}
@@ -13,11 +14,11 @@ returns-clause-some c =
     let m = c.self.inside.machine in
     let es = c.self.inside.journal.entries in
     let P : TheSession → Type 0 = λ s. IfSome c.pick.result (λ call. IsPick (world_at s) ENTRIES call) in
-    subst P c.self.view_is (if_some c.pick.result (λ call k. k (here m es) c.self.invariant.0.leads) c.pick.ensures.some)
+    subst P c.self.view_is (if_some c.pick.result (λ call k. k (here (map image_in c.self.inside.images.items) es) c.self.invariant.0.leads) c.pick.ensures.some)
 
 pub returns-clause-none : goal.returns-clause-none
 returns-clause-none c =
     let m = c.self.inside.machine in
     let es = c.self.inside.journal.entries in
     let P : TheSession → Type 0 = λ s. IfNone c.pick.result (IsDone s) in
-    subst P c.self.view_is (if_none c.pick.result (λ none call. none (here m es) c.self.invariant.0.leads call) c.pick.ensures.none)
+    subst P c.self.view_is (if_none c.pick.result (λ none call. none (here (map image_in c.self.inside.images.items) es) c.self.invariant.0.leads call) c.pick.ensures.none)

@@ -1,4 +1,5 @@
-use Rattle.std.proofs.Common.{◌≡◌, subst}
+use Rattle.std.proofs.Common.{◌≡◌, subst, map}
+use Rattle.handlers.specs.Image.{image_in}
 use Rattle.world.specs.Phases.{name_of}
 use Rattle.sessions.specs.Journal.{TheSession, world_at}
 use Rattle.sessions.proofs.Steps.{here}
@@ -9,4 +10,4 @@ returns c =
     let m = c.self.inside.machine in
     let es = c.self.inside.journal.entries in
     let P : TheSession → Type 0 = λ s. c.phase.result ≡ name_of ((world_at s).phase c.args.p) in
-    subst P c.self.view_is (c.phase.ensures (here m es) c.self.invariant.0.leads)
+    subst P c.self.view_is (c.phase.ensures (here (map image_in c.self.inside.images.items) es) c.self.invariant.0.leads)

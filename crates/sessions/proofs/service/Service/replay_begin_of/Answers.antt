@@ -1,50 +1,84 @@
-use Rattle.std.specs.Prelude.{Err}
-use Rattle.std.proofs.Common.{◌≡◌, ◌-◌, ◌++◌, ◌∷◌, [], length, arith, refl, ap, ◌∙◌}
+use Rattle.std.specs.Prelude.{None, Option, Some}
+use Rattle.std.specs.Option.{option_map}
+use Rattle.std.proofs.Common.{◌≡◌, ◌-◌, ◌++◌, ◌∷◌, [], length, map, arith, ap, refl, sym, subst, ◌∙◌}
 use Rattle.limits.specs.declared.TheConstants.{ENTRIES}
+use Rattle.handlers.specs.Image.{TheImage, image_in}
+use Rattle.replay.specs.Task.{TheTask}
 use Rattle.world.specs.declared.call.Call.TheVariants.{ReplayBegin}
-use Rattle.world.specs.Useful.{may_call}
 use Rattle.world.specs.declared.answer.Answer.TheVariants.{Started}
-use Rattle.machine.specs.Task.{TheTask}
+use Rattle.world.specs.History.{nth}
+use Rattle.world.specs.Useful.{may_call}
+use Rattle.sessions.specs.Fields.{starter}
 use Rattle.sessions.specs.Journal.{TheSession, entry, world_at}
+use Rattle.sessions.proofs.JobLemmas.{has-image, opens-job, sized}
 use Rattle.sessions.proofs.Rooms.{room-of}
-use Rattle.sessions.proofs.Steps.{carried, caused, here}
-use Rattle.sessions.proofs.Own.{Grows, grows, stays}
+use Rattle.sessions.proofs.Steps.{carried, count-is, here}
+use Rattle.sessions.proofs.Own.{Grows, grows}
 use Rattle.sessions.proofs.service.Service.replay_begin_of.Goals as goal
 use Rattle.sessions.proofs.service.Service.replay_begin_of.Goals.{After-append}
 
-done : (c : After-append) → Grows c.args.worker c.self.inside.machine c.replay_begin.new.self c.self.inside.journal.entries c.append.new.self.entries (ReplayBegin c.args.p) (Started c.in_ok-job.job.serial)
+done : (c : After-append) → Grows c.args.worker (map image_in c.self.inside.images.items) c.replay_begin.new.self c.self.inside.journal.entries c.append.new.self.entries (ReplayBegin c.args.p) (Started c.in_ok-task.task.serial)
 done c =
     let m = c.self.inside.machine in
+    let is = map image_in c.self.inside.images.items in
     let es = c.self.inside.journal.entries in
     let call = ReplayBegin c.args.p in
-    let answer = Started c.in_ok-job.job.serial in
-    let w = here m es in
+    let answer = Started c.in_ok-task.task.serial in
+    let w = here is es in
     let room_is : c.room-room.result ≡ ENTRIES - length es = c.room-room.ensures.value in
-    let step = rw room_is at c.in_ok-job.ensures.step in
-    let serial : c.serial.result ≡ c.in_ok-job.job.serial = c.serial.ensures ∙ ap (λ (t : TheTask). t.serial) c.task.ensures in
+    let step = rw room_is at c.in_ok-task.ensures.step in
+    let serial : c.serial.result ≡ c.in_ok-task.task.serial = c.serial.ensures ∙ ap (λ (t : TheTask). t.serial) c.task.ensures in
     let items : c.append.new.self.entries ≡ es ++ entry c.args.worker call answer ∷ [] = c.append.ensures ∙ (λ i. c.reserve.ensures.entries i ++ entry c.args.worker call (Started (serial i)) ∷ []) in
     let taken = step w c.self.invariant.0.leads in
     let place = room-of w (ENTRIES - length es) call answer tt taken.accepted taken.answered in
     let may = ap (λ (v : TheSession). may_call (world_at v) c.args.worker call) c.self.view_is ∙ c.requires in
-    grows c.args.worker m c.replay_begin.new.self es c.append.new.self.entries call answer c.self.invariant.0 may step items c.in_ok-job.ensures.calls (omega (arith, place, c.self.invariant.0.room))
+    grows c.args.worker is m c.replay_begin.new.self es c.append.new.self.entries call answer c.self.invariant.0 may taken items c.in_ok-task.ensures.calls (omega (arith, place, c.self.invariant.0.room))
+
+-- the image of its process, which is the handler's
+imaged : (c : After-append) → (image : TheImage) × (option_map image_in c.in-Ok.handler ≡ Some image) × (nth (map image_in c.self.inside.images.items) c.in_ok-task.task.who.me ≡ Some image)
+imaged c =
+    let is = map image_in c.self.inside.images.items in
+    let entries = c.append.new.self.entries in
+    let t = c.in_ok-task.task in
+    let found : option_map image_in c.in-Ok.handler ≡ nth is (starter (here is c.self.inside.journal.entries) (ReplayBegin c.args.p)) =
+    subst (λ (s : TheSession). option_map image_in c.in-Ok.handler ≡ nth s.images (starter (world_at s) (ReplayBegin c.args.p))) (sym c.self.view_is) c.in-Ok.ensures in
+    let some = has-image is (here is entries) (count-is is entries) t (c.in_ok-task.ensures.job.1 (here is entries) (done c).0.leads) in
+    (some.0, found ∙ ap (nth is) (sym c.in_ok-task.ensures.target) ∙ some.1, some.1)
 
 pub invariant_of-self-2 : goal.invariant_of-self-2
 invariant_of-self-2 c =
     let d = done (goal.at.invariant_of-self-2 c).After-append in
     (d.0, carried c.self.inside.exact _ (d.2 c.self.inside.exact c.self.invariant.1))
 
-pub returns-clause-adds : goal.returns-clause-adds
-returns-clause-adds c = rw (← c.self.view_is) (done (goal.at.returns-clause-adds c).After-append).1
+pub unreachable-requires : goal.unreachable-requires
+unreachable-requires c =
+    let found = imaged (goal.at.unreachable-requires c).After-append in
+    let none : None ≡ Some found.0 = ap (option_map image_in) (sym c.in_default-handler.is) ∙ found.1 in
+    absurd (cc)
 
-pub returns-then-not-reserve-clause-adds : goal.returns-then-not-reserve-clause-adds
-returns-then-not-reserve-clause-adds c =
-    let m = c.self.inside.machine in
-    let es = c.self.inside.journal.entries in
-    let w = here m es in
-    let cause = caused w c.room-room.result (ReplayBegin c.args.p) c.replay_begin_cause-cause.result c.unwrap_or.result (c.replay_begin_cause-cause.ensures.cause w c.self.invariant.0.leads) c.unwrap_or.ensures in
-    stays c.args.worker c.args.self.now m m es c.reserve.new.self.entries (ReplayBegin c.args.p) c.unwrap_or.result c.room-room.result (Err c.unwrap_or.result) c.self.view_is refl c.reserve.ensures.entries c.room-room.ensures.value cause refl
+-- its image
+same : (c : After-append) (handler : Option TheImage) (image : TheImage) → handler ≡ option_map image_in c.in-Ok.handler → handler ≡ Some image → (imaged c).0 ≡ image
+same c handler image is some = let e : Some (imaged c).0 ≡ Some image = sym (imaged c).1 ∙ sym is ∙ some in cc
+
+pub new-requires : goal.new-requires
+new-requires c =
+    let at = (goal.at.new-requires c).After-append in
+    let is = map image_in c.self.inside.images.items in
+    let w = here is c.self.inside.journal.entries in
+    let found = imaged at in
+    let its : found.0 ≡ image_in c.in-Some.handler = same at (option_map image_in c.in-Ok.handler) (image_in c.in-Some.handler) refl (ap (option_map image_in) c.in-Some.is) in
+    let lengths = (c.in_ok-task.ensures.step w c.self.invariant.0.leads).lengths ∙ c.self.invariant.0.lengths in
+    sized is c.replay_begin.new.self c.in_ok-task.task found.0 lengths c.in_ok-task.ensures.job.0 found.2 ∙ ap (λ (i : TheImage). i.len) its
+
+pub returns-clause-adds : goal.returns-clause-adds
+returns-clause-adds c = rw (c.new.ensures, ← c.self.view_is) (done (goal.at.returns-clause-adds c).After-append).1
 
 pub returns-clause-job : goal.returns-clause-job
 returns-clause-job c =
-    let leads = (done (goal.at.returns-clause-job c).After-append).0.leads in
-    c.in_ok-job.ensures.job (here c.replay_begin.new.self c.append.new.self.entries) leads
+    let at = (goal.at.returns-clause-job c).After-append in
+    let is = map image_in c.self.inside.images.items in
+    let entries = c.append.new.self.entries in
+    let w = here is entries in
+    let found = imaged at in
+    let its : found.0 ≡ image_in c.in-Some.handler = same at (option_map image_in c.in-Ok.handler) (image_in c.in-Some.handler) refl (ap (option_map image_in) c.in-Some.is) in
+    rw c.new.ensures (opens-job is w (count-is is entries) c.in_ok-task.task (image_in c.in-Some.handler) (c.in_ok-task.ensures.job.1 w (done at).0.leads) (found.2 ∙ ap Some its))

@@ -12,7 +12,7 @@ answer-requires g c =
     let s = c.self.inside.service in
     let worker = c.worker.result in
     let new = c.finish_of.new.self in
-    omega (arith, c.self.invariant.1, c.finish_of.ensures.bound, grew s new (seat_of worker s) (seat_of worker new) (Finish c.args.done.who.me) (finished_of c.in_ok-finished.finished) c.in_ok-finished.ensures.takes.1)
+    omega (arith, c.self.invariant.1, c.finish_of.ensures.bound, grew s new (seat_of worker s) (seat_of worker new) (Finish c.args.done.task.who.me) (finished_of c.in_ok-finished.finished) c.in_ok-finished.ensures.takes.1)
 
 pub returns-clause-takes : goal.returns-clause-takes
 returns-clause-takes g c =

@@ -2,7 +2,7 @@
 
 ghost use Rattle.std.specs.Prelude.{List};
 ghost use Rattle.theorems.specs.Growth.{Grows, Starts};
-ghost use Rattle.replay.specs.Fold.{TheImage, handlers_of};
+ghost use Rattle.sessions.specs.Fold.{TheImage, handlers_of};
 
 /// A handler's later messages take back nothing that it sent or put out. It sends and puts out
 /// nothing before its first message.

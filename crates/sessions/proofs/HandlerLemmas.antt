@@ -2,11 +2,12 @@
 use Rattle.std.proofs.Common.{◌≡◌, ℕ, List, [], ◌∷◌, ◌++◌, length, Bool, true, false, refl, sym, subst}
 use Rattle.std.specs.Prelude.{Option, Some, None, if◌then◌else◌, ◌==◌}
 use Rattle.world.specs.History.{nth}
-use Rattle.replay.specs.Fold.{TheImage, Handled, Folded, joined, folded, payloads_to, emitted_to, handlers_of}
+use Rattle.replay.specs.Emission.{payloads_to, emitted_to}
+use Rattle.sessions.specs.Fold.{TheImage, Handled, Folded, joined, folded, handlers_of}
 use Rattle.world.specs.declared.entry.Entry.{Entry}
 use Rattle.world.specs.World.{opening}
 use Rattle.world.specs.Legal.{Legal, all_single}
-use Rattle.replay.proofs.FoldLemmas.{folded-push, emitted_to-joined}
+use Rattle.sessions.proofs.FoldLemmas.{folded-push, emitted_to-joined}
 use Rattle.theorems.specs.Growth.{Begins, Grows, Starts}
 use Rattle.theorems.specs.Single.{IsSingle}
 use Rattle.theorems.proofs.ListLemmas.{begins-self}

@@ -1,28 +1,25 @@
 //! Handler calls that wait to be made.
 
-ghost use Rattle.std.specs.Prelude.{◌≡◌, IfOk, OnOk};
-ghost use Rattle.handlers.specs.Image.{image_in};
+ghost use Rattle.std.specs.Prelude.{◌≡◌, [], IfOk, OnOk};
+ghost use Rattle.std.specs.Box.{box_value};
 ghost use Rattle.replay.specs.Task.{TheTask, MayCall};
 
-use crate::done::Done;
 use crate::spare::Spare;
 use crate::task::{Task, Ticket};
-use handlers::Handler;
 use helpers::{Effects, Who};
 use std::alloc::{AllocError, Global};
 use std::marker::Model;
-use std::sync::Arc;
 use world::Message;
 
 /// A handler call that waits to be made, with the buffer for the new state.
 #[derive(Drop)]
-pub struct Job {
+pub struct Invocation {
     task: Task,
     next: Vec<u8>,
     effects: Box<Effects>,
 }
 
-impl Model for Job {
+impl Model for Invocation {
     ghost use Rattle.std.specs.Prelude.{◌≡◌};
     ghost use Rattle.replay.specs.Task.{TheTask};
 
@@ -41,20 +38,19 @@ fn refill(list: &mut Vec<u8>, state: &[u8]) -> Result<(), AllocError>
     list.extend_from_slice(state)
 }
 
-impl Job {
-    /// A call of a handler with a copy of this state. It takes over the buffers of an earlier job,
-    /// or allocates them here, so that `run` takes no memory.
+impl Invocation {
+    /// A call with a copy of this state. It takes over the buffers of an earlier one, or allocates
+    /// them here, so that the call itself takes no memory.
     pub fn new(
         alloc: Global,
         spare: Option<Spare>,
         ticket: Ticket,
-        image: Arc<Handler>,
         state: &[u8],
         message: Message,
         who: Who,
-    ) -> Result<Job, AllocError>
-        requires { MayCall (image_in image) state.now who }
-        ensures { IfOk result (λ j. j ≡ record { serial = ticket.serial; incarnation = ticket.incarnation; rsn = ticket.rsn; image = image_in image; state = state.now; message = message; who = who }) }
+    ) -> Result<Invocation, AllocError>
+        requires { MayCall who }
+        ensures { IfOk result (λ j. j ≡ record { serial = ticket.serial; incarnation = ticket.incarnation; rsn = ticket.rsn; state = state.now; message = message; who = who }) }
     {
         let spare = match spare {
             Some(spare) => spare,
@@ -69,8 +65,8 @@ impl Job {
         refill(&mut before, state)?;
         refill(&mut next, state)?;
         *place = message;
-        let task = Task::new(ticket, image, before, place, who);
-        Ok(Job {
+        let task = Task::new(ticket, before, place, who);
+        Ok(Invocation {
             task,
             next,
             effects,
@@ -84,22 +80,20 @@ impl Job {
         &self.task
     }
 
-    /// Calls the handler. It takes no memory, and the result has the same task.
-    pub fn run(self) -> Done
-        ensures { result ≡ self }
+    /// Its task, and what the handler changes: a copy of the state, and effects, of which there are
+    /// none yet.
+    pub fn into_parts(self) -> (Task, Vec<u8>, Box<Effects>)
+        ensures task { result.0 ≡ self }
+        ensures state { result.1.items ≡ self.state }
+        ensures sends { (box_value result.2).sends ≡ [] }
+        ensures outputs { (box_value result.2).outputs ≡ [] }
     {
-        let Job {
+        let Invocation {
             task,
-            mut next,
+            next,
             mut effects,
         } = self;
         effects.clear();
-        let end = task.image().call(
-            next.as_mut_slice(),
-            task.payload(),
-            task.who(),
-            &mut effects,
-        );
-        Done::new(task, next, effects, end)
+        (task, next, effects)
     }
 }

@@ -1,11 +1,11 @@
 -- What the handlers of images make of a history: a fold of handler calls over its messages
-use Rattle.std.specs.Prelude.{ℕ, List, [], ◌∷◌, ◌++◌, length, replicate, fold, Option, Some, None, ◌==◌, if◌then◌else◌}
-use Rattle.helpers.specs.declared.effects.Sent.{Sent}
+use Rattle.std.specs.Prelude.{ℕ, List, [], ◌++◌, length, replicate, fold, Option, Some, None}
 use Rattle.helpers.specs.Effects.{Emitted}
 use Rattle.handlers.specs.Answer.{answered}
 use Rattle.world.specs.declared.message.Message.{Message}
-use Rattle.world.specs.History.{Payload, nth}
+use Rattle.world.specs.History.{nth}
 use Rattle.world.specs.Handlers.{Handlers}
+use Rattle.replay.specs.Emission.{emitted_to}
 pub use Rattle.handlers.specs.Image.{TheImage}
 pub use Rattle.handlers.specs.Answer.{Handled}
 
@@ -34,15 +34,6 @@ taken_in n image p f m = joined f (answered image (record { me = p; from = m.sen
 abbrev pub folded : ℕ → ℕ → Option TheImage → List Message → Folded
 folded n p None h = unfolded 0
 folded n p (Some image) h = fold (taken_in n image p) (unfolded image.len) h
-
--- the payloads for one destination
-abbrev pub payloads_to : ℕ → List Sent → List Payload
-payloads_to d [] = []
-payloads_to d (x ∷ xs) = if x.dst == d then x.payload ∷ payloads_to d xs else payloads_to d xs
-
--- the payloads for one destination. Those for the outside are the outputs
-abbrev pub emitted_to : ℕ → Emitted → List Payload
-emitted_to d e = if d == 0 then e.outputs else payloads_to d e.sends
 
 -- the handlers of processes 1, 2, .. that have these images
 abbrev pub handlers_of : List TheImage → Handlers

@@ -1,22 +1,16 @@
 -- A history that goes on by one message
-use Rattle.std.proofs.Common.{◌≡◌, ℕ, List, [], ◌∷◌, ◌++◌, length, Bool, true, false, refl, sym, ap, ◌∙◌}
-use Rattle.std.specs.Prelude.{Some, if◌then◌else◌, ◌==◌}
+use Rattle.std.proofs.Common.{◌≡◌, ℕ, zero, suc, List, [], ◌∷◌, ◌++◌, length, map, replicate, Bool, true, false, refl, sym, ap, ◌∙◌}
+use Rattle.std.specs.Prelude.{Option, Some, None, slice_get, if◌then◌else◌, ◌==◌}
+use Rattle.std.specs.Option.{option_map}
+use Rattle.std.proofs.lemmas.Option.{slice_get-map}
 use Rattle.std.proofs.lemmas.List.Sums.{fold-append}
-use Rattle.helpers.specs.declared.effects.Sent.{Sent}
 use Rattle.handlers.specs.Image.{TheImage}
 use Rattle.handlers.specs.Answer.{Handled, answered}
 use Rattle.world.specs.declared.message.Message.{Message}
 use Rattle.world.specs.History.{nth}
-use Rattle.replay.specs.Fold.{Folded, joined, taken_in, folded, unfolded, payloads_to, emitted_to, handlers_of}
-
-pub payloads_to-append : (d : ℕ) (xs ys : List Sent) → payloads_to d (xs ++ ys) ≡ payloads_to d xs ++ payloads_to d ys
-payloads_to-append d [] ys = refl
-payloads_to-append d (x ∷ xs) ys = split (x.dst == d) (payloads_to-append d xs ys)
-  where
-    split : (b : Bool) → payloads_to d (xs ++ ys) ≡ payloads_to d xs ++ payloads_to d ys
-        → (if b then x.payload ∷ payloads_to d (xs ++ ys) else payloads_to d (xs ++ ys)) ≡ (if b then x.payload ∷ payloads_to d xs else payloads_to d xs) ++ payloads_to d ys
-    split true e = ap (λ zs. x.payload ∷ zs) e
-    split false e = e
+use Rattle.replay.specs.Emission.{payloads_to, emitted_to}
+use Rattle.replay.proofs.EmissionLemmas.{payloads_to-append}
+use Rattle.sessions.specs.Fold.{Folded, joined, taken_in, folded, unfolded, handlers_of}
 
 -- the effects of one more answer come after the rest
 pub emitted_to-joined : (d : ℕ) (f : Folded) (a : Handled) → emitted_to d (joined f (Some a)).effects ≡ emitted_to d f.effects ++ emitted_to d a.effects
@@ -57,3 +51,17 @@ module _ (images : List TheImage) (p : ℕ) (image : TheImage) (h : List Message
 -- a process that received nothing has a state of zeros
 pub handlers_of-nothing : (images : List TheImage) (p : ℕ) (image : TheImage) → nth images p ≡ Some image → (handlers_of images).state p [] ≡ (unfolded image.len).state
 handlers_of-nothing images p image at = ap (λ o. (folded (length images) p o []).state) at
+
+-- as many as its image says
+pub handlers_of-zeros : (images : List TheImage) (p len : ℕ) → nth (map (λ (i : TheImage). i.len) images) p ≡ Some len → (handlers_of images).state p [] ≡ replicate len 0
+handlers_of-zeros images zero len at = absurd (cc)
+handlers_of-zeros images (suc k) len at = zeros (slice_get images k) refl
+  where
+    zeros : (o : Option TheImage) → slice_get images k ≡ o → (handlers_of images).state (suc k) [] ≡ replicate len 0
+    zeros None e =
+        let none : slice_get (map (λ (i : TheImage). i.len) images) k ≡ None = slice_get-map (λ (i : TheImage). i.len) images k ∙ ap (option_map (λ (i : TheImage). i.len)) e in
+        absurd (cc)
+    zeros (Some image) e =
+        let some : slice_get (map (λ (i : TheImage). i.len) images) k ≡ Some image.len = slice_get-map (λ (i : TheImage). i.len) images k ∙ ap (option_map (λ (i : TheImage). i.len)) e in
+        let same : image.len ≡ len = cc in
+        handlers_of-nothing images (suc k) image e ∙ ap (λ n. replicate n 0) same

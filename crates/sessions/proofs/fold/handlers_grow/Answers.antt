@@ -1,5 +1,5 @@
-use Rattle.replay.proofs.HandlerLemmas.{handlers-grow, handlers-start}
-use Rattle.replay.proofs.fold.handlers_grow.Goals as goal
+use Rattle.sessions.proofs.HandlerLemmas.{handlers-grow, handlers-start}
+use Rattle.sessions.proofs.fold.handlers_grow.Goals as goal
 
 pub returns-clause-grow : goal.returns-clause-grow
 returns-clause-grow c = handlers-grow
