@@ -1,5 +1,5 @@
-"""Nodes whose stores lie elsewhere go on on another machine, when theirs is cut off, stands still or is gone; the storage's server dies
-now and then. A life that was left behind and wakes up ends by itself, with status 7, and has written nothing."""
+"""Nodes whose stores lie elsewhere go on on another machine, when theirs is cut off, stands still or is gone; the server of
+PostgreSQL is killed now and then. A life that was left behind and wakes up ends by itself, with status 7, and has written nothing."""
 import collections
 import copy
 import os
@@ -100,7 +100,7 @@ class Moves:
     def run(self, count):
         for number in range(count):
             self.reap(LEFT)
-            if number % 25 == 20:
+            if number % 25 == 20 and self.storage.may_fail:
                 self.storage.fails()
                 self.ways["server"] += 1
             programs = self.cluster.nodes if number % 10 else [self.cluster.gateway]

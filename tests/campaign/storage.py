@@ -36,7 +36,10 @@ def lets_through(folder):
 
 
 class Storage:
-    """`word` is what --store says, `needs` what it can't be without."""
+    """`word` is what --store says, `needs` what it can't be without, `may_fail` whether its server may be killed: one of NATS that has no
+    replicas forgets then what it took (nats-server 2.9.10)."""
+
+    may_fail = False
 
     @classmethod
     def is_here(cls):
@@ -82,13 +85,6 @@ class Bucket(Storage):
         self.socket.sendall(b'CONNECT {"verbose":false,"headers":true}\r\nSUB taken.> 1\r\nSUB made 2\r\n')
         threading.Thread(target=self.look, args=[self.socket, self.socket.makefile("rb")], daemon=True).start()
 
-    def fails(self):
-        """The server dies, and is there again after a while."""
-        self.server.kill()
-        time.sleep(0.2)
-        self.server.__enter__()
-        self.connect()
-
     def look(self, out, stream):
         for line in stream:
             words = line.split()
@@ -125,7 +121,7 @@ class Bucket(Storage):
 class Table(Storage):
     """A table in a database of a server of its own, which another user runs where this is root."""
 
-    needs = "/usr/lib/postgresql/*/bin/postgres"
+    needs, may_fail = "/usr/lib/postgresql/*/bin/postgres", True
 
     def __init__(self, folder, host, port):
         self.folder, self.host, self.port, self.fault = os.path.join(folder, "postgres"), host, port + 100, None
