@@ -1,4 +1,4 @@
-/* A store in a bucket of NATS JetStream (docs/FORMATS.md, "Stores elsewhere"): a key for all files, and one for each piece that a life
+/* A store in a bucket of NATS JetStream (hosts/README.md, "Their bytes"): a key for all files, and one for each piece that a life
    put behind the gateway's log. JetStream takes a value only where the last one under its key has the revision that the writer tells. A
    life claims a store when it writes the key of the files, and in the place of the next piece of the life before a stone that stays. */
 #include "report.h"

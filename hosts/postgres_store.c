@@ -1,6 +1,6 @@
 /* A store in a table of PostgreSQL: a row for each file, and one for each piece that was put behind the gateway's log. The row `claim`
    has the number of the life that has the store. Each write is one statement that locks that row, and writes nothing where another life
-   has raised the number (docs/FORMATS.md, "Stores elsewhere"). */
+   has raised the number (hosts/README.md, "Their bytes"). */
 #include "report.h"
 #include "store.h"
 
