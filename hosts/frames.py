@@ -158,33 +158,37 @@ def compiled(folder):
             print(f"not tried, since there is no {words[0]}: {source}")
 
 
+COUNT, KILLS = 10000, 30
+
+
+def survives(folder, command):
+    """A client hands inputs in and takes their outputs while the gateway and the nodes are killed: none is lost, doubled or changed."""
+    cluster, kills, said = begin(folder), 0, []
+    client = subprocess.Popen([*command, cluster.lines, str(COUNT)], stdout=subprocess.PIPE, text=True)
+    reader = threading.Thread(target=lambda: said.extend(client.stdout), daemon=True)
+    reader.start()
+    while client.poll() is None and kills < KILLS:
+        program = cluster.programs[kills % len(cluster.programs)]
+        program.kill()
+        program.start()
+        if program.number:
+            program.wait_up()
+        kills += 1
+        time.sleep(0.02)
+    reader.join(300)
+    client.kill()
+    wanted = [f"{ECHO} {ssn} {ssn}\n" for ssn in range(1, COUNT + 1)]
+    if client.wait() or said != wanted:
+        at = next((place for place, pair in enumerate(zip(said, wanted)) if pair[0] != pair[1]), min(len(said), len(wanted)))
+        raise Wrong(f"{command[-1]}: status {client.returncode}, {len(said)} outputs, and at {at} {said[at:at + 2]}")
+    if kills < 6:
+        raise Wrong(f"{command[-1]} was over after {kills} kills")
+    for node in cluster.nodes:
+        tells(node, length=COUNT)
+    cluster.stop()
+    print(f"{os.path.basename(command[-1])}: {kills} kills", flush=True)
+
+
 def clients(folder):
-    """Each client hands inputs in and takes their outputs while the gateway and the nodes are killed: none is lost, doubled or changed."""
-    count = 20000
     for number, command in enumerate(compiled(folder)):
-        cluster = begin(os.path.join(folder, str(number)))
-        client = subprocess.Popen([*command, cluster.lines, str(count)], stdout=subprocess.PIPE, text=True)
-        said = []
-        reader = threading.Thread(target=lambda: said.extend(client.stdout), daemon=True)
-        reader.start()
-        kills, until = 0, time.monotonic() + 120
-        while client.poll() is None and time.monotonic() < until:
-            program = cluster.programs[kills % len(cluster.programs)]
-            program.kill()
-            program.start()
-            if program.number:
-                program.wait_up()
-            kills += 1
-            time.sleep(0.02)
-        client.kill()
-        reader.join()
-        wanted = [f"{ECHO} {ssn} {ssn}\n" for ssn in range(1, count + 1)]
-        if client.wait() or said != wanted:
-            at = next((place for place, pair in enumerate(zip(said, wanted)) if pair[0] != pair[1]), min(len(said), len(wanted)))
-            raise Wrong(f"{command[0]}: status {client.returncode}, {len(said)} outputs, and at {at} {said[at:at + 2]}")
-        if kills < 6:
-            raise Wrong(f"{command[0]} was over after {kills} kills")
-        for node in cluster.nodes:
-            tells(node, length=count)
-        cluster.stop()
-        print(f"{os.path.basename(command[-1])}: {kills} kills", flush=True)
+        survives(os.path.join(folder, str(number)), command)
