@@ -18,9 +18,9 @@ def holds(cluster, program):
     return told(["--cluster", cluster.file_of(0), "--me", str(program.number), "--inspect", program.store])[0]
 
 
-def follows(cluster, program, one, line):
-    """Another life of a program claims its store, at an address where nobody looks for it. The first one ends when it would send on what
-    comes of this line."""
+def follows(cluster, program, act):
+    """Another life of a program claims its store, at an address where nobody looks for it. The first one ends when it would send what
+    comes of this act."""
     file, before = os.path.join(cluster.folder, "moved"), holds(cluster, program)
     with open(cluster.file_of(program.number)) as old, open(file, "w") as new:
         new.write(old.read().replace(f":{cluster.path(program.number)}\n", f":{cluster.path(program.number)}.moved\n"))
@@ -29,7 +29,11 @@ def follows(cluster, program, one, line):
     lives.running.add(heir)
     while holds(cluster, program) == before:
         time.sleep(0.01)
-    one.says(line)
+    act()
+    try:
+        program.child.wait(30)
+    except subprocess.TimeoutExpired as over:
+        raise Wrong(f"{program.name} goes on behind another life") from over
     if program.ends() != 7 or "has claimed the store" not in program.said[-1]:
         raise Wrong(f"{program.name} ended otherwise behind another life: {program.said[-2:]}")
     heir.kill()
@@ -74,9 +78,13 @@ def lives_on(folder, storage):
     echo.start()
     echo.wait_up()
     works(cluster, one, 4)
-    follows(cluster, relay, one, "input relay 5")
+    follows(cluster, relay, lambda: one.says("input relay 5"))
     one.hears("logged relay 5", f"output echo 5 {payload(5)}")
-    follows(cluster, cluster.gateway, one, "input relay 6")
+    echo.kill()
+    follows(cluster, relay, echo.start)  # which asks, and nothing changes at the one that would answer
+    echo.wait_up()
+    relay.wait_up()
+    follows(cluster, cluster.gateway, lambda: one.says("input relay 6"))
     one = connect(cluster)
     one.says("outputs")
     one.hears(*(f"output echo {number} {payload(number)}" for number in range(1, 6)))

@@ -41,11 +41,18 @@ class Machines:
             subprocess.run(["ip", "netns", "del", name], check=False, stderr=subprocess.DEVNULL)
 
 
+def tries(words):
+    """Whether it can be done, or was before."""
+    done = subprocess.run(words.split(), check=False, capture_output=True, text=True)
+    return done.returncode == 0 or "File exists" in done.stderr
+
+
 class Lan:
-    """Machines on one network, with this one, whose address is `host`. Each may be cut off. Without root it is this machine alone."""
+    """Machines on one network, with this one, whose address is `host`. Each may be cut off. Where there are no namespaces it is this
+    machine alone."""
 
     def __init__(self, count):
-        self.is_there = os.geteuid() == 0 and shutil.which("ip") is not None
+        self.is_there = os.geteuid() == 0 and shutil.which("ip") is not None and tries("ip netns add sblog-0")
         self.host = "10.78.0.254" if self.is_there else "127.0.0.1"
         self.names = [f"sblog-{number}" if self.is_there else None for number in range(count)]
 

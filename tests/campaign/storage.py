@@ -147,7 +147,8 @@ class Table(Storage):
 
     def start(self):
         words = [os.path.join(self.bin, "postgres"), "-D", os.path.join(self.folder, "data"), "-h", self.host, "-p", str(self.port)]
-        self.child = subprocess.Popen([*words, "-k", self.folder], stdout=subprocess.DEVNULL, stderr=subprocess.DEVNULL, cwd="/", **self.user)
+        words += ["-k", self.folder]
+        self.child = subprocess.Popen(words, stdout=subprocess.DEVNULL, stderr=subprocess.DEVNULL, cwd="/", **self.user)
         lives.running.add(self.child)
         until = time.monotonic() + 60
         while subprocess.run([os.path.join(self.bin, "pg_isready"), "-h", self.host, "-p", str(self.port)], capture_output=True).returncode:
