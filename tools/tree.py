@@ -1,6 +1,7 @@
 """The crates of this repository and the commands of the kit; the scripts here, .ci/keep and .ci/minutes import it."""
 import functools
 import importlib.util
+import os
 import shutil
 import subprocess
 import sys
@@ -8,6 +9,18 @@ from pathlib import Path
 
 TOP = Path(__file__).resolve().parents[1]
 NO_KIT = "rt is not on the path: install the Rattle kit that README.md names, and put its folder bin on the path"
+
+
+# Bytes that no check of these crates needs more of.
+CHECK = 5_000_000_000
+
+
+def with_lanes():
+    """The environment for `rt ci`. It reckons with more memory for a check than these crates need, and would leave processors idle: if
+    there is enough for each, RT_JOBS has it use them all."""
+    processors = len(os.sched_getaffinity(0))
+    free = next(1024 * int(it.split()[1]) for it in Path("/proc/meminfo").read_text().splitlines() if it.startswith("MemAvailable"))
+    return {"RT_JOBS": str(processors), **os.environ} if processors * CHECK <= free else {**os.environ}
 
 
 def families():
