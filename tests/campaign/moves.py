@@ -1,5 +1,6 @@
 """Nodes whose stores lie elsewhere go on on another machine, when theirs is cut off, stands still or is gone; the server of
-PostgreSQL is killed now and then. A life that was left behind and wakes up ends by itself, with status 7, and has written nothing."""
+PostgreSQL is killed now and then. A life that was left behind and wakes up ends by itself, with status 7, and has written nothing; with
+status 6 if its server was killed before it could tell it so."""
 import collections
 import copy
 import os
@@ -18,10 +19,10 @@ MACHINES, LEFT, LOST = 8, 3, "has claimed the store"  # LEFT: lives left behind 
 
 
 class Left:
-    """A life that another one followed, and its machine."""
+    """A life that another one followed, its machine, and how often the server had been killed when it woke up."""
 
-    def __init__(self, program, machine, way, until):
-        self.program, self.machine, self.way, self.until = program, machine, way, until
+    def __init__(self, program, machine, way, until, failures):
+        self.program, self.machine, self.way, self.until, self.failures = program, machine, way, until, failures
 
 
 class Moves:
@@ -64,7 +65,7 @@ class Moves:
             heir.wait_up(60)
         self.campaign.pause(0.3)
         if way != "kill":
-            self.wakes(Left(program, machine, way, time.monotonic() + 60))
+            self.wakes(Left(program, machine, way, time.monotonic() + 60, self.ways["server"]))
         self.ways[way] += 1
 
     def empties(self, program):
@@ -85,7 +86,8 @@ class Moves:
         while True:
             for left in [left for left in self.left if left.program.child.poll() is not None]:
                 status = left.program.ends()
-                if status != 7 or not any(LOST in line for line in left.program.said):
+                was_told = status == 7 and any(LOST in line for line in left.program.said)
+                if not was_told and not (status == 6 and left.failures < self.ways["server"]):
                     raise Wrong(f"{left.program.name} woke up after {left.way}, and ended with {status}: {left.program.said[-3:]}")
                 self.left.remove(left)
                 self.empties(left.program)
