@@ -1,6 +1,6 @@
 //! Laws of every world that a legal journal leads to.
 //!
-//! The laws hold of any handlers that take back nothing that they sent (`replay::handlers_grow`:
+//! The laws hold of any handlers that take back nothing that they sent (`sessions::handlers_grow`:
 //! the handlers of images do) and of any legal journal. Whatever fails, the world is *sound*, *tidy*
 //! and *gated* (`always_sound`, `always_tidy`, `always_gated`). If failures come one at a time, it
 //! is also *exact* (`always_exact`), and the promises follow from that:
