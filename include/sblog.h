@@ -380,6 +380,49 @@ uint32_t sblog_session_entries(sblog_session *handle, size_t from, sblog_entry *
 
 #endif
 
+/* ---- packets, that nodes and the gateway of a cluster send each other. Their bytes: docs/FORMATS.md. */
+
+#ifndef SBLOG_PACKET_H
+#define SBLOG_PACKET_H
+
+enum sblog_packet_kind {
+    SBLOG_PACKET_DELIVERY = 1,        /* a message */
+    SBLOG_PACKET_NUMBER = 2,          /* which number its receiver gave it */
+    SBLOG_PACKET_ACKNOWLEDGEMENT = 3, /* that number is recorded */
+    SBLOG_PACKET_ASK = 4,             /* what does your log hold for me? */
+    SBLOG_PACKET_TOLD = 5,            /* a page of that */
+    SBLOG_PACKET_RESUME = 6,          /* I am back: which of my messages do you have? */
+    SBLOG_PACKET_RESTORED = 7,        /* a page of these */
+    SBLOG_PACKET_SAVED = 8            /* so many of your messages are covered for good */
+};
+
+/* What a host has to know of a packet, to say when it goes, and what it answers. */
+typedef struct {
+    uint64_t kind;   /* enum sblog_packet_kind */
+    uint64_t from;   /* the process that sent it, */
+    uint64_t to;     /* and the one that it goes to; 0 is the gateway */
+    uint64_t ssn;    /* of its message; of a Saved, of the last message that is covered; else 0 */
+    uint64_t number; /* that it tells or acknowledges; else 0 */
+} sblog_label;
+
+#ifdef __cplusplus
+#define SBLOG_PACKET_ASSERT(holds, why) static_assert(holds, why)
+#else
+#define SBLOG_PACKET_ASSERT(holds, why) _Static_assert(holds, why)
+#endif
+SBLOG_PACKET_ASSERT(sizeof(sblog_label) == 40, "size of sblog_label");
+SBLOG_PACKET_ASSERT(offsetof(sblog_label, kind) == 0, "place of kind");
+SBLOG_PACKET_ASSERT(offsetof(sblog_label, from) == 8, "place of from");
+SBLOG_PACKET_ASSERT(offsetof(sblog_label, to) == 16, "place of to");
+SBLOG_PACKET_ASSERT(offsetof(sblog_label, ssn) == 24, "place of ssn");
+SBLOG_PACKET_ASSERT(offsetof(sblog_label, number) == 32, "place of number");
+#undef SBLOG_PACKET_ASSERT
+
+/* The label of a packet. The codes are those of nodes: 21, the bytes are no packet's, by fault 1 to 8, or 15, memory ran out. */
+uint32_t sblog_packet_label(const uint8_t *packet, size_t packet_len, sblog_label *label, uint32_t *fault);
+
+#endif
+
 /* ---- the gateway of a cluster, whose processes are programs of their own: its way in and out, node 0. The
    bytes of packets, store and changes: docs/FORMATS.md. */
 

@@ -9,13 +9,15 @@ ghost use Rattle.c_cluster.specs.Nodes.Results.{IsTaken, IsUntaken, IsMade, IsUn
 ghost use Rattle.c_cluster.specs.Nodes.NodeJob.{ticket_from, IsGiven, IsNotGiven, IsDone, IsNotDone};
 ghost use Rattle.c_cluster.specs.Nodes.Lifetime.{limits_from, AnswersOpening, AnswersRevival};
 ghost use Rattle.c_cluster.specs.Nodes.Status.{IsStanding};
+ghost use Rattle.c_cluster.specs.Nodes.Label.{AnswersLabel};
 
 use crate::nodes::fault::{code, code_of_bytes};
 use crate::nodes::handle::NodeHandle;
+use crate::nodes::label::PacketLabel;
 use crate::nodes::lifetime::NodeLimits;
 use crate::nodes::node_job::NodeJob;
 use crate::nodes::status::NodeStanding;
-use crate::nodes::{calls, lifetime, node_job, results, status};
+use crate::nodes::{calls, label, lifetime, node_job, results, status};
 use process::HandlerTicket;
 use std::alloc::Global;
 
@@ -221,4 +223,18 @@ pub extern "C" fn sblog_node_state(
     ensures { Answers result node.old.process.value node.new.process.value (IsRead out.old out.new size.new) (IsUnread out.old out.new size.old size.new) }
 {
     code(results::state(alloc, node, out, size))
+}
+
+/// Writes the label of a packet of a node or the gateway: what a host has to know of it, to say when
+/// it goes and what it answers. If the bytes are not a packet, writes the number of their fault.
+#[unsafe(no_mangle)]
+pub extern "C" fn sblog_packet_label(
+    alloc: Global,
+    packet: &[u8],
+    label: &mut PacketLabel,
+    fault: &mut u32,
+) -> u32
+    ensures { AnswersLabel packet.now result label.old label.new fault.old fault.new }
+{
+    code_of_bytes(label::read(alloc, packet, label), fault)
 }
