@@ -405,6 +405,13 @@ typedef struct {
     uint64_t number; /* that it tells or acknowledges; else 0 */
 } sblog_label;
 
+/* How the packets of a bundle fared that a node or the gateway was handed. */
+typedef struct {
+    uint64_t taken;
+    uint64_t refused; /* they are no packets */
+    uint64_t lost;    /* there was no memory for them */
+} sblog_tally;
+
 #ifdef __cplusplus
 #define SBLOG_PACKET_ASSERT(holds, why) static_assert(holds, why)
 #else
@@ -416,6 +423,10 @@ SBLOG_PACKET_ASSERT(offsetof(sblog_label, from) == 8, "place of from");
 SBLOG_PACKET_ASSERT(offsetof(sblog_label, to) == 16, "place of to");
 SBLOG_PACKET_ASSERT(offsetof(sblog_label, ssn) == 24, "place of ssn");
 SBLOG_PACKET_ASSERT(offsetof(sblog_label, number) == 32, "place of number");
+SBLOG_PACKET_ASSERT(sizeof(sblog_tally) == 24, "size of sblog_tally");
+SBLOG_PACKET_ASSERT(offsetof(sblog_tally, taken) == 0, "place of taken");
+SBLOG_PACKET_ASSERT(offsetof(sblog_tally, refused) == 8, "place of refused");
+SBLOG_PACKET_ASSERT(offsetof(sblog_tally, lost) == 16, "place of lost");
 #undef SBLOG_PACKET_ASSERT
 
 /* The label of a packet. The codes are those of nodes: 21, the bytes are no packet's, by fault 1 to 8, or 15, memory ran out. */
@@ -483,6 +494,10 @@ uint32_t sblog_gateway_input(sblog_gateway *gateway, uint8_t process, const uint
 /* Bytes came; where they are no packet's, by fault 1 to 8. */
 uint32_t sblog_gateway_receive(sblog_gateway *gateway, const uint8_t *packet, size_t packet_len,
                                uint32_t *fault);
+/* Each packet of a bundle came, in their order. A bundle is here what is after its head, each packet after its length (2 bytes).
+   Other bytes are refused whole (21). */
+uint32_t sblog_gateway_receive_all(sblog_gateway *gateway, const uint8_t *bundle, size_t bundle_len,
+                                   sblog_tally *tally);
 /* The next packet that is to be sent, and to which process; 20 where none waits. */
 uint32_t sblog_gateway_take(sblog_gateway *gateway, uint8_t *out, size_t out_len, size_t *size,
                             uint8_t *to);
@@ -602,6 +617,9 @@ uint32_t sblog_node_revive(const uint8_t *image, size_t image_len, const uint8_t
                            uint32_t receipts, uint32_t durable, sblog_node *node, uint32_t *fault);
 uint32_t sblog_node_close(sblog_node *node);
 uint32_t sblog_node_receive(sblog_node *node, const uint8_t *packet, size_t packet_len, uint32_t *fault);
+/* Each packet of a bundle came, in their order, and after each that is taken the handler runs, as by sblog_node_work: a node that
+   works on a message takes no other one. A bundle is here what is after its head; other bytes are refused whole (21). */
+uint32_t sblog_node_receive_all(sblog_node *node, const uint8_t *bundle, size_t bundle_len, sblog_tally *tally);
 /* A packet to be sent, and to whom (0: the gateway); 20, if none waits. */
 uint32_t sblog_node_take(sblog_node *node, uint8_t *out, size_t out_len, size_t *size, uint8_t *to);
 /* The handler runs; 20, if there is nothing to work on. */

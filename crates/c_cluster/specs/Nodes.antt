@@ -7,3 +7,4 @@ pub mod Outcome
 pub mod NodeJob
 pub mod HostCalls
 pub mod Label
+pub mod Bundles

@@ -5,9 +5,11 @@ ghost use Rattle.std.specs.Prelude.{◌≡◌};
 ghost use Rattle.c_cluster.specs.Gateways.Answers.{Answers};
 ghost use Rattle.c_handles.specs.Buffer.{OnFault};
 ghost use Rattle.c_cluster.specs.Gateways.Lifetime.{IsApplied, IsClosed, IsOpened, IsRevived, IsUnapplied, IsUnopened, IsUnrevived, WasClosed};
+ghost use Rattle.c_cluster.specs.Gateways.Bundles.{AreReceived, AreUnreceived};
 ghost use Rattle.c_cluster.specs.Gateways.Calls.{IsLogged, IsReceived, IsTicked, IsUnlogged, IsUnreceived};
 ghost use Rattle.c_cluster.specs.Gateways.Results.{IsShown, IsStored, IsTaken, IsTold, IsUnshown, IsUnstored, IsUntaken, IsUntold};
 
+use crate::bundle::BundleTally;
 use crate::gateways::fault::code;
 use crate::gateways::handle::GatewayHandle;
 use crate::gateways::{calls, lifetime, results};
@@ -92,6 +94,22 @@ pub extern "C" fn sblog_gateway_receive(
     ensures { Answers result handle.old.gateway.value handle.new.gateway.value (IsReceived packet.now fault.old fault.new) (IsUnreceived packet.now fault.old fault.new) }
 {
     code(calls::receive(alloc, handle, packet, fault))
+}
+
+/// Takes each packet of a bundle, from the first on. Counts the packets that it took, that are no
+/// packets, and for which there was no memory. The bytes are those of a bundle after its head; others
+/// are refused whole.
+#[unsafe(no_mangle)]
+pub extern "C" fn sblog_gateway_receive_all(
+    alloc: Global,
+    handle: &mut GatewayHandle,
+    bundle: &[u8],
+    tally: &mut BundleTally,
+) -> u32
+    ensures received { Answers result handle.old.gateway.value handle.new.gateway.value (AreReceived bundle.now tally.new) (AreUnreceived bundle.now) }
+    ensures kept { OnFault result (tally.new ≡ tally.old) }
+{
+    code(calls::receive_all(alloc, handle, bundle, tally))
 }
 
 /// Takes the first packet that waits: writes its bytes, its length, and its receiver.

@@ -4,6 +4,7 @@
 ghost use Rattle.std.specs.Prelude.{◌≡◌};
 ghost use Rattle.c_cluster.specs.Nodes.Answers.{Answers, AnswersOfBytes};
 ghost use Rattle.c_handles.specs.Buffer.{OnFault};
+ghost use Rattle.c_cluster.specs.Nodes.Bundles.{AreReceived, AreUnreceived};
 ghost use Rattle.c_cluster.specs.Nodes.Calls.{IsClosed, WasClosed, IsReceived, IsUnreceived, HasWorked, HasNotWorked, HasTicked, IsHeldBack, HasSaved, HasNotSaved};
 ghost use Rattle.c_cluster.specs.Nodes.Results.{IsTaken, IsUntaken, IsMade, IsUnmade, IsRead, IsUnread};
 ghost use Rattle.c_cluster.specs.Nodes.NodeJob.{ticket_from, IsGiven, IsNotGiven, IsDone, IsNotDone};
@@ -11,6 +12,7 @@ ghost use Rattle.c_cluster.specs.Nodes.Lifetime.{limits_from, AnswersOpening, An
 ghost use Rattle.c_cluster.specs.Nodes.Status.{IsStanding};
 ghost use Rattle.c_cluster.specs.Nodes.Label.{AnswersLabel};
 
+use crate::bundle::BundleTally;
 use crate::nodes::fault::{code, code_of_bytes};
 use crate::nodes::handle::NodeHandle;
 use crate::nodes::label::PacketLabel;
@@ -97,6 +99,22 @@ pub extern "C" fn sblog_node_receive(
     ensures { AnswersOfBytes result node.old.process.value node.new.process.value fault.old fault.new (IsReceived packet.now) (IsUnreceived packet.now) }
 {
     code_of_bytes(calls::receive(alloc, node, packet), fault)
+}
+
+/// Hands the process each packet of a bundle, from the first on, and runs the handler after each that
+/// it takes. Counts the packets that it took, that are no packets, and for which there was no memory.
+/// The bytes are those of a bundle after its head; others are refused whole.
+#[unsafe(no_mangle)]
+pub extern "C" fn sblog_node_receive_all(
+    alloc: Global,
+    node: &mut NodeHandle,
+    bundle: &[u8],
+    tally: &mut BundleTally,
+) -> u32
+    ensures received { Answers result node.old.process.value node.new.process.value (AreReceived bundle.now tally.new) (AreUnreceived bundle.now) }
+    ensures kept { OnFault result (tally.new ≡ tally.old) }
+{
+    code(calls::receive_all(alloc, node, bundle, tally))
 }
 
 /// Takes the first packet that waits: writes its bytes, its length, and its receiver.
