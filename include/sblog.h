@@ -501,6 +501,10 @@ uint32_t sblog_gateway_receive_all(sblog_gateway *gateway, const uint8_t *bundle
 /* The next packet that is to be sent, and to which process; 20 where none waits. */
 uint32_t sblog_gateway_take(sblog_gateway *gateway, uint8_t *out, size_t out_len, size_t *size,
                             uint8_t *to);
+/* The first packets that are to be sent, as many as go to one process and fit, as a bundle without its head: how many bytes and
+   packets, and to which process; 20 where none waits, 19 where the first one doesn't fit. */
+uint32_t sblog_gateway_take_all(sblog_gateway *gateway, uint8_t *out, size_t out_len, size_t *size,
+                                uint8_t *to, uint64_t *count);
 /* What isn't answered is sent again. */
 uint32_t sblog_gateway_tick(sblog_gateway *gateway);
 /* The next output; 20 where there is none. */
@@ -622,6 +626,10 @@ uint32_t sblog_node_receive(sblog_node *node, const uint8_t *packet, size_t pack
 uint32_t sblog_node_receive_all(sblog_node *node, const uint8_t *bundle, size_t bundle_len, sblog_tally *tally);
 /* A packet to be sent, and to whom (0: the gateway); 20, if none waits. */
 uint32_t sblog_node_take(sblog_node *node, uint8_t *out, size_t out_len, size_t *size, uint8_t *to);
+/* The first packets to be sent, as many as go to one process and fit, as a bundle without its head: how many bytes and packets, and
+   to whom; 20, if none waits, and 19, if the first one doesn't fit. */
+uint32_t sblog_node_take_all(sblog_node *node, uint8_t *out, size_t out_len, size_t *size, uint8_t *to,
+                             uint64_t *count);
 /* The handler runs; 20, if there is nothing to work on. */
 uint32_t sblog_node_work(sblog_node *node);
 /* Or it runs outside of the node, as machine code. The array of the call that sblog_node_work would make (20: there is

@@ -1,11 +1,13 @@
 -- Reading the packets of a bundle
-use Rattle.std.proofs.Common.{Bool, true, false, eqb, ◌↔◌, IsTrue, ◌≡◌, ◌∙◌, ℕ, ◌+◌, ◌≤◌, List, [], ◌∷◌, ◌++◌, length, take, drop, refl, sym, ap, subst, append_assoc, arith}
+use Rattle.std.proofs.Common.{Bool, true, false, eqb, ◌↔◌, IsTrue, ◌≡◌, ◌∙◌, ℕ, ◌+◌, ◌<◌, ◌≤◌, List, [], ◌∷◌, ◌++◌, length, take, drop, refl, sym, ap, subst, append_assoc, arith}
 use Rattle.std.specs.List.{flat_map, AllByRecursion}
 use Rattle.std.proofs.lemmas.List.{take_at, drop_at, length-append, append-nil, flat_map_more}
 use Rattle.std.proofs.lemmas.Bool.{ne_eqb, false≢true}
 use Rattle.byteorder.specs.Endian.{little_bytes, little_number}
 use Rattle.byteorder.specs.Numbers.{little_number-reads_back, length-bytes_low_first}
-use Rattle.c_cluster.specs.Bundle.{IsPart, IsBundle, part_bytes, BeginsWithNone, InOrder}
+use Rattle.operations.specs.Bytes.{overwritten}
+use Rattle.c_cluster.specs.Bundle.{IsPart, IsBundle, part_bytes, BeginsWithNone, FitsFrom, InOrder}
+use Rattle.c_handles.proofs.Overwritten.{overwritten_none, put_more}
 
 -- the first two bytes of a part tell its length
 told : (packet rest bytes : List ℕ) → IsPart packet → bytes ≡ part_bytes packet ++ rest → little_number 2 bytes ≡ length packet
@@ -92,7 +94,7 @@ whole b packets bytes (x ∷ rest) e front none =
     (λ yes. absurd (false≢true (sym no ∙ sym e ∙ yes)), λ is. absurd (let f = left is in cc))
 
 -- one thing more is done
-one_more : {X S : Type 0} (Does : X → S → S → Type 0) (xs : List X) (x : X) (a b c : S) → InOrder Does xs a b → Does x b c → InOrder Does (xs ++ x ∷ []) a c
+pub one_more : {X S : Type 0} (Does : X → S → S → Type 0) (xs : List X) (x : X) (a b c : S) → InOrder Does xs a b → Does x b c → InOrder Does (xs ++ x ∷ []) a c
 one_more Does [] x a b c all one = (c, subst (λ s. Does x s c) all one, refl)
 one_more Does (y ∷ ys) x a b c all one = (all.0, all.1, one_more Does ys x all.0 b c all.2 one)
 
@@ -103,3 +105,34 @@ pub goes_on : {S : Type 0} (Does : List ℕ → S → S → Type 0) (packets : L
 goes_on Does packets packet bytes rest after a b c n m front all few part e one count =
     let size = size_is packet after rest e in
     (packets ++ packet ∷ [], more_front packets packet bytes rest after front part e, one_more Does packets packet a b c all one, omega (arith, size, few, count))
+
+-- ---- packets that are written
+
+-- these packets are at the front of a buffer, up to here; this many
+pub record Laid (out out' : List ℕ) (end count : ℕ) (packets : List (List ℕ)) : Type 0 where
+  pub each : AllByRecursion IsPart packets
+  pub laid : out' ≡ overwritten out 0 (flat_map part_bytes packets)
+  pub end_is : end ≡ length (flat_map part_bytes packets)
+  pub within : end ≤ length out
+  pub count_is : count ≡ length packets
+  pub few : count ≤ end
+
+pub none_laid : (out : List ℕ) → Laid out out 0 0 []
+none_laid out = record { each = tt; laid = overwritten_none out 0; end_is = refl; within = omega arith; count_is = refl; few = omega arith }
+
+-- one more
+pub more_laid : (out mid out' : List ℕ) (end end' count count' : ℕ) (packets : List (List ℕ)) (packet : List ℕ) → Laid out mid end count packets → 0 < length packet → FitsFrom end (length mid) packet
+    → out' ≡ overwritten mid end (part_bytes packet) → end' ≡ end + length (part_bytes packet) → length mid ≡ length out → count' ≡ count + 1 → Laid out out' end' count' (packets ++ packet ∷ [])
+more_laid out mid out' end end' count count' packets packet l some fits written e same c =
+    let joined : flat_map part_bytes packets ++ part_bytes packet ≡ flat_map part_bytes (packets ++ packet ∷ []) = flat_map_more part_bytes [] packets packet in
+    let long = length-append (flat_map part_bytes packets) (part_bytes packet) in
+    let size : length (part_bytes packet) ≡ 2 + length packet = omega (arith, length-append (little_bytes 2 (length packet)) packet, length-bytes_low_first 0 2 (length packet)) in
+    let ends : end' ≡ length (flat_map part_bytes packets ++ part_bytes packet) = omega (arith, long, e, l.end_is) in
+    record {
+      each = all_more packets packet l.each (some, fits.0);
+      laid = put_more out mid out' 0 end (flat_map part_bytes packets) (part_bytes packet) l.laid (omega (arith, l.end_is)) (omega (arith, l.end_is, l.within)) written ∙ ap (overwritten out 0) joined;
+      end_is = ends ∙ ap length joined;
+      within = omega (arith, e, size, fits.1, same);
+      count_is = omega (arith, c, l.count_is, length-append packets (packet ∷ []));
+      few = omega (arith, c, l.few, e, size);
+    }

@@ -1,5 +1,5 @@
 -- The packets of a bundle (docs/FORMATS.md, "Bundle"), and what is done with each
-use Rattle.std.specs.Prelude.{◌≡◌, ℕ, ◌+◌, ◌^◌, ◌<◌, List, [], ◌∷◌, ◌++◌, length}
+use Rattle.std.specs.Prelude.{◌≡◌, ℕ, ◌+◌, ◌^◌, ◌<◌, ◌≤◌, List, [], ◌∷◌, ◌++◌, length}
 use Rattle.std.specs.List.{flat_map, AllByRecursion}
 use Rattle.byteorder.specs.Endian.{little_bytes}
 use Rattle.c_cluster.specs.declared.bundle.BundleTally.{BundleTally}
@@ -18,6 +18,10 @@ part_bytes packet = little_bytes 2 (length packet) ++ packet
 pub record IsBundle (packets : List (List ℕ)) (bytes : List ℕ) : Type 0 where
   pub each : AllByRecursion IsPart packets
   pub bytes_are : bytes ≡ flat_map part_bytes packets
+
+-- its length fits two bytes, and both fit a buffer of this size from a place on
+abbrev pub FitsFrom : ℕ → ℕ → List ℕ → Type 0
+FitsFrom at size packet = (length packet < 2 ^ 16) × (at + (2 + length packet) ≤ size)
 
 -- no packet is at their front
 abbrev pub BeginsWithNone : List ℕ → Type 0

@@ -1,12 +1,13 @@
 //! The packets of a bundle, one after another, and how many of them were taken.
 
-ghost use Rattle.std.specs.Prelude.{◌≡◌, ◌++◌, ◌↔◌, List, ℕ, IsTrue, MatchOption};
-ghost use Rattle.c_cluster.specs.Bundle.{IsPart, IsBundle, part_bytes, BeginsWithNone};
+ghost use Rattle.std.specs.Prelude.{◌≡◌, ◌++◌, ◌↔◌, ◌≤◌, ◌+◌, List, ℕ, length, IsTrue, MatchOption};
+ghost use Rattle.operations.specs.Bytes.{overwritten};
+ghost use Rattle.c_cluster.specs.Bundle.{IsPart, IsBundle, part_bytes, BeginsWithNone, FitsFrom};
 
 use byteorder::{ByteOrder, LittleEndian};
 
 /// How many bytes the length of a packet has.
-const LENGTH_BYTES: usize = 2;
+pub(crate) const LENGTH_BYTES: usize = 2;
 
 /// The fault of bytes that are not the packets of a bundle.
 pub(crate) const NOT_BUNDLE: u8 = 1;
@@ -47,4 +48,37 @@ pub(crate) fn is_bundle(bytes: &[u8]) -> bool
         rest = after;
     }
     rest.is_empty()
+}
+
+/// Whether a packet and its length fit from `at` on.
+pub(crate) fn fits(out: &[u8], at: usize, packet: &[u8]) -> bool
+    ensures { IsTrue result ↔ FitsFrom at (length out.now) packet.now }
+{
+    if packet.len() > usize::from(u16::MAX) || at > out.len() {
+        return false;
+    }
+    LENGTH_BYTES + packet.len() <= out.len() - at
+}
+
+/// Writes bytes at `at`, and answers the place after them.
+fn put(out: &mut [u8], at: usize, bytes: &[u8]) -> usize
+    requires { at + length bytes.now ≤ length out.old }
+    ensures written { out.new ≡ overwritten out.old at bytes.now }
+    ensures end { result ≡ at + length bytes.now }
+{
+    let end = at + bytes.len();
+    out[at..end].copy_from_slice(bytes);
+    end
+}
+
+/// Writes a packet after its length at `at`, and answers the place after it.
+pub(crate) fn put_part(out: &mut [u8], at: usize, packet: &[u8]) -> usize
+    requires { FitsFrom at (length out.old) packet.now }
+    ensures written { out.new ≡ overwritten out.old at (part_bytes packet.now) }
+    ensures end { result ≡ at + length (part_bytes packet.now) }
+{
+    let mut size = [0; LENGTH_BYTES];
+    LittleEndian::write_u16(&mut size, packet.len() as u16);
+    let end = put(out, at, &size);
+    put(out, end, packet)
 }

@@ -1,12 +1,18 @@
 -- Bundles that a node is handed
-use Rattle.std.specs.Prelude.{◌≡◌, ◌⊎◌, ◌++◌, ℕ, List, Option}
+use Rattle.std.specs.Prelude.{◌≡◌, ◌⊎◌, ◌+◌, ◌<◌, ◌++◌, ◌∷◌, [], ℕ, List, length, Option, Some}
 use Rattle.std.specs.List.{flat_map, AllByRecursion}
-use Rattle.process.specs.Process.{TheProcess}
+use Rattle.packets.specs.declared.packet.NodePacket.{NodePacket}
+use Rattle.packets.specs.Format.{IsPacket}
+use Rattle.process.specs.Process.{TheProcess, out_of}
+use Rattle.process.specs.Calls.{Stays, Takes}
+use Rattle.process.specs.Packets.{IsFront}
 use Rattle.c_cluster.specs.declared.bundle.BundleTally.{BundleTally}
 use Rattle.c_cluster.specs.declared.nodes.fault.NodeFault.{NodeFault}
-use Rattle.c_cluster.specs.declared.nodes.fault.NodeFault.TheVariants.{Memory, Handle, Bytes}
-use Rattle.c_cluster.specs.Bundle.{IsPart, IsBundle, part_bytes, BeginsWithNone, InOrder, none_counted, one_taken, one_refused, one_lost}
-use Rattle.c_cluster.specs.Nodes.Answers.{OfSame, StaysClosed}
+use Rattle.c_cluster.specs.declared.nodes.fault.NodeFault.TheVariants.{Memory, Handle, Room, Absent, Bytes}
+use Rattle.c_cluster.specs.Bundle.{IsPart, IsBundle, part_bytes, BeginsWithNone, FitsFrom}
+use Rattle.c_cluster.specs.Bundle.{InOrder, none_counted, one_taken, one_refused, one_lost}
+use Rattle.c_cluster.specs.Nodes.Answers.{OfBoth, OfSame, StaysClosed}
+use Rattle.c_handles.specs.Buffer.{IsCopied, IsUntouched}
 use Rattle.c_cluster.specs.Nodes.Calls.{IsReceived, IsUnreceived, HasWorked, HasNotWorked}
 
 -- its handler is to run on the next message
@@ -38,6 +44,45 @@ abbrev pub AreUnreceived : List ℕ → Option TheProcess → Option TheProcess 
 AreUnreceived bundle old new (Bytes f) = OfSame old new (λ p. (packets : List (List ℕ)) → ¬ IsBundle packets bundle)
 AreUnreceived bundle old new Handle = StaysClosed old new
 AreUnreceived bundle old new other = ⊥
+
+-- ---- packets out
+
+-- the first packet that waits goes to this process, and these are its bytes
+abbrev pub Waits : ℕ → List ℕ → TheProcess → Type 0
+Waits to bytes p = (x : NodePacket) × IsPacket x bytes × (x.to ≡ to) × ((rest : List NodePacket) × (out_of p.lifecycle ≡ x ∷ rest))
+
+-- a packet to this process, with these bytes, is taken
+abbrev pub GivesTo : ℕ → List ℕ → TheProcess → TheProcess → Type 0
+GivesTo to bytes p p' = (x : NodePacket) × IsPacket x bytes × (x.to ≡ to) × Stays (Takes (Some x)) p p'
+
+-- the first packets that wait are taken, which all go to this process: the buffer begins with the packets of a bundle
+pub record TakesAll (out out' : List ℕ) (size to count : ℕ) (p p' : TheProcess) : Type 0 where
+  pub packets : List (List ℕ)
+  pub bundle : List ℕ
+  pub some : 0 < count
+  pub count_is : count ≡ length packets
+  pub given : InOrder (GivesTo to) packets p p'
+  pub is_bundle : IsBundle packets bundle
+  pub copied : IsCopied bundle out out' size
+
+-- packets were taken from the process
+abbrev pub AreTaken : List ℕ → List ℕ → ℕ → ℕ → ℕ → Option TheProcess → Option TheProcess → Type 0
+AreTaken out out' size to count old new = OfBoth old new (TakesAll out out' size to count)
+
+-- why none is taken, if the handle is open: none waits, the first one doesn't fit the buffer, or memory ran out
+abbrev pub LeavesAllIn : List ℕ → List ℕ → ℕ → ℕ → TheProcess → TheProcess → NodeFault → Type 0
+LeavesAllIn out out' was size p p' Absent = (p' ≡ p) × (out_of p.lifecycle ≡ []) × IsUntouched out out' was size
+LeavesAllIn out out' was size p p' Room = (p' ≡ p)
+    × ((bytes : List ℕ) × IsFront p bytes × (¬ FitsFrom 0 (length out) bytes) × (out' ≡ out) × (size ≡ 2 + length bytes))
+LeavesAllIn out out' was size p p' Memory = (p' ≡ p) × IsUntouched out out' was size
+LeavesAllIn out out' was size p p' other = ⊥
+
+-- why none is taken: one of these, or the handle is closed. Nothing else has changed
+abbrev pub AreUntaken : List ℕ → List ℕ → ℕ → ℕ → Option TheProcess → Option TheProcess → NodeFault → Type 0
+AreUntaken out out' was size old new Handle = StaysClosed old new × IsUntouched out out' was size
+AreUntaken out out' was size old new why = OfBoth old new (λ p p'. LeavesAllIn out out' was size p p' why)
+
+-- ---- packets in
 
 -- so it goes with the packets at the front of some bytes
 pub record ServesFront (bytes : List ℕ) (old new : Option TheProcess) (tally : BundleTally) : Type 0 where

@@ -5,7 +5,7 @@ ghost use Rattle.std.specs.Prelude.{◌≡◌};
 ghost use Rattle.c_cluster.specs.Gateways.Answers.{Answers};
 ghost use Rattle.c_handles.specs.Buffer.{OnFault};
 ghost use Rattle.c_cluster.specs.Gateways.Lifetime.{IsApplied, IsClosed, IsOpened, IsRevived, IsUnapplied, IsUnopened, IsUnrevived, WasClosed};
-ghost use Rattle.c_cluster.specs.Gateways.Bundles.{AreReceived, AreUnreceived};
+ghost use Rattle.c_cluster.specs.Gateways.Bundles.{AreReceived, AreUnreceived, AreTaken, AreUntaken};
 ghost use Rattle.c_cluster.specs.Gateways.Calls.{IsLogged, IsReceived, IsTicked, IsUnlogged, IsUnreceived};
 ghost use Rattle.c_cluster.specs.Gateways.Results.{IsShown, IsStored, IsTaken, IsTold, IsUnshown, IsUnstored, IsUntaken, IsUntold};
 
@@ -125,6 +125,24 @@ pub extern "C" fn sblog_gateway_take(
     ensures kept { OnFault result (to.new ≡ to.old) }
 {
     code(results::take(alloc, handle, out, size, to))
+}
+
+/// Takes the first packets that wait, as many as go to the same process and fit: writes them as those
+/// of a bundle, their length in bytes, their receiver, and their number. No contract says that it takes
+/// all that fit, since memory may run out.
+#[unsafe(no_mangle)]
+pub extern "C" fn sblog_gateway_take_all(
+    alloc: Global,
+    handle: &mut GatewayHandle,
+    out: &mut [u8],
+    size: &mut usize,
+    to: &mut u8,
+    count: &mut u64,
+) -> u32
+    ensures taken { Answers result handle.old.gateway.value handle.new.gateway.value (AreTaken out.old out.new size.new to.new count.new) (AreUntaken out.old out.new size.old size.new) }
+    ensures kept { OnFault result ((to.new ≡ to.old) × (count.new ≡ count.old)) }
+{
+    code(results::take_all(alloc, handle, out, size, to, count))
 }
 
 /// Sends again what isn't answered.

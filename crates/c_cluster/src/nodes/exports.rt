@@ -4,7 +4,7 @@
 ghost use Rattle.std.specs.Prelude.{◌≡◌};
 ghost use Rattle.c_cluster.specs.Nodes.Answers.{Answers, AnswersOfBytes};
 ghost use Rattle.c_handles.specs.Buffer.{OnFault};
-ghost use Rattle.c_cluster.specs.Nodes.Bundles.{AreReceived, AreUnreceived};
+ghost use Rattle.c_cluster.specs.Nodes.Bundles.{AreReceived, AreUnreceived, AreTaken, AreUntaken};
 ghost use Rattle.c_cluster.specs.Nodes.Calls.{IsClosed, WasClosed, IsReceived, IsUnreceived, HasWorked, HasNotWorked, HasTicked, IsHeldBack, HasSaved, HasNotSaved};
 ghost use Rattle.c_cluster.specs.Nodes.Results.{IsTaken, IsUntaken, IsMade, IsUnmade, IsRead, IsUnread};
 ghost use Rattle.c_cluster.specs.Nodes.NodeJob.{ticket_from, IsGiven, IsNotGiven, IsDone, IsNotDone};
@@ -130,6 +130,24 @@ pub extern "C" fn sblog_node_take(
     ensures kept { OnFault result (to.new ≡ to.old) }
 {
     code(results::take(alloc, node, out, size, to))
+}
+
+/// Takes the first packets that wait, as many as go to the same process and fit: writes them as those
+/// of a bundle, their length in bytes, their receiver, and their number. No contract says that it takes
+/// all that fit, since memory may run out.
+#[unsafe(no_mangle)]
+pub extern "C" fn sblog_node_take_all(
+    alloc: Global,
+    node: &mut NodeHandle,
+    out: &mut [u8],
+    size: &mut usize,
+    to: &mut u8,
+    count: &mut u64,
+) -> u32
+    ensures taken { Answers result node.old.process.value node.new.process.value (AreTaken out.old out.new size.new to.new count.new) (AreUntaken out.old out.new size.old size.new) }
+    ensures kept { OnFault result ((to.new ≡ to.old) × (count.new ≡ count.old)) }
+{
+    code(results::take_all(alloc, node, out, size, to, count))
 }
 
 /// Runs the handler on the message that was received, or on the next one of the replay.
