@@ -30,7 +30,7 @@ struct gateway_host {
     struct clients clients;
     struct answers answers;
     struct outputs waiting;
-    struct bytes heard; /* packets of this turn that the pace learns from */
+    struct bytes heard; /* labels of packets of this turn, of which the pace learns something */
     struct turns turns;
     bool has_tick; /* whether the packets of one wait */
     uint8_t *bytes;

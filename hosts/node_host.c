@@ -61,7 +61,8 @@ static int receive(struct node_host *host) {
         if (code == SBLOG_NODE_BYTES && host->refused++ == 0)
             report_event(LEVEL_WARNING, "refused", "bytes came that are no packet: fault %u; more are counted", fault);
         if (code == SBLOG_NODE_DONE) {
-            pace_hear(&host->pace, packet, size, now);
+            const sblog_label label = pace_label(packet, size);
+            pace_hear(&host->pace, &label, now);
             work(host, 1);
         }
         count++;

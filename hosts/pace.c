@@ -1,30 +1,27 @@
 #include "pace.h"
 
-#include "bytes.h"
 #include "limits.h"
 
 #include <stdlib.h>
 #include <string.h>
-
-/* Kinds of packets, and where their fields begin (docs/FORMATS.md, "Packet"). */
-enum { DELIVERY = 1, NUMBER = 2, ACKNOWLEDGEMENT = 3, RESUME = 6, SAVED = 8 };
-enum { KIND = 4, FROM = 6, FIELDS = 8, WORD = 8, SHORTEST_PACKET = 12 };
 
 /* The least window; how often the pause is doubled; microseconds; packets that wait; what a spread counts, and the greatest one. */
 enum { LEAST_WINDOW = 8, DOUBLES = 5, SOON = 1000, QUEUE_LIMIT = 2048, WHOLE = 1024, QUARTER = WHOLE / 4 };
 
 struct waiting {
     struct waiting *next;
+    uint64_t ssn;
     size_t size;
     uint8_t bytes[];
 };
 
 /* Puts a copy at the end; a full queue, and one without memory, loses it. */
-static void queue_put(struct queue *queue, const uint8_t *bytes, size_t size) {
+static void queue_put(struct queue *queue, uint64_t ssn, const uint8_t *bytes, size_t size) {
     struct waiting *last = queue->count < QUEUE_LIMIT ? malloc(sizeof *last + size) : NULL;
     if (!last) return;
     if (!queue->first) queue->end = &queue->first;
     last->next = NULL;
+    last->ssn = ssn;
     last->size = size;
     memcpy(last->bytes, bytes, size);
     *queue->end = last;
@@ -61,17 +58,18 @@ void pace_begin(struct pace *pace, struct transport *transport, uint64_t shortes
     for (int p = 0; p <= transport->cluster->count; p++) pace->flows[p].window = pace->least;
 }
 
-/* A field by its place; 0 where the packet has none there. */
-static uint64_t field(const uint8_t *packet, size_t size, size_t place) {
-    return size < SHORTEST_PACKET + WORD * (place + 1) ? 0 : number_at(packet + FIELDS + WORD * place, WORD);
+sblog_label pace_label(const uint8_t *packet, size_t size) {
+    sblog_label label = {0};
+    uint32_t fault;
+    sblog_packet_label(packet, size, &label, &fault);
+    return label;
 }
 
 static bool is_open(const struct flow *flow) { return flow->sent > flow->answered || flow->told > flow->acknowledged; }
 
 /* One message goes: where nothing is timed, its answer is. */
-static void goes(struct pace *pace, int to, const uint8_t *packet, size_t size, uint64_t now) {
+static void goes(struct pace *pace, int to, uint64_t ssn, const uint8_t *packet, size_t size, uint64_t now) {
     struct flow *flow = &pace->flows[to];
-    uint64_t ssn = field(packet, size, 1);
     if (!is_open(flow)) flow->since = now;
     if (ssn > flow->sent) {
         flow->sent = ssn;
@@ -87,23 +85,25 @@ static void goes(struct pace *pace, int to, const uint8_t *packet, size_t size, 
     transport_send(pace->transport, to, packet, size);
 }
 
-void pace_send(struct pace *pace, int to, const uint8_t *packet, size_t size, uint64_t now) {
-    if (to < 0 || to > pace->transport->cluster->count || size < SHORTEST_PACKET) return;
+static void send_labelled(struct pace *pace, int to, const sblog_label *label, const uint8_t *packet, size_t size, uint64_t now) {
     struct flow *flow = &pace->flows[to];
-    if (packet[KIND] == NUMBER) {
-        uint64_t number = field(packet, size, 2);
+    if (label->kind == SBLOG_PACKET_NUMBER) {
         if (!is_open(flow)) flow->since = now;
-        if (number > flow->told) flow->told = number;
+        if (label->number > flow->told) flow->told = label->number;
     }
-    if (packet[KIND] != DELIVERY) {
+    if (label->kind != SBLOG_PACKET_DELIVERY) {
         transport_send(pace->transport, to, packet, size);
         return;
     }
-    uint64_t ssn = field(packet, size, 1);
-    if (!flow->is_known) flow->answered = ssn - 1;
+    if (!flow->is_known) flow->answered = label->ssn - 1;
     flow->is_known = true;
-    if (ssn > flow->answered + flow->window) queue_put(&flow->held, packet, size);
-    else goes(pace, to, packet, size, now);
+    if (label->ssn > flow->answered + flow->window) queue_put(&flow->held, label->ssn, packet, size);
+    else goes(pace, to, label->ssn, packet, size, now);
+}
+
+void pace_send(struct pace *pace, int to, const uint8_t *packet, size_t size, uint64_t now) {
+    const sblog_label label = pace_label(packet, size);
+    if (to <= pace->transport->cluster->count) send_labelled(pace, to, &label, packet, size, now);
 }
 
 /* While messages wait, a window of answers makes the window one larger. */
@@ -135,26 +135,27 @@ static void send_held(struct pace *pace, int to, uint64_t now) {
     struct flow *flow = &pace->flows[to];
     while (flow->held.count > 0) {
         const struct waiting *first = flow->held.first;
-        uint64_t ssn = field(first->bytes, first->size, 1);
-        if (ssn > flow->answered + flow->window) return;
-        if (ssn > flow->answered) goes(pace, to, first->bytes, first->size, now);
+        if (first->ssn > flow->answered + flow->window) return;
+        if (first->ssn > flow->answered) goes(pace, to, first->ssn, first->bytes, first->size, now);
         queue_drop(&flow->held);
     }
 }
 
-bool pace_learns(const uint8_t *packet) {
-    return packet[KIND] == NUMBER || packet[KIND] == SAVED || packet[KIND] == ACKNOWLEDGEMENT || packet[KIND] == RESUME;
+bool pace_learns(const sblog_label *label) {
+    return label->kind == SBLOG_PACKET_NUMBER || label->kind == SBLOG_PACKET_SAVED || label->kind == SBLOG_PACKET_ACKNOWLEDGEMENT ||
+           label->kind == SBLOG_PACKET_RESUME;
 }
 
-void pace_hear(struct pace *pace, const uint8_t *packet, size_t size, uint64_t now) {
-    int from = packet[FROM], kind = packet[KIND];
-    if (from > pace->transport->cluster->count) return;
+void pace_hear(struct pace *pace, const sblog_label *label, uint64_t now) {
+    int from = (int)label->from;
+    if (from > pace->transport->cluster->count || !pace_learns(label)) return;
     struct flow *flow = &pace->flows[from];
-    uint64_t number = field(packet, size, kind == SAVED ? 0 : 1);
-    if (kind == ACKNOWLEDGEMENT && number > flow->acknowledged) flow->acknowledged = number;
-    if (kind == NUMBER || kind == SAVED) is_answered(pace, flow, number, now);
-    if (kind == RESUME) flow->is_back = true;
-    if (kind == RESUME || !pace_learns(packet)) return;
+    if (label->kind == SBLOG_PACKET_RESUME) {
+        flow->is_back = true;
+        return;
+    }
+    if (label->kind != SBLOG_PACKET_ACKNOWLEDGEMENT) is_answered(pace, flow, label->ssn, now);
+    else if (label->number > flow->acknowledged) flow->acknowledged = label->number;
     flow->since = now;
     flow->tries = 0;
     send_held(pace, from, now);
@@ -177,24 +178,23 @@ void pace_tick_begins(struct pace *pace, uint64_t now) {
 
 /* Whether a message of a tick is dealt with: one that was sent goes again, and one beyond the window may wait already. One within the
    window goes on, since it may have been lost when too many waited. */
-static bool sends_again(struct pace *pace, int to, const uint8_t *packet, size_t size, uint64_t now) {
+static bool sends_again(struct pace *pace, int to, uint64_t ssn, const uint8_t *packet, size_t size, uint64_t now) {
     struct flow *flow = &pace->flows[to];
-    uint64_t ssn = field(packet, size, 1);
     if (ssn > flow->sent) return flow->has_held && ssn > flow->answered + flow->window;
-    goes(pace, to, packet, size, now);
+    goes(pace, to, ssn, packet, size, now);
     return true;
 }
 
 void pace_tick_sends(struct pace *pace, int to, const uint8_t *packet, size_t size, int place, uint64_t now) {
     struct flow *flow = &pace->flows[to];
-    if (packet[KIND] == DELIVERY) {
-        uint64_t ssn = field(packet, size, 1);
-        if (place == 0) flow->answered = ssn - 1; /* it is the first one that has no number */
-        if (place == TICK - 1) flow->refill = ssn;
+    const sblog_label label = pace_label(packet, size);
+    if (label.kind == SBLOG_PACKET_DELIVERY) {
+        if (place == 0) flow->answered = label.ssn - 1; /* it is the first one that has no number */
+        if (place == TICK - 1) flow->refill = label.ssn;
         flow->is_known = true;
-        if (sends_again(pace, to, packet, size, now)) return;
+        if (sends_again(pace, to, label.ssn, packet, size, now)) return;
     }
-    pace_send(pace, to, packet, size, now);
+    send_labelled(pace, to, &label, packet, size, now);
 }
 
 /* What is open goes again when its answer takes twice as long as usual, then four times, and so on, and by chance somewhat longer. */

@@ -6,6 +6,8 @@
 #include "histogram.h"
 #include "transport.h"
 
+#include <sblog.h>
+
 enum { LONGEST_PAUSE = 32 }; /* in shortest ones */
 
 /* Packets that wait, each once. */
@@ -44,14 +46,17 @@ struct pace {
 
 void pace_begin(struct pace *pace, struct transport *transport, uint64_t shortest);
 
+/* What a packet is. One for whose label there is no memory is of no kind: it is sent at once, and nothing is learned from it. */
+sblog_label pace_label(const uint8_t *packet, size_t size);
+
 /* Sends a packet that the library put out, or keeps it until its time has come. */
 void pace_send(struct pace *pace, int to, const uint8_t *packet, size_t size, uint64_t now);
 
 /* Whether it learns something from such a packet. */
-bool pace_learns(const uint8_t *packet);
+bool pace_learns(const sblog_label *label);
 
 /* Learns from a packet that the library took, and sends what may go now. */
-void pace_hear(struct pace *pace, const uint8_t *packet, size_t size, uint64_t now);
+void pace_hear(struct pace *pace, const sblog_label *label, uint64_t now);
 
 /* A tick is made; and sends its packets, of which place counts those for one peer. */
 void pace_tick_begins(struct pace *pace, uint64_t now);

@@ -2,7 +2,7 @@
 
 #include <stdlib.h>
 
-/* In front of a packet: whom it goes to, and its length; of one that came its length. */
+/* In front of a packet: whom it goes to, and its length. */
 enum { TO = 1, LENGTH = 2 };
 
 struct turn *turn_new(uint64_t until) {
@@ -22,24 +22,18 @@ bool turn_is_empty(const struct turn *turn) {
     return !turn->is_tick && turn->outputs == 0 && turn->answers.size + turn->packets.size + turn->heard.size == 0;
 }
 
-static bool add(struct bytes *bytes, const uint8_t *head, size_t size, const uint8_t *packet, size_t packet_size) {
-    if (!bytes_add(bytes, head, size)) return false;
-    if (bytes_add(bytes, packet, packet_size)) return true;
-    bytes->size -= size;
-    return false;
-}
-
 bool turn_sends(struct turn *turn, int to, const uint8_t *packet, size_t size) {
     uint8_t head[TO + LENGTH] = {(uint8_t)to};
     number_put(head + TO, size, LENGTH);
-    return add(&turn->packets, head, sizeof head, packet, size);
+    if (!bytes_add(&turn->packets, head, sizeof head)) return false;
+    if (bytes_add(&turn->packets, packet, size)) return true;
+    turn->packets.size -= sizeof head;
+    return false;
 }
 
 bool turn_hears(struct bytes *heard, const uint8_t *packet, size_t size) {
-    uint8_t head[LENGTH];
-    if (!pace_learns(packet)) return true;
-    number_put(head, size, LENGTH);
-    return add(heard, head, sizeof head, packet, size);
+    const sblog_label label = pace_label(packet, size);
+    return !pace_learns(&label) || bytes_add(heard, &label, sizeof label);
 }
 
 void turn_goes(const struct turn *turn, struct pace *pace, uint64_t now) {
@@ -51,11 +45,8 @@ void turn_goes(const struct turn *turn, struct pace *pace, uint64_t now) {
         if (turn->is_tick) pace_tick_sends(pace, *at, at + TO + LENGTH, size, places[*at]++, now);
         else pace_send(pace, *at, at + TO + LENGTH, size, now);
     }
-    at = turn->heard.at, end = at ? at + turn->heard.size : at;
-    for (size_t size; at < end; at += LENGTH + size) {
-        size = number_at(at, LENGTH);
-        pace_hear(pace, at + LENGTH, size, now);
-    }
+    const sblog_label *heard = (const sblog_label *)(const void *)turn->heard.at;
+    for (size_t i = 0; i < turn->heard.size / sizeof *heard; i++) pace_hear(pace, &heard[i], now);
 }
 
 void turn_answers(const struct turn *turn, const struct cluster *cluster, bool is_pipe) {

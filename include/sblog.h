@@ -380,6 +380,60 @@ uint32_t sblog_session_entries(sblog_session *handle, size_t from, sblog_entry *
 
 #endif
 
+/* ---- packets, that nodes and the gateway of a cluster send each other. Their bytes: docs/FORMATS.md. */
+
+#ifndef SBLOG_PACKET_H
+#define SBLOG_PACKET_H
+
+enum sblog_packet_kind {
+    SBLOG_PACKET_DELIVERY = 1,        /* a message */
+    SBLOG_PACKET_NUMBER = 2,          /* which number its receiver gave it */
+    SBLOG_PACKET_ACKNOWLEDGEMENT = 3, /* that number is recorded */
+    SBLOG_PACKET_ASK = 4,             /* what does your log hold for me? */
+    SBLOG_PACKET_TOLD = 5,            /* a page of that */
+    SBLOG_PACKET_RESUME = 6,          /* I am back: which of my messages do you have? */
+    SBLOG_PACKET_RESTORED = 7,        /* a page of these */
+    SBLOG_PACKET_SAVED = 8            /* so many of your messages are covered for good */
+};
+
+/* What a host has to know of a packet, to say when it goes, and what it answers. */
+typedef struct {
+    uint64_t kind;   /* enum sblog_packet_kind */
+    uint64_t from;   /* the process that sent it, */
+    uint64_t to;     /* and the one that it goes to; 0 is the gateway */
+    uint64_t ssn;    /* of its message; of a Saved, of the last message that is covered; else 0 */
+    uint64_t number; /* that it tells or acknowledges; else 0 */
+} sblog_label;
+
+/* How the packets of a bundle fared that a node or the gateway was handed. */
+typedef struct {
+    uint64_t taken;
+    uint64_t refused; /* they are no packets */
+    uint64_t lost;    /* there was no memory for them */
+} sblog_tally;
+
+#ifdef __cplusplus
+#define SBLOG_PACKET_ASSERT(holds, why) static_assert(holds, why)
+#else
+#define SBLOG_PACKET_ASSERT(holds, why) _Static_assert(holds, why)
+#endif
+SBLOG_PACKET_ASSERT(sizeof(sblog_label) == 40, "size of sblog_label");
+SBLOG_PACKET_ASSERT(offsetof(sblog_label, kind) == 0, "place of kind");
+SBLOG_PACKET_ASSERT(offsetof(sblog_label, from) == 8, "place of from");
+SBLOG_PACKET_ASSERT(offsetof(sblog_label, to) == 16, "place of to");
+SBLOG_PACKET_ASSERT(offsetof(sblog_label, ssn) == 24, "place of ssn");
+SBLOG_PACKET_ASSERT(offsetof(sblog_label, number) == 32, "place of number");
+SBLOG_PACKET_ASSERT(sizeof(sblog_tally) == 24, "size of sblog_tally");
+SBLOG_PACKET_ASSERT(offsetof(sblog_tally, taken) == 0, "place of taken");
+SBLOG_PACKET_ASSERT(offsetof(sblog_tally, refused) == 8, "place of refused");
+SBLOG_PACKET_ASSERT(offsetof(sblog_tally, lost) == 16, "place of lost");
+#undef SBLOG_PACKET_ASSERT
+
+/* The label of a packet. The codes are those of nodes: 21, the bytes are no packet's, by fault 1 to 8, or 15, memory ran out. */
+uint32_t sblog_packet_label(const uint8_t *packet, size_t packet_len, sblog_label *label, uint32_t *fault);
+
+#endif
+
 /* ---- the gateway of a cluster, whose processes are programs of their own: its way in and out, node 0. The
    bytes of packets, store and changes: docs/FORMATS.md. */
 
@@ -440,9 +494,17 @@ uint32_t sblog_gateway_input(sblog_gateway *gateway, uint8_t process, const uint
 /* Bytes came; where they are no packet's, by fault 1 to 8. */
 uint32_t sblog_gateway_receive(sblog_gateway *gateway, const uint8_t *packet, size_t packet_len,
                                uint32_t *fault);
+/* Each packet of a bundle came, in their order. A bundle is here what is after its head, each packet after its length (2 bytes).
+   Other bytes are refused whole (21). */
+uint32_t sblog_gateway_receive_all(sblog_gateway *gateway, const uint8_t *bundle, size_t bundle_len,
+                                   sblog_tally *tally);
 /* The next packet that is to be sent, and to which process; 20 where none waits. */
 uint32_t sblog_gateway_take(sblog_gateway *gateway, uint8_t *out, size_t out_len, size_t *size,
                             uint8_t *to);
+/* The first packets that are to be sent, as many as go to one process and fit, as a bundle without its head: how many bytes and
+   packets, and to which process; 20 where none waits, 19 where the first one doesn't fit. */
+uint32_t sblog_gateway_take_all(sblog_gateway *gateway, uint8_t *out, size_t out_len, size_t *size,
+                                uint8_t *to, uint64_t *count);
 /* What isn't answered is sent again. */
 uint32_t sblog_gateway_tick(sblog_gateway *gateway);
 /* The next output; 20 where there is none. */
@@ -559,8 +621,15 @@ uint32_t sblog_node_revive(const uint8_t *image, size_t image_len, const uint8_t
                            uint32_t receipts, uint32_t durable, sblog_node *node, uint32_t *fault);
 uint32_t sblog_node_close(sblog_node *node);
 uint32_t sblog_node_receive(sblog_node *node, const uint8_t *packet, size_t packet_len, uint32_t *fault);
+/* Each packet of a bundle came, in their order, and after each that is taken the handler runs, as by sblog_node_work: a node that
+   works on a message takes no other one. A bundle is here what is after its head; other bytes are refused whole (21). */
+uint32_t sblog_node_receive_all(sblog_node *node, const uint8_t *bundle, size_t bundle_len, sblog_tally *tally);
 /* A packet to be sent, and to whom (0: the gateway); 20, if none waits. */
 uint32_t sblog_node_take(sblog_node *node, uint8_t *out, size_t out_len, size_t *size, uint8_t *to);
+/* The first packets to be sent, as many as go to one process and fit, as a bundle without its head: how many bytes and packets, and
+   to whom; 20, if none waits, and 19, if the first one doesn't fit. */
+uint32_t sblog_node_take_all(sblog_node *node, uint8_t *out, size_t out_len, size_t *size, uint8_t *to,
+                             uint64_t *count);
 /* The handler runs; 20, if there is nothing to work on. */
 uint32_t sblog_node_work(sblog_node *node);
 /* Or it runs outside of the node, as machine code. The array of the call that sblog_node_work would make (20: there is

@@ -7,7 +7,7 @@
 #include <stdlib.h>
 #include <string.h>
 
-enum { MESSAGES = 6000, TICKS = 3000, SIZE = 36, DELIVERY = 1, NUMBER = 2, PEER = 1, KIND = 4, FROM = 6, SSN = 16, WORD = 8 };
+enum { MESSAGES = 6000, TICKS = 3000, PEER = 1, SIZE = sizeof(sblog_label) };
 
 static struct {
     struct pace pace;
@@ -20,22 +20,25 @@ uint64_t clock_now(void) { return model.now; }
 
 static bool is_lost(void) { return rand() % 100 < model.loss; }
 
-static const uint8_t *packet_of(int kind, uint64_t ssn) {
-    static uint8_t packet[SIZE];
-    memset(packet, 0, sizeof packet);
-    packet[KIND] = (uint8_t)kind;
-    packet[FROM] = PEER;
-    for (int i = 0; i < WORD; i++) packet[SSN + i] = (uint8_t)(ssn >> 8 * i);
-    return packet;
+/* A packet of the model is its label. */
+static const uint8_t *delivery_of(uint64_t ssn) {
+    static sblog_label label;
+    label = (sblog_label){.kind = SBLOG_PACKET_DELIVERY, .to = PEER, .ssn = ssn};
+    return (const uint8_t *)&label;
+}
+
+uint32_t sblog_packet_label(const uint8_t *packet, size_t packet_len, sblog_label *label, uint32_t *fault) {
+    (void)packet_len, (void)fault;
+    memcpy(label, packet, SIZE);
+    return SBLOG_NODE_DONE;
 }
 
 /* The peer takes the next one, and says again what it has. */
 void transport_send(struct transport *transport, int to, const uint8_t *packet, size_t size) {
-    uint64_t ssn = 0;
-    (void)transport, (void)to, (void)size;
-    for (int i = WORD - 1; i >= 0; i--) ssn = ssn << 8 | packet[SSN + i];
-    if (is_lost() || ssn > model.got + 1) return;
-    if (ssn == model.got + 1) model.got++;
+    const sblog_label label = pace_label(packet, size);
+    (void)transport, (void)to;
+    if (is_lost() || label.ssn > model.got + 1) return;
+    if (label.ssn == model.got + 1) model.got++;
     model.has_news |= !is_lost();
 }
 
@@ -44,14 +47,14 @@ static void hear(void) {
     while (model.has_news && model.numbered < model.got) {
         model.has_news = false;
         model.numbered = model.got;
-        pace_hear(&model.pace, packet_of(NUMBER, model.numbered), SIZE, ++model.now);
+        pace_hear(&model.pace, &(sblog_label){.kind = SBLOG_PACKET_NUMBER, .from = PEER, .ssn = model.numbered}, ++model.now);
     }
     model.has_news = false;
 }
 
 static void put_out(uint64_t count) {
     for (; count > 0 && model.put_out < MESSAGES; count--)
-        pace_send(&model.pace, PEER, packet_of(DELIVERY, ++model.put_out), SIZE, model.now);
+        pace_send(&model.pace, PEER, delivery_of(++model.put_out), SIZE, model.now);
 }
 
 static void tick(void) {
@@ -59,7 +62,7 @@ static void tick(void) {
     model.now += 1000000;
     pace_tick_begins(&model.pace, model.now);
     for (uint64_t ssn = model.numbered + 1; ssn <= model.put_out && place < TICK; ssn++)
-        pace_tick_sends(&model.pace, PEER, packet_of(DELIVERY, ssn), SIZE, place++, model.now);
+        pace_tick_sends(&model.pace, PEER, delivery_of(ssn), SIZE, place++, model.now);
 }
 
 static int run(int count, int loss, uint64_t burst) {
@@ -93,7 +96,7 @@ static int spreads(void) {
     memset(&model, 0, sizeof model);
     model.loss = 100;
     pace_begin(&model.pace, &transport, SHORTEST);
-    pace_send(&model.pace, PEER, packet_of(DELIVERY, 1), SIZE, model.now);
+    pace_send(&model.pace, PEER, delivery_of(1), SIZE, model.now);
     for (uint64_t tries = 0, pause = SHORTEST, last = 0; tries < TRIES; tries++) {
         uint64_t due = pace_due(&model.pace), took = due - model.now;
         wrong += took < pause || took > pause + pause / 4;
@@ -103,7 +106,7 @@ static int spreads(void) {
         model.now = due;
         if (pause < LONGEST * SHORTEST) pause *= 2;
         pace_tick_begins(&model.pace, model.now);
-        pace_tick_sends(&model.pace, PEER, packet_of(DELIVERY, 1), SIZE, 0, model.now);
+        pace_tick_sends(&model.pace, PEER, delivery_of(1), SIZE, 0, model.now);
     }
     bool is_right = wrong == 0 && longer > TRIES / 4 && longer < TRIES * 3 / 4;
     if (!is_right) fprintf(stderr, "%d pauses are wrong, and %d of %d long\n", wrong, longer, TRIES);

@@ -1,4 +1,5 @@
 mod AsBox
+mod Bundles
 mod Called
 mod HostCalls
 mod Opened

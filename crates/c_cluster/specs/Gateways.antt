@@ -2,3 +2,4 @@ pub mod Answers
 pub mod Lifetime
 pub mod Calls
 pub mod Results
+pub mod Bundles

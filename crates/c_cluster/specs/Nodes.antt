@@ -6,3 +6,5 @@ pub mod Status
 pub mod Outcome
 pub mod NodeJob
 pub mod HostCalls
+pub mod Label
+pub mod Bundles

@@ -7,6 +7,10 @@
 //! `sblog_gateway_revive` and `sblog_node_revive` one from what was kept, the other functions are
 //! calls of its host, and `sblog_gateway_close` and `sblog_node_close` give all memory back. Code 0
 //! means done, the numbers from 15 on say why not. docs/EMBEDDING.md describes functions and codes.
+//! `sblog_packet_label` needs no handle: it tells a host what the bytes of a packet are.
+//! `sblog_gateway_receive_all` and `sblog_node_receive_all` do for each packet of a bundle what the
+//! single calls do, a node's `sblog_node_work` after each packet included. `sblog_gateway_take_all`
+//! and `sblog_node_take_all` give the first packets that wait for one process as a bundle's.
 //!
 //! Each function owes exactly what the gateway's or the process's call owes. Packets, stores,
 //! changes and kept states are the bytes that docs/FORMATS.md describes. Any code except 0 leaves
@@ -30,5 +34,6 @@
 //! ```
 #![tactic(auto)]
 
+mod bundle;
 mod gateways;
 mod nodes;

@@ -4,6 +4,7 @@ mod calls;
 pub mod exports;
 mod fault;
 pub mod handle;
+pub mod label;
 mod laws;
 mod lifetime;
 mod loose;

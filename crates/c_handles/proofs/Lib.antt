@@ -1,3 +1,4 @@
 pub mod Loosened
 pub mod OnHeap
 pub mod Steps
+pub mod Overwritten

@@ -9,7 +9,7 @@ use Rattle.handlers.specs.Image.{TheImage}
 use Rattle.handlers.specs.Answer.{HasRun}
 use Rattle.operations.specs.Bytes.{overwritten}
 use Rattle.c_images.specs.Calls.{report_of, IsReported, AreHandled, AreReported}
-use Rattle.c_images.proofs.Overwritten.{put_more, overwritten_none}
+use Rattle.c_handles.proofs.Overwritten.{put_more, overwritten_none}
 
 -- calls, and one more behind them
 handled_more : (image : TheImage) (who : Who) (state messages message middle : List ℕ) (hs : List Handled) (h : Handled) → AreHandled image who state messages hs middle → length messages ≡ 64 * length hs → length message ≡ 64 → HasRun image who middle message h → AreHandled image who state (messages ++ message) (hs ++ h ∷ []) h.state

@@ -1,4 +1,3 @@
-pub mod Overwritten
 pub mod Reports
 pub mod CallLemmas
 pub mod FirstFailure

@@ -9,7 +9,7 @@ use Rattle.helpers.specs.Payload.{view64}
 use Rattle.helpers.proofs.Filled.{length-view64}
 use Rattle.operations.specs.Bytes.{overwritten}
 use Rattle.c_images.specs.Layout.{number_bytes, sent_bytes, report_bytes}
-use Rattle.c_images.proofs.Overwritten.{put_more}
+use Rattle.c_handles.proofs.Overwritten.{put_more}
 
 abbrev pub Written : List ℕ → List ℕ → ℕ → List ℕ → ℕ → ℕ → Type 0
 Written xs us a bytes size n = (us ≡ overwritten xs a bytes) × (length bytes ≡ size) × (n ≡ a + size)

@@ -1,10 +1,12 @@
 //! Calls of the gateway of a handle.
 
-ghost use Rattle.std.specs.Prelude.{◌≡◌};
+ghost use Rattle.std.specs.Prelude.{◌≡◌, OnErr};
 ghost use Rattle.c_cluster.specs.Gateways.Answers.{Does, Results};
+ghost use Rattle.c_cluster.specs.Gateways.Bundles.{AreReceived, AreUnreceived, HearsFront};
 ghost use Rattle.c_cluster.specs.Gateways.Calls.{IsLogged, IsReceived, IsTicked, IsUnlogged, IsUnreceived, Logs, LogsNot, Receives, ReceivesNot};
 ghost use Rattle.c_cluster.specs.Gateways.Lifetime.{WasClosed};
 
+use crate::bundle::{BundleTally, first_of, is_bundle};
 use crate::gateways::fault::GatewayFault;
 use crate::gateways::handle::GatewayHandle;
 use gateway::Gateway;
@@ -85,6 +87,50 @@ pub(crate) fn receive(
     let done = hear(alloc, &mut gateway, packet, fault);
     handle.put(gateway);
     done
+}
+
+/// Hands each packet of a bundle in.
+pub(crate) fn receive_all(
+    alloc: Global,
+    handle: &mut GatewayHandle,
+    bundle: &[u8],
+    tally: &mut BundleTally,
+) -> Result<(), GatewayFault>
+    ensures received { Results result handle.old.gateway.value handle.new.gateway.value (AreReceived bundle.now tally.new) (AreUnreceived bundle.now) }
+    ensures kept { OnErr result (tally.new ≡ tally.old) }
+{
+    if !handle.is_open() {
+        return Err(GatewayFault::Handle);
+    }
+    if !is_bundle(bundle) {
+        return Err(GatewayFault::Bytes);
+    }
+    *tally = hear_front(alloc, handle, bundle);
+    Ok(())
+}
+
+/// Does so with the packets at the front of some bytes, and counts them.
+fn hear_front(alloc: Global, handle: &mut GatewayHandle, bytes: &[u8]) -> BundleTally
+    ensures { HearsFront bytes.now handle.old.gateway.value handle.new.gateway.value result }
+{
+    let mut tally = BundleTally {
+        taken: 0,
+        refused: 0,
+        lost: 0,
+    };
+    let mut rest = bytes;
+    while let Some((packet, after)) = first_of(rest) {
+        let mut fault = 0;
+        match receive(alloc, handle, packet, &mut fault) {
+            Ok(()) => tally.taken += 1,
+            Err(why) => match why {
+                GatewayFault::Memory => tally.lost += 1,
+                _ => tally.refused += 1,
+            },
+        }
+        rest = after;
+    }
+    tally
 }
 
 /// Sends again what isn't answered.

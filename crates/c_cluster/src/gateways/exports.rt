@@ -5,9 +5,11 @@ ghost use Rattle.std.specs.Prelude.{◌≡◌};
 ghost use Rattle.c_cluster.specs.Gateways.Answers.{Answers};
 ghost use Rattle.c_handles.specs.Buffer.{OnFault};
 ghost use Rattle.c_cluster.specs.Gateways.Lifetime.{IsApplied, IsClosed, IsOpened, IsRevived, IsUnapplied, IsUnopened, IsUnrevived, WasClosed};
+ghost use Rattle.c_cluster.specs.Gateways.Bundles.{AreReceived, AreUnreceived, AreTaken, AreUntaken};
 ghost use Rattle.c_cluster.specs.Gateways.Calls.{IsLogged, IsReceived, IsTicked, IsUnlogged, IsUnreceived};
 ghost use Rattle.c_cluster.specs.Gateways.Results.{IsShown, IsStored, IsTaken, IsTold, IsUnshown, IsUnstored, IsUntaken, IsUntold};
 
+use crate::bundle::BundleTally;
 use crate::gateways::fault::code;
 use crate::gateways::handle::GatewayHandle;
 use crate::gateways::{calls, lifetime, results};
@@ -94,6 +96,22 @@ pub extern "C" fn sblog_gateway_receive(
     code(calls::receive(alloc, handle, packet, fault))
 }
 
+/// Takes each packet of a bundle, from the first on. Counts the packets that it took, that are no
+/// packets, and for which there was no memory. The bytes are those of a bundle after its head; others
+/// are refused whole.
+#[unsafe(no_mangle)]
+pub extern "C" fn sblog_gateway_receive_all(
+    alloc: Global,
+    handle: &mut GatewayHandle,
+    bundle: &[u8],
+    tally: &mut BundleTally,
+) -> u32
+    ensures received { Answers result handle.old.gateway.value handle.new.gateway.value (AreReceived bundle.now tally.new) (AreUnreceived bundle.now) }
+    ensures kept { OnFault result (tally.new ≡ tally.old) }
+{
+    code(calls::receive_all(alloc, handle, bundle, tally))
+}
+
 /// Takes the first packet that waits: writes its bytes, its length, and its receiver.
 #[unsafe(no_mangle)]
 pub extern "C" fn sblog_gateway_take(
@@ -107,6 +125,24 @@ pub extern "C" fn sblog_gateway_take(
     ensures kept { OnFault result (to.new ≡ to.old) }
 {
     code(results::take(alloc, handle, out, size, to))
+}
+
+/// Takes the first packets that wait, as many as go to the same process and fit: writes them as those
+/// of a bundle, their length in bytes, their receiver, and their number. No contract says that it takes
+/// all that fit, since memory may run out.
+#[unsafe(no_mangle)]
+pub extern "C" fn sblog_gateway_take_all(
+    alloc: Global,
+    handle: &mut GatewayHandle,
+    out: &mut [u8],
+    size: &mut usize,
+    to: &mut u8,
+    count: &mut u64,
+) -> u32
+    ensures taken { Answers result handle.old.gateway.value handle.new.gateway.value (AreTaken out.old out.new size.new to.new count.new) (AreUntaken out.old out.new size.old size.new) }
+    ensures kept { OnFault result ((to.new ≡ to.old) × (count.new ≡ count.old)) }
+{
+    code(results::take_all(alloc, handle, out, size, to, count))
 }
 
 /// Sends again what isn't answered.

@@ -1,11 +1,16 @@
 //! What the gateway of a handle gives: packets, outputs, its store and changes.
 
-ghost use Rattle.std.specs.Prelude.{◌≡◌, MatchResult, OnErr};
+ghost use Rattle.std.specs.Prelude.{◌≡◌, ◌+◌, ℕ, length, MatchResult, OnErr};
+ghost use Rattle.operations.specs.Bytes.{overwritten};
+ghost use Rattle.gateway.specs.Written.{Waits};
+ghost use Rattle.c_cluster.specs.Bundle.{part_bytes, FitsFrom};
+ghost use Rattle.c_cluster.specs.Gateways.Bundles.{AreTaken, AreUntaken, GivesAll, GivesNone, GivesTo};
 ghost use Rattle.c_cluster.specs.Gateways.Answers.{Does, Results};
 ghost use Rattle.c_cluster.specs.Gateways.Results.{Gives, GivesNot, IsShown, IsStored, IsTaken, IsTold, IsUnshown, IsUnstored, IsUntaken, IsUntold, Shows, ShowsNot, Spells, Tells, WritesNot};
 ghost use Rattle.stores.specs.Format.{IsStoreBytes};
 ghost use Rattle.stores.specs.Changes.{AreChanges};
 
+use crate::bundle::{LENGTH_BYTES, fits, put_part};
 use crate::gateways::fault::GatewayFault;
 use crate::gateways::handle::GatewayHandle;
 use c_handles::{copy, measure, write};
@@ -47,6 +52,74 @@ pub(crate) fn take(
         return Err(GatewayFault::Handle);
     };
     let done = give(alloc, &mut gateway, out, size, to);
+    handle.put(gateway);
+    done
+}
+
+/// Takes the first packets that wait, as many as go to the same process and fit: writes them as those
+/// of a bundle, and their receiver.
+fn give_all(
+    alloc: Global,
+    gateway: &mut Gateway,
+    out: &mut [u8],
+    size: &mut usize,
+    to: &mut u8,
+    count: &mut u64,
+) -> Result<(), GatewayFault>
+    ensures given { Does result gateway.old gateway.new (GivesAll out.old out.new size.new to.new count.new) (GivesNone out.old out.new size.old size.new) }
+    ensures kept { OnErr result ((to.new ≡ to.old) × (count.new ≡ count.old)) }
+{
+    let Some((receiver, first)) = gateway.first_bytes(alloc)? else {
+        return Err(GatewayFault::Absent);
+    };
+    if !fits(out, 0, &first) {
+        *size = LENGTH_BYTES + first.len();
+        return Err(GatewayFault::Room);
+    }
+    let mut end = give_first(gateway, out, 0, &first);
+    let mut given = 1;
+    while let Ok(Some((next, bytes))) = gateway.first_bytes(alloc) {
+        if next != receiver || !fits(out, end, &bytes) {
+            break;
+        }
+        end = give_first(gateway, out, end, &bytes);
+        given += 1;
+    }
+    *size = end;
+    *to = receiver;
+    *count = given;
+    Ok(())
+}
+
+/// Writes the first packet that waits at `at`, after its length, and takes it. Answers the place after
+/// it.
+fn give_first(gateway: &mut Gateway, out: &mut [u8], at: usize, packet: &[u8]) -> usize
+    requires { FitsFrom at (length out.old) packet.now }
+    ensures given { (to : ℕ) → Waits to packet.now gateway.old → GivesTo to packet.now gateway.old gateway.new }
+    ensures written { out.new ≡ overwritten out.old at (part_bytes packet.now) }
+    ensures end { result ≡ at + length (part_bytes packet.now) }
+{
+    let end = put_part(out, at, packet);
+    let _packet = gateway.take();
+    end
+}
+
+/// The same for the gateway of a handle.
+pub(crate) fn take_all(
+    alloc: Global,
+    handle: &mut GatewayHandle,
+    out: &mut [u8],
+    size: &mut usize,
+    to: &mut u8,
+    count: &mut u64,
+) -> Result<(), GatewayFault>
+    ensures taken { Results result handle.old.gateway.value handle.new.gateway.value (AreTaken out.old out.new size.new to.new count.new) (AreUntaken out.old out.new size.old size.new) }
+    ensures kept { OnErr result ((to.new ≡ to.old) × (count.new ≡ count.old)) }
+{
+    let Some(mut gateway) = handle.take(alloc) else {
+        return Err(GatewayFault::Handle);
+    };
+    let done = give_all(alloc, &mut gateway, out, size, to, count);
     handle.put(gateway);
     done
 }

@@ -1,8 +1,11 @@
 //! Calls of the process of a handle.
 
+ghost use Rattle.std.specs.Prelude.{◌≡◌, OnErr};
 ghost use Rattle.c_cluster.specs.Nodes.Answers.{Results};
+ghost use Rattle.c_cluster.specs.Nodes.Bundles.{AreReceived, AreUnreceived, ServesFront};
 ghost use Rattle.c_cluster.specs.Nodes.Calls.{IsClosed, WasClosed, IsReceived, IsUnreceived, HasWorked, HasNotWorked, HasTicked, IsHeldBack, HasSaved, HasNotSaved};
 
+use crate::bundle::{BundleTally, NOT_BUNDLE, first_of, is_bundle};
 use crate::nodes::fault::NodeFault;
 use crate::nodes::handle::NodeHandle;
 use packets::PacketError;
@@ -37,6 +40,52 @@ pub(crate) fn receive(
         Err(PacketError::Memory) => Err(NodeFault::Memory),
         Err(PacketError::Fault(fault)) => Err(NodeFault::Bytes(fault.number())),
     }
+}
+
+/// Hands the process each packet of a bundle, and runs its handler after each that it takes.
+pub(crate) fn receive_all(
+    alloc: Global,
+    handle: &mut NodeHandle,
+    bundle: &[u8],
+    tally: &mut BundleTally,
+) -> Result<(), NodeFault>
+    ensures received { Results result handle.old.process.value handle.new.process.value (AreReceived bundle.now tally.new) (AreUnreceived bundle.now) }
+    ensures kept { OnErr result (tally.new ≡ tally.old) }
+{
+    if !handle.is_open() {
+        return Err(NodeFault::Handle);
+    }
+    if !is_bundle(bundle) {
+        return Err(NodeFault::Bytes(NOT_BUNDLE));
+    }
+    *tally = serve(alloc, handle, bundle);
+    Ok(())
+}
+
+/// Does so with the packets at the front of some bytes, and counts them.
+fn serve(alloc: Global, handle: &mut NodeHandle, bytes: &[u8]) -> BundleTally
+    ensures { ServesFront bytes.now handle.old.process.value handle.new.process.value result }
+{
+    let mut tally = BundleTally {
+        taken: 0,
+        refused: 0,
+        lost: 0,
+    };
+    let mut rest = bytes;
+    while let Some((packet, after)) = first_of(rest) {
+        match receive(alloc, handle, packet) {
+            Ok(()) => {
+                let _worked = work(alloc, handle);
+                tally.taken += 1;
+            }
+            Err(why) => match why {
+                NodeFault::Memory => tally.lost += 1,
+                _ => tally.refused += 1,
+            },
+        }
+        rest = after;
+    }
+    tally
 }
 
 /// Runs the handler of the process.

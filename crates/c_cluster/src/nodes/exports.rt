@@ -4,18 +4,22 @@
 ghost use Rattle.std.specs.Prelude.{◌≡◌};
 ghost use Rattle.c_cluster.specs.Nodes.Answers.{Answers, AnswersOfBytes};
 ghost use Rattle.c_handles.specs.Buffer.{OnFault};
+ghost use Rattle.c_cluster.specs.Nodes.Bundles.{AreReceived, AreUnreceived, AreTaken, AreUntaken};
 ghost use Rattle.c_cluster.specs.Nodes.Calls.{IsClosed, WasClosed, IsReceived, IsUnreceived, HasWorked, HasNotWorked, HasTicked, IsHeldBack, HasSaved, HasNotSaved};
 ghost use Rattle.c_cluster.specs.Nodes.Results.{IsTaken, IsUntaken, IsMade, IsUnmade, IsRead, IsUnread};
 ghost use Rattle.c_cluster.specs.Nodes.NodeJob.{ticket_from, IsGiven, IsNotGiven, IsDone, IsNotDone};
 ghost use Rattle.c_cluster.specs.Nodes.Lifetime.{limits_from, AnswersOpening, AnswersRevival};
 ghost use Rattle.c_cluster.specs.Nodes.Status.{IsStanding};
+ghost use Rattle.c_cluster.specs.Nodes.Label.{AnswersLabel};
 
+use crate::bundle::BundleTally;
 use crate::nodes::fault::{code, code_of_bytes};
 use crate::nodes::handle::NodeHandle;
+use crate::nodes::label::PacketLabel;
 use crate::nodes::lifetime::NodeLimits;
 use crate::nodes::node_job::NodeJob;
 use crate::nodes::status::NodeStanding;
-use crate::nodes::{calls, lifetime, node_job, results, status};
+use crate::nodes::{calls, label, lifetime, node_job, results, status};
 use process::HandlerTicket;
 use std::alloc::Global;
 
@@ -97,6 +101,22 @@ pub extern "C" fn sblog_node_receive(
     code_of_bytes(calls::receive(alloc, node, packet), fault)
 }
 
+/// Hands the process each packet of a bundle, from the first on, and runs the handler after each that
+/// it takes. Counts the packets that it took, that are no packets, and for which there was no memory.
+/// The bytes are those of a bundle after its head; others are refused whole.
+#[unsafe(no_mangle)]
+pub extern "C" fn sblog_node_receive_all(
+    alloc: Global,
+    node: &mut NodeHandle,
+    bundle: &[u8],
+    tally: &mut BundleTally,
+) -> u32
+    ensures received { Answers result node.old.process.value node.new.process.value (AreReceived bundle.now tally.new) (AreUnreceived bundle.now) }
+    ensures kept { OnFault result (tally.new ≡ tally.old) }
+{
+    code(calls::receive_all(alloc, node, bundle, tally))
+}
+
 /// Takes the first packet that waits: writes its bytes, its length, and its receiver.
 #[unsafe(no_mangle)]
 pub extern "C" fn sblog_node_take(
@@ -110,6 +130,24 @@ pub extern "C" fn sblog_node_take(
     ensures kept { OnFault result (to.new ≡ to.old) }
 {
     code(results::take(alloc, node, out, size, to))
+}
+
+/// Takes the first packets that wait, as many as go to the same process and fit: writes them as those
+/// of a bundle, their length in bytes, their receiver, and their number. No contract says that it takes
+/// all that fit, since memory may run out.
+#[unsafe(no_mangle)]
+pub extern "C" fn sblog_node_take_all(
+    alloc: Global,
+    node: &mut NodeHandle,
+    out: &mut [u8],
+    size: &mut usize,
+    to: &mut u8,
+    count: &mut u64,
+) -> u32
+    ensures taken { Answers result node.old.process.value node.new.process.value (AreTaken out.old out.new size.new to.new count.new) (AreUntaken out.old out.new size.old size.new) }
+    ensures kept { OnFault result ((to.new ≡ to.old) × (count.new ≡ count.old)) }
+{
+    code(results::take_all(alloc, node, out, size, to, count))
 }
 
 /// Runs the handler on the message that was received, or on the next one of the replay.
@@ -221,4 +259,18 @@ pub extern "C" fn sblog_node_state(
     ensures { Answers result node.old.process.value node.new.process.value (IsRead out.old out.new size.new) (IsUnread out.old out.new size.old size.new) }
 {
     code(results::state(alloc, node, out, size))
+}
+
+/// Writes the label of a packet of a node or the gateway: what a host has to know of it, to say when
+/// it goes and what it answers. If the bytes are not a packet, writes the number of their fault.
+#[unsafe(no_mangle)]
+pub extern "C" fn sblog_packet_label(
+    alloc: Global,
+    packet: &[u8],
+    label: &mut PacketLabel,
+    fault: &mut u32,
+) -> u32
+    ensures { AnswersLabel packet.now result label.old label.new fault.old fault.new }
+{
+    code_of_bytes(label::read(alloc, packet, label), fault)
 }

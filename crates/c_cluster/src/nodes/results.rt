@@ -1,9 +1,15 @@
 //! What the process of a handle gives: packets, checkpoints, its state.
 
-ghost use Rattle.std.specs.Prelude.{◌≡◌, MatchResult, OnErr};
+ghost use Rattle.std.specs.Prelude.{◌≡◌, ◌⊎◌, ◌+◌, ℕ, [], length, MatchResult, OnErr};
+ghost use Rattle.operations.specs.Bytes.{overwritten};
+ghost use Rattle.process.specs.Process.{out_of};
+ghost use Rattle.c_cluster.specs.declared.nodes.fault.NodeFault.TheVariants.{Memory, Absent};
+ghost use Rattle.c_cluster.specs.Bundle.{part_bytes, FitsFrom};
+ghost use Rattle.c_cluster.specs.Nodes.Bundles.{Waits, GivesTo, TakesAll, AreTaken, LeavesAllIn, AreUntaken};
 ghost use Rattle.c_cluster.specs.Nodes.Answers.{Results};
 ghost use Rattle.c_cluster.specs.Nodes.Results.{IsTaken, IsUntaken, IsMade, IsUnmade, IsRead, IsUnread, TakesOut, LeavesIn, Makes, DoesNotMake};
 
+use crate::bundle::{LENGTH_BYTES, fits, put_part};
 use crate::nodes::fault::NodeFault;
 use crate::nodes::handle::NodeHandle;
 use c_handles::copy;
@@ -50,6 +56,86 @@ fn take_of(
         *to = packet.to;
     }
     Ok(())
+}
+
+/// Writes the first packets that wait, as those of a bundle, and their receiver: as many as go to the
+/// same process and fit. They are taken.
+pub(crate) fn take_all(
+    alloc: Global,
+    handle: &mut NodeHandle,
+    out: &mut [u8],
+    size: &mut usize,
+    to: &mut u8,
+    count: &mut u64,
+) -> Result<(), NodeFault>
+    ensures taken { Results result handle.old.process.value handle.new.process.value (AreTaken out.old out.new size.new to.new count.new) (AreUntaken out.old out.new size.old size.new) }
+    ensures kept { OnErr result ((to.new ≡ to.old) × (count.new ≡ count.old)) }
+{
+    let Some(mut process) = handle.take(alloc) else {
+        return Err(NodeFault::Handle);
+    };
+    let taken = take_all_of(alloc, &mut process, out, size, to, count);
+    handle.put(process);
+    taken
+}
+
+fn take_all_of(
+    alloc: Global,
+    process: &mut Member,
+    out: &mut [u8],
+    size: &mut usize,
+    to: &mut u8,
+    count: &mut u64,
+) -> Result<(), NodeFault>
+    ensures taken { MatchResult result (λ _. TakesAll out.old out.new size.new to.new count.new process.old process.new) (LeavesAllIn out.old out.new size.old size.new process.old process.new) }
+    ensures kept { OnErr result ((to.new ≡ to.old) × (count.new ≡ count.old)) }
+{
+    let (receiver, first) = waiting(alloc, process)?;
+    if !fits(out, 0, &first) {
+        *size = LENGTH_BYTES + first.len();
+        return Err(NodeFault::Room);
+    }
+    let mut end = give(process, out, 0, &first);
+    let mut taken = 1;
+    while let Ok((next, bytes)) = waiting(alloc, process) {
+        if next != receiver || !fits(out, end, &bytes) {
+            break;
+        }
+        end = give(process, out, end, &bytes);
+        taken += 1;
+    }
+    *size = end;
+    *to = receiver;
+    *count = taken;
+    Ok(())
+}
+
+/// The first packet that waits: its receiver and its bytes.
+fn waiting(alloc: Global, process: &Member) -> Result<(u8, Vec<u8>), NodeFault>
+    ensures { MatchResult result (λ v. Waits v.0 v.1.items process.now) (λ why. (why ≡ Memory) ⊎ ((why ≡ Absent) × (out_of process.now.lifecycle ≡ []))) }
+{
+    let Some(packet) = process.front() else {
+        return Err(NodeFault::Absent);
+    };
+    let to = packet.to;
+    match process.front_bytes(alloc) {
+        Ok(Some(bytes)) => Ok((to, bytes)),
+        Ok(None) => Err(NodeFault::Absent),
+        Err(_) => Err(NodeFault::Memory),
+    }
+}
+
+/// Writes the first packet that waits at `at`, after its length, and takes it. Answers the place after
+/// it.
+fn give(process: &mut Member, out: &mut [u8], at: usize, packet: &[u8]) -> usize
+    requires { FitsFrom at (length out.old) packet.now }
+    ensures given { (to : ℕ) → Waits to packet.now process.old → GivesTo to packet.now process.old process.new }
+    ensures written { out.new ≡ overwritten out.old at (part_bytes packet.now) }
+    ensures end { result ≡ at + length (part_bytes packet.now) }
+{
+    let end = put_part(out, at, packet);
+    let _packet = process.take();
+    end
 }
 
 /// Writes the bytes of a checkpoint. If the buffer is long enough, the process waits until they are
