@@ -1,13 +1,19 @@
 -- Worked runs, step by step
-use Rattle.std.proofs.Common.{◌≡◌, ◌≢◌, ℕ, zero, suc, ◌<◌, ◌≤◌, false, refl, arith}
+use Rattle.std.proofs.Common.{◌≡◌, ◌≢◌, ℕ, zero, suc, ◌<◌, ◌≤◌, List, [], ◌∷◌, ◌++◌, false, refl, arith}
 use Rattle.std.specs.Prelude.{◌==◌}
 use Rattle.theorems.proofs.Tests.{different}
-use Rattle.cluster.specs.Cluster.{WINDOW}
+use Rattle.cluster.specs.Cluster.{Cluster, WINDOW}
+use Rattle.cluster.specs.Rules.{Act, Run, does, after_run}
 
 infixr 1 ◌▸◌
 -- a step, and those behind it
 abbrev pub ◌▸◌ : {A B : Type 0} → A → B → A × B
 a ▸ b = (a, b)
+
+-- a run, and one more from where it ends
+pub then-run : (c : Cluster) (acts more : List Act) → Run c acts → Run (after_run c acts) more → Run c (acts ++ more)
+then-run c [] more r q = q
+then-run c (a ∷ acts) more r q = (r.0, then-run (does c a) acts more r.1 q)
 
 -- so few numbers that aren't acknowledged leave room for one more
 pub few : (k : ℕ) → k < 3 → k < WINDOW

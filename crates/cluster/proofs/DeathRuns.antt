@@ -8,7 +8,8 @@ use Rattle.cluster.specs.WorkedPieces.{resumes, restores, no_numbers}
 use Rattle.cluster.specs.WorkedDeaths.{gap_closed, told_again, not_durable, durable, two_answer, NumberIsLost, DiesWhileCollecting, DiesAtCheckpoint, AllHaveToAnswer}
 use Rattle.cluster.proofs.Chains.{◌▸◌, few, apart, of-one, one-of-three}
 
-closes : (g : ℕ → List Message → List ℕ) (x y : List ℕ) → Run (opening 1 (relaying 0 g)) (gap_closed x y)
+-- the run in which the RSN of the first message is lost
+pub closes : (g : ℕ → List Message → List ℕ) (x y : List ℕ) → Run (opening 1 (relaying 0 g)) (gap_closed x y)
 closes g x y =
     (omega arith, omega arith)
     ▸ (omega arith, omega arith, apart 0 1 refl, (refl, refl, omega arith, omega arith, refl))

@@ -6,41 +6,18 @@ use Rattle.theorems.specs.WorkedOverlap.{passing}
 use Rattle.cluster.specs.Cluster.{opening}
 use Rattle.cluster.specs.Rules.{IsAll, Run, after_run, message}
 use Rattle.cluster.specs.WorkedLate.{renumbered, second_return, job_told, both_back, old_ask_answered, LateNumberIsDropped, LateResumeIsDropped, OldAnswerIsDropped, OpenJobComesFirst, HeardComesBack, OldAskIsHeard}
-use Rattle.cluster.proofs.Chains.{◌▸◌, few, apart, of-one, one-of-two, two-of-two}
+use Rattle.cluster.specs.WorkedPieces.{number_recorded}
+use Rattle.cluster.specs.WorkedDeaths.{gap_closed}
+use Rattle.cluster.proofs.Chains.{◌▸◌, then-run, few, apart, of-one, one-of-two, two-of-two}
+use Rattle.cluster.proofs.DeathRuns.{closes}
 
 pub late-number-is-dropped : LateNumberIsDropped
 late-number-is-dropped g x y = (inr (inr (inr (inl refl))), λ may. let e : ◌≡◌ {A = ℕ} 1 2 = may.1.1 in absurd (omega arith))
 
 renumbers : (g : ℕ → List Message → List ℕ) (x y : List ℕ) → Run (opening 1 (relaying 0 g)) (renumbered x y)
 renumbers g x y =
-    (omega arith, omega arith)
-    ▸ (omega arith, omega arith, apart 0 1 refl, (refl, refl, omega arith, omega arith, refl))
-    ▸ (inl refl, ((omega arith, omega arith), refl, refl, refl, refl, few 0 (omega arith)))
-    ▸ ((omega arith, omega arith), refl, refl)
-    ▸ (omega arith, omega arith)
-    ▸ (omega arith, omega arith, apart 0 1 refl, (refl, refl, omega arith, omega arith, refl))
-    ▸ (inl refl, ((omega arith, omega arith), refl, refl, refl, refl, few 1 (omega arith)))
-    ▸ ((omega arith, omega arith), refl, refl)
-    ▸ (omega arith, omega arith, apart 1 0 refl, (refl, refl, record { message = _; at = refl; sender = refl; ssn = refl }))
-    ▸ (omega arith, omega arith, apart 1 0 refl, (refl, refl, record { message = _; at = refl; sender = refl; ssn = refl }))
-    ▸ (inl refl, (refl, refl, refl))
-    ▸ (inl refl, ((omega arith, omega arith), refl, refl, omega arith, refl))
-    ▸ ((omega arith, omega arith), λ e. absurd (cc))
-    ▸ ((omega arith, omega arith), refl)
-    ▸ (omega arith, omega arith, apart 1 0 refl, (refl, refl, refl))
-    ▸ (inl refl, (omega arith, inl refl))
-    ▸ (omega arith, omega arith, apart 0 1 refl, (refl, refl, refl, λ v e. absurd (cc), λ m a e. refl))
-    ▸ (inl refl, (refl, refl, omega arith, refl))
-    ▸ ((omega arith, omega arith), refl, of-one (λ q. IsAll ((after_run (opening 1 (relaying 0 g)) (take 18 (renumbered x y))).told 1 q)) refl, omega arith, refl, refl)
-    ▸ (omega arith, omega arith, apart 1 0 refl, (refl, refl, refl, refl, refl))
-    ▸ (inl refl, (refl, refl, refl, λ m e. absurd (cc)))
-    ▸ (omega arith, omega arith, apart 0 1 refl, (refl, refl, refl, λ m e. absurd (cc), refl, refl, λ v e. absurd (cc), λ ssn a e. refl))
-    ▸ (inl refl, (refl, refl, refl, refl))
-    ▸ (inr (inr (inr (inr (inr (inr (inr (inr (inl refl)))))))), ((omega arith, omega arith), refl, refl, refl, refl, few 0 (omega arith)))
-    ▸ ((omega arith, omega arith), refl, refl)
-    ▸ (omega arith, omega arith, apart 1 0 refl, (refl, refl, record { message = _; at = refl; sender = refl; ssn = refl }))
-    ▸ (inl refl, (refl, refl, refl))
-    ▸ tt
+    then-run (opening 1 (relaying 0 g)) (gap_closed x y) (number_recorded 2 1 1) (closes g x y)
+    ((omega arith, omega arith, apart 1 0 refl, (refl, refl, record { message = _; at = refl; sender = refl; ssn = refl })) ▸ (inl refl, (refl, refl, refl)) ▸ tt)
 
 pub late-resume-is-dropped : LateResumeIsDropped
 late-resume-is-dropped g x y = (

@@ -15,6 +15,7 @@ use Rattle.cluster.specs.Rules.{Act, Arrives, May, does}
 use Rattle.node.specs.Node.{TheNode, counted, log_at}
 use Rattle.node.specs.Stands.{Stands, HasReceived, IsShut, sent_by, freed_in, most_released, GoesOn, Receives}
 use Rattle.node.proofs.Puts.{stands-takes}
+use Rattle.node.proofs.StandsLemmas.{stands-anew}
 use Rattle.node.proofs.Commits.{long}
 
 -- where one that passed passes no longer
@@ -132,26 +133,9 @@ module _ (n : TheNode) (c : Cluster) (q i k : ℕ) (s : Stands n c n.me) (given 
 
   stands-counted : Stands (counted k n) c' n.me
   stands-counted =
-      record {
-        me = refl;
-        count = s.count;
-        inside = s.inside;
-        stage = s.stage;
-        greeted = s.greeted;
-        phase = s.phase;
-        works = s.works;
-        life = s.life;
-        state = s.state;
-        saved = s.saved;
-        received = subst (HasReceived n.count n.base n.covered (acknowledged k n.receipts) h) (sym acknowledged-is) (received-counted n.count n.base n.covered n.receipts h (c.acknowledged n.me) k some within s.received);
-        waits = fewer;
-        logs = s.logs;
-        gates = gates;
-        free = λ d. free n.limits.durable d (s.free d);
-        heard = s.heard;
-        resumed = s.resumed;
-        out = s.out;
-      }
+      stands-anew n c n.me s
+      (subst (HasReceived n.count n.base n.covered (acknowledged k n.receipts) h) (sym acknowledged-is) (received-counted n.count n.base n.covered n.receipts h (c.acknowledged n.me) k some within s.received))
+      fewer s.logs gates (λ d. free n.limits.durable d (s.free d)) s.heard s.resumed s.out
 
   goes-counted : GoesOn n.me (counted k n) c
   goes-counted = record { acts = act ∷ []; run = (may, tt); by = (refl, tt); stands = stands-counted }

@@ -17,8 +17,10 @@ use Rattle.cluster.proofs.Nodes.{may-open, opens}
 use Rattle.packets.specs.declared.packet.Body.TheVariants as packets
 use Rattle.node.specs.Node.{TheNode, posts, tells, covered_of}
 use Rattle.node.specs.Stands.{Stands, HasReceived, Receives, Acts}
-use Rattle.node.proofs.Lists.{count-append, get-behind}
+use Rattle.packets.proofs.Lists.{get-behind}
+use Rattle.node.proofs.Lists.{count-append}
 use Rattle.node.proofs.Puts.{stands-takes, stands-well, posted}
+use Rattle.node.proofs.StandsLemmas.{stands-staged}
 use Rattle.node.proofs.Numbers.{length-numbers, rsn_from-numbers}
 
 -- the messages of q that it received: those that its checkpoint covers, and those behind
@@ -86,26 +88,7 @@ starts n from i ssn x live low other idle incarnation above next room c s given 
       acts = act ∷ [];
       run = (may-open c from n.me i ssn x given (s.inside, stands-takes n c n.me live s, up, incarnation ∙ sym (s.heard from within), is-next, few), tt);
       by = (refl, tt);
-      stands = subst (λ d. Stands (record n { working = Some (record { sender = from; ssn = ssn; payload = x }) }) d n.me) (sym (opens c from n.me i ssn x s.inside.0)) (record {
-        me = s.me;
-        count = s.count;
-        inside = s.inside;
-        stage = s.stage;
-        greeted = s.greeted;
-        phase = at-itself n.me (λ t. (if t then Busy (message from ssn x) else c.phase n.me) ≡ Busy (message from ssn x)) refl;
-        works = is-next;
-        life = s.life;
-        state = s.state;
-        saved = s.saved;
-        received = s.received;
-        waits = s.waits;
-        logs = s.logs;
-        gates = s.gates;
-        free = s.free;
-        heard = s.heard;
-        resumed = s.resumed;
-        out = s.out;
-      });
+      stands = subst (λ d. Stands (record n { working = Some (record { sender = from; ssn = ssn; payload = x }) }) d n.me) (sym (opens c from n.me i ssn x s.inside.0)) (stands-staged n c n.me s s.stage (at-itself n.me (λ t. (if t then Busy (message from ssn x) else c.phase n.me) ≡ Busy (message from ssn x)) refl) is-next);
     }
   where
     act : Act

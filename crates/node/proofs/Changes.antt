@@ -5,7 +5,7 @@ use Rattle.std.proofs.lemmas.Bool.Decides.{nat_tests}
 use Rattle.std.proofs.lemmas.List.{get_or_default, length-drop}
 use Rattle.packets.specs.declared.packet.Body.{Body}
 use Rattle.node.specs.Queue.{TheQueue, is_kept, recorded, dropped_to, forgotten_above}
-use Rattle.node.specs.Node.{TheNode, Within, IsPeer, CanSay, log_at, posts, numbered}
+use Rattle.node.specs.Node.{TheNode, Within, IsPeer, CanSay, log_at, posts, numbered, covered_of}
 use Rattle.node.specs.Pages.{told_of, restored_of}
 use Rattle.node.specs.Answers.{heard_of, hears, asked_by, works_for, obeys, resumed_by}
 use Rattle.node.specs.Calls.{recorded_by}
@@ -13,6 +13,7 @@ use Rattle.packets.specs.declared.packet.Body.TheVariants.{Acknowledgement}
 use Rattle.packets.proofs.Sayable.{IsSayable}
 use Rattle.node.proofs.Logs.{changed-at}
 use Rattle.node.specs.declared.node.TheConstants.{MOST_GIVEN}
+use Rattle.node.proofs.NodeLemmas.{within-with}
 
 -- a peer has its place in what is kept by peer
 pub has-place : {X : Type 0} (xs : List X) (m n : TheNode) (q : ℕ) → length xs ≡ suc m.count → m ≡ n → q ≤ n.count → q < length xs
@@ -21,6 +22,14 @@ has-place xs m n q wide same low = let e : m.count ≡ n.count = ap (λ (z : The
 -- what is there
 pub there-is : {X : Type 0} (xs : List X) (i : ℕ) (x d : X) → i < length xs → x ≡ slice_index_or xs i x → x ≡ slice_index_or xs i d
 there-is xs i x d inside e = e ∙ get_or_default xs i x d inside
+
+-- the incarnation that is there is the one that the node heard of
+pub heard-there : (m n : TheNode) (q h : ℕ) → length m.heard ≡ suc m.count → m ≡ n → q ≤ n.count → h ≡ slice_index_or m.heard q h → h ≡ heard_of q n
+heard-there m n q h wide same low at = there-is m.heard q h 0 (has-place m.heard m n q wide same low) at ∙ ap (heard_of q) same
+
+-- the count that is there is how many its checkpoint covers
+pub covered-there : (m n : TheNode) (q k : ℕ) → length m.covered ≡ suc m.count → m ≡ n → q ≤ n.count → k ≡ slice_index_or m.covered q k → k ≡ covered_of q n
+covered-there m n q k wide same low at = there-is m.covered q k 0 (has-place m.covered m n q wide same low) at ∙ ap (covered_of q) same
 
 -- a queue that holds no more than before
 pub no-longer : (logs : List TheQueue) (at : ℕ) (q r : TheQueue) → at < length logs → q ≡ r → r.dropped + length r.payloads ≤ (log_at logs at).dropped + length (log_at logs at).payloads
@@ -42,28 +51,9 @@ drops-some s q = omega (arith, length-drop (min (s - q.dropped) (length q.payloa
 -- other queues, none longer, and what it heard of its peers
 pub within-still : (n : TheNode) (heard : List ℕ) (resumed : List Bool) (logs : List TheQueue) → Within n → length heard ≡ length n.heard → length resumed ≡ length n.resumed → length logs ≡ length n.logs
     → ((d : ℕ) → (log_at logs d).dropped + length (log_at logs d).payloads ≤ (log_at n.logs d).dropped + length (log_at n.logs d).payloads) → Within (record n { heard = heard; resumed = resumed; logs = logs })
-within-still n heard resumed logs w h r l less = record {
-  allowed = w.allowed;
-  inside = w.inside;
-  within = w.within;
-  few = w.few;
-  wide = w.wide;
-  heard_wide = h ∙ w.heard_wide;
-  resumed_wide = r ∙ w.resumed_wide;
-  logs_wide = l ∙ w.logs_wide;
-  counts = w.counts;
-  peers = w.peers;
-  young = w.young;
-  bound = w.bound;
-  room = w.room;
-  waits = w.waits;
-  own = w.own;
-  numbered = w.numbered;
-  rests = w.rests;
-  short = λ d. shorter (log_at logs d).dropped (length (log_at logs d).payloads) (log_at n.logs d).dropped (length (log_at n.logs d).payloads) (MOST_GIVEN * (n.base + length n.receipts.senders)) (less d) (w.short d);
-  alive = w.alive;
-  fit = w.fit;
-}
+within-still n heard resumed logs w h r l less =
+    within-with w (h ∙ w.heard_wide) (r ∙ w.resumed_wide) (l ∙ w.logs_wide) w.room w.own w.numbered w.rests
+    (λ d. shorter (log_at logs d).dropped (length (log_at logs d).payloads) (log_at n.logs d).dropped (length (log_at n.logs d).payloads) (MOST_GIVEN * (n.base + length n.receipts.senders)) (less d) (w.short d))
   where
     shorter : (a b c d most : ℕ) → a + b ≤ c + d → c + d ≤ most → a + b ≤ most
     shorter a b c d most l k = omega arith

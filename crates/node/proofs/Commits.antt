@@ -20,7 +20,8 @@ use Rattle.cluster.specs.Parcels.{Number}
 use Rattle.node.specs.Queue.{TheQueue, appended, leading}
 use Rattle.node.specs.Node.{TheNode, posts, log_at, logged, given_to, next_number, worked, number_of, OfPeer}
 use Rattle.node.specs.Stands.{Stands, HasReceived, KeepsOf, IsShut, sent_by, GoesOn, Answers, IsNextAfter, payloads_to, job_of}
-use Rattle.node.proofs.Lists.{count-append, get-behind}
+use Rattle.packets.proofs.Lists.{get-behind}
+use Rattle.node.proofs.Lists.{count-append}
 use Rattle.node.proofs.Logs.{length-push, changed-at, leading-bound, leading-push}
 use Rattle.node.proofs.Numbers.{InOrderFrom-push}
 use Rattle.node.proofs.Puts.{stands-takes, stands-well, posted, goes-on}

@@ -10,6 +10,7 @@ use Rattle.node.specs.declared.node.TheConstants.{MOST_RECEIVED}
 use Rattle.node.specs.Node.{TheNode, Within, IsPeer, posts, tells, covered_of}
 use Rattle.node.specs.Answers.{heard_of}
 use Rattle.node.specs.Calls.{delivered, takes_more}
+use Rattle.node.proofs.NodeLemmas.{within-with}
 
 same-test : (a b y : ℕ) → y ≡ b → a ≡ y → (a == b) ≡ true
 same-test a b y e f = let g : a ≡ b = f ∙ e in grind (arith, nat_tests)
@@ -105,25 +106,6 @@ within-opened n from ssn cv many x w live peer covered row above next more =
     let b = both (nat_lt n.waiting n.limits.numbers) (nat_lt (length n.receipts.senders) n.limits.receipts) a.0 in
     let fewer : length n.receipts.senders < n.limits.receipts = (let t = b.1 in grind (arith, nat_tests)) in
     let younger : n.base + length n.receipts.senders < MOST_RECEIVED = (let t = a.1 in grind (arith, nat_tests)) in
-    record {
-      allowed = w.allowed;
-      inside = w.inside;
-      within = w.within;
-      few = w.few;
-      wide = w.wide;
-      heard_wide = w.heard_wide;
-      resumed_wide = w.resumed_wide;
-      logs_wide = w.logs_wide;
-      counts = w.counts;
-      peers = w.peers;
-      young = w.young;
-      bound = w.bound;
-      room = λ e. (omega (arith, fewer, w.allowed.receipts.1), younger);
-      waits = w.waits;
-      own = peer;
-      numbered = (omega (arith, above), omega (arith, next, above, row, covered, w.counts from, w.young, numbers_from-bound from 0 n.receipts.senders));
-      rests = λ e. absurd (let f : n.frozen ≡ true = e in let g : n.frozen ≡ false = live in cc);
-      short = w.short;
-      alive = w.alive;
-      fit = w.fit;
-    }
+    within-with w w.heard_wide w.resumed_wide w.logs_wide (λ e. (omega (arith, fewer, w.allowed.receipts.1), younger)) peer
+    (omega (arith, above), omega (arith, next, above, row, covered, w.counts from, w.young, numbers_from-bound from 0 n.receipts.senders))
+    (λ e. absurd (let f : n.frozen ≡ true = e in let g : n.frozen ≡ false = live in cc)) w.short

@@ -15,6 +15,7 @@ use Rattle.node.specs.Calls.{dropped_by}
 use Rattle.node.specs.Stands.{Stands, KeepsOf, IsShut, sent_by, most_released, GoesOn, Receives}
 use Rattle.node.proofs.Logs.{changed-at}
 use Rattle.node.proofs.Puts.{stands-takes}
+use Rattle.node.proofs.StandsLemmas.{stands-with}
 use Rattle.node.proofs.Records.{sent-is}
 
 taken-dropped : {X : Type 0} (k : ℕ) (xs : List X) → take k xs ++ drop k xs ≡ xs
@@ -94,26 +95,7 @@ module _ (n : TheNode) (c : Cluster) (r k : ℕ) (s : Stands n c n.me) (low : r 
         acts = act ∷ [];
         run = (may, tt);
         by = (refl, tt);
-        stands = record {
-          me = refl;
-          count = s.count;
-          inside = s.inside;
-          stage = s.stage;
-          greeted = s.greeted;
-          phase = s.phase;
-          works = s.works;
-          life = s.life;
-          state = s.state;
-          saved = s.saved;
-          received = s.received;
-          waits = s.waits;
-          logs = logs;
-          gates = gates;
-          free = s.free;
-          heard = s.heard;
-          resumed = s.resumed;
-          out = s.out;
-        };
+        stands = stands-with n c n.me s logs gates s.heard s.resumed s.out;
       }
 
 -- the log drops what its receiver covers

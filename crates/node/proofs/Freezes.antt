@@ -22,6 +22,7 @@ use Rattle.node.specs.Checkpoints.{may_freeze, froze, counts_from, thawed, says_
 use Rattle.node.specs.Stands.{Stands, HasReceived, IsShut, sent_by, freed_in, most_released, GoesOn, Acts, Saves, phase_of, InOrderFrom}
 use Rattle.node.proofs.Logs.{leading-bound}
 use Rattle.node.proofs.Puts.{stands-takes}
+use Rattle.node.proofs.StandsLemmas.{stands-staged}
 use Rattle.node.proofs.Steps.{acts-self, acts-then, goes-then, owes-at, by-if}
 use Rattle.node.proofs.Numbers.{InOrderFrom-same, InOrderFrom-joined}
 use Rattle.node.proofs.Arrivals.{counted, says-covered}
@@ -45,26 +46,7 @@ freezes n = by-if (Acts n) (may_freeze n) (record n { frozen = true }) n (λ e. 
           acts = Freezes n.me ∷ [];
           run = ((s.inside, stands-takes n c n.me (off n.frozen t.0) s, s.phase ∙ idle n.working t.1), tt);
           by = (refl, tt);
-          stands = record {
-            me = s.me;
-            count = s.count;
-            inside = s.inside;
-            stage = at-itself n.me (λ b. (if b then Frozen else c.stage n.me) ≡ Frozen) refl;
-            greeted = s.greeted;
-            phase = s.phase;
-            works = s.works;
-            life = s.life;
-            state = s.state;
-            saved = s.saved;
-            received = s.received;
-            waits = s.waits;
-            logs = s.logs;
-            gates = s.gates;
-            free = s.free;
-            heard = s.heard;
-            resumed = s.resumed;
-            out = s.out;
-          };
+          stands = stands-staged n c n.me s (at-itself n.me (λ b. (if b then Frozen else c.stage n.me) ≡ Frozen) refl) s.phase s.works;
         }
 
 -- ---- what was received is counted

@@ -1,4 +1,6 @@
 pub mod Lists
+pub mod NodeLemmas
+pub mod StandsLemmas
 pub mod Numbers
 pub mod Logs
 pub mod Views

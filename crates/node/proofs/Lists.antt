@@ -1,6 +1,6 @@
 -- Lists
-use Rattle.std.proofs.Common.{◌≡◌, ℕ, suc, ◌+◌, List, [], ◌∷◌, ◌++◌, length, subst, arith}
-use Rattle.std.specs.Prelude.{Some, slice_get, Bool, true, false, nat_lt, if◌then◌else◌}
+use Rattle.std.proofs.Common.{◌≡◌, ℕ, ◌+◌, List, [], ◌∷◌, ◌++◌, length, arith}
+use Rattle.std.specs.Prelude.{Bool, true, false, nat_lt, if◌then◌else◌}
 use Rattle.packets.specs.declared.packet.NodePacket.{NodePacket}
 use Rattle.packets.specs.declared.outbox.TheConstants.{OUTBOX}
 use Rattle.packets.specs.Outbox.{pushed}
@@ -28,13 +28,3 @@ all-pushed P xs x h e = by_room (nat_lt (length xs) OUTBOX)
 pub count-append : (s : ℕ) (g h : List Message) → count_of s (g ++ h) ≡ count_of s g + count_of s h
 count-append s [] h = omega arith
 count-append s (m ∷ g) h = let e : count_of s (g ++ h) ≡ count_of s g + count_of s h = count-append s g h in omega (arith, e)
-
-pub get-behind : {X : Type 0} (xs ys : List X) (k : ℕ) (x : X) → slice_get ys k ≡ Some x → slice_get (xs ++ ys) (length xs + k) ≡ Some x
-get-behind {X} [] ys k x e =
-    let P : ℕ → Type 0 = λ j. slice_get ys j ≡ Some x in
-    let j : k ≡ 0 + k = omega arith in
-    subst P j e
-get-behind {X} (y ∷ xs) ys k x e =
-    let P : ℕ → Type 0 = λ j. slice_get (y ∷ (xs ++ ys)) j ≡ Some x in
-    let j : suc (length xs + k) ≡ suc (length xs) + k = omega arith in
-    subst P j (get-behind xs ys k x e)

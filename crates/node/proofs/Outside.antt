@@ -2,13 +2,14 @@
 use Rattle.std.proofs.Common.{◌≡◌, inl, inr, ℕ, zero, suc, ◌<◌, ◌+◌, List, [], ◌∷◌, length, Bool, true, false, refl, sym, ap, ◌∙◌, arith}
 use Rattle.std.specs.Prelude.{None, Some, Option, ◌==◌, nat_lt, if◌then◌else◌}
 use Rattle.std.proofs.lemmas.Bool.Decides.{nat_tests}
+use Rattle.world.specs.declared.message.Message.{Message}
 use Rattle.world.specs.World.{put}
 use Rattle.world.specs.History.{Payload}
 use Rattle.world.specs.Plan.{first_below, logged_as}
 use Rattle.world.specs.Calls.{peers}
 use Rattle.world.specs.Phases.{Replaying}
 use Rattle.cluster.specs.Parcels.{Body, Delivery, Number, Acknowledgement, Ask, Told, Resume, Restored, Saved, Parcel, In, parcel}
-use Rattle.cluster.specs.Cluster.{Cluster, seen}
+use Rattle.cluster.specs.Cluster.{Cluster, Collected, seen}
 use Rattle.cluster.specs.Rules.{Act, Input, Puts, Arrives, Replays, Recovers, May, MayPut, entry_of, does, after_run, goes_on, taken_back}
 use Rattle.node.specs.Stands.{Each, actor}
 use Rattle.node.specs.Runs.{IsGateway}
@@ -122,125 +123,39 @@ may-too g c e (Arrives p zero (Resume i k s)) o m = (e.parcels _ m.0, (rw (sym e
 may-too g c e (Arrives p zero (Saved n)) o m = (e.parcels _ m.0, rw (sym e.stage, sym e.greeted, sym e.phase) m.1)
 may-too g c e act o m = absurd o
 
+-- gateways that have the same have the same still when these fields change alike in both
+outside-with : (g c : Cluster) {trims_g trims_c : ℕ → ℕ → ℕ} {numbers_g numbers_c : ℕ → ℕ → ℕ → Option ℕ} {heard_g heard_c : ℕ → ℕ → ℕ} {resumed_g resumed_c : ℕ → ℕ → Bool} {told_g told_c : ℕ → ℕ → Option Collected}
+    {inputs_g inputs_c : ℕ → List Payload} {shown_g shown_c : List Message} {parcels_g parcels_c : List Parcel} → SameOutside g c
+    → ((k : ℕ) → trims_g 0 k ≡ trims_c 0 k) → ((k : ℕ) → numbers_g 0 k ≡ numbers_c 0 k) → ((k : ℕ) → heard_g 0 k ≡ heard_c 0 k) → ((k : ℕ) → resumed_g 0 k ≡ resumed_c 0 k)
+    → ((k : ℕ) → inputs_g k ≡ inputs_c k) → shown_g ≡ shown_c → ((x : Parcel) → In x parcels_g → In x parcels_c)
+    → SameOutside (record g { trims = trims_g; numbers = numbers_g; heard = heard_g; resumed = resumed_g; told = told_g; inputs = inputs_g; shown = shown_g; parcels = parcels_g })
+    (record c { trims = trims_c; numbers = numbers_c; heard = heard_c; resumed = resumed_c; told = told_c; inputs = inputs_c; shown = shown_c; parcels = parcels_c })
+outside-with g c e trims numbers heard resumed inputs shown parcels =
+    record {
+      count = e.count;
+      handlers = e.handlers;
+      stage = e.stage;
+      greeted = e.greeted;
+      phase = e.phase;
+      life = e.life;
+      history = e.history;
+      trims = trims;
+      numbers = numbers;
+      heard = heard;
+      resumed = resumed;
+      inputs = inputs;
+      shown = shown;
+      parcels = parcels;
+    }
+
 -- and has the same then
 pub outside-too : (g c : Cluster) → SameOutside g c → (a : Act) → IsGateway a → SameOutside (does g a) (does c a)
-outside-too g c e (Input d x) o =
-    record {
-      count = e.count;
-      handlers = e.handlers;
-      stage = e.stage;
-      greeted = e.greeted;
-      phase = e.phase;
-      life = e.life;
-      history = e.history;
-      trims = λ k. e.trims k;
-      numbers = λ k. e.numbers k;
-      heard = λ k. e.heard k;
-      resumed = λ k. e.resumed k;
-      inputs = λ k. rw (e.inputs d, e.inputs k) refl;
-      shown = e.shown;
-      parcels = λ x i. e.parcels x i;
-    }
-outside-too g c e (Puts zero d x) o =
-    record {
-      count = e.count;
-      handlers = e.handlers;
-      stage = e.stage;
-      greeted = e.greeted;
-      phase = e.phase;
-      life = e.life;
-      history = e.history;
-      trims = λ k. e.trims k;
-      numbers = λ k. e.numbers k;
-      heard = λ k. e.heard k;
-      resumed = λ k. e.resumed k;
-      inputs = λ k. e.inputs k;
-      shown = e.shown;
-      parcels = λ y i. in-more y (parcel 0 d x) g.parcels c.parcels (e.parcels y) i;
-    }
-outside-too g c e (Arrives p zero (Delivery i ssn x)) o =
-    record {
-      count = e.count;
-      handlers = e.handlers;
-      stage = e.stage;
-      greeted = e.greeted;
-      phase = e.phase;
-      life = e.life;
-      history = e.history;
-      trims = λ k. e.trims k;
-      numbers = λ k. e.numbers k;
-      heard = λ k. e.heard k;
-      resumed = λ k. e.resumed k;
-      inputs = λ k. e.inputs k;
-      shown = rw e.shown refl;
-      parcels = λ x i. e.parcels x i;
-    }
+outside-too g c e (Input d x) o = outside-with g c e e.trims e.numbers e.heard e.resumed (λ k. rw (e.inputs d, e.inputs k) refl) e.shown e.parcels
+outside-too g c e (Puts zero d x) o = outside-with g c e e.trims e.numbers e.heard e.resumed e.inputs e.shown (λ y i. in-more y (parcel 0 d x) g.parcels c.parcels (e.parcels y) i)
+outside-too g c e (Arrives p zero (Delivery i ssn x)) o = outside-with g c e e.trims e.numbers e.heard e.resumed e.inputs (rw e.shown refl) e.parcels
 outside-too g c e (Arrives r zero (Number i ssn k)) o =
-    record {
-      count = e.count;
-      handlers = e.handlers;
-      stage = e.stage;
-      greeted = e.greeted;
-      phase = e.phase;
-      life = e.life;
-      history = e.history;
-      trims = λ k. e.trims k;
-      numbers = λ z. rw (e.numbers r, e.numbers z) refl;
-      heard = λ k. e.heard k;
-      resumed = λ k. e.resumed k;
-      inputs = λ k. e.inputs k;
-      shown = e.shown;
-      parcels = λ y z. in-more y (parcel 0 r (Acknowledgement i k)) g.parcels c.parcels (e.parcels y) z;
-    }
-outside-too g c e (Arrives d zero (Saved n)) o =
-    record {
-      count = e.count;
-      handlers = e.handlers;
-      stage = e.stage;
-      greeted = e.greeted;
-      phase = e.phase;
-      life = e.life;
-      history = e.history;
-      trims = λ k. rw (e.trims d, e.inputs d, e.trims k) refl;
-      numbers = λ k. e.numbers k;
-      heard = λ k. e.heard k;
-      resumed = λ k. e.resumed k;
-      inputs = λ k. e.inputs k;
-      shown = e.shown;
-      parcels = λ x i. e.parcels x i;
-    }
-outside-too g c e (Arrives p zero (Ask i k)) o =
-    record {
-      count = e.count;
-      handlers = e.handlers;
-      stage = e.stage;
-      greeted = e.greeted;
-      phase = e.phase;
-      life = e.life;
-      history = e.history;
-      trims = λ k. e.trims k;
-      numbers = λ k. e.numbers k;
-      heard = λ z. rw (e.heard z) refl;
-      resumed = λ z. rw (e.resumed z) refl;
-      inputs = λ k. e.inputs k;
-      shown = e.shown;
-      parcels = λ x i. e.parcels x i;
-    }
-outside-too g c e (Arrives p zero (Resume i k s)) o =
-    record {
-      count = e.count;
-      handlers = e.handlers;
-      stage = e.stage;
-      greeted = e.greeted;
-      phase = e.phase;
-      life = e.life;
-      history = e.history;
-      trims = λ k. e.trims k;
-      numbers = λ z. rw (e.numbers p, e.numbers z) refl;
-      heard = λ k. e.heard k;
-      resumed = λ z. rw (e.resumed z) refl;
-      inputs = λ k. e.inputs k;
-      shown = e.shown;
-      parcels = λ x i. e.parcels x i;
-    }
+    outside-with g c e e.trims (λ z. rw (e.numbers r, e.numbers z) refl) e.heard e.resumed e.inputs e.shown (λ y z. in-more y (parcel 0 r (Acknowledgement i k)) g.parcels c.parcels (e.parcels y) z)
+outside-too g c e (Arrives d zero (Saved n)) o = outside-with g c e (λ k. rw (e.trims d, e.inputs d, e.trims k) refl) e.numbers e.heard e.resumed e.inputs e.shown e.parcels
+outside-too g c e (Arrives p zero (Ask i k)) o = outside-with g c e e.trims e.numbers (λ z. rw (e.heard z) refl) (λ z. rw (e.resumed z) refl) e.inputs e.shown e.parcels
+outside-too g c e (Arrives p zero (Resume i k s)) o = outside-with g c e e.trims (λ z. rw (e.numbers p, e.numbers z) refl) e.heard (λ z. rw (e.resumed z) refl) e.inputs e.shown e.parcels
 outside-too g c e act o = absurd o

@@ -28,6 +28,7 @@ use Rattle.node.specs.Node.{TheNode, Within, log_at}
 use Rattle.node.specs.Checkpoints.{counts_from}
 use Rattle.node.specs.Stands.{Stands, KeepsOf}
 use Rattle.node.specs.Kept.{with_own, without_own, log_of, kept_of, is_short, is_process, comes_back, queue_of, resting, IsKeptOf, Covers, KeptStays}
+use Rattle.node.proofs.StandsLemmas.{stands-with, stands-staged}
 use Rattle.node.proofs.Arrivals.{counted}
 use Rattle.node.proofs.Commits.{long}
 use Rattle.node.proofs.Freezes.{counts-at, counts-length}
@@ -222,26 +223,8 @@ kept-covers n w c s = ((s.inside, s.stage), kept-of n w c s)
 -- a node that waits for its checkpoint stands whatever it has still to send
 pub resting-stands : (n : TheNode) (c : Cluster) → n.frozen ≡ true → Stands n c n.me → Stands (resting n) c n.me
 resting-stands n c wait s =
-    record {
-      me = refl;
-      count = s.count;
-      inside = s.inside;
-      stage = s.stage ∙ rw wait refl;
-      greeted = s.greeted;
-      phase = s.phase;
-      works = s.works;
-      life = s.life;
-      state = s.state;
-      saved = s.saved;
-      received = s.received;
-      waits = s.waits;
-      logs = s.logs;
-      gates = s.gates;
-      free = s.free;
-      heard = s.heard;
-      resumed = s.resumed;
-      out = tt;
-    }
+    let empty : Stands (record n { out = [] }) c n.me = stands-with n c n.me s s.logs s.gates s.heard s.resumed tt in
+    stands-staged (record n { out = [] }) c n.me empty (s.stage ∙ rw wait refl) s.phase s.works
 
 -- ---- what is kept stays that
 

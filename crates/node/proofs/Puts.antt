@@ -12,6 +12,7 @@ use Rattle.node.specs.Node.{TheNode, posts, packet_of}
 use Rattle.packets.specs.Says.{Says}
 use Rattle.node.specs.Stands.{Stands, GoesOn, PutOut, phase_of, stage_of, own_act}
 use Rattle.node.proofs.Lists.{all-more, all-pushed}
+use Rattle.node.proofs.StandsLemmas.{stands-with}
 
 up-with : (o : Option OpenJob) → is_up (phase_of o) ≡ true
 up-with None = refl
@@ -38,28 +39,10 @@ put-still c d p x same more s = record { count_is = s.count_is ∙ same; from = 
 -- it stands in the cluster in which the packet is put out
 pub stands-posted : (n : TheNode) (c : Cluster) (p to : ℕ) (x : bodies.Body) (b : Body) → Says p x b → Stands n c p → Stands (posts to x n) (does c (Puts p to b)) p
 stands-posted n c p to x b says s =
-    record {
-      me = s.me;
-      count = s.count;
-      inside = s.inside;
-      stage = s.stage;
-      greeted = s.greeted;
-      phase = s.phase;
-      works = s.works;
-      life = s.life;
-      state = s.state;
-      saved = s.saved;
-      received = s.received;
-      waits = s.waits;
-      logs = s.logs;
-      gates = s.gates;
-      free = s.free;
-      heard = s.heard;
-      resumed = s.resumed;
-      out = all-pushed (PutOut c.count (parcel p to b ∷ c.parcels) p) n.out (packet_of n to x)
-          (all-more (PutOut c.count c.parcels p) (PutOut c.count (parcel p to b ∷ c.parcels) p) n.out (λ o. put-still c (does c (Puts p to b)) p o refl (λ y i. inr i)) s.out)
-          (record { count_is = s.count; from = s.me; said = (b, says, inl refl) });
-    }
+    stands-with n c p s s.logs s.gates s.heard s.resumed
+    (all-pushed (PutOut c.count (parcel p to b ∷ c.parcels) p) n.out (packet_of n to x)
+    (all-more (PutOut c.count c.parcels p) (PutOut c.count (parcel p to b ∷ c.parcels) p) n.out (λ o. put-still c (does c (Puts p to b)) p o refl (λ y i. inr i)) s.out)
+    (record { count_is = s.count; from = s.me; said = (b, says, inl refl) }))
 
 -- to put out what the cluster lets it
 pub posted : (n : TheNode) (c : Cluster) (to : ℕ) (x : bodies.Body) (b : Body) → Says n.me x b → Stands n c n.me → to ≤ n.count → to ≢ n.me → MayPut c n.me to b → GoesOn n.me (posts to x n) c

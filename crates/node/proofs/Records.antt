@@ -20,6 +20,7 @@ use Rattle.node.specs.Stands.{Stands, KeepsOf, IsShut, sent_by, most_released, G
 use Rattle.node.proofs.Logs.{changed-at}
 use Rattle.node.proofs.Lists.{all-more, all-pushed}
 use Rattle.node.proofs.Puts.{stands-takes, is-up, put-still}
+use Rattle.node.proofs.StandsLemmas.{stands-with}
 
 -- what it sent, as the rules tell it
 pub sent-is : (n : TheNode) (c : Cluster) (p d : ℕ) → Stands n c p → sent (seen c) p d ≡ c.handlers.sends p (c.history p) d
@@ -116,28 +117,10 @@ module _ (n : TheNode) (c : Cluster) (r i ssn k : ℕ) (s : Stands n c n.me) (lo
 
   stands-recorded : Stands (posts r (packets.Acknowledgement i k) (numbered r ssn k n)) c' n.me
   stands-recorded =
-      record {
-        me = refl;
-        count = s.count;
-        inside = s.inside;
-        stage = s.stage;
-        greeted = s.greeted;
-        phase = s.phase;
-        works = s.works;
-        life = s.life;
-        state = s.state;
-        saved = s.saved;
-        received = s.received;
-        waits = s.waits;
-        logs = logs;
-        gates = gates;
-        free = s.free;
-        heard = s.heard;
-        resumed = s.resumed;
-        out = all-pushed (PutOut c.count c'.parcels n.me) n.out (packet_of n r (packets.Acknowledgement i k))
-            (all-more (PutOut c.count c.parcels n.me) (PutOut c.count c'.parcels n.me) n.out (λ o. put-still c c' n.me o refl (λ b z. inr z)) s.out)
-            (record { count_is = s.count; from = refl; said = (Acknowledgement i k, refl, inl refl) });
-      }
+      stands-with n c n.me s logs gates s.heard s.resumed
+      (all-pushed (PutOut c.count c'.parcels n.me) n.out (packet_of n r (packets.Acknowledgement i k))
+      (all-more (PutOut c.count c.parcels n.me) (PutOut c.count c'.parcels n.me) n.out (λ o. put-still c c' n.me o refl (λ b z. inr z)) s.out)
+      (record { count_is = s.count; from = refl; said = (Acknowledgement i k, refl, inl refl) }))
 
   goes-recorded : GoesOn n.me (posts r (packets.Acknowledgement i k) (numbered r ssn k n)) c
   goes-recorded = record { acts = act ∷ []; run = (may, tt); by = (refl, tt); stands = stands-recorded }

@@ -8,6 +8,7 @@ use Rattle.node.specs.declared.limit.Limits.{Limits}
 use Rattle.node.specs.Queue.{TheQueue, released_again}
 use Rattle.node.specs.Node.{IsWithin, log_at}
 use Rattle.node.specs.declared.node.TheConstants.{MOST_GIVEN}
+use Rattle.node.proofs.NodeLemmas.{within-with}
 
 -- a queue of those that come back
 pub log-released : (durable : Bool) (logs : List TheQueue) (d : ℕ) → log_at (map (released_again durable) logs) d ≡ released_again durable (log_at logs d)
@@ -20,28 +21,8 @@ log-released durable (q ∷ logs) (suc d) = log-released durable logs d
 pub within-released : (limits : Limits) (me count base : ℕ) (covered heard : List ℕ) (resumed : List Bool) (receipts : Received) (logs : List TheQueue) (life : ℕ) (out : List NodePacket) → IsWithin limits me count base covered heard resumed receipts logs None false 0 life out
     → IsWithin limits me count base covered heard resumed receipts (map (released_again limits.durable) logs) None false 0 life out
 within-released limits me count base covered heard resumed receipts logs life out w =
-    record {
-      allowed = w.allowed;
-      inside = w.inside;
-      within = w.within;
-      few = w.few;
-      wide = w.wide;
-      heard_wide = w.heard_wide;
-      resumed_wide = w.resumed_wide;
-      logs_wide = length-map logs (released_again limits.durable) ∙ w.logs_wide;
-      counts = w.counts;
-      peers = w.peers;
-      young = w.young;
-      bound = w.bound;
-      room = w.room;
-      waits = w.waits;
-      own = w.own;
-      numbered = w.numbered;
-      rests = w.rests;
-      short = λ d. rw (log-released limits.durable logs d) (short limits.durable d (w.short d));
-      alive = w.alive;
-      fit = w.fit;
-    }
+    within-with w w.heard_wide w.resumed_wide (length-map logs (released_again limits.durable) ∙ w.logs_wide) w.room w.own w.numbered w.rests
+    (λ d. rw (log-released limits.durable logs d) (short limits.durable d (w.short d)))
   where
     short : (durable : Bool) (d : ℕ) → (log_at logs d).dropped + length (log_at logs d).payloads ≤ MOST_GIVEN * (base + length receipts.senders)
         → (released_again durable (log_at logs d)).dropped + length (released_again durable (log_at logs d)).payloads ≤ MOST_GIVEN * (base + length receipts.senders)

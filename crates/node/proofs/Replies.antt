@@ -10,7 +10,7 @@ use Rattle.world.specs.Calls.{up_to}
 use Rattle.theorems.proofs.Changes.{at-itself}
 use Rattle.theorems.proofs.Tests.{neither, not-false}
 use Rattle.cluster.specs.Parcels.{Ask, Told, Resume, Restored, In, parcel}
-use Rattle.cluster.specs.Rules.{Arrives, entry_of}
+use Rattle.cluster.specs.Rules.{Arrives, entry_of, put2}
 use Rattle.node.specs.declared.job.OpenJob.{OpenJob}
 use Rattle.node.specs.Queue.{TheQueue, forgotten_above}
 use Rattle.node.specs.Node.{TheNode, Within, log_at, posts, covered_of}
@@ -23,6 +23,7 @@ use Rattle.packets.specs.Says.{told_end, restored_end}
 use Rattle.node.specs.Stands.{KeepsOf, IsShut, sent_by, most_released, Receives, Acts, phase_of, job_of}
 use Rattle.node.proofs.Logs.{changed-at}
 use Rattle.node.proofs.Puts.{stands-takes, stands-well, posted, stays}
+use Rattle.node.proofs.StandsLemmas.{stands-with}
 use Rattle.node.proofs.Steps.{owes-then, by-if}
 use Rattle.node.proofs.Arrivals.{covers}
 use Rattle.packets.proofs.PageLemmas.{Ordered}
@@ -65,28 +66,13 @@ hearing n d i k live low wide broad newer c s given =
       acts = Arrives d n.me (Ask i k) ∷ [];
       run = ((given, (omega (arith, s.heard d within, newer), inl (stands-takes n c n.me live s))), tt);
       by = (refl, tt);
-      stands = record {
-        me = refl;
-        count = s.count;
-        inside = s.inside;
-        stage = s.stage;
-        greeted = s.greeted;
-        phase = s.phase;
-        works = s.works;
-        life = s.life;
-        state = s.state;
-        saved = s.saved;
-        received = s.received;
-        waits = s.waits;
-        logs = s.logs;
-        gates = s.gates;
-        free = s.free;
-        heard = λ q l. at-itself n.me (λ t. (if t && (q == d) then i else c.heard n.me q) ≡ slice_index_or (slice_set n.heard d i) q 0)
-            (ap (λ z. if q == d then i else z) (s.heard q l) ∙ set-at n.heard d i 0 q wide);
-        resumed = λ q l. at-itself n.me (λ t. (if t && (q == d) then false else c.resumed n.me q) ≡ slice_index_or (slice_set n.resumed d false) q true)
-            (ap (λ z. if q == d then false else z) (s.resumed q l) ∙ set-at n.resumed d false true q broad);
-        out = s.out;
-      };
+      stands =
+          stands-with n c n.me s s.logs s.gates
+          (λ q l. at-itself n.me (λ t. (if t && (q == d) then i else c.heard n.me q) ≡ slice_index_or (slice_set n.heard d i) q 0)
+          (ap (λ z. if q == d then i else z) (s.heard q l) ∙ set-at n.heard d i 0 q wide))
+          (λ q l. at-itself n.me (λ t. (if t && (q == d) then false else c.resumed n.me q) ≡ slice_index_or (slice_set n.resumed d false) q true)
+          (ap (λ z. if q == d then false else z) (s.resumed q l) ∙ set-at n.resumed d false true q broad))
+          s.out;
     }
 
 -- an Ask comes
@@ -169,31 +155,11 @@ obeying n d i k a live low other wide broad heard fresh free c s given =
       acts = Arrives d n.me (Resume i k a) ∷ [];
       run = ((given, (stands-takes n c n.me live s, sym (s.heard d within ∙ heard), s.resumed d within ∙ fresh, λ m e. no-job n.working d m free (sym s.phase ∙ e))), tt);
       by = (refl, tt);
-      stands = record {
-        me = refl;
-        count = s.count;
-        inside = s.inside;
-        stage = s.stage;
-        greeted = s.greeted;
-        phase = s.phase;
-        works = s.works;
-        life = s.life;
-        state = s.state;
-        saved = s.saved;
-        received = s.received;
-        waits = s.waits;
-        logs = λ e l o. at-itself n.me (λ t. KeepsOf (log_at (slice_set n.logs d (forgotten_above k (log_at n.logs d))) e) (c.trims n.me e) (c.handlers.sends n.me (c.history n.me) e) (if t && (e == d) then (λ ssn. up_to k (c.numbers n.me d ssn)) else c.numbers n.me e))
-            (changed-at (λ q. KeepsOf q (c.trims n.me e) (c.handlers.sends n.me (c.history n.me) e) (if e == d then (λ (ssn : ℕ). up_to k (c.numbers n.me d ssn)) else c.numbers n.me e)) n.logs d (forgotten_above k (log_at n.logs d)) e wide (here e) (there e l o));
-        gates = λ e l o. changed-at (λ q. IsShut q (length (c.history n.me)) (most_released n.limits.durable c n.me e) (sent_by c.handlers n.me (c.history n.me) e)) n.logs d (forgotten_above k (log_at n.logs d)) e wide
-            (λ same. let Q : ℕ → Type 0 = λ z. IsShut (forgotten_above k (log_at n.logs z)) (length (c.history n.me)) (most_released n.limits.durable c n.me e) (sent_by c.handlers n.me (c.history n.me) e) in
-            let g = s.gates e l o in subst Q same (record { within = g.within; waits = g.waits }))
-            (λ apart. s.gates e l o);
-        free = s.free;
-        heard = s.heard;
-        resumed = λ q l. at-itself n.me (λ t. (if t && (q == d) then true else c.resumed n.me q) ≡ slice_index_or (slice_set n.resumed d true) q true)
-            (ap (λ z. if q == d then true else z) (s.resumed q l) ∙ set-at n.resumed d true true q broad);
-        out = s.out;
-      };
+      stands =
+          stands-with n c n.me s logs gates s.heard
+          (λ q l. at-itself n.me (λ t. (if t && (q == d) then true else c.resumed n.me q) ≡ slice_index_or (slice_set n.resumed d true) q true)
+          (ap (λ z. if q == d then true else z) (s.resumed q l) ∙ set-at n.resumed d true true q broad))
+          s.out;
     }
   where
     within : d ≤ c.count
@@ -207,6 +173,16 @@ obeying n d i k a live low other wide broad heard fresh free c s given =
 
     there : (e : ℕ) → e ≤ c.count → e ≢ n.me → e ≢ d → KeepsOf (log_at n.logs e) (c.trims n.me e) (c.handlers.sends n.me (c.history n.me) e) (if e == d then (λ (ssn : ℕ). up_to k (c.numbers n.me d ssn)) else c.numbers n.me e)
     there e l o apart = let off : (e == d) ≡ false = grind (arith, nat_tests) in rw off (s.logs e l o)
+
+    logs : (e : ℕ) → e ≤ c.count → e ≢ n.me → KeepsOf (log_at (slice_set n.logs d (forgotten_above k (log_at n.logs d))) e) (c.trims n.me e) (c.handlers.sends n.me (c.history n.me) e) (put2 c.numbers n.me d (λ ssn. up_to k (c.numbers n.me d ssn)) n.me e)
+    logs e l o = at-itself n.me (λ t. KeepsOf (log_at (slice_set n.logs d (forgotten_above k (log_at n.logs d))) e) (c.trims n.me e) (c.handlers.sends n.me (c.history n.me) e) (if t && (e == d) then (λ ssn. up_to k (c.numbers n.me d ssn)) else c.numbers n.me e))
+        (changed-at (λ q. KeepsOf q (c.trims n.me e) (c.handlers.sends n.me (c.history n.me) e) (if e == d then (λ (ssn : ℕ). up_to k (c.numbers n.me d ssn)) else c.numbers n.me e)) n.logs d (forgotten_above k (log_at n.logs d)) e wide (here e) (there e l o))
+
+    gates : (e : ℕ) → e ≤ c.count → e ≢ n.me → IsShut (log_at (slice_set n.logs d (forgotten_above k (log_at n.logs d))) e) (length (c.history n.me)) (most_released n.limits.durable c n.me e) (sent_by c.handlers n.me (c.history n.me) e)
+    gates e l o = changed-at (λ q. IsShut q (length (c.history n.me)) (most_released n.limits.durable c n.me e) (sent_by c.handlers n.me (c.history n.me) e)) n.logs d (forgotten_above k (log_at n.logs d)) e wide
+        (λ same. let Q : ℕ → Type 0 = λ z. IsShut (forgotten_above k (log_at n.logs z)) (length (c.history n.me)) (most_released n.limits.durable c n.me e) (sent_by c.handlers n.me (c.history n.me) e) in
+        let g = s.gates e l o in subst Q same (record { within = g.within; waits = g.waits }))
+        (λ apart. s.gates e l o)
 
 -- a Resume comes
 pub resumes : (n : TheNode) (from i k a : ℕ) → Within n → n.frozen ≡ false → from ≤ n.count → from ≢ n.me → Receives from (Resume i k a) n (resumed_by from i k a n)

@@ -17,9 +17,8 @@ use Rattle.node.specs.Queue.{TheQueue, is_kept}
 use Rattle.node.specs.Node.{TheNode, log_at}
 use Rattle.node.specs.Pages.{entries_in}
 use Rattle.node.specs.Stands.{Stands}
-use Rattle.node.proofs.Lists.{get-behind}
+use Rattle.packets.proofs.Lists.{get-behind, get-some}
 use Rattle.node.proofs.Records.{sent-is, sent-size, entry-is}
-use Rattle.node.proofs.Sendings.{get-some}
 
 module _ (n : TheNode) (c : Cluster) (d : ℕ) (s : Stands n c n.me) (low : d ≤ c.count) (other : d ≢ n.me) where
   abbrev q : TheQueue

@@ -1,11 +1,11 @@
 -- What a node sends, and sends again, it may
 use Rattle.std.proofs.Common.{◌≡◌, ◌≢◌, ℕ, zero, suc, ◌+◌, ◌-◌, ◌<◌, ◌≤◌, List, [], ◌∷◌, ◌++◌, length, drop, max, Bool, true, false, refl, sym, ap, ◌∙◌, subst, arith}
-use Rattle.std.specs.Prelude.{Some, is_none, slice_get, slice_index_or, ◌==◌, nat_lt, nat_le, if◌then◌else◌}
+use Rattle.std.specs.Prelude.{Some, is_none, slice_index_or, ◌==◌, nat_lt, nat_le, if◌then◌else◌}
 use Rattle.std.proofs.lemmas.Bool.Decides.{nat_tests}
 use Rattle.std.proofs.lemmas.List.{length-set, length-drop}
 use Rattle.rsn.specs.Receipts.{run_of, numbers_of, acknowledged_of}
 use Rattle.rsn.proofs.ReceiptLemmas.{run_of-bound}
-use Rattle.world.specs.History.{Payload, nth}
+use Rattle.world.specs.History.{nth}
 use Rattle.world.specs.Logs.{sent, run_to, released_to as released_of}
 use Rattle.theorems.proofs.RunLemmas.{run_to-is, run_to-most}
 use Rattle.theorems.proofs.Tests.{different}
@@ -16,9 +16,10 @@ use Rattle.node.specs.Queue.{TheQueue, payload_of, number_of, leading, released_
 use Rattle.node.specs.Node.{TheNode, log_at, tells, covered_of}
 use Rattle.node.specs.Transmission.{delivers, sends, first_to_send, many_to_send, sends_on, run_at, freed, unlocked, released_to, released_below, released, resends, resent, is_told_at, renumbers, renumbered, ticked_below, ticked}
 use Rattle.node.specs.Stands.{Stands, KeepsOf, IsShut, sent_by, freed_in, most_released, Acts}
-use Rattle.node.proofs.Lists.{get-behind}
+use Rattle.packets.proofs.Lists.{get-behind, get-some}
 use Rattle.node.proofs.Logs.{changed-at, leading-bound, leading-split, leading-none}
 use Rattle.node.proofs.Puts.{stands-well, posted}
+use Rattle.node.proofs.StandsLemmas.{stands-with}
 use Rattle.node.proofs.Arrivals.{tells-number}
 use Rattle.node.proofs.Records.{sent-is}
 use Rattle.node.proofs.Steps.{acts-self, acts-then, by-if}
@@ -123,46 +124,23 @@ shut-released q run n released sent within free s =
     split k l false e = let earlier : k ≤ run = grind (arith, nat_tests) in omega (arith, leading-none run k q.held earlier, s.waits run within, free)
 
 unlocks : (n : TheNode) (to : ℕ) → to < length n.logs → Acts n (unlocked to n)
-unlocks n to wide c s u =
-    record {
-      acts = [];
-      run = tt;
-      by = tt;
-      stands = record {
-        me = refl;
-        count = s.count;
-        inside = s.inside;
-        stage = s.stage;
-        greeted = s.greeted;
-        phase = s.phase;
-        works = s.works;
-        life = s.life;
-        state = s.state;
-        saved = s.saved;
-        received = s.received;
-        waits = s.waits;
-        logs = λ d l o. changed-at (λ q. KeepsOf q (c.trims n.me d) (c.handlers.sends n.me (c.history n.me) d) (c.numbers n.me d)) n.logs to (released_by (freed n) (log_at n.logs to)) d wide
-            (λ same. let P : ℕ → Type 0 = λ z. KeepsOf (released_by (freed n) (log_at n.logs z)) (c.trims n.me d) (c.handlers.sends n.me (c.history n.me) d) (c.numbers n.me d) in
-            let k = s.logs d l o in subst P same (record { before = k.before; many = k.many; joined = k.joined; dropped_is = k.dropped_is; as_many = k.as_many; numbers_are = k.numbers_are; beyond = k.beyond }))
-            (λ apart. s.logs d l o);
-        gates = λ d l o. changed-at (λ q. IsShut q (length (c.history n.me)) (most_released n.limits.durable c n.me d) (sent_by c.handlers n.me (c.history n.me) d)) n.logs to (released_by (freed n) (log_at n.logs to)) d wide
-            (λ same. let P : ℕ → Type 0 = λ z. IsShut (released_by (freed n) (log_at n.logs z)) (length (c.history n.me)) (most_released n.limits.durable c n.me d) (sent_by c.handlers n.me (c.history n.me) d) in
-            let is = freed-is n c n.me s in
-            let free : sent_by c.handlers n.me (c.history n.me) d (freed n) ≤ most_released n.limits.durable c n.me d = omega (arith, ap (sent_by c.handlers n.me (c.history n.me) d) is, freed-most n c n.me d s) in
-            subst P same (shut-released (log_at n.logs d) (freed n) (length (c.history n.me)) (most_released n.limits.durable c n.me d) (sent_by c.handlers n.me (c.history n.me) d) (omega (arith, is, freed-within n c n.me s)) free (s.gates d l o)))
-            (λ apart. s.gates d l o);
-        free = s.free;
-        heard = s.heard;
-        resumed = s.resumed;
-        out = s.out;
-      };
-    }
+unlocks n to wide c s u = record { acts = []; run = tt; by = tt; stands = stands-with n c n.me s logs gates s.heard s.resumed s.out }
+  where
+    logs : (d : ℕ) → d ≤ c.count → d ≢ n.me → KeepsOf (log_at (unlocked to n).logs d) (c.trims n.me d) (c.handlers.sends n.me (c.history n.me) d) (c.numbers n.me d)
+    logs d l o = changed-at (λ q. KeepsOf q (c.trims n.me d) (c.handlers.sends n.me (c.history n.me) d) (c.numbers n.me d)) n.logs to (released_by (freed n) (log_at n.logs to)) d wide
+        (λ same. let P : ℕ → Type 0 = λ z. KeepsOf (released_by (freed n) (log_at n.logs z)) (c.trims n.me d) (c.handlers.sends n.me (c.history n.me) d) (c.numbers n.me d) in
+        let k = s.logs d l o in subst P same (record { before = k.before; many = k.many; joined = k.joined; dropped_is = k.dropped_is; as_many = k.as_many; numbers_are = k.numbers_are; beyond = k.beyond }))
+        (λ apart. s.logs d l o)
+
+    gates : (d : ℕ) → d ≤ c.count → d ≢ n.me → IsShut (log_at (unlocked to n).logs d) (length (c.history n.me)) (most_released n.limits.durable c n.me d) (sent_by c.handlers n.me (c.history n.me) d)
+    gates d l o = changed-at (λ q. IsShut q (length (c.history n.me)) (most_released n.limits.durable c n.me d) (sent_by c.handlers n.me (c.history n.me) d)) n.logs to (released_by (freed n) (log_at n.logs to)) d wide
+        (λ same. let P : ℕ → Type 0 = λ z. IsShut (released_by (freed n) (log_at n.logs z)) (length (c.history n.me)) (most_released n.limits.durable c n.me d) (sent_by c.handlers n.me (c.history n.me) d) in
+        let is = freed-is n c n.me s in
+        let free : sent_by c.handlers n.me (c.history n.me) d (freed n) ≤ most_released n.limits.durable c n.me d = omega (arith, ap (sent_by c.handlers n.me (c.history n.me) d) is, freed-most n c n.me d s) in
+        subst P same (shut-released (log_at n.logs d) (freed n) (length (c.history n.me)) (most_released n.limits.durable c n.me d) (sent_by c.handlers n.me (c.history n.me) d) (omega (arith, is, freed-within n c n.me s)) free (s.gates d l o)))
+        (λ apart. s.gates d l o)
 
 -- Messages
-pub get-some : (xs : List Payload) (k : ℕ) → k < length xs → slice_get xs k ≡ Some (slice_index_or xs k [])
-get-some [] k l = absurd (omega arith)
-get-some (x ∷ xs) zero l = refl
-get-some (x ∷ xs) (suc k) l = get-some xs k (omega arith)
 
 -- a message that is kept and released
 pub delivery : (n : TheNode) (to ssn : ℕ) → to ≤ n.count → to ≢ n.me → (log_at n.logs to).dropped < ssn → ssn ≤ (log_at n.logs to).released → Acts n (delivers to ssn n)

@@ -5,6 +5,7 @@ use Rattle.cluster.specs.Cluster.{Cluster}
 use Rattle.packets.specs.Outbox.{Pops}
 use Rattle.node.specs.Node.{TheNode}
 use Rattle.node.specs.Stands.{Each, Stands, PutOut, Takes}
+use Rattle.node.proofs.StandsLemmas.{stands-with}
 
 pub none-is : {X : Type 0} (o : Option X) → is_some o ≡ false → o ≡ None
 none-is None e = refl
@@ -28,26 +29,4 @@ takes-so None n rest e = (e.0, ap (λ xs. record n { out = xs }) e.1 ∙ ap (λ 
 takes-so (Some x) n rest e = (ap (λ xs. record n { out = xs }) e, λ c s. taken c s (subst (Each (PutOut c.count c.parcels n.me)) e s.out))
   where
     taken : (c : Cluster) → Stands n c n.me → Each (PutOut c.count c.parcels n.me) (x ∷ rest) → PutOut c.count c.parcels n.me x × Stands (record n { out = rest }) c n.me
-    taken c s out = (
-      out.0,
-      record {
-        me = s.me;
-        count = s.count;
-        inside = s.inside;
-        stage = s.stage;
-        greeted = s.greeted;
-        phase = s.phase;
-        works = s.works;
-        life = s.life;
-        state = s.state;
-        saved = s.saved;
-        received = s.received;
-        waits = s.waits;
-        logs = s.logs;
-        gates = s.gates;
-        free = s.free;
-        heard = s.heard;
-        resumed = s.resumed;
-        out = out.1;
-      },
-    )
+    taken c s out = (out.0, stands-with n c n.me s s.logs s.gates s.heard s.resumed out.1)

@@ -1,3 +1,4 @@
+pub mod Lists
 pub mod ChecksumLemmas
 pub mod Counted
 pub mod Spelled

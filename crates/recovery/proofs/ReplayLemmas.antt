@@ -17,7 +17,7 @@ use Rattle.node.specs.declared.job.OpenJob.{OpenJob}
 use Rattle.node.specs.declared.job.Given.{Given}
 use Rattle.packets.specs.Outbox.{Pops}
 use Rattle.node.specs.Node.{log_at, given_to}
-use Rattle.node.specs.Stands.{Each, KeepsOf, job_of, payloads_to, sent_by}
+use Rattle.node.specs.Stands.{Each, KeepsOf, job_of, sent_by}
 use Rattle.node.proofs.Commits.{logs-more}
 use Rattle.recovery.proofs.Holds.{held-more, grown-more}
 use Rattle.recovery.specs.Own.{ran, MayGive}

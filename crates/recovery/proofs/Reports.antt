@@ -24,7 +24,7 @@ use Rattle.recovery.proofs.Lists.{at-changed}
 use Rattle.recovery.proofs.Acts.{goes-self, goes-one, goes-then}
 use Rattle.recovery.proofs.Pages.{IsPage, page-in-range}
 use Rattle.recovery.proofs.Told.{told-none, told-page}
-use Rattle.recovery.proofs.Posts.{collecting-out, loss-out}
+use Rattle.recovery.proofs.Posts.{own-with, collecting-out, loss-out, for-own}
 use Rattle.recovery.proofs.Meetings.{off-set}
 use Rattle.recovery.proofs.Inquiries.{At, by-branch, asks-at, only-asks}
 
@@ -103,21 +103,7 @@ module _ (n : TheCollecting) (c : Cluster) (from i j k : ℕ) (flags : Flags) (p
   stands-mid = record {
     stage = s.stage;
     life = s.life;
-    own = record {
-      me = refl;
-      count = s.own.count;
-      inside = s.own.inside;
-      saved = s.own.saved;
-      many = s.own.many;
-      state = s.own.state;
-      covered = s.own.covered;
-      logs = s.own.logs;
-      held = s.own.held;
-      grown = s.own.grown;
-      heard = heard-is;
-      sure = record { exact_is = exact; none_lost = λ q l. off-set n.own.lost from q (is_lost flags) kept (s.own.sure.none_lost from low) (s.own.sure.none_lost q l) };
-      out = s.own.out;
-    };
+    own = own-with n.own c c' me _ refl refl refl s.own s.own.logs s.own.held heard-is (record { exact_is = exact; none_lost = λ q l. off-set n.own.lost from q (is_lost flags) kept (s.own.sure.none_lost from low) (s.own.sure.none_lost q l) }) s.own.out;
     told = told-is;
     alone = alone-is;
   }
@@ -165,21 +151,7 @@ module _ (n : TheCollecting) (c : Cluster) (from i k : ℕ) (s : StandsCollectin
   stands-anew = record {
     stage = s.stage;
     life = s.life;
-    own = record {
-      me = refl;
-      count = s.own.count;
-      inside = s.own.inside;
-      saved = s.own.saved;
-      many = s.own.many;
-      state = s.own.state;
-      covered = s.own.covered;
-      logs = s.own.logs;
-      held = s.own.held;
-      grown = s.own.grown;
-      heard = heard-anew;
-      sure = record { exact_is = s.own.sure.exact_is; none_lost = λ q l. off-set n.own.lost from q false refl (s.own.sure.none_lost from low) (s.own.sure.none_lost q l) };
-      out = s.own.out;
-    };
+    own = own-with n.own c d' p _ refl refl refl s.own s.own.logs s.own.held heard-anew (record { exact_is = s.own.sure.exact_is; none_lost = λ q l. off-set n.own.lost from q false refl (s.own.sure.none_lost from low) (s.own.sure.none_lost q l) }) s.own.out;
     told = told-anew;
     alone = alone-anew;
   }
@@ -245,12 +217,7 @@ handing n x wide heard_wide exact c s said =
     let me = n.own.me in
     let o = n.own in
     by-branch (Onward me c) (is_for o x) (heard x.from x.body n) n
-    (λ e. let a = both ((x.count == o.count) && (x.to == o.me) && nat_le x.from o.count) (not (x.from == o.me)) e in
-    let b = both ((x.count == o.count) && (x.to == o.me)) (nat_le x.from o.count) a.0 in
-    let d = both (x.count == o.count) (x.to == o.me) b.0 in
-    let to : x.to ≡ me = (let z : (x.to == o.me) ≡ true = d.1 in grind (arith, nat_tests)) in
-    let low : x.from ≤ o.count = (let z : nat_le x.from o.count ≡ true = b.1 in grind (arith, nat_tests)) in
-    let other : x.from ≢ me = (let z : (x.from == o.me) ≡ false = off (x.from == o.me) a.1 in grind (arith, nat_tests)) in
+    (λ e. let it = for-own o x e in
     let P : ℕ → Type 0 = λ z. IsSaid c.parcels x.from z x.body in
-    hearing n c x.from s low other wide heard_wide x.body (subst P to said))
+    hearing n c x.from s it.1.0 it.1.1 wide heard_wide x.body (subst P it.0 said))
     (λ e z. goes-self me (At n me) c s) exact

@@ -3,7 +3,7 @@ use Rattle.std.proofs.Common.{◌≡◌, ◌≢◌, ℕ, zero, suc, ◌+◌, ◌
 use Rattle.std.specs.Prelude.{slice_index_or, not, if◌then◌else◌}
 use Rattle.world.specs.Phases.{is_up, has}
 use Rattle.theorems.proofs.Replays.{has-those}
-use Rattle.cluster.specs.Parcels.{Resume}
+use Rattle.cluster.specs.Parcels.{Resume, Parcel}
 use Rattle.cluster.specs.Cluster.{Cluster, is_well}
 use Rattle.cluster.specs.Rules.{Puts}
 use Rattle.packets.specs.declared.packet.Body.TheVariants as packets
@@ -12,7 +12,7 @@ use Rattle.recovery.specs.Own.{posts}
 use Rattle.recovery.specs.Intake.{keeps}
 use Rattle.packets.specs.declared.packet.NodePacket.{NodePacket}
 use Rattle.node.specs.Stands.{Each}
-use Rattle.recovery.specs.Stands.{IsSent, GoesTo}
+use Rattle.recovery.specs.Stands.{HasOwn, IsSent, GoesTo}
 use Rattle.recovery.proofs.Acts.{goes-self, goes-one, goes-then}
 use Rattle.recovery.proofs.Posts.{own-out, own-posted}
 use Rattle.recovery.specs.Restoration.{TheRestoring, replayed_of, above_of, has_answered, left, asks, asks_below, asked}
@@ -39,15 +39,16 @@ not-well n c p (suc q) s low open_is =
     let e : is_up (c.phase p) ≡ false = ap is_up s.phase ∙ waits-on (left n) (suc q) (left-has n (suc q) (omega arith) low open_is) in
     rw (s.stage, e) (both-off (c.greeted p))
 
--- with other packets that were put out
-pub restoring-out : (n : TheRestoring) (c : Cluster) (p : ℕ) (rest : List NodePacket) → Each (IsSent c.count c.parcels p) rest → StandsRestoring n c p → StandsRestoring (record n { own = record n.own { out = rest } }) c p
-restoring-out n c p rest out s =
+-- with another own part that has other packets, in a cluster that has them too
+restoring-own : (n : TheRestoring) (c : Cluster) (p : ℕ) {rest : List NodePacket} {parcels : List Parcel} → HasOwn (record n.own { out = rest }) (record c { parcels = parcels }) p (c.history p) (c.trims p) (c.numbers p)
+    → StandsRestoring n c p → StandsRestoring (record n { own = record n.own { out = rest } }) (record c { parcels = parcels }) p
+restoring-own n c p own s =
     record {
       stage = s.stage;
       greeted = s.greeted;
       phase = s.phase;
       life = s.life;
-      own = own-out n.own c p _ _ _ rest out s.own;
+      own = own;
       received = s.received;
       acknowledged = s.acknowledged;
       fresh = s.fresh;
@@ -55,6 +56,10 @@ restoring-out n c p rest out s =
       restoring = s.restoring;
       released = s.released;
     }
+
+-- with other packets that were put out
+pub restoring-out : (n : TheRestoring) (c : Cluster) (p : ℕ) (rest : List NodePacket) → Each (IsSent c.count c.parcels p) rest → StandsRestoring n c p → StandsRestoring (record n { own = record n.own { out = rest } }) c p
+restoring-out n c p rest out s = restoring-own n c p (own-out n.own c p _ _ _ rest out s.own) s
 
 -- one peer is asked for what it has behind what it told
 asks-one : (n : TheRestoring) (c : Cluster) (to : ℕ) → StandsRestoring n c n.own.me → to ≤ n.own.count → slice_index_or n.answered n.own.me true ≡ true → has_answered to n ≡ false
@@ -68,19 +73,7 @@ asks-one n c to s low alone open_is =
     let many : kept ≡ length (c.history me) = sym (long n.own.count n.own.base n.own.covered n.receipts (c.history me) (c.acknowledged me) s.received) in
     goes-one me (At (record n { own = posts to (packets.Resume n.own.life kept above) n.own }) me) c (Puts me to (Resume n.own.life kept above))
     (s.own.inside.1, within, other, (s.stage, not-well n c me to s low open_is, sym s.life, many, sym (s.restoring to within))) refl
-    (record {
-      stage = s.stage;
-      greeted = s.greeted;
-      phase = s.phase;
-      life = s.life;
-      own = own-posted n.own c me to (packets.Resume n.own.life kept above) (Resume n.own.life kept above) (c.history me) (c.trims me) (c.numbers me) refl s.own;
-      received = s.received;
-      acknowledged = s.acknowledged;
-      fresh = s.fresh;
-      resumed = s.resumed;
-      restoring = s.restoring;
-      released = s.released;
-    })
+    (restoring-own n c me (own-posted n.own c me to (packets.Resume n.own.life kept above) (Resume n.own.life kept above) (c.history me) (c.trims me) (c.numbers me) refl s.own) s)
 
 pub asks-at : (n : TheRestoring) (c : Cluster) (to : ℕ) → StandsRestoring n c n.own.me → to ≤ n.own.count → slice_index_or n.answered n.own.me true ≡ true → GoesTo n.own.me (At (asks to n) n.own.me) c
 asks-at n c to s low alone = by-branch (λ m. GoesTo n.own.me (At m n.own.me) c) (has_answered to n) n _ (λ e. goes-self n.own.me (At n n.own.me) c s) (λ e. asks-one n c to s low alone e)

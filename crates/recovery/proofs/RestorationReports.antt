@@ -31,6 +31,7 @@ use Rattle.recovery.specs.Stands.{HasOwn, IsHeldBack, IsSaid, GoesTo}
 use Rattle.recovery.proofs.Meetings.{asks as ask-tells, newer-doubts}
 use Rattle.recovery.proofs.Lists.{at-changed}
 use Rattle.recovery.proofs.Acts.{goes-self, goes-one, goes-then}
+use Rattle.recovery.proofs.Posts.{own-with, for-own}
 use Rattle.recovery.proofs.Notes.{keeps-page, keeps-covered, last-above}
 use Rattle.recovery.proofs.Holds.{held-told}
 use Rattle.recovery.specs.Restoration.{TheRestoring, IsRestoring, above_of, has_answered, left, asks, last_ssn, answers, is_reply, page_of, doubted, told, greeted, waits_anew, asked_by, heard, handed}
@@ -193,21 +194,7 @@ module _ (n : TheRestoring) (c : Cluster) (from i j covered s : ℕ) (flags : Fl
       greeted = st.greeted ∙ sym (answered-other n from 0 (λ e. absurd (omega (arith, e, some))));
       phase = at-itself p (λ b. (if b then phase_with (without (todo_of (c.phase p)) from) else c.phase p) ≡ phase_with (left m)) (ap phase_with left-is);
       life = st.life;
-      own = (let P : Option ℕ → Type 0 = λ u. HasOwn own (record (taken_in c p from j covered s u f) { phase = c'.phase; released = c'.released }) p (c.history p) ((taken_in c p from j covered s u f).trims p) ((taken_in c p from j covered s u f).numbers p) in subst P end-is (record {
-        me = refl;
-        count = st.own.count;
-        inside = st.own.inside;
-        saved = st.own.saved;
-        many = st.own.many;
-        state = st.own.state;
-        covered = st.own.covered;
-        logs = logs-are;
-        held = held-changed n c from i j covered s flags pairs f st low w ok pairs;
-        grown = st.own.grown;
-        heard = heard-is;
-        sure = record { exact_is = exact; none_lost = st.own.sure.none_lost };
-        out = st.own.out;
-      }));
+      own = (let P : Option ℕ → Type 0 = λ u. HasOwn own (record (taken_in c p from j covered s u f) { phase = c'.phase; released = c'.released }) p (c.history p) ((taken_in c p from j covered s u f).trims p) ((taken_in c p from j covered s u f).numbers p) in subst P end-is (own-with n.own c _ p _ refl refl refl st.own logs-are (held-changed n c from i j covered s flags pairs f st low w ok pairs) heard-is (record { exact_is = exact; none_lost = st.own.sure.none_lost }) st.own.out));
       received = st.received;
       acknowledged = st.acknowledged;
       fresh = λ q ssn l open_is above. fresh-last q ssn l open_is above (q == from) refl;
@@ -260,21 +247,7 @@ module _ (n : TheRestoring) (c : Cluster) (from i j covered s : ℕ) (flags : Fl
       greeted = st.greeted;
       phase = st.phase;
       life = st.life;
-      own = (let P : Option ℕ → Type 0 = λ v. HasOwn own (record (taken_in c p from j covered s v f) { restoring = cn.restoring }) p (c.history p) ((taken_in c p from j covered s v f).trims p) ((taken_in c p from j covered s v f).numbers p) in subst P end-next (record {
-        me = refl;
-        count = st.own.count;
-        inside = st.own.inside;
-        saved = st.own.saved;
-        many = st.own.many;
-        state = st.own.state;
-        covered = st.own.covered;
-        logs = logs-are;
-        held = held-changed n c from i j covered s flags pairs f st low w ok pairs;
-        grown = st.own.grown;
-        heard = heard-is;
-        sure = record { exact_is = exact; none_lost = st.own.sure.none_lost };
-        out = st.own.out;
-      }));
+      own = (let P : Option ℕ → Type 0 = λ v. HasOwn own (record (taken_in c p from j covered s v f) { restoring = cn.restoring }) p (c.history p) ((taken_in c p from j covered s v f).trims p) ((taken_in c p from j covered s v f).numbers p) in subst P end-next (own-with n.own c _ p _ refl refl refl st.own logs-are (held-changed n c from i j covered s flags pairs f st low w ok pairs) heard-is (record { exact_is = exact; none_lost = st.own.sure.none_lost }) st.own.out));
       received = st.received;
       acknowledged = st.acknowledged;
       fresh = λ q ssn l open_is above. fresh-next q ssn l open_is above (q == from) refl;
@@ -354,21 +327,7 @@ module _ (n : TheRestoring) (c : Cluster) (i j covered s : ℕ) (flags : Flags) 
     greeted = at-itself g (λ b. (if b then true else c.greeted g) ≡ has_answered 0 r) (sym answered-gateway);
     phase = st.phase ∙ ap phase_with left-same;
     life = st.life;
-    own = record {
-      me = refl;
-      count = st.own.count;
-      inside = st.own.inside;
-      saved = st.own.saved;
-      many = st.own.many;
-      state = st.own.state;
-      covered = st.own.covered;
-      logs = logs-greeted;
-      held = held-changed n c 0 i j covered s flags pairs f st (omega arith) w ok [];
-      grown = st.own.grown;
-      heard = st.own.heard;
-      sure = record { exact_is = exact; none_lost = st.own.sure.none_lost };
-      out = st.own.out;
-    };
+    own = own-with n.own c d' g _ refl refl refl st.own logs-greeted (held-changed n c 0 i j covered s flags pairs f st (omega arith) w ok []) st.own.heard (record { exact_is = exact; none_lost = st.own.sure.none_lost }) st.own.out;
     received = st.received;
     acknowledged = st.acknowledged;
     fresh = λ q ssn l open_is above. st.fresh q ssn l (still q open_is (q == 0) refl) above;
@@ -447,11 +406,7 @@ handing n x w exact c st said =
     let me = n.own.me in
     let o = n.own in
     by-branch (Onward me c) (is_for o x) (heard x.from x.body n) n
-    (λ e. let a = both ((x.count == o.count) && (x.to == o.me) && nat_le x.from o.count) (not (x.from == o.me)) e in
-    let b = both ((x.count == o.count) && (x.to == o.me)) (nat_le x.from o.count) a.0 in
-    let d = both (x.count == o.count) (x.to == o.me) b.0 in
-    let to : x.to ≡ me = (let z : (x.to == o.me) ≡ true = d.1 in grind (arith, nat_tests)) in
-    let low : x.from ≤ o.count = (let z : nat_le x.from o.count ≡ true = b.1 in grind (arith, nat_tests)) in
+    (λ e. let it = for-own o x e in
     let P : ℕ → Type 0 = λ z. IsSaid c.parcels x.from z x.body in
-    hearing n c x.from st low w x.body (subst P to said))
+    hearing n c x.from st it.1.0 w x.body (subst P it.0 said))
     (λ e z. goes-self me (At n me) c st) exact

@@ -12,7 +12,7 @@ use Rattle.theorems.proofs.RunLemmas.{run_to-whole}
 use Rattle.theorems.proofs.Tests.{both}
 use Rattle.cluster.specs.Cluster.{Cluster, seen, waiting}
 use Rattle.packets.specs.declared.packet.NodePacket.{NodePacket}
-use Rattle.node.specs.Queue.{TheQueue, released_all, released_again}
+use Rattle.node.specs.Queue.{TheQueue, released_again}
 use Rattle.node.specs.Node.{log_at}
 use Rattle.packets.specs.Outbox.{Pops}
 use Rattle.node.specs.Stands.{Each, KeepsOf, IsShut, Stands, sent_by, freed_in, most_released}
