@@ -73,10 +73,18 @@ static uint32_t drive(uint32_t budget, uint32_t b) {
 /* From the outside. */
 static uint32_t transmit(uint32_t to, uint32_t ssn) { return sblog_session_transmit(&session, 0, to, ssn, &out.number); }
 
-static uint32_t copy(uint32_t packet, uint32_t b) {
-    (void)b;
-    return sblog_session_copy(&session, packet, &out.number);
-}
+/* The calls of a packet or a process that answer a number. */
+#define ANSWERS_NUMBER(name) \
+    static uint32_t name(uint32_t it, uint32_t b) { \
+        (void)b; \
+        return sblog_session_##name(&session, it, &out.number); \
+    }
+
+ANSWERS_NUMBER(copy)
+ANSWERS_NUMBER(checkpoint)
+ANSWERS_NUMBER(trim)
+ANSWERS_NUMBER(crash)
+ANSWERS_NUMBER(recover)
 
 static uint32_t lose(uint32_t packet, uint32_t b) {
     (void)b;
@@ -86,26 +94,6 @@ static uint32_t lose(uint32_t packet, uint32_t b) {
 static uint32_t arrive(uint32_t packet, uint32_t b) {
     (void)b;
     return sblog_session_arrive(&session, packet, &out.entry);
-}
-
-static uint32_t checkpoint(uint32_t process, uint32_t b) {
-    (void)b;
-    return sblog_session_checkpoint(&session, process, &out.number);
-}
-
-static uint32_t trim(uint32_t to, uint32_t b) {
-    (void)b;
-    return sblog_session_trim(&session, to, &out.number);
-}
-
-static uint32_t crash(uint32_t process, uint32_t b) {
-    (void)b;
-    return sblog_session_crash(&session, process, &out.number);
-}
-
-static uint32_t recover(uint32_t process, uint32_t b) {
-    (void)b;
-    return sblog_session_recover(&session, process, &out.number);
 }
 
 static uint32_t standing(uint32_t process, uint32_t room) {

@@ -142,23 +142,23 @@ twice k = k + k
 abbrev once : ℕ → ℕ
 once k = k
 
+-- one end as another does also if both calls are changed, if that holds of two that ended, of two that failed, and of one that is tired
+pub ends-by : (within now : ℕ → ℕ) (f g : Last → Last)
+    → ((k j r x : ℕ) (q p : List Request) (c d : Configuration) → EndsAs within (Last.Ended k r q c) (Last.Ended j x p d) → EndsAs now (f (Last.Ended k r q c)) (g (Last.Ended j x p d)))
+    → EndsAs now (f Last.Failed) (g Last.Failed) → ((m : Last) → EndsAs now (f Last.Tired) (g m)) → (l m : Last) → EndsAs within l m → EndsAs now (f l) (g m)
+ends-by within now f g ended failed tired (Last.Ended k r q c) (Last.Ended j x p d) h = ended k j r x q p c d h
+ends-by within now f g ended failed tired (Last.Ended k r q c) Last.Failed h = absurd h
+ends-by within now f g ended failed tired (Last.Ended k r q c) Last.Tired h = absurd h
+ends-by within now f g ended failed tired Last.Failed Last.Failed h = failed
+ends-by within now f g ended failed tired Last.Failed (Last.Ended k r q c) h = absurd h
+ends-by within now f g ended failed tired Last.Failed Last.Tired h = absurd h
+ends-by within now f g ended failed tired Last.Tired m h = tired m
+
 more-ends : (l m : Last) → EndsAs twice l m → EndsAs twice (more l) (more m)
-more-ends (Last.Ended k r q c) (Last.Ended j x p d) h = (omega (arith, h.0), h.1, h.2, h.3)
-more-ends (Last.Ended k r q c) Last.Failed h = absurd h
-more-ends (Last.Ended k r q c) Last.Tired h = absurd h
-more-ends Last.Failed Last.Failed h = tt
-more-ends Last.Failed (Last.Ended k r q c) h = absurd h
-more-ends Last.Failed Last.Tired h = absurd h
-more-ends Last.Tired m h = tt
+more-ends = ends-by twice twice more more (λ k j r x q p c d e. (omega (arith, e.0), e.1, e.2, e.3)) tt (λ m. tt)
 
 hop-ends : (l m : Last) → EndsAs twice l m → EndsAs twice (more l) (more (more m))
-hop-ends (Last.Ended k r q c) (Last.Ended j x p d) h = (omega (arith, h.0), h.1, h.2, h.3)
-hop-ends (Last.Ended k r q c) Last.Failed h = absurd h
-hop-ends (Last.Ended k r q c) Last.Tired h = absurd h
-hop-ends Last.Failed Last.Failed h = tt
-hop-ends Last.Failed (Last.Ended k r q c) h = absurd h
-hop-ends Last.Failed Last.Tired h = absurd h
-hop-ends Last.Tired m h = tt
+hop-ends = ends-by twice twice more (λ m. more (more m)) (λ k j r x q p c d e. (omega (arith, e.0), e.1, e.2, e.3)) tt (λ m. tt)
 
 -- from where slot t stands on, with so much fuel, the other code's call ends as the code's
 abbrev GoesAs : ℕ → Code → Code → Places → Replies → ℕ → ℕ → Configuration → List Request → Type 0
@@ -205,22 +205,10 @@ ends_as state code other at reply (suc n) placed s c q (suc f) m l e =
 -- ---- and back
 
 more-back : (l m : Last) → EndsAs once l m → EndsAs once (more l) (more m)
-more-back (Last.Ended k r q c) (Last.Ended j x p d) h = (omega (arith, h.0), h.1, h.2, h.3)
-more-back (Last.Ended k r q c) Last.Failed h = absurd h
-more-back (Last.Ended k r q c) Last.Tired h = absurd h
-more-back Last.Failed Last.Failed h = tt
-more-back Last.Failed (Last.Ended k r q c) h = absurd h
-more-back Last.Failed Last.Tired h = absurd h
-more-back Last.Tired m h = tt
+more-back = ends-by once once more more (λ k j r x q p c d e. (omega (arith, e.0), e.1, e.2, e.3)) tt (λ m. tt)
 
 hop-back : (l m : Last) → EndsAs once l m → EndsAs once (more (more l)) (more m)
-hop-back (Last.Ended k r q c) (Last.Ended j x p d) h = (omega (arith, h.0), h.1, h.2, h.3)
-hop-back (Last.Ended k r q c) Last.Failed h = absurd h
-hop-back (Last.Ended k r q c) Last.Tired h = absurd h
-hop-back Last.Failed Last.Failed h = tt
-hop-back Last.Failed (Last.Ended k r q c) h = absurd h
-hop-back Last.Failed Last.Tired h = absurd h
-hop-back Last.Tired m h = tt
+hop-back = ends-by once once (λ l. more (more l)) more (λ k j r x q p c d e. (omega (arith, e.0), e.1, e.2, e.3)) tt (λ m. tt)
 
 -- the other way round, of calls of at most b steps
 abbrev ComesBack : ℕ → Code → Code → Places → Replies → ℕ → List Request → Type 0

@@ -8,7 +8,7 @@ use Rattle.spans.specs.Typing.{Code, target}
 use Rattle.spans.specs.Calls.{Last, Replies, Request, after, call_by, call_from, more, noted, replied, request}
 use Rattle.block_order.specs.Order.{code_of}
 use Rattle.block_order.specs.Placement.{place_at}
-use Rattle.block_order.proofs.MovedRuns.{moved-runs-kept}
+use Rattle.block_order.proofs.MovedRuns.{ends-by, moved-runs-kept}
 use Rattle.block_order.specs.Laws.{AreRunsKept, EndsAs}
 use Rattle.block_order.specs.declared.blocks.Blocks.TheVariants.{Kept, Moved, Loops, Unknown}
 
@@ -18,13 +18,7 @@ abbrev same : ℕ → ℕ
 same k = k
 
 more-same : (l m : Last) → EndsAs same l m → EndsAs same (more l) (more m)
-more-same (Last.Ended k r q c) (Last.Ended j x p d) h = (omega (arith, h.0), h.1, h.2, h.3)
-more-same (Last.Ended k r q c) Last.Failed h = absurd h
-more-same (Last.Ended k r q c) Last.Tired h = absurd h
-more-same Last.Failed Last.Failed h = tt
-more-same Last.Failed (Last.Ended k r q c) h = absurd h
-more-same Last.Failed Last.Tired h = absurd h
-more-same Last.Tired m h = tt
+more-same = ends-by same same more more (λ k j r x q p c d e. (omega (arith, e.0), e.1, e.2, e.3)) tt (λ m. tt)
 
 after-same : (s : ℕ) (i : Insn) (c : Configuration) (q : List Request) (o : Outcome) (go further : ℕ → Configuration → Last)
     → ((t : ℕ) (d : Configuration) → EndsAs same (go t d) (further t d)) → EndsAs same (after go s i c q o) (after further s i c q o)
@@ -50,13 +44,7 @@ ends-same state code reply (suc n) (suc f) s c q l =
     by-same state reply s c q (code s) (call_from state code reply n) (call_from state code reply f) (λ t d p. ends-same state code reply n f t d p less)
 
 twice-same : (l m : Last) → EndsAs same l m → EndsAs (λ k. k + k) l m
-twice-same (Last.Ended k r q c) (Last.Ended j x p d) h = (omega (arith, h.0), h.1, h.2, h.3)
-twice-same (Last.Ended k r q c) Last.Failed h = absurd h
-twice-same (Last.Ended k r q c) Last.Tired h = absurd h
-twice-same Last.Failed Last.Failed h = tt
-twice-same Last.Failed (Last.Ended k r q c) h = absurd h
-twice-same Last.Failed Last.Tired h = absurd h
-twice-same Last.Tired m h = tt
+twice-same = ends-by same (λ k. k + k) (λ l. l) (λ m. m) (λ k j r x q p c d e. (omega (arith, e.0), e.1, e.2, e.3)) tt (λ m. tt)
 
 -- ---- what is written
 

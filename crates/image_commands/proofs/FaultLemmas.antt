@@ -2,16 +2,10 @@
 use Rattle.std.proofs.Common.{◌≡◌, ℕ, Bool, true, IfErr, List, Some, Result, Ok, Err, take, refl, sym, subst, inl, inr}
 use Rattle.std.specs.Prelude.{◌≢◌}
 use Rattle.std.specs.Result.{IsErrAnd}
-use Rattle.assemble.specs.declared.fault.AsmError.{AsmError}
-use Rattle.assemble.specs.declared.fault.AsmError.TheVariants as text
-use Rattle.decode.specs.declared.fault.DecodeError.{DecodeError}
-use Rattle.decode.specs.declared.fault.DecodeError.TheVariants as code
-use Rattle.elf.specs.declared.fault.ObjectError.{ObjectError}
-use Rattle.elf.specs.declared.fault.ObjectError.TheVariants as object
 use Rattle.images.specs.ImageFile as any
 use Rattle.verifier.specs.declared.fault.ImageError.{ImageError}
 use Rattle.verifier.specs.declared.fault.ImageError.TheVariants as image
-use Rattle.image_commands.specs.Fault.{FaultOf, fault_of_code, fault_of_failure, fault_of_image, fault_of_object, fault_of_text}
+use Rattle.image_commands.specs.Fault.{FaultOf, fault_of_failure, fault_of_image}
 use Rattle.image_commands.specs.Files.{Content}
 use Rattle.image_commands.specs.Inside.{HandlerFault, IsNoUsage, IsPlainFault}
 use Rattle.image_commands.specs.OwnInput.{IsOwnInput}
@@ -86,22 +80,3 @@ reading_fault content failed path refused NoState kind why = why
 reading_fault content failed path refused (Scenario line) kind why = why
 reading_fault content failed path refused Memory kind why = tt
 reading_fault content failed path refused InputOutput kind why = inr why
-
--- a text or an image that is refused is no fault of the words
-pub no_usage_text : (e : AsmError) (f : Fault) → f ≡ fault_of_text e → IsNoUsage f
-no_usage_text text.Memory f is = subst IsNoUsage (sym is) tt
-no_usage_text (text.Fault rule line) f is = subst IsNoUsage (sym is) tt
-
-pub no_usage_code : (e : DecodeError) (f : Fault) → f ≡ fault_of_code e → IsNoUsage f
-no_usage_code code.Memory f is = subst IsNoUsage (sym is) tt
-no_usage_code (code.Fault rule slot) f is = subst IsNoUsage (sym is) tt
-
-pub no_usage_object : (e : ObjectError) (f : Fault) → f ≡ fault_of_object e → IsNoUsage f
-no_usage_object object.Memory f is = subst IsNoUsage (sym is) tt
-no_usage_object (object.Fault fault) f is = subst IsNoUsage (sym is) tt
-
-pub no_usage_image : (e : ImageError) (f : Fault) → f ≡ fault_of_image e → IsNoUsage f
-no_usage_image image.Memory f is = subst IsNoUsage (sym is) tt
-no_usage_image (image.Header h) f is = subst IsNoUsage (sym is) tt
-no_usage_image (image.Decode rule slot) f is = subst IsNoUsage (sym is) tt
-no_usage_image (image.Verify rule slot) f is = subst IsNoUsage (sym is) tt

@@ -7,20 +7,16 @@ use Rattle.verifier.specs.declared.fault.ImageError.{ImageError}
 use Rattle.verifier.specs.declared.fault.ImageError.TheVariants as image
 use Rattle.images.specs.ImageFile as any
 use Rattle.handlers.specs.Image.{TheImage}
-use Rattle.scenario.specs.Scenario as scenario
 use Rattle.scenario.specs.Scenario.{IsScenario}
 use Rattle.scenario.specs.declared.order.Allowed.{Allowed}
 use Rattle.scenario.specs.declared.process.NamedProcess.{NamedProcess}
 use Rattle.scenario.specs.declared.scenario.Scenario.{Scenario}
-use Rattle.scenario.specs.declared.scenario.ScenarioError.{ScenarioError}
-use Rattle.scenario.specs.declared.scenario.ScenarioError.TheVariants as error
 use Rattle.image_commands.specs.Check.{HasImage, IsUnaccepted}
-use Rattle.image_commands.specs.Fault.{fault_of_image, IsFaultOfScenario, FaultOf}
+use Rattle.image_commands.specs.Fault.{fault_of_image, FaultOf}
 use Rattle.image_commands.specs.Files.{Content}
 use Rattle.image_commands.specs.Inside.{HandlerFault, ImagesFault, IsPlainFault}
 use Rattle.image_commands.specs.Loads.{IsReadAs, IsLoadedAs, AreLoaded, AreRefused, IsScenarioWithImages, IsUnloadable}
 use Rattle.image_commands.specs.declared.fault.Fault.{Fault}
-use Rattle.image_commands.specs.declared.fault.Fault.TheVariants as fault
 
 abbrev Entry : Type 0
 Entry = String Global × NamedProcess
@@ -132,24 +128,6 @@ loading_fault content failed allowed path s f read (inr why) = subst (FaultOf co
     by (image.Header h) is = λ known at. (s, there known at, subst (AreRefused content s.processes.entries) is why.2)
     by (image.Decode rule slot) is = λ known at. (s, there known at, subst (AreRefused content s.processes.entries) is why.2)
     by (image.Verify rule slot) is = λ known at. (s, there known at, subst (AreRefused content s.processes.entries) is why.2)
-
--- a text that is no scenario
-pub scenario_fault : (content : Content) (failed : Bool) (allowed : Allowed) (path bytes : List ℕ) (e : ScenarioError) (f : Fault)
-    → ((known : List ℕ) → content path ≡ Some known → bytes ≡ known) → scenario.IsRefusal allowed bytes e → IsFaultOfScenario e f
-    → FaultOf content failed path (IsUnloadable content allowed) f
-scenario_fault content failed allowed path bytes e fault.Memory read why is = tt
-scenario_fault content failed allowed path bytes (error.Line line) (fault.Scenario n) read why is = λ known there.
-    subst (λ (l : ℕ). scenario.IsRefusal allowed known (error.Line l)) (sym is)
-    (subst (λ (b : List ℕ). scenario.IsRefusal allowed b (error.Line line)) (read known there) why)
-scenario_fault content failed allowed path bytes e (fault.Usage _) read why is = elim is [ ]
-scenario_fault content failed allowed path bytes e (fault.Header _) read why is = elim is [ ]
-scenario_fault content failed allowed path bytes e (fault.Decode _ _) read why is = elim is [ ]
-scenario_fault content failed allowed path bytes e (fault.Verify _ _) read why is = elim is [ ]
-scenario_fault content failed allowed path bytes e (fault.Assemble _ _) read why is = elim is [ ]
-scenario_fault content failed allowed path bytes e (fault.Object _) read why is = elim is [ ]
-scenario_fault content failed allowed path bytes e fault.NoState read why is = elim is [ ]
-scenario_fault content failed allowed path bytes error.Memory (fault.Scenario n) read why is = elim is [ ]
-scenario_fault content failed allowed path bytes e fault.InputOutput read why is = elim is [ ]
 
 -- what is loaded, where the bytes of the scenario's file are known
 pub loaded_scenario : (content : Content) (allowed : Allowed) (path known : List ℕ) (s : Scenario) (is : List TheImage) → IsLoadedAs content allowed path s is

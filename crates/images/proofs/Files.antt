@@ -30,21 +30,22 @@ same_first P R [] q to from first = absurd first
 same_first P R (x ∷ xs) q to from (inl here) = inl (here.0, to x here.1)
 same_first P R (x ∷ xs) q to from (inr later) = inr ((λ r. later.0 (from x r)), same_first P R xs q to from later.1)
 
+-- ---- a header's faults, one by one
+
+by_fault : (P R : HeaderFault → Type 0) → (P TooShort → R TooShort) → (P Magic → R Magic) → (P StateLength → R StateLength) → (P SlotCount → R SlotCount) → (P FileLength → R FileLength) → (q : HeaderFault) → P q → R q
+by_fault P R short magic state count long TooShort h = short h
+by_fault P R short magic state count long Magic h = magic h
+by_fault P R short magic state count long StateLength h = state h
+by_fault P R short magic state count long SlotCount h = count h
+by_fault P R short magic state count long FileLength h = long h
+
 -- ---- a file that begins as one of form 3
 
 spanned : (bytes : List ℕ) → take 4 bytes ≡ span.magic_3 → (q : HeaderFault) → span.HasFault bytes q → HasFault bytes q
-spanned bytes e TooShort h = h
-spanned bytes e Magic h = absurd (h e)
-spanned bytes e StateLength h = h
-spanned bytes e SlotCount h = h
-spanned bytes e FileLength h = h
+spanned bytes e = by_fault (span.HasFault bytes) (HasFault bytes) (λ h. h) (λ h. absurd (h e)) (λ h. h) (λ h. h) (λ h. h)
 
 of_spanned : (bytes : List ℕ) (q : HeaderFault) → HasFault bytes q → span.HasFault bytes q
-of_spanned bytes TooShort h = h
-of_spanned bytes Magic h = h.1
-of_spanned bytes StateLength h = h
-of_spanned bytes SlotCount h = h
-of_spanned bytes FileLength h = h
+of_spanned bytes = by_fault (HasFault bytes) (span.HasFault bytes) (λ h. h) (λ h. h.1) (λ h. h) (λ h. h) (λ h. h)
 
 pub span_unread : (bytes : List ℕ) (e : ImageError) → take 4 bytes ≡ span.magic_3 → span.IsUnread bytes e → IsUnread bytes e
 span_unread bytes Memory at h = tt
@@ -61,18 +62,10 @@ span_refusal bytes (Verify rule slot) at h = (Sbi3, h.0, h.1, h.2, h.3)
 -- ---- a file that doesn't
 
 flattened : (bytes : List ℕ) → take 4 bytes ≢ span.magic_3 → (q : HeaderFault) → flat.HasFault bytes q → HasFault bytes q
-flattened bytes n TooShort h = h
-flattened bytes n Magic h = (h, n)
-flattened bytes n StateLength h = h
-flattened bytes n SlotCount h = h
-flattened bytes n FileLength h = h
+flattened bytes n = by_fault (flat.HasFault bytes) (HasFault bytes) (λ h. h) (λ h. (h, n)) (λ h. h) (λ h. h) (λ h. h)
 
 of_flattened : (bytes : List ℕ) (q : HeaderFault) → HasFault bytes q → flat.HasFault bytes q
-of_flattened bytes TooShort h = h
-of_flattened bytes Magic h = h.0
-of_flattened bytes StateLength h = h
-of_flattened bytes SlotCount h = h
-of_flattened bytes FileLength h = h
+of_flattened bytes = by_fault (HasFault bytes) (flat.HasFault bytes) (λ h. h) (λ h. h.0) (λ h. h) (λ h. h) (λ h. h)
 
 pub flat_unread : (bytes : List ℕ) (e : ImageError) → take 4 bytes ≢ span.magic_3 → flat.IsUnread bytes e → IsUnread bytes e
 flat_unread bytes Memory at h = tt

@@ -33,6 +33,7 @@ use Rattle.machine.specs.Reception.{numbered, Records}
 use Rattle.machine.specs.Simulation.{TheMachine, process_at, log_at, gate_at, is_up_at, StandsAt, Keeps, Holds, Shows, Stands, Steps, sent_by}
 use Rattle.machine.specs.Work.{IsNextAfter, held_by}
 use Rattle.machine.proofs.Updates.{put-is, set-is}
+use Rattle.machine.proofs.OutboxLemmas.{stands-outbox}
 use Rattle.machine.proofs.Status.{wire-is, at_process, up_is, up_at, up-down, is_live-at, live-lost, live-busy, live-works, held-live, entry_at}
 use Rattle.machine.proofs.Steps.{put-wire, shows-wire, step}
 use Rattle.machine.proofs.Releases.{run_of-run_to, flags-set, holds-released}
@@ -377,18 +378,7 @@ module _ (m : TheMachine) (w : World) (s : Stands m w) (room key r t i k incarna
         let before = at_process m w s t some from in
         let P : ℕ → Bool → TheProcess → Type 0 = λ p b z. Stood m w (suc p) (w.history (suc p)) (w.phase (suc p)) (w.acknowledged (suc p)) z in
         let now : Stood m w t (w.history t) (w.phase t) (w.acknowledged t) y =
-        record {
-          state_is = before.state_is;
-          gone = λ lost. absurd (true≢false (sym lost ∙ live-lost y.mode (is_live-at m t some live)));
-          senders = before.senders;
-          flags = before.flags;
-          acknowledged_is = before.acknowledged_is;
-          in_order = before.in_order;
-          phase_is = before.phase_is;
-          works = before.works;
-          incarnation_is = before.incarnation_is;
-          saves = before.saves;
-        } in
+        stands-outbox y.outbox before (λ lost. absurd (true≢false (sym lost ∙ live-lost y.mode (is_live-at m t some live)))) in
         let there : P (t - 1) true y = rw back now in
         notes new
         (record {

@@ -1,13 +1,14 @@
 -- The steps of checkpoints
 use Rattle.std.proofs.Common.{◌≡◌, ◌≢◌, ℕ, suc, ◌+◌, ◌-◌, ◌<◌, ◌≤◌, List, length, map, take, set, max, replicate, Bool, true, false, refl, sym, ap, ◌∙◌, subst, arith, true≢false}
 use Rattle.std.specs.Prelude.{◌==◌, nat_le, Option, None, slice_index_or}
+use Rattle.std.specs.List.{list_all}
 use Rattle.std.proofs.lemmas.Bool.Decides.{nat_tests}
 use Rattle.std.proofs.lemmas.List.{get_or-map, get_or-replicate, length-map, length-replicate, take_all}
-use Rattle.limits.specs.declared.TheConstants.{PROCESSES}
+use Rattle.limits.specs.declared.TheConstants.{PROCESSES, STATE_BYTES}
 use Rattle.send_gate.specs.Gate.{Releases}
 use Rattle.sender_log.specs.Queue.{no_queue}
 use Rattle.sender_log.specs.Log.{queue_of}
-use Rattle.checkpoint.specs.Saved.{nothing_kept, kept_of, saved_of}
+use Rattle.checkpoint.specs.Saved.{nothing_kept, is_sender, kept_of, saved_of}
 use Rattle.world.specs.declared.message.Message.{Message}
 use Rattle.world.specs.declared.call.Call.TheVariants.{Checkpoint}
 use Rattle.world.specs.declared.answer.Answer.TheVariants.{Saved}
@@ -16,13 +17,15 @@ use Rattle.world.specs.World.{World, put}
 use Rattle.world.specs.Logs.{length_in, payloads, sent, sent_in_all, run_of, run_to}
 use Rattle.world.specs.Refusals.{refusal_of}
 use Rattle.theorems.proofs.RunLemmas.{run_to-whole, run_to-is}
-use Rattle.session_process.specs.Process.{TheProcess, IsSaved}
-use Rattle.session_process.specs.Mode.{is_live}
+use Rattle.session_process.specs.Process.{TheProcess, IsSaved, idle_process}
+use Rattle.session_process.specs.Mode.{is_live, is_lost}
 use Rattle.session_process.specs.declared.mode.Mode.{Mode}
 use Rattle.session_process.specs.declared.mode.Mode.TheVariants as modes
-use Rattle.machine.specs.Fields.{IsSoundAt}
+use Rattle.machine.specs.Fields.{view_of, IsSoundAt, IsSound}
 use Rattle.machine.specs.Work.{held_by, MayWork}
 use Rattle.machine.specs.Simulation.{TheMachine, Stands, StandsAt, Steps, Keeps, Holds, process_at, log_at, gate_at, is_up_at, sent_by}
+use Rattle.machine.specs.declared.machine.Machine.TheInside.{Inside}
+use Rattle.machine.proofs.Soundness.{sound_at}
 use Rattle.machine.proofs.Status.{at_process, keeps_at, holds_at, up_at, down_at, is_live-at, held-live, live-lost}
 use Rattle.machine.proofs.Steps.{step}
 use Rattle.machine.proofs.Releases.{holds-released}
@@ -181,3 +184,21 @@ saved-sound n me len calls was y a up s =
       saved_state = s.state (live-lost was.mode up);
       saved_by = let b = s.begun_by in omega (arith, b);
     })
+
+-- what a snapshot of a process says that it may take
+pub record Fits (p count : ℕ) (x : TheProcess) : Type 0 where
+  pub state : length x.state ≤ STATE_BYTES
+  pub senders : list_all (is_sender p count) x.receipts.senders ≡ true
+  pub owner : x.outbox.log.owner ≡ p
+  pub queues : length x.outbox.log.queues ≡ count + 1
+
+-- a process that is up fits a snapshot
+pub snapshot-fits : (i : Inside) → IsSound i → (m : TheMachine) → view_of i ≡ m → (p : ℕ) → 0 < p → p ≤ length m.processes → is_up_at m p ≡ true → (x : TheProcess) → x ≡ process_at m p → (count : ℕ) → count ≡ length m.processes → Fits p count x
+snapshot-fits i s m view_is p positive within up x x_is count count_is =
+    let inside : p ≤ length i.processes.items = subst (λ (v : TheMachine). p ≤ length v.processes) (sym view_is) within in
+    let sound = sound_at i s p (idle_process 0 0 0) 0 positive inside in
+    let at : x ≡ process_at (view_of i) p = x_is ∙ ap (λ (v : TheMachine). process_at v p) (sym view_is) in
+    let many : count ≡ length i.processes.items = count_is ∙ ap (λ (v : TheMachine). length v.processes) (sym view_is) in
+    let live : is_up_at (view_of i) p ≡ true = subst (λ (v : TheMachine). is_up_at v p ≡ true) (sym view_is) up in
+    let back : is_lost (process_at (view_of i) p).mode ≡ false = live-lost _ (is_live-at (view_of i) p positive live) in
+    rw (at, many) (record { state = omega (arith, sound.state back, sound.short); senders = sound.senders; owner = sound.log.owner; queues = omega (arith, sound.log.width) })

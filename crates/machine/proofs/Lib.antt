@@ -9,6 +9,7 @@ pub mod RecoveryCauses
 pub mod ReplayCauses
 pub mod Updates
 pub mod Soundness
+pub mod OutboxLemmas
 pub mod Openings
 pub mod Readings
 pub mod JobLemmas

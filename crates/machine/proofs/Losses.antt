@@ -17,6 +17,8 @@ use Rattle.session_process.proofs.StableLemmas.{at-map, at-replicate}
 use Rattle.machine.specs.Fields.{IsLogOf, IsSoundAt}
 use Rattle.machine.specs.Recoveries.{forgotten}
 use Rattle.machine.specs.Simulation.{TheMachine, Keeps, process_at, log_at, gate_at}
+use Rattle.machine.proofs.Soundness.{sound-outbox}
+use Rattle.machine.proofs.OutboxLemmas.{stands-outbox}
 use Rattle.machine.proofs.Others.{TheLife, life, StandsFor, ShowsBut}
 
 -- a log without its numbers above k for p
@@ -79,37 +81,11 @@ empty-forgot me n p k =
 module _ (n me p k : ℕ) (x : TheProcess) where
   -- a process that forgets numbers stands for what it stood for
   pub stands-forgot : (w : World) (a : TheLife) → StandsFor w n me x a → StandsFor w n me (unnumbered_at p k x) a
-  stands-forgot w a h =
-      record {
-        state_is = h.state_is;
-        gone = λ e. ((h.gone e).0, ap (λ (b : TheOutbox). with_messages p (unnumbered k (queue_of p b.log)) b) (h.gone e).1 ∙ empty-forgot me n p k);
-        senders = h.senders;
-        flags = h.flags;
-        acknowledged_is = h.acknowledged_is;
-        in_order = h.in_order;
-        phase_is = h.phase_is;
-        works = h.works;
-        incarnation_is = h.incarnation_is;
-        saves = h.saves;
-      }
+  stands-forgot w a h = stands-outbox (unnumbered_at p k x).outbox h (λ e. ap (λ (b : TheOutbox). with_messages p (unnumbered k (queue_of p b.log)) b) (h.gone e).1 ∙ empty-forgot me n p k)
 
   -- and stays sound
   pub sound-forgot : (len calls : ℕ) → IsSoundAt n me len calls x → IsSoundAt n me len calls (unnumbered_at p k x)
-  sound-forgot len calls h =
-      record {
-        short = h.short;
-        state = h.state;
-        log = log-forgot n me p k x.outbox.log h.log;
-        senders = h.senders;
-        whole = h.whole;
-        planned = h.planned;
-        begun_by = h.begun_by;
-        incarnation = h.incarnation;
-        own = h.own;
-        count = h.count;
-        saved_state = h.saved_state;
-        saved_by = h.saved_by;
-      }
+  sound-forgot len calls h = sound-outbox n me len calls x (unnumbered_at p k x).outbox h (log-forgot n me p k x.outbox.log h.log)
 
 -- A walk over all
 

@@ -5,6 +5,7 @@ use Rattle.std.proofs.lemmas.Bool.Decides.{nat_tests}
 use Rattle.std.proofs.lemmas.List.{get_or_default, get_or-set_same, get_or-set_other, length-set}
 use Rattle.sender_log.specs.Log.{queue_of}
 use Rattle.world.specs.declared.message.Message.{Message}
+use Rattle.world.specs.declared.packet.Packet.{Packet}
 use Rattle.world.specs.Phases.{Phase, Up, is_up, is_down}
 use Rattle.world.specs.World.{World}
 use Rattle.world.specs.Logs.{length_in, sent, run_of, run_to}
@@ -206,9 +207,9 @@ module _ (p : ℕ) (inside : 0 < p) (m : TheMachine) (w v : World)
         outside = ap (λ (a : TheLife). a.phase) (same 0 (λ e. absurd (omega (arith, e, inside)))) ∙ b.outside;
       })
 
--- calls aren't shown
-pub shows-calls : (m : TheMachine) (w : World) (calls : ℕ) → Shows m w → Shows (record m { calls = calls }) w
-shows-calls m w calls s =
+-- a machine with other packets and calls shows the world with these packets: calls aren't shown
+pub shows-with : (m : TheMachine) (w : World) → Shows m w → (calls : ℕ) (slots : List (Option Packet)) (wire : ℕ → Option Packet) → ((j : ℕ) → wire j ≡ slice_index_or slots j None) → Shows (record m { slots = slots; calls = calls }) (record w { wire = wire })
+shows-with m w s calls slots wire wire_is =
     record {
       count = s.count;
       process = s.process;
@@ -217,10 +218,14 @@ shows-calls m w calls s =
       shut = s.shut;
       feeds = s.feeds;
       shown = s.shown;
-      wire = s.wire;
+      wire = wire_is;
       started = s.started;
       outside = s.outside;
     }
+
+-- with other calls alone
+pub shows-calls : (m : TheMachine) (w : World) (calls : ℕ) → Shows m w → Shows (record m { calls = calls }) w
+shows-calls m w calls s = shows-with m w s calls m.slots w.wire s.wire
 
 -- which of the others are up
 pub up-but : (n p : ℕ) (m : TheMachine) (w : World) → ShowsBut n p m w → (q : ℕ) → 0 < q → q ≤ n → q ≢ p → is_up_at m q ≡ is_up (w.phase q)

@@ -56,10 +56,9 @@ keys-gone old new key was puts all j h = by_key (j == key) refl
     by_key true at = let same : j ≡ key = grind (arith, nat_tests) in ap (λ q. slice_index_or new q None) same ∙ puts.now
     by_key false at = puts.others j (grind (arith, nat_tests)) ∙ all j h
 
--- one key of the wire changes, and one more call is counted
-pub sound-wire : (m : Inside) (slots : List (Option Packet)) (key : ℕ) (was is : Option Packet) → IsSound m → m.calls < ENTRIES + 1 → Puts m.wire slots key was is → IsSomeCarried (length m.processes.items) is
-    → ((j : ℕ) → PACKETS ≤ j → slice_index_or slots j None ≡ None) → IsSound (record m { wire = slots; calls = m.calls + 1 })
-sound-wire m slots key was is i calls puts fits keys =
+-- one more call is counted, with this wire
+pub sound-call : (m : Inside) (slots : List (Option Packet)) → IsSound m → m.calls < ENTRIES + 1 → AreCarried slots (length m.processes.items) → ((j : ℕ) → PACKETS ≤ j → slice_index_or slots j None ≡ None) → IsSound (record m { wire = slots; calls = m.calls + 1 })
+sound-call m slots i calls carried keys =
     record {
       some = i.some;
       few = i.few;
@@ -70,6 +69,11 @@ sound-wire m slots key was is i calls puts fits keys =
       started = omega (arith, i.started);
       inputs = λ d. omega (arith, i.inputs d);
       shown = omega (arith, i.shown);
-      wire = carried-put m.wire slots key was is puts (length m.processes.items) fits i.wire;
+      wire = carried;
       keys = keys;
     }
+
+-- one key of the wire changes, and one more call is counted
+pub sound-wire : (m : Inside) (slots : List (Option Packet)) (key : ℕ) (was is : Option Packet) → IsSound m → m.calls < ENTRIES + 1 → Puts m.wire slots key was is → IsSomeCarried (length m.processes.items) is
+    → ((j : ℕ) → PACKETS ≤ j → slice_index_or slots j None ≡ None) → IsSound (record m { wire = slots; calls = m.calls + 1 })
+sound-wire m slots key was is i calls puts fits keys = sound-call m slots i calls (carried-put m.wire slots key was is puts (length m.processes.items) fits i.wire) keys

@@ -1,6 +1,6 @@
 -- What is read of a process, as each world that the machine stands for has it
-use Rattle.std.proofs.Common.{◌≡◌, ℕ, ◌+◌, ◌<◌, ◌≤◌, List, [], length, map, take, Bool, true, false, true≢false, refl, sym, ap, ◌∙◌, arith}
-use Rattle.std.specs.Prelude.{◌==◌, if◌then◌else◌, Option, Some, None, is_some}
+use Rattle.std.proofs.Common.{◌≡◌, ℕ, ◌+◌, ◌<◌, ◌≤◌, List, [], length, map, take, Bool, true, false, refl, sym, ap, ◌∙◌, arith}
+use Rattle.std.specs.Prelude.{◌==◌, if◌then◌else◌}
 use Rattle.std.proofs.lemmas.Bool.{false≢true}
 use Rattle.std.proofs.lemmas.Bool.Decides.{nat_tests}
 use Rattle.std.proofs.lemmas.List.{length-map}
@@ -9,8 +9,7 @@ use Rattle.theorems.proofs.ListLemmas.{take-length}
 use Rattle.sender_log.specs.Queue.{no_queue}
 use Rattle.sender_log.specs.Log.{queue_of}
 use Rattle.world.specs.declared.message.Message.{Message}
-use Rattle.world.specs.declared.phase.PhaseName.TheVariants as names
-use Rattle.world.specs.Phases.{Phase, Up, Busy, Down, Replaying, Resync, is_down, name_of}
+use Rattle.world.specs.Phases.{Phase, Up, Busy, Down, Replaying, Resync, is_down}
 use Rattle.world.specs.World.{World}
 use Rattle.world.specs.Logs.{length_in, length_of, state_of}
 use Rattle.session_process.specs.Process.{received}
@@ -44,15 +43,6 @@ held-lost modes.Live saved h e = absurd (false≢true e)
 held-lost modes.Down saved h e = refl
 held-lost (modes.Replaying plan alone) saved h e = absurd (false≢true e)
 held-lost (modes.Resync peers) saved h e = absurd (false≢true e)
-
--- the phase's name, by the mode and the open job
-pub name-up : (n : ℕ) (o : Option Message) → is_some o ≡ false → name_of (phase_of n modes.Live o) ≡ names.Up
-name-up n None e = refl
-name-up n (Some m) e = absurd (true≢false e)
-
-pub name-busy : (n : ℕ) (o : Option Message) → is_some o ≡ true → name_of (phase_of n modes.Live o) ≡ names.Busy
-name-busy n None e = absurd (false≢true e)
-name-busy n (Some m) e = refl
 
 module _ (m : TheMachine) (w : World) (s : Stands m w) (p : ℕ) (inside : 0 < p) (within : p ≤ length m.processes) where
   at : StandsAt (length m.processes) p (process_at m p) (w.handlers.state p) (w.handlers.sends p) (w.history p) (w.phase p) (w.incarnation p) (w.acknowledged p) (w.saved p) (w.saved_trims p)

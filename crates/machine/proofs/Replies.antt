@@ -11,22 +11,11 @@ use Rattle.session_process.specs.Outbox.{TheOutbox, Gives}
 use Rattle.machine.specs.Fields.{IsLogOf}
 use Rattle.machine.specs.Simulation.{TheMachine, Keeps, Shows}
 use Rattle.machine.proofs.KeepLemmas.{keeps-extended}
+use Rattle.machine.proofs.Others.{shows-with}
 
 -- a machine that has other packets shows the world with these
 pub shows-packets : (m : TheMachine) (w : World) → Shows m w → (slots : List (Option Packet)) (wire : ℕ → Option Packet) → ((j : ℕ) → wire j ≡ slice_index_or slots j None) → Shows (record m { slots = slots }) (record w { wire = wire })
-shows-packets m w s slots wire wire_is =
-    record {
-      count = s.count;
-      process = s.process;
-      logs = s.logs;
-      gates = s.gates;
-      shut = s.shut;
-      feeds = s.feeds;
-      shown = s.shown;
-      wire = wire_is;
-      started = s.started;
-      outside = s.outside;
-    }
+shows-packets m w s slots wire wire_is = shows-with m w s m.calls slots wire wire_is
 
 -- a process whose state is that of these messages: with the message of its job, they have the state and the sends that the handler gave
 module _ (w : World) (b : TheCompletion) (a : Answers w.handlers b) (g : List Message) (state_was : b.task.state ≡ w.handlers.state b.task.who.me g) where

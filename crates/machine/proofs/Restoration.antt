@@ -17,7 +17,7 @@ use Rattle.machine.specs.Recoveries.{MaySettle, forgotten}
 use Rattle.machine.specs.Simulation.{TheMachine, process_at}
 use Rattle.machine.specs.Fields.{view_of, AreCarried, IsLogOf, IsSoundAt, IsSound}
 use Rattle.machine.specs.declared.machine.Machine.TheInside.{Inside}
-use Rattle.machine.proofs.Preservation.{later}
+use Rattle.machine.proofs.Preservation.{sound-call}
 use Rattle.machine.proofs.Losses.{forgot, forgotten-at, forgotten-width, inputs-forgot, log-forgot, processes-forgot}
 use Rattle.machine.proofs.Soundness.{sound_at, sound-put}
 
@@ -69,20 +69,7 @@ put-sound m i p y positive within now =
 
 -- one more call is counted
 pub count-sound : (m : Inside) → IsSound m → m.calls < ENTRIES + 1 → IsSound (record m { calls = m.calls + 1 })
-count-sound m i calls =
-    record {
-      some = i.some;
-      few = i.few;
-      lengths = i.lengths;
-      processes = λ p d e h. later (length m.processes.items) _ _ m.calls _ (i.processes p d e h);
-      outside = i.outside;
-      calls = omega (arith, calls);
-      started = omega (arith, i.started);
-      inputs = λ d. omega (arith, i.inputs d);
-      shown = omega (arith, i.shown);
-      wire = i.wire;
-      keys = i.keys;
-    }
+count-sound m i calls = sound-call m m.wire i calls i.wire i.keys
 
 -- all senders forget the numbers above k for p
 pub forgotten-sound : (m : Inside) → IsSound m → (p k : ℕ) (ys : List TheProcess) → ys ≡ map (unnumbered_at p k) m.processes.items → (o : TheOutside) → o ≡ record m.outside { log = forgot p k m.outside.log }

@@ -21,6 +21,8 @@ use Rattle.session_process.specs.Mode.{is_live}
 use Rattle.machine.specs.Fields.{IsSoundAt}
 use Rattle.machine.specs.Checkpoints.{covered_at, drops, dropped_by, dropped_to, trimmed_log, trimmed_to, without_covered}
 use Rattle.machine.specs.Simulation.{TheMachine, Shows, Stands, StandsAt, Steps, Keeps, process_at, log_at, is_up_at}
+use Rattle.machine.proofs.Soundness.{sound-outbox}
+use Rattle.machine.proofs.OutboxLemmas.{stands-outbox}
 use Rattle.machine.proofs.Status.{rest-length, up-down, is_up-phase_of, is_live-at, live-lost}
 use Rattle.machine.proofs.OneProcess.{shows-one, unchanged-at}
 use Rattle.machine.proofs.Steps.{step}
@@ -72,20 +74,8 @@ width-to m d (suc k) = width-without (trimmed_to d m k) d k ∙ width-to m d k
 -- a process without some messages is sound
 pub trimmed-sound : (n me len calls d i : ℕ) (x : TheProcess) → IsSoundAt n me len calls x → IsSoundAt n me len calls (trimmed_at d i x)
 trimmed-sound n me len calls d i x s =
-    record {
-      short = s.short;
-      state = s.state;
-      log = record { owner = s.log.owner; width = length-set x.outbox.log.queues d (trimmed (count_up_to i (queue_of d x.outbox.log)) (queue_of d x.outbox.log)) ∙ s.log.width };
-      senders = s.senders;
-      whole = s.whole;
-      planned = s.planned;
-      begun_by = s.begun_by;
-      incarnation = s.incarnation;
-      own = s.own;
-      count = s.count;
-      saved_state = s.saved_state;
-      saved_by = s.saved_by;
-    }
+    let width = length-set x.outbox.log.queues d (trimmed (count_up_to i (queue_of d x.outbox.log)) (queue_of d x.outbox.log)) in
+    sound-outbox n me len calls x (trimmed_at d i x).outbox s (record { owner = s.log.owner; width = width ∙ s.log.width })
 
 -- how many messages of s the destination d has for good
 module _ (m : TheMachine) (w : World) (shows : Shows m w) where
@@ -303,18 +293,7 @@ module _ (m : TheMachine) (w : World) (d k : ℕ) (shows : Shows m (world_to w d
   live = is_live-at m k positive (up m w d k shows sound unsent wide to from b)
 
   here : StandsAt (length m.processes) k (trimmed_at d (covered_at m k d) (process_at m k)) (w.handlers.state k) (w.handlers.sends k) (w.history k) (w.phase k) (w.incarnation k) (w.acknowledged k) (w.saved k) (w.saved_trims k)
-  here = record {
-    state_is = standing.state_is;
-    gone = λ e. absurd (true≢false (sym e ∙ live-lost (process_at m k).mode live));
-    senders = standing.senders;
-    flags = standing.flags;
-    acknowledged_is = standing.acknowledged_is;
-    in_order = standing.in_order;
-    phase_is = standing.phase_is;
-    works = standing.works;
-    incarnation_is = standing.incarnation_is;
-    saves = standing.saves;
-  }
+  here = stands-outbox (trimmed_at d (covered_at m k d) (process_at m k)).outbox standing (λ e. absurd (true≢false (sym e ∙ live-lost (process_at m k).mode live)))
 
   keeps : (q : ℕ) → q ≤ length m.processes → k ≢ q → is_down (w.phase k) ≡ false → Keeps (queue_of q (trimmed_log d (covered_at m k d) (process_at m k).outbox.log)) (trims_to w d (suc k) k q) (sent w k q) (w.numbers k q)
   keeps q aim apart back = by_key (q == d) refl

@@ -121,9 +121,9 @@ module _ {who : Who} {saved : List Value} {c : State} {words mem : List ℕ} {e 
     pushed = a.pushed;
   }
 
-  -- flags are set
-  pub put_flags : (f : Flags) → Agrees who saved (record c { flags = f }) words mem e count
-  put_flags f = record {
+  -- flags, xmm0, the array and the record are others
+  pub put_blocks : (f : Flags) (l bs r now : List ℕ) (e' : Emitted) → bs ≡ now → Keeps who e' r → Agrees who saved (record c { flags = f; long = l; array = bs; record_ = r }) words now e' count
+  put_blocks f l bs r now e' is k = record {
     sixteen = a.sixteen;
     eleven = a.eleven;
     each = a.each;
@@ -131,39 +131,36 @@ module _ {who : Who} {saved : List Value} {c : State} {words mem : List ℕ} {e 
     base = a.base;
     store = a.store;
     count_is = a.count_is;
-    array = a.array;
-    keeps = a.keeps;
+    array = is;
+    keeps = k;
     pushed = a.pushed;
   }
+
+  -- flags are set
+  pub put_flags : (f : Flags) → Agrees who saved (record c { flags = f }) words mem e count
+  put_flags f = put_blocks f c.long c.array c.record_ mem e a.array a.keeps
 
   -- the array is another
   pub put_array : (bs : List ℕ) → Agrees who saved (record c { array = bs }) words bs e count
-  put_array bs = record {
-    sixteen = a.sixteen;
-    eleven = a.eleven;
-    each = a.each;
-    ten = a.ten;
-    base = a.base;
-    store = a.store;
-    count_is = a.count_is;
-    array = refl;
-    keeps = a.keeps;
-    pushed = a.pushed;
-  }
+  put_array bs = put_blocks c.flags c.long bs c.record_ bs e refl a.keeps
 
   -- the record is another
   pub put_record : (e' : Emitted) (bs : List ℕ) → Keeps who e' bs → Agrees who saved (record c { record_ = bs }) words mem e' count
-  put_record e' bs k = record {
-    sixteen = a.sixteen;
+  put_record e' bs k = put_blocks c.flags c.long c.array bs mem e' a.array k
+
+  -- rcx and rdx are others, and the record keeps these effects
+  pub put_scratch : (e' : Emitted) (s : State) → length s.regs ≡ 16 → ((q : ℕ) → q ≢ 1 → q ≢ 2 → value s q ≡ value c q) → s.array ≡ c.array → Keeps who e' s.record_ → s.pushed ≡ c.pushed → Agrees who saved s words mem e' count
+  put_scratch e' s l f x y z = record {
+    sixteen = l;
     eleven = a.eleven;
-    each = a.each;
+    each = λ r k. f (gpr r) (another r 1 k refl) (another r 2 k refl) ∙ a.each r k;
     ten = a.ten;
-    base = a.base;
-    store = a.store;
-    count_is = a.count_is;
-    array = a.array;
-    keeps = k;
-    pushed = a.pushed;
+    base = f 7 (omega arith) (omega arith) ∙ a.base;
+    store = f 6 (omega arith) (omega arith) ∙ a.store;
+    count_is = f 11 (omega arith) (omega arith) ∙ a.count_is;
+    array = x ∙ a.array;
+    keeps = y;
+    pushed = z ∙ a.pushed;
   }
 
   -- ---- parts of instructions

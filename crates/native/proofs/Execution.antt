@@ -31,7 +31,8 @@ use Rattle.native.proofs.Lengths.{send_few, output_few, send_sized_few, output_s
 use Rattle.native.proofs.Bodies.{Performs, plain_performs, word_register}
 use Rattle.native.proofs.Divisions.{div_at, mod_at, sdiv_at, smod_at}
 use Rattle.native.proofs.Sized.{Given, given_at, given_by, sends_by, outputs_by, adds_sent, adds_output, copied_sized, copied_sized_by, copied_64_by, out as sized_out, sent as sized_sent, output_done as sized_output_done, send_done as sized_send_done, send_sized_at, output_sized_at}
-use Rattle.native.proofs.Helpers.{Adds, Comes, sends, outputs, send_straight, output_straight, sent, out, send_done, output_done, send_at, output_at}
+use Rattle.native.proofs.Helpers.{Adds, Comes, sends, outputs, send_straight, output_straight}
+use Rattle.native.proofs.Fixed.{sent, out, send_done, output_done, send_at, output_at}
 
 -- it goes on at the slot behind its own
 abbrev pub Falls : SlotTask → Type 0
@@ -91,49 +92,38 @@ module _ {who : Who} {saved : List Value} {c : State} {words mem : List ℕ} {e 
     whole = refl;
   }
 
+  -- a helper's tests, effect and answers: if they come to its answer, the task is done
+  by_call : (t : SlotTask) (x : ℕ × Emitted) (tests : ℕ → List Instr) (good end : List Instr) (k past : ℕ) → taken t ≡ 1 → task_act who slot words mem e t ≡ Answers x.0 x.1 → length (codes is) ≡ k + (length (codes good) + past) → IsCall tests good end is
+      → (HasAt code p (codes (tests (length (codes good)) ++ (good ++ end))) → p + k + length (codes good) + past < 2 ^ 64 → Comes who saved count code p (p + k + length (codes good) + past) c (slice_set words 0 x.0) mem x.1) → Performs a code p slot t is
+  by_call t x tests good end k past one f n j comes =
+      let g = length (codes good) in
+      let q : p + k + g + past ≡ p + length (codes is) = omega arith in
+      let h : HasAt code p (codes (tests g ++ (good ++ end))) = subst (λ x. HasAt code p (codes x)) j at in
+      answers t x one f (subst (λ to. Comes who saved count code p to c (slice_set words 0 x.0) mem x.1) q (comes h (omega arith)))
+
   -- helper 1, on these bytes
   by_send : (t : SlotTask) (bytes : List ℕ) (straight : List Instr) → taken t ≡ 1 → task_act who slot words mem e t ≡ Answers (sent a bytes straight code).0 (sent a bytes straight code).1 → Adds who saved words mem e count (length e.sends) (record e { sends = e.sends ++ record { dst = slice_index words 1; payload = bytes } ∷ [] }) straight → length (codes (send_done a bytes straight code)) ≤ 80 → IsCall send_tests (send_done a bytes straight code) send_end is → Performs a code p slot t is
   by_send t bytes straight one f adds short j =
       let good = send_done a bytes straight code in
-      let g = length (codes good) in
-      let n : length (codes is) ≡ 34 + (g + 12) = three_long (send_tests g) good send_end is j in
-      let q : p + 34 + g + 12 ≡ p + length (codes is) = omega arith in
-      let h : HasAt code p (codes (send_tests g ++ (good ++ send_end))) = subst (λ x. HasAt code p (codes x)) j at in
-      let x = sent a bytes straight code in
-      answers t x one f (subst (λ to. Comes who saved count code p to c (slice_set words 0 x.0) mem x.1) q (send_at a bytes straight code adds p h short (omega arith)))
+      by_call t (sent a bytes straight code) send_tests good send_end 34 12 one f (three_long (send_tests (length (codes good))) good send_end is j) j (λ h fits. send_at a bytes straight code adds p h short fits)
 
   -- helper 2
   by_output : (t : SlotTask) (bytes : List ℕ) (straight : List Instr) → taken t ≡ 1 → task_act who slot words mem e t ≡ Answers (out a bytes straight code).0 (out a bytes straight code).1 → Adds who saved words mem e count (length e.outputs) (record e { outputs = e.outputs ++ bytes ∷ [] }) straight → length (codes (output_done a bytes straight code)) ≤ 80 → IsCall output_tests (output_done a bytes straight code) output_end is → Performs a code p slot t is
   by_output t bytes straight one f adds short j =
       let good = output_done a bytes straight code in
-      let g = length (codes good) in
-      let n : length (codes is) ≡ 10 + (g + 5) = three_long (output_tests g) good output_end is j in
-      let q : p + 10 + g + 5 ≡ p + length (codes is) = omega arith in
-      let h : HasAt code p (codes (output_tests g ++ (good ++ output_end))) = subst (λ x. HasAt code p (codes x)) j at in
-      let x = out a bytes straight code in
-      answers t x one f (subst (λ to. Comes who saved count code p to c (slice_set words 0 x.0) mem x.1) q (output_at a bytes straight code adds p h short (omega arith)))
+      by_call t (out a bytes straight code) output_tests good output_end 10 5 one f (three_long (output_tests (length (codes good))) good output_end is j) j (λ h fits. output_at a bytes straight code adds p h short fits)
 
   -- helper 5, on what it takes of them
   by_send_sized : (t : SlotTask) (o : Option (List ℕ)) (bytes : List ℕ) (straight : List Instr) → taken t ≡ 1 → task_act who slot words mem e t ≡ Answers (sized_sent a o bytes straight code).0 (sized_sent a o bytes straight code).1 → Given o (slice_index words 3) bytes → (slice_index words 3 ≤ 256 → Adds who saved words mem e count (length e.sends) (record e { sends = e.sends ++ record { dst = slice_index words 1; payload = bytes } ∷ [] }) straight) → length (codes (sized_send_done a o bytes straight code)) ≤ 80 → IsCall send_sized_tests (sized_send_done a o bytes straight code) send_sized_end is → Performs a code p slot t is
   by_send_sized t o bytes straight one f given adds short j =
       let good = sized_send_done a o bytes straight code in
-      let g = length (codes good) in
-      let n : length (codes is) ≡ 43 + (g + 19) = three_long (send_sized_tests g) good send_sized_end is j in
-      let q : p + 43 + g + 19 ≡ p + length (codes is) = omega arith in
-      let h : HasAt code p (codes (send_sized_tests g ++ (good ++ send_sized_end))) = subst (λ x. HasAt code p (codes x)) j at in
-      let x = sized_sent a o bytes straight code in
-      answers t x one f (subst (λ to. Comes who saved count code p to c (slice_set words 0 x.0) mem x.1) q (send_sized_at a o bytes straight code given adds p h short (omega arith)))
+      by_call t (sized_sent a o bytes straight code) send_sized_tests good send_sized_end 43 19 one f (three_long (send_sized_tests (length (codes good))) good send_sized_end is j) j (λ h fits. send_sized_at a o bytes straight code given adds p h short fits)
 
   -- helper 6
   by_output_sized : (t : SlotTask) (o : Option (List ℕ)) (bytes : List ℕ) (straight : List Instr) → taken t ≡ 1 → task_act who slot words mem e t ≡ Answers (sized_out a o bytes straight code).0 (sized_out a o bytes straight code).1 → Given o (slice_index words 2) bytes → (slice_index words 2 ≤ 256 → Adds who saved words mem e count (length e.outputs) (record e { outputs = e.outputs ++ bytes ∷ [] }) straight) → length (codes (sized_output_done a o bytes straight code)) ≤ 80 → IsCall output_sized_tests (sized_output_done a o bytes straight code) output_sized_end is → Performs a code p slot t is
   by_output_sized t o bytes straight one f given adds short j =
       let good = sized_output_done a o bytes straight code in
-      let g = length (codes good) in
-      let n : length (codes is) ≡ 19 + (g + 12) = three_long (output_sized_tests g) good output_sized_end is j in
-      let q : p + 19 + g + 12 ≡ p + length (codes is) = omega arith in
-      let h : HasAt code p (codes (output_sized_tests g ++ (good ++ output_sized_end))) = subst (λ x. HasAt code p (codes x)) j at in
-      let x = sized_out a o bytes straight code in
-      answers t x one f (subst (λ to. Comes who saved count code p to c (slice_set words 0 x.0) mem x.1) q (output_sized_at a o bytes straight code given adds p h short (omega arith)))
+      by_call t (sized_out a o bytes straight code) output_sized_tests good output_sized_end 19 12 one f (three_long (output_sized_tests (length (codes good))) good output_sized_end is j) j (λ h fits. output_sized_at a o bytes straight code given adds p h short fits)
 
   abbrev held : ℕ → ℕ
   held r = slice_index words r

@@ -1,7 +1,6 @@
 -- One driven call more
 use Rattle.std.proofs.Common.{◌≡◌, ℕ, suc, ◌+◌, ◌-◌, ◌<◌, ◌≤◌, List, [], ◌∷◌, ◌++◌, length, length-append, append_assoc, Bool, true, false, refl, sym, ap, ◌∙◌, subst, arith}
 use Rattle.std.specs.Prelude.{Option, Some, None, Ok, ◌||◌, ◌==◌}
-use Rattle.std.proofs.lemmas.List.{append-nil}
 use Rattle.world.specs.declared.call.Call.{Call}
 use Rattle.world.specs.declared.call.Call.TheVariants.{Input, Transmit, Copy, Lose, Arrive, Finish, Checkpoint, Trim, Crash, Recover, RecoverAlone, ReplayBegin, Resync as ResyncWith}
 use Rattle.world.specs.declared.answer.Answer.{Answer}
@@ -12,7 +11,6 @@ use Rattle.world.specs.declared.refusal.Refusal.TheVariants.{Memory}
 use Rattle.sessions.specs.Fold.{handlers_of}
 use Rattle.world.specs.World.{World, opening}
 use Rattle.world.specs.Calls.{after}
-use Rattle.world.specs.Refusals.{cause_of}
 use Rattle.world.specs.Useful.{is_free, is_useful, may_call}
 use Rattle.world.specs.Legal.{world_after}
 use Rattle.world.proofs.Runs.{world_after-append}
@@ -47,24 +45,6 @@ takes-none (Trim d) move = absurd move
 takes-none (Crash p) move = absurd move
 takes-none (Recover p) move = absurd move
 takes-none (RecoverAlone p) move = absurd move
-
--- a refusal without a cause of the world's is want of memory
-pub cause-memory : (r : Refusal) → cause_of r ≡ None → r ≡ Memory
-cause-memory refusals.NoSuchProcess e = absurd (cc)
-cause-memory refusals.NotUp e = absurd (cc)
-cause-memory refusals.Busy e = absurd (cc)
-cause-memory refusals.NoPacket e = absurd (cc)
-cause-memory refusals.SameProcess e = absurd (cc)
-cause-memory refusals.NotReleased e = absurd (cc)
-cause-memory refusals.NotLogged e = absurd (cc)
-cause-memory refusals.PeerNotUp e = absurd (cc)
-cause-memory refusals.StaleJob e = absurd (cc)
-cause-memory refusals.NotDown e = absurd (cc)
-cause-memory refusals.WrongPhase e = absurd (cc)
-cause-memory refusals.JournalFull e = absurd (cc)
-cause-memory refusals.WireFull e = absurd (cc)
-cause-memory refusals.FeedTaken e = absurd (cc)
-cause-memory refusals.Memory e = refl
 
 -- so is that of a result of the open job
 pub told-memory : (r : Refusal) (P : Type 0) → Told r P → P → r ≡ Memory
@@ -114,19 +94,6 @@ drives-append worker budget room (Some p) w (e ∷ es) fs left h short more =
 abbrev with_entries : TheSession → List Entry → TheSession
 with_entries s es = record s { entries = es }
 
--- where no call is made, session and seat stay as they were
-pub advance-none : (budget : ℕ) (old new : TheSession) (by by' : TheSeat) → new ≡ old → by' ≡ by → Advances budget old new by by' 0 None
-advance-none budget old new by by' same seat =
-    let none : old.entries ++ [] ≡ old.entries = append-nil old.entries in
-    let zero_more : by.answered + 0 ≡ by.answered = omega arith in
-    record {
-      added = [];
-      as_many = refl;
-      entries = same ∙ ap (with_entries old) (sym none);
-      seat = seat ∙ ap (λ n. record by { answered = n }) (sym zero_more);
-      run = refl;
-    }
-
 -- and where one is, its entry comes last, and counts for the seat
 pub advance-one : (old new : TheSession) (by by' : TheSeat) (call : Call) (answer : Answer) → IsPick (world_at old) (room_at old) call → Adds old new by by' call (Ok answer) → Advances 1 old new by by' 1 (job_of (world_at old) call answer)
 advance-one old new by by' call answer k adds =
@@ -136,26 +103,6 @@ advance-one old new by by' call answer k adds =
       entries = adds.1;
       seat = adds.2;
       run = (omega arith, refl, k, refl);
-    }
-
--- a call that starts a job, and the job's finish
-pub advance-two : (old mid new : TheSession) (by mine by' : TheSeat) (call : Call) (answer ended : Answer) (p : ℕ) → IsPick (world_at old) (room_at old) call → Adds old mid by mine call (Ok answer)
-    → job_of (world_at old) call answer ≡ Some p → Adds mid new mine by' (Finish p) (Ok ended) → Advances 1 old new by by' 2 None
-advance-two old mid new by mine by' call answer ended p k adds job more =
-    let first : Entry = entry by.worker call answer in
-    let second : Entry = entry mine.worker (Finish p) ended in
-    let worker : mine.worker ≡ by.worker = ap (λ (s : TheSeat). s.worker) adds.2 in
-    let before : mid.entries ≡ old.entries ++ first ∷ [] = ap (λ (s : TheSession). s.entries) adds.1 in
-    let joined : mid.entries ++ second ∷ [] ≡ old.entries ++ first ∷ second ∷ [] = ap (λ es. es ++ second ∷ []) before ∙ append_assoc old.entries (first ∷ []) (second ∷ []) in
-    let counted : mine.answered ≡ by.answered + 1 = ap (λ (s : TheSeat). s.answered) adds.2 in
-    let twice : mine.answered + 1 ≡ by.answered + 2 = omega (arith, counted) in
-    let P : Option ℕ → Type 0 = λ o. Drives by.worker 0 (room_at old - 1) o (after (world_at old) call answer) (second ∷ []) None in
-    record {
-      added = first ∷ second ∷ [];
-      as_many = refl;
-      entries = more.1 ∙ (λ i. record (adds.1 i) { entries = joined i });
-      seat = more.2 ∙ (λ i. record (adds.2 i) { answered = twice i });
-      run = (omega arith, refl, k, subst P (sym job) (worker, refl, refl));
     }
 
 -- a call of one run after another

@@ -6,11 +6,13 @@ use Rattle.replay.specs.Emission.{payloads_to, emitted_to}
 use Rattle.sessions.specs.Fold.{TheImage, Handled, Folded, joined, folded, handlers_of}
 use Rattle.world.specs.declared.entry.Entry.{Entry}
 use Rattle.world.specs.World.{opening}
-use Rattle.world.specs.Legal.{Legal, all_single}
+use Rattle.world.specs.Legal.{Legal, all_single, world_of}
 use Rattle.sessions.proofs.FoldLemmas.{folded-push, emitted_to-joined}
 use Rattle.theorems.specs.Growth.{Begins, Grows, Starts}
+use Rattle.theorems.specs.Orphans.{NoOrphan, ShownBegin}
 use Rattle.theorems.specs.Single.{IsSingle}
 use Rattle.theorems.proofs.ListLemmas.{begins-self}
+use Rattle.theorems.proofs.OrphanLemmas.{no-orphan, output-once}
 
 -- one handler call more
 joined-grows : (f : Folded) (o : Option Handled) (d : ℕ) → Begins (emitted_to d f.effects) (emitted_to d (joined f o).effects)
@@ -43,3 +45,11 @@ handlers-start images p d = split (nth images p)
 -- a legal journal of images, in which failures come one at a time
 pub single-of : (images : List TheImage) (es : List Entry) → Legal (length images) (handlers_of images) es → all_single (opening (length images) (handlers_of images)) es ≡ true → IsSingle (length images) (handlers_of images) es
 single-of images es legal single = record { grows = handlers-grow images; legal = legal; single = single }
+
+-- at its end no process is an orphan
+pub no-orphan-of : (images : List TheImage) (es : List Entry) → Legal (length images) (handlers_of images) es → all_single (opening (length images) (handlers_of images)) es ≡ true → NoOrphan (world_of (length images) (handlers_of images) es)
+no-orphan-of images es legal single = no-orphan (length images) (handlers_of images) es (single-of images es legal single)
+
+-- and no output was shown twice
+pub output-once-of : (images : List TheImage) (es : List Entry) → Legal (length images) (handlers_of images) es → all_single (opening (length images) (handlers_of images)) es ≡ true → ShownBegin (world_of (length images) (handlers_of images) es)
+output-once-of images es legal single = output-once (length images) (handlers_of images) es (single-of images es legal single)

@@ -1,5 +1,5 @@
 -- Calls of a service as those of a session, whose callers share it
-use Rattle.std.proofs.Common.{◌≡◌, ℕ, ◌+◌, ◌-◌, ◌≤◌, ◌∷◌, [], List, length, length-append, refl, ap, ◌∙◌, arith}
+use Rattle.std.proofs.Common.{◌≡◌, ℕ, ◌+◌, ◌-◌, [], ◌∷◌, List, length, length-append, refl, ap, ◌∙◌, arith}
 use Rattle.std.specs.Prelude.{Option, Result, Ok, Err}
 use Rattle.world.specs.declared.call.Call.{Call}
 use Rattle.world.specs.declared.answer.Answer.{Answer}
@@ -72,8 +72,3 @@ drives seats budget old new by by' (Err r) made seat = (made.0, (made.1.0, made.
 -- a call that is accepted adds one entry
 pub grew : (old new : TheSession) (by by' : TheSeat) (call : Call) (a : Answer) → Adds old new by by' call (Ok a) → length new.entries ≡ length old.entries + 1
 grew old new by by' call a adds = ap (λ (s : TheSession). length s.entries) adds.1 ∙ length-append old.entries (entry by.worker call a ∷ [])
-
--- a drive takes no entry away
-pub never-shrinks : (budget : ℕ) (old new : TheSession) (by by' : TheSeat) (r : Result ℕ Refusal) → Driven budget old new by by' r → length old.entries ≤ length new.entries
-never-shrinks budget old new by by' (Ok n) made = omega (arith, ap (λ (s : TheSession). length s.entries) made.0.entries, length-append old.entries made.0.added)
-never-shrinks budget old new by by' (Err r) made = omega (arith, ap (λ (s : TheSession). length s.entries) made.1.2.entries, length-append old.entries made.1.2.added)

@@ -11,7 +11,7 @@ use Rattle.theorems.specs.Invariants.Sound.{PacketShape, Sound}
 use Rattle.theorems.specs.Invariants.Exact.{PacketTrue, Exact}
 use Rattle.theorems.proofs.ListLemmas.{take-all, take-push, get-push}
 use Rattle.theorems.proofs.HistoryLemmas.{count-push, names-found}
-use Rattle.theorems.proofs.Frames.{put-wire, sound-wire, exact-wire, Moves, sound-phase, exact-phase}
+use Rattle.theorems.proofs.Frames.{put-wire, sound-left, sound-wire, exact-wire, Moves, sound-phase, exact-phase}
 use Rattle.theorems.proofs.Wire.{sound-swap, exact-swap}
 
 pub sound-duplicate : (w : World) (key d : ℕ) (m : Message) (new : ℕ) → is_up (w.phase d) ≡ true → Sound w → Sound (duplicate w key d m new)
@@ -30,21 +30,13 @@ exact-duplicate w key d m new h = exact-swap w key new _ (truth (rsn_of (w.histo
 
 pub sound-show : (w : World) (key : ℕ) (m : Message) → m.ssn ≡ suc (count_of m.sender w.shown) → Sound w → Sound (show w key m)
 sound-show w key m next h =
-    record {
-      grows = h.grows;
-      outside = h.outside;
-      received = h.received;
-      working = h.working;
-      saved = h.saved;
-      replays = h.replays;
-      acknowledged = h.acknowledged;
-      recovering = h.recovering;
+    sound-left w w.numbers w.released w.inputs w.feeds w.started w.trims (put w.wire key None) (w.shown ++ m ∷ []) (record {
       covered = h.covered;
       shown_covered = λ s. let a : w.trims s 0 ≤ count_of s w.shown = h.shown_covered s in let b : count_of s (w.shown ++ m ∷ []) ≡ count_of s w.shown + (if m.sender == s then 1 else 0) = count-push s w.shown m in omega arith;
-      trims = h.trims;
+      above = h.trims;
       packets = put-wire (PacketShape w) w.wire key None h.packets tt;
-      shown = λ k x e. split k x (get-push w.shown m k x e);
-    }
+      next = λ k x e. split k x (get-push w.shown m k x e);
+    }) h
   where
     split : (k : ℕ) (x : Message) → ((k < length w.shown) × (slice_get w.shown k ≡ Some x)) ⊎ ((k ≡ length w.shown) × (m ≡ x)) → x.ssn ≡ suc (count_of x.sender (take k (w.shown ++ m ∷ [])))
     split k x (inl r) = rw (take-push w.shown (m ∷ []) k (let l : k < length w.shown = r.0 in omega arith)) (h.shown k x r.1)

@@ -1,14 +1,15 @@
 -- Calls that change the wire, a phase or released counts alone
-use Rattle.std.proofs.Common.{◌≡◌, ◌⊎◌, inl, inr, ℕ, ◌<◌, ◌≤◌, length, take, true, false, refl, sym, ◌∙◌, arith, List, Bool}
-use Rattle.std.specs.Prelude.{Option, Some, None, if◌then◌else◌}
+use Rattle.std.proofs.Common.{◌≡◌, ◌⊎◌, inl, inr, ℕ, suc, ◌<◌, ◌≤◌, length, take, true, false, refl, sym, ◌∙◌, arith, List, Bool}
+use Rattle.std.specs.Prelude.{Option, Some, None, slice_get, if◌then◌else◌}
 use Rattle.world.specs.declared.message.Message.{Message}
 use Rattle.world.specs.declared.packet.Packet.{Packet}
 use Rattle.world.specs.declared.packet.Packet.TheVariants.{Delivery, Number, Acknowledgement}
-use Rattle.world.specs.History.{nth, Payload}
+use Rattle.world.specs.History.{nth, count_of, Payload}
 use Rattle.world.specs.Phases.{Phase, Up, is_up, is_down}
 use Rattle.world.specs.World.{World, put}
 use Rattle.world.specs.Logs.{payloads, sent, length_in}
 use Rattle.theorems.specs.Growth.{Begins}
+use Rattle.theorems.specs.Kept.{Held}
 use Rattle.theorems.specs.Invariants.Secured.{Safe, Covers}
 use Rattle.theorems.specs.Invariants.Exact.{JobSafe, IsRecorded, PacketTrue, is_restored, is_alone, Exact}
 use Rattle.theorems.specs.Invariants.Sound.{JobNext, Replays, IsPast, PacketShape, is_recovering, Sound}
@@ -26,29 +27,50 @@ Told w p q = (m : ℕ) (x : Message) → w.saved q < m → nth (w.history q) m �
 pub put-wire : (P : Option Packet → Type 0) (wire : ℕ → Option Packet) (key : ℕ) (x : Option Packet) → ((j : ℕ) → P (wire j)) → P x → (j : ℕ) → P (put wire key x j)
 put-wire P wire key x all now = choose key (λ j b. P (if b then x else wire j)) now (λ j _. all j)
 
+-- what Sound says of dropped log entries, the wire and the outputs, if they become these
+pub record Leaves (w : World) (trims : ℕ → ℕ → ℕ) (wire : ℕ → Option Packet) (shown : List Message) : Type 0 where
+  pub covered : (p : ℕ) → 0 < p → (s : ℕ) → trims s p ≤ count_of s (take (w.saved p) (w.history p))
+  pub shown_covered : (s : ℕ) → trims s 0 ≤ count_of s shown
+  pub above : (s d : ℕ) → w.saved_trims s d ≤ trims s d
+  pub packets : (key : ℕ) → PacketShape w (wire key)
+  pub next : (k : ℕ) (x : Message) → slice_get shown k ≡ Some x → x.ssn ≡ suc (count_of x.sender (take k shown))
+
+module _ (w : World) (numbers : ℕ → ℕ → ℕ → Option ℕ) (released : ℕ → ℕ → ℕ) (inputs : ℕ → List Payload) (feeds : ℕ → Bool) (started : ℕ) where
+  -- a world stays sound if its logs, wire and outputs may become these, whatever is recorded, released, put in or started
+  pub sound-left : (trims : ℕ → ℕ → ℕ) (wire : ℕ → Option Packet) (shown : List Message) → Leaves w trims wire shown → Sound w
+      → Sound (record w { trims = trims; wire = wire; shown = shown; numbers = numbers; released = released; inputs = inputs; feeds = feeds; started = started })
+  sound-left trims wire shown l h =
+      record {
+        grows = h.grows;
+        outside = h.outside;
+        received = h.received;
+        working = h.working;
+        saved = h.saved;
+        replays = h.replays;
+        acknowledged = h.acknowledged;
+        recovering = h.recovering;
+        covered = l.covered;
+        shown_covered = l.shown_covered;
+        trims = l.above;
+        packets = l.packets;
+        shown = l.next;
+      }
+
 -- a world stays sound on another wire, if each packet has its shape
 pub sound-wire : (w : World) (wire : ℕ → Option Packet) (n : ℕ) → ((key : ℕ) → PacketShape w (wire key)) → Sound w → Sound (record w { wire = wire; started = n })
 sound-wire w wire n packets h =
-    record {
-      grows = h.grows;
-      outside = h.outside;
-      received = h.received;
-      working = h.working;
-      saved = h.saved;
-      replays = h.replays;
-      acknowledged = h.acknowledged;
-      recovering = h.recovering;
-      covered = h.covered;
-      shown_covered = h.shown_covered;
-      trims = h.trims;
-      packets = packets;
-      shown = h.shown;
-    }
+    let left : Leaves w w.trims wire w.shown = record { covered = h.covered; shown_covered = h.shown_covered; above = h.trims; packets = packets; next = h.shown } in
+    sound-left w w.numbers w.released w.inputs w.feeds n w.trims wire w.shown left h
 
--- and exact, if each packet is true
+-- a world stays exact on another wire with other releases, if each packet is true and messages that outlive a crash send what is released
+exact-on : (w : World) (wire : ℕ → Option Packet) (n : ℕ) (released : ℕ → ℕ → ℕ) → ((key : ℕ) → PacketTrue w (wire key)) → ((q d : ℕ) → Covers w q d (released q d)) → Exact w
+    → Exact (record w { wire = wire; started = n; released = released })
+exact-on w wire n released packets covered h =
+    record { alone = h.alone; recorded = h.recorded; acknowledged = h.acknowledged; packets = packets; working = h.working; received = h.received; shown = h.shown; released = covered }
+
+-- on another wire alone
 pub exact-wire : (w : World) (wire : ℕ → Option Packet) (n : ℕ) → ((key : ℕ) → PacketTrue w (wire key)) → Exact w → Exact (record w { wire = wire; started = n })
-exact-wire w wire n packets h =
-    record { alone = h.alone; recorded = h.recorded; acknowledged = h.acknowledged; packets = packets; working = h.working; received = h.received; shown = h.shown; released = h.released }
+exact-wire w wire n packets h = exact-on w wire n w.released packets h.released h
 
 -- packets keep their shape from v to w
 pub shape-by : (v w : World) → ((d : ℕ) (m : Message) → PacketShape v (Some (Delivery d m)) → PacketShape w (Some (Delivery d m))) → ((r k : ℕ) → IsPast v r k → IsPast w r k)
@@ -68,6 +90,36 @@ true-by v w text number acknowledgement (Some (Delivery d m)) p h = text d m h
 true-by v w text number acknowledgement (Some (Number r s i m k)) p h = number r s i m k p h
 true-by v w text number acknowledgement (Some (Acknowledgement s r m k)) p h = acknowledgement s r m k p h
 
+-- p may come into phase x, whatever it was in
+pub record Enters (w : World) (p : ℕ) (x : Phase) : Type 0 where
+  pub inside : 0 < p
+  pub below : p ≤ w.count
+  pub stays : is_up (w.phase p) ≡ true → is_up x ≡ true
+  pub next : JobNext w.count p (w.history p) x
+  pub replays : Replays (w.saved p) (length (w.history p)) x
+  pub all : is_recovering x ≡ true → (k : ℕ) → 0 < k → k ≤ length (w.history p) → w.acknowledged p k ≡ true
+
+-- and the world stays sound
+pub sound-enters : (w : World) (p : ℕ) (x : Phase) → Enters w p x → Sound w → Sound (record w { phase = put w.phase p x })
+sound-enters w p x m h =
+    record {
+      grows = h.grows;
+      outside = choose p (λ j b. (0 < j → w.count < j) → (if b then x else w.phase j) ≡ Up) (λ e. let i : w.count < p = e m.inside in let j : p ≤ w.count = m.below in absurd (omega arith)) (λ j _. h.outside j);
+      received = h.received;
+      working = choose p (λ j b. JobNext w.count j (w.history j) (if b then x else w.phase j)) m.next (λ j _. h.working j);
+      saved = h.saved;
+      replays = choose p (λ j b. Replays (w.saved j) (length (w.history j)) (if b then x else w.phase j)) m.replays (λ j _. h.replays j);
+      acknowledged = h.acknowledged;
+      recovering = choose p (λ j b. is_recovering (if b then x else w.phase j) ≡ true → (k : ℕ) → 0 < k → k ≤ length (w.history j) → w.acknowledged j k ≡ true) m.all (λ j _. h.recovering j);
+      covered = h.covered;
+      shown_covered = h.shown_covered;
+      trims = h.trims;
+      packets = λ key. shape-by w (record w { phase = put w.phase p x }) (λ d t s. s)
+          (λ r k s. record { past = s.past; live = choose p (λ j b. (k ≡ w.incarnation j → is_up (w.phase j) ≡ true) → k ≡ w.incarnation j → is_up (if b then x else w.phase j) ≡ true) (λ l e. m.stays (l e)) (λ j _ l. l) r s.live })
+          (w.wire key) (h.packets key);
+      shown = h.shown;
+    }
+
 -- p's phase becomes x, and p was not down and isn't
 pub record Moves (w : World) (p : ℕ) (x : Phase) : Type 0 where
   pub inside : 0 < p
@@ -81,24 +133,7 @@ pub record Moves (w : World) (p : ℕ) (x : Phase) : Type 0 where
   pub forth : length_in (w.history p) (w.saved p) (w.phase p) ≤ length_in (w.history p) (w.saved p) x
 
 pub sound-phase : (w : World) (p : ℕ) (x : Phase) → Moves w p x → Sound w → Sound (record w { phase = put w.phase p x })
-sound-phase w p x m h =
-    record {
-      grows = h.grows;
-      outside = choose p (λ j b. (0 < j → w.count < j) → (if b then x else w.phase j) ≡ Up) (λ e. let i : w.count < p = e m.inside in let j : p ≤ w.count = m.below in absurd (omega arith)) (λ j _. h.outside j);
-      received = h.received;
-      working = choose p (λ j b. JobNext w.count j (w.history j) (if b then x else w.phase j)) m.next (λ j _. h.working j);
-      saved = h.saved;
-      replays = choose p (λ j b. Replays (w.saved j) (length (w.history j)) (if b then x else w.phase j)) m.replays (λ j _. h.replays j);
-      acknowledged = h.acknowledged;
-      recovering = choose p (λ j b. is_recovering (if b then x else w.phase j) ≡ true → (k : ℕ) → 0 < k → k ≤ length (w.history j) → w.acknowledged j k ≡ true) (λ e. h.recovering p (m.recovering e)) (λ j _. h.recovering j);
-      covered = h.covered;
-      shown_covered = h.shown_covered;
-      trims = h.trims;
-      packets = λ key. shape-by w (record w { phase = put w.phase p x }) (λ d t s. s)
-          (λ r k s. record { past = s.past; live = choose p (λ j b. (k ≡ w.incarnation j → is_up (w.phase j) ≡ true) → k ≡ w.incarnation j → is_up (if b then x else w.phase j) ≡ true) (λ l e. m.stays (l e)) (λ j _ l. l) r s.live })
-          (w.wire key) (h.packets key);
-      shown = h.shown;
-    }
+sound-phase w p x m h = sound-enters w p x (record { inside = m.inside; below = m.below; stays = m.stays; next = m.next; replays = m.replays; all = λ e. h.recovering p (m.recovering e) }) h
 
 -- a phase that moves takes no history, no acknowledgement and no number that is held
 pub grown-phase : (w : World) (p : ℕ) (x : Phase) → Moves w p x → Sound w → Grown w (record w { phase = put w.phase p x })
@@ -141,21 +176,8 @@ exact-phase w p x m alone job less s h =
 -- a world is sound whatever is recorded, released or put in
 pub sound-beside : (w : World) (numbers : ℕ → ℕ → ℕ → Option ℕ) (released : ℕ → ℕ → ℕ) (inputs : ℕ → List Payload) (feeds : ℕ → Bool) → Sound w → Sound (record w { numbers = numbers; released = released; inputs = inputs; feeds = feeds })
 sound-beside w numbers released inputs feeds h =
-    record {
-      grows = h.grows;
-      outside = h.outside;
-      received = h.received;
-      working = h.working;
-      saved = h.saved;
-      replays = h.replays;
-      acknowledged = h.acknowledged;
-      recovering = h.recovering;
-      covered = h.covered;
-      shown_covered = h.shown_covered;
-      trims = h.trims;
-      packets = h.packets;
-      shown = h.shown;
-    }
+    let left : Leaves w w.trims w.wire w.shown = record { covered = h.covered; shown_covered = h.shown_covered; above = h.trims; packets = h.packets; next = h.shown } in
+    sound-left w numbers released inputs feeds w.started w.trims w.wire w.shown left h
 
 -- a world is sound whatever p has released
 pub sound-released : (w : World) (p : ℕ) (f : ℕ → ℕ) → Sound w → Sound (record w { released = put w.released p f })
@@ -164,13 +186,25 @@ sound-released w p f h = sound-beside w w.numbers (put w.released p f) w.inputs 
 -- and exact, if messages that outlive a crash send all that p has released
 pub exact-released : (w : World) (p : ℕ) (f : ℕ → ℕ) → ((d : ℕ) → Covers w p d (f d)) → Exact w → Exact (record w { released = put w.released p f })
 exact-released w p f now h =
+    exact-on w w.wire w.started (put w.released p f) h.packets (choose p (λ j b. (d : ℕ) → Covers w j d ((if b then f else w.released j) d)) now (λ j _. h.released j)) h
+
+-- what is held stays held, and nothing else changes but dropped log entries and recorded numbers: nothing that was secured is lost
+pub carries-kept : (w : World) (trims : ℕ → ℕ → ℕ) (numbers : ℕ → ℕ → ℕ → Option ℕ) → ((q m : ℕ) → is_down (w.phase q) ≡ true → w.saved q < m → Held w q m → Held (record w { trims = trims; numbers = numbers }) q m)
+    → Carries w (record w { trims = trims; numbers = numbers })
+carries-kept w trims numbers held =
+    carries-grown (record { down = λ q. refl; history = λ q. begins-self _; acknowledged = λ q m _ _ e. e; payloads_grow = λ s g d. begins-self _; held = λ q d. (refl, λ m a _ l. held q m d a l) })
+
+-- a world stays exact when log entries are dropped or inputs are put in, if what is secured carries over
+pub exact-carried : (w : World) (trims : ℕ → ℕ → ℕ) (inputs : ℕ → List Payload) (feeds : ℕ → Bool) → Carries w (record w { trims = trims; inputs = inputs; feeds = feeds }) → Sound w → Exact w
+    → Exact (record w { trims = trims; inputs = inputs; feeds = feeds })
+exact-carried w trims inputs feeds c s h =
     record {
       alone = h.alone;
       recorded = h.recorded;
       acknowledged = h.acknowledged;
-      packets = h.packets;
-      working = h.working;
-      received = h.received;
-      shown = h.shown;
-      released = choose p (λ j b. (d : ℕ) → Covers w j d ((if b then f else w.released j) d)) now (λ j _. h.released j);
+      packets = λ j. true-by w (record w { trims = trims; inputs = inputs; feeds = feeds }) (safe c) (λ _ _ _ _ _ _ f. f) (λ _ _ _ _ _ f. f) (w.wire j) (s.packets j) (h.packets j);
+      working = λ p. job-safe c p (w.phase p) (h.working p);
+      received = λ q j y e. safe c q y (h.received q j y e);
+      shown = λ j y e. safe c 0 y (h.shown j y e);
+      released = λ q d. covers c q d (w.released q d) (h.released q d);
     }

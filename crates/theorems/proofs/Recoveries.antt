@@ -5,7 +5,7 @@ use Rattle.std.proofs.lemmas.Bool.Decides.{nat_tests}
 use Rattle.world.specs.declared.message.Message.{Message}
 use Rattle.world.specs.declared.packet.Packet.TheVariants.{Number, Acknowledgement}
 use Rattle.world.specs.History.{nth, count_of}
-use Rattle.world.specs.Phases.{Phase, Up, Down, Replaying, is_up, is_down}
+use Rattle.world.specs.Phases.{Phase, Down, Replaying, is_up, is_down}
 use Rattle.world.specs.World.{World, put}
 use Rattle.world.specs.Logs.{payloads, sent_in_all, length_in}
 use Rattle.world.specs.Plan.{chosen, gather}
@@ -20,7 +20,7 @@ use Rattle.theorems.proofs.ListLemmas.{take-take, take-length, get-take, nth-tak
 use Rattle.theorems.proofs.HistoryLemmas.{Ordered}
 use Rattle.theorems.proofs.PhaseLemmas.{up-down, with-down, with-alone, with-next, with-safe, with-replays, with-restored}
 use Rattle.theorems.proofs.SecuredLemmas.{Carries, safe, job-safe, covers, covers-all}
-use Rattle.theorems.proofs.Frames.{Told, shape-by, true-by, sound-released, exact-released}
+use Rattle.theorems.proofs.Frames.{Told, true-by, sound-enters, sound-released, exact-released}
 use Rattle.theorems.proofs.Replays.{told-others}
 use Rattle.theorems.proofs.PlanLemmas.{chosen-none, plan-is, gather-ordered, gather-begins}
 
@@ -166,23 +166,8 @@ pub record Revives (w : World) (p : ℕ) (x : Phase) : Type 0 where
 
 sound-revived : (w : World) (p : ℕ) (x : Phase) → Revives w p x → Sound w → Sound (record w { phase = put w.phase p x })
 sound-revived w p x m h =
-    record {
-      grows = h.grows;
-      outside = choose p (λ j b. (0 < j → w.count < j) → (if b then x else w.phase j) ≡ Up) (λ e. let i : w.count < p = e m.inside in let j : p ≤ w.count = m.below in absurd (omega arith)) (λ j _. h.outside j);
-      received = h.received;
-      working = choose p (λ j b. JobNext w.count j (w.history j) (if b then x else w.phase j)) m.next (λ j _. h.working j);
-      saved = h.saved;
-      replays = choose p (λ j b. Replays (w.saved j) (length (w.history j)) (if b then x else w.phase j)) m.replays (λ j _. h.replays j);
-      acknowledged = h.acknowledged;
-      recovering = choose p (λ j b. is_recovering (if b then x else w.phase j) ≡ true → (k : ℕ) → 0 < k → k ≤ length (w.history j) → w.acknowledged j k ≡ true) (λ _. m.all) (λ j _. h.recovering j);
-      covered = h.covered;
-      shown_covered = h.shown_covered;
-      trims = h.trims;
-      packets = λ key. shape-by w (record w { phase = put w.phase p x }) (λ d t s. s)
-          (λ r k s. record { past = s.past; live = choose p (λ j b. (k ≡ w.incarnation j → is_up (w.phase j) ≡ true) → k ≡ w.incarnation j → is_up (if b then x else w.phase j) ≡ true) (λ l e. absurd (let f : is_up Down ≡ true = rw m.was at (l e) in cc)) (λ j _ l. l) r s.live })
-          (w.wire key) (h.packets key);
-      shown = h.shown;
-    }
+    let down : is_up (w.phase p) ≡ true → is_up x ≡ true = λ u. absurd (let f : is_up Down ≡ true = rw m.was at u in cc) in
+    sound-enters w p x (record { inside = m.inside; below = m.below; stays = down; next = m.next; replays = m.replays; all = λ _. m.all }) h
 
 module _ (w : World) (p : ℕ) (x : Phase) (m : Revives w p x) where
   -- p is back in this phase

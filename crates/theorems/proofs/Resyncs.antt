@@ -12,11 +12,11 @@ use Rattle.theorems.specs.Kept.{IsEntry}
 use Rattle.theorems.specs.Invariants.Exact.{IsRecorded, Names, is_restored, Exact}
 use Rattle.theorems.specs.Invariants.Sound.{Sound}
 use Rattle.theorems.proofs.Changes.{choose, at-itself}
-use Rattle.theorems.proofs.ListLemmas.{at-number, begins-self}
+use Rattle.theorems.proofs.ListLemmas.{at-number}
 use Rattle.theorems.proofs.HistoryLemmas.{placed, names-found}
 use Rattle.theorems.proofs.LogLemmas.{entry-test, entry-of}
-use Rattle.theorems.proofs.SecuredLemmas.{Carries, safe, job-safe, carries-grown, covers}
-use Rattle.theorems.proofs.Frames.{Told, true-by, sound-beside}
+use Rattle.theorems.proofs.SecuredLemmas.{Carries, safe, job-safe, covers}
+use Rattle.theorems.proofs.Frames.{Told, true-by, sound-beside, carries-kept}
 use Rattle.theorems.proofs.Replays.{sound-ready, exact-ready}
 
 -- p's log has for its messages to r the numbers that r told it
@@ -76,22 +76,13 @@ module _ (w : World) (p r : ℕ) (s : Sound w) (h : Exact w) where
   renumbered-recorded q m f a y e g = renumbered-keeps q m y e (f a y e g)
 
   pub carries-renumbered : is_down (w.phase r) ≡ false → Carries w (renumbered w p r)
-  carries-renumbered live = carries-grown (record {
-    down = λ q. refl;
-    history = λ q. begins-self _;
-    acknowledged = λ q m _ _ e. e;
-    payloads_grow = λ a g d. begins-self _;
-    held = λ q d. (
-      refl,
-      λ m _ _ l. record {
-        by = l.by;
-        ssn = l.ssn;
-        entry = l.entry;
-        number = choose p (λ a b. w.numbers a q l.ssn ≡ Some m → (if b then put (w.numbers p) r (told w p r) else w.numbers a) q l.ssn ≡ Some m)
-            (choose r (λ c b. is_down (w.phase c) ≡ true → w.numbers p c l.ssn ≡ Some m → (if b then told w p r else w.numbers p c) l.ssn ≡ Some m) (λ f. absurd (let g : true ≡ false = sym f ∙ live in cc)) (λ c _ _ n. n) q d)
-            (λ a _ n. n) l.by l.number;
-      },
-    );
+  carries-renumbered live = carries-kept w w.trims (renumbered w p r).numbers (λ q m d _ l. record {
+    by = l.by;
+    ssn = l.ssn;
+    entry = l.entry;
+    number = choose p (λ a b. w.numbers a q l.ssn ≡ Some m → (if b then put (w.numbers p) r (told w p r) else w.numbers a) q l.ssn ≡ Some m)
+        (choose r (λ c b. is_down (w.phase c) ≡ true → w.numbers p c l.ssn ≡ Some m → (if b then told w p r else w.numbers p c) l.ssn ≡ Some m) (λ f. absurd (let g : true ≡ false = sym f ∙ live in cc)) (λ c _ _ n. n) q d)
+        (λ a _ n. n) l.by l.number;
   })
 
   exact-renumbered : is_down (w.phase r) ≡ false → Exact (renumbered w p r)

@@ -74,10 +74,6 @@ pub tidy-numbers : (w : World) (f : ℕ → ℕ → ℕ → Option ℕ) → ((p 
 tidy-numbers w f numbered unnumbered h p =
     let t = h p in record { covered = t.covered; trimmed = t.trimmed; saved_trimmed = t.saved_trimmed; back = t.back; gated = t.gated; shut = t.shut; numbered = numbered p; unnumbered = unnumbered p }
 
--- what a process that is up sent is what its whole history sends
-sent-whole : (w : World) (p d : ℕ) → is_up (w.phase p) ≡ true → sent_in_all w p d ≡ length (sent w p d)
-sent-whole w p d up = rw (up-length (w.phase p) up (w.history p) (w.saved p), take-all (w.history p)) refl
-
 not-up : (x : Phase) → is_up x ≡ true → is_up x ≡ false → ⊥
 not-up x a b = cc
 

@@ -10,10 +10,10 @@ use Rattle.world.specs.Calls.{trim, trimmed}
 use Rattle.theorems.specs.Invariants.Sound.{Sound}
 use Rattle.theorems.specs.Invariants.Exact.{Exact}
 use Rattle.theorems.proofs.Changes.{choose}
-use Rattle.theorems.proofs.ListLemmas.{at-number, begins-self}
+use Rattle.theorems.proofs.ListLemmas.{at-number}
 use Rattle.theorems.proofs.HistoryLemmas.{above}
-use Rattle.theorems.proofs.SecuredLemmas.{Carries, safe, job-safe, carries-grown, covers}
-use Rattle.theorems.proofs.Frames.{true-by}
+use Rattle.theorems.proofs.SecuredLemmas.{Carries}
+use Rattle.theorems.proofs.Frames.{sound-left, carries-kept, exact-carried}
 
 trimmed-most : (w : World) (d s i : ℕ) → w.trims s d < i → covered w s d < i → trimmed w d s < i
 trimmed-most w d s i a b = split (is_up (w.phase s))
@@ -34,25 +34,17 @@ covered-inside w s d a = let e : (d == 0) ≡ false = grind (arith, nat_tests) i
 
 pub sound-trim : (w : World) (d : ℕ) → Sound w → Sound (trim w d)
 sound-trim w d h =
-    record {
-      grows = h.grows;
-      outside = h.outside;
-      received = h.received;
-      working = h.working;
-      saved = h.saved;
-      replays = h.replays;
-      acknowledged = h.acknowledged;
-      recovering = h.recovering;
+    sound-left w w.numbers w.released w.inputs w.feeds w.started (trim w d).trims w.wire w.shown (record {
       covered = λ p a s. choose d (λ j b. 0 < j → (if b then trimmed w d s else w.trims s j) ≤ count_of s (take (w.saved j) (w.history j)))
           (λ a. let x : w.trims s d ≤ count_of s (take (w.saved d) (w.history d)) = h.covered d a s in
           let y : trimmed w d s < suc (count_of s (take (w.saved d) (w.history d))) = trimmed-most w d s _ (omega arith) (rw (covered-inside w s d a) (omega arith)) in omega arith)
           (λ j _ a. h.covered j a s) p a;
       shown_covered = λ s. choose d (λ q b. q ≡ 0 → (if b then trimmed w d s else w.trims s q) ≤ count_of s w.shown) (λ e. let P : ℕ → Type 0 = λ q. trimmed w q s ≤ count_of s w.shown in subst P (sym e) (outside s))
           (λ q _ e. let P : ℕ → Type 0 = λ i. w.trims s i ≤ count_of s w.shown in subst P (sym e) (h.shown_covered s)) 0 refl;
-      trims = λ s q. choose d (λ j b. w.saved_trims s j ≤ (if b then trimmed w d s else w.trims s j)) (let a : w.saved_trims s d ≤ w.trims s d = h.trims s d in let b : w.trims s d ≤ trimmed w d s = trimmed-least w d s in omega arith) (λ j _. h.trims s j) q;
+      above = λ s q. choose d (λ j b. w.saved_trims s j ≤ (if b then trimmed w d s else w.trims s j)) (let a : w.saved_trims s d ≤ w.trims s d = h.trims s d in let b : w.trims s d ≤ trimmed w d s = trimmed-least w d s in omega arith) (λ j _. h.trims s j) q;
       packets = h.packets;
-      shown = h.shown;
-    }
+      next = h.shown;
+    }) h
   where
     outside : (s : ℕ) → trimmed w 0 s ≤ count_of s w.shown
     outside s =
@@ -62,24 +54,15 @@ sound-trim w d h =
 
 pub carries-trim : (w : World) (d : ℕ) → Sound w → Exact w → Carries w (trim w d)
 carries-trim w d s h =
-    carries-grown (record {
-      down = λ q. refl;
-      history = λ q. begins-self _;
-      acknowledged = λ q m _ _ e. e;
-      payloads_grow = λ a g e. begins-self _;
-      held = λ q _. (
-        refl,
-        λ m a _ l. record {
-          by = l.by;
-          ssn = l.ssn;
-          number = l.number;
-          entry = record {
-            live = l.entry.live;
-            within = l.entry.within;
-            above = choose d (λ j b. w.saved j < m → w.numbers l.by j l.ssn ≡ Some m → w.trims l.by j < l.ssn → (if b then trimmed w d l.by else w.trims l.by j) < l.ssn) (later m l.by l.ssn) (λ j _ _ _ e. e) q a l.number l.entry.above;
-          };
-        },
-      );
+    carries-kept w (trim w d).trims w.numbers (λ q m _ a l. record {
+      by = l.by;
+      ssn = l.ssn;
+      number = l.number;
+      entry = record {
+        live = l.entry.live;
+        within = l.entry.within;
+        above = choose d (λ j b. w.saved j < m → w.numbers l.by j l.ssn ≡ Some m → w.trims l.by j < l.ssn → (if b then trimmed w d l.by else w.trims l.by j) < l.ssn) (later m l.by l.ssn) (λ j _ _ _ e. e) q a l.number l.entry.above;
+      };
     })
   where
     later : (m a i : ℕ) → w.saved d < m → w.numbers a d i ≡ Some m → w.trims a d < i → trimmed w d a < i
@@ -92,16 +75,4 @@ carries-trim w d s h =
         trimmed-most w d a i t (rw (covered-inside w a d next.target) (rw (n.sender, n.ssn) at b))
 
 pub exact-trim : (w : World) (d : ℕ) → Sound w → Exact w → Exact (trim w d)
-exact-trim w d s h =
-    let v : World = trim w d in
-    let c : Carries w v = carries-trim w d s h in
-    record {
-      alone = h.alone;
-      recorded = h.recorded;
-      acknowledged = h.acknowledged;
-      packets = λ j. true-by w v (safe c) (λ _ _ _ _ _ _ f. f) (λ _ _ _ _ _ f. f) (w.wire j) (s.packets j) (h.packets j);
-      working = λ p. job-safe c p (w.phase p) (h.working p);
-      received = λ q j y e. safe c q y (h.received q j y e);
-      shown = λ j y e. safe c 0 y (h.shown j y e);
-      released = λ q e. covers c q e (w.released q e) (h.released q e);
-    }
+exact-trim w d s h = exact-carried w (trim w d).trims w.inputs w.feeds (carries-trim w d s h) s h

@@ -15,8 +15,8 @@ use Rattle.theorems.specs.Invariants.Exact.{PacketTrue, Exact}
 use Rattle.theorems.proofs.Changes.{choose}
 use Rattle.theorems.proofs.ListLemmas.{begins-self, begins-length}
 use Rattle.theorems.proofs.LogLemmas.{payloads-agree}
-use Rattle.theorems.proofs.SecuredLemmas.{Carries, safe, job-safe, carries-grown, covers, secured-none}
-use Rattle.theorems.proofs.Frames.{put-wire, sound-wire, exact-wire, true-by, sound-beside}
+use Rattle.theorems.proofs.SecuredLemmas.{Carries, carries-grown, secured-none}
+use Rattle.theorems.proofs.Frames.{put-wire, sound-wire, exact-wire, sound-beside, exact-carried}
 
 -- one key gets a packet, or none
 pub sound-put : (w : World) (key : ℕ) (x : Option Packet) → PacketShape w x → Sound w → Sound (record w { wire = put w.wire key x })
@@ -89,16 +89,4 @@ carries-input w d feed x =
     })
 
 pub exact-input : (w : World) (d feed : ℕ) (x : Payload) → Sound w → Exact w → Exact (input w d feed x)
-exact-input w d feed x s h =
-    let v : World = input w d feed x in
-    let c : Carries w v = carries-input w d feed x in
-    record {
-      alone = h.alone;
-      recorded = h.recorded;
-      acknowledged = h.acknowledged;
-      packets = λ j. true-by w v (safe c) (λ _ _ _ _ _ _ f. f) (λ _ _ _ _ _ f. f) (w.wire j) (s.packets j) (h.packets j);
-      working = λ p. job-safe c p (w.phase p) (h.working p);
-      received = λ q j y e. safe c q y (h.received q j y e);
-      shown = λ j y e. safe c 0 y (h.shown j y e);
-      released = λ q d. covers c q d (w.released q d) (h.released q d);
-    }
+exact-input w d feed x s h = exact-carried w w.trims (put w.inputs d (w.inputs d ++ x ∷ [])) (put w.feeds feed true) (carries-input w d feed x) s h

@@ -1,14 +1,12 @@
-use Rattle.std.proofs.Common.{rules, ◌≡◌, ℕ, ◌<◌, ◌≤◌, ◌+◌, ◌-◌, false, arith, subst, sym, ap, ◌∙◌, length, slice_index_or}
+use Rattle.std.proofs.Common.{rules, ◌≡◌, ℕ, ◌<◌, ◌≤◌, ◌+◌, ◌-◌, arith, subst, sym, ap, ◌∙◌, length, slice_index_or}
 use Rattle.std.specs.Prelude.{Some}
 use Rattle.std.proofs.lemmas.Grind.{common_steps}
 use Rattle.std.proofs.lemmas.List.{length-set, get_or_default}
 use Rattle.limits.specs.declared.TheConstants.{ENTRIES}
 use Rattle.helpers.specs.declared.effects.Who.{Who}
 use Rattle.session_process.specs.Process.{TheProcess, idle_process}
-use Rattle.session_process.specs.Mode.{is_lost}
 use Rattle.machine.specs.Simulation.{TheMachine, process_at}
-use Rattle.machine.specs.Fields.{view_of, AreCarried, IsLogOf, IsSound, IsSoundAt}
-use Rattle.machine.specs.declared.machine.Machine.TheInside.{Inside}
+use Rattle.machine.specs.Fields.{view_of, AreCarried, IsLogOf, IsSoundAt}
 use Rattle.machine.specs.Work.{IsNextFor}
 use Rattle.machine.proofs.Soundness.{sound_at, sound-begun, sound-set}
 use Rattle.machine.proofs.machine.Machine.begin.Goals as goal
@@ -22,12 +20,6 @@ new-requires c =
     let called : TheMachine → Who = λ v. record { me = me; from = c.args.message.now.sender; count = length v.processes } in
     let who : c.who-who.result ≡ record { me = me; from = c.args.message.now.sender; count = length m.processes } = c.who-who.ensures ∙ ap called (sym c.self.view_is) in
     rw who (record { inside = c.requires.inside; within = within; few = c.self.invariant.few; sender = sender; other = c.requires.other })
-
--- the state of a process that isn't down has its length
-begun-state : (i : Inside) (s : IsSound i) (m : TheMachine) (view_is : view_of i ≡ m) (me : ℕ) → 0 < me → me ≤ length m.processes → is_lost (process_at m me).mode ≡ false → (e : ℕ) → length (process_at m me).state ≡ slice_index_or m.lengths (me - 1) e
-begun-state i s m view_is me positive =
-    let P : TheMachine → Type 0 = λ v. me ≤ length v.processes → is_lost (process_at v me).mode ≡ false → (e : ℕ) → length (process_at v me).state ≡ slice_index_or v.lengths (me - 1) e in
-    subst P view_is (λ within back e. (sound_at i s me (idle_process 0 0 0) e positive within).state back)
 
 -- where the job isn't made, the places of the last one are gone, and nothing else
 pub invariant_of-self : goal.invariant_of-self

@@ -1,69 +1,42 @@
-use Rattle.std.proofs.Common.{arith, ◌≡◌, ◌≤◌, ◌+◌, ◌-◌, subst, sym, ap, ◌∙◌, slice_index_or, length, map, set, true, false, ℕ}
-use Rattle.std.proofs.lemmas.List.{length-set, length-map, get_or_default, get_or-set_same}
+use Rattle.std.proofs.Common.{arith, ◌≡◌, ◌≤◌, ◌+◌, ◌-◌, subst, sym, ap, ◌∙◌, slice_index_or, length, set, true, ℕ}
+use Rattle.std.proofs.lemmas.List.{get_or_default, get_or-set_same}
 use Rattle.limits.specs.declared.TheConstants.{ENTRIES, PROCESSES}
 use Rattle.checkpoint.specs.Saved.{TheSaved, saved_of}
 use Rattle.world.specs.declared.call.Call.TheVariants.{Checkpoint}
 use Rattle.world.specs.declared.answer.Answer.TheVariants.{Saved}
 use Rattle.session_process.specs.Process.{TheProcess, idle_process, received, IsSaved}
-use Rattle.session_process.specs.Mode.{is_live, is_lost}
-use Rattle.machine.specs.Fields.{view_of, AreCarried, IsLogOf, IsSoundAt}
+use Rattle.session_process.specs.Mode.{is_live}
+use Rattle.machine.specs.Fields.{view_of, IsSoundAt}
 use Rattle.machine.specs.Simulation.{TheMachine, Steps, process_at, is_up_at}
-use Rattle.machine.proofs.Status.{is_live-at, live-lost}
-use Rattle.machine.proofs.CheckpointLemmas.{checkpoint-step, saved-sound}
-use Rattle.machine.proofs.Soundness.{sound_at, sound-set}
+use Rattle.machine.proofs.Status.{is_live-at}
+use Rattle.machine.proofs.CheckpointLemmas.{checkpoint-step, saved-sound, snapshot-fits}
+use Rattle.machine.proofs.Restoration.{count-sound, put-sound}
+use Rattle.machine.proofs.Soundness.{sound_at}
 use Rattle.machine.proofs.machine.Machine.checkpoint.Goals as goal
 
 pub snapshot-requires-clause-state : goal.snapshot-requires-clause-state
 snapshot-requires-clause-state c =
-    let p = c.args.p in
-    let xs = c.self.inside.processes.items in
-    let n = length xs in
-    let positive = c.in_default.ensures.none.0 in
-    let within : p ≤ length xs = subst (λ (v : TheMachine). p ≤ length v.processes) (sym c.self.view_is) c.in_default.ensures.none.1 in
-    let sound = sound_at c.self.inside c.self.invariant p (idle_process 0 0 0) 0 positive within in
-    let at : c.process.result.now ≡ process_at (view_of c.self.inside) p = c.process.ensures.value ∙ ap (λ (v : TheMachine). process_at v p) (sym c.self.view_is) in
-    let count : c.count.result ≡ n = c.count.ensures.value ∙ ap (λ (v : TheMachine). length v.processes) (sym c.self.view_is) in
-    let up : is_up_at (view_of c.self.inside) p ≡ true = subst (λ (v : TheMachine). is_up_at v p ≡ true) (sym c.self.view_is) c.in_default.ensures.none.3 in
-    let back : is_lost (process_at (view_of c.self.inside) p).mode ≡ false = live-lost _ (is_live-at (view_of c.self.inside) p positive up) in
-    let len : length c.process.result.now.state ≡ length (process_at (view_of c.self.inside) p).state = ap (λ (x : TheProcess). length x.state) at in
-    omega (arith, len, sound.state back, sound.short)
+    let may = c.in_default.ensures.none in
+    let fits = snapshot-fits c.self.inside c.self.invariant c.args.self.now c.self.view_is c.args.p may.0 may.1 may.3 c.process.result.now c.process.ensures.value c.count.result c.count.ensures.value in
+    omega (arith, fits.state)
 
 pub snapshot-requires-clause-senders : goal.snapshot-requires-clause-senders
 snapshot-requires-clause-senders c =
-    let p = c.args.p in
-    let xs = c.self.inside.processes.items in
-    let n = length xs in
-    let positive = c.in_default.ensures.none.0 in
-    let within : p ≤ length xs = subst (λ (v : TheMachine). p ≤ length v.processes) (sym c.self.view_is) c.in_default.ensures.none.1 in
-    let sound = sound_at c.self.inside c.self.invariant p (idle_process 0 0 0) 0 positive within in
-    let at : c.process.result.now ≡ process_at (view_of c.self.inside) p = c.process.ensures.value ∙ ap (λ (v : TheMachine). process_at v p) (sym c.self.view_is) in
-    let count : c.count.result ≡ n = c.count.ensures.value ∙ ap (λ (v : TheMachine). length v.processes) (sym c.self.view_is) in
-    rw (at, count) sound.senders
+    let may = c.in_default.ensures.none in
+    let fits = snapshot-fits c.self.inside c.self.invariant c.args.self.now c.self.view_is c.args.p may.0 may.1 may.3 c.process.result.now c.process.ensures.value c.count.result c.count.ensures.value in
+    fits.senders
 
 pub snapshot-requires-clause-owner : goal.snapshot-requires-clause-owner
 snapshot-requires-clause-owner c =
-    let p = c.args.p in
-    let xs = c.self.inside.processes.items in
-    let n = length xs in
-    let positive = c.in_default.ensures.none.0 in
-    let within : p ≤ length xs = subst (λ (v : TheMachine). p ≤ length v.processes) (sym c.self.view_is) c.in_default.ensures.none.1 in
-    let sound = sound_at c.self.inside c.self.invariant p (idle_process 0 0 0) 0 positive within in
-    let at : c.process.result.now ≡ process_at (view_of c.self.inside) p = c.process.ensures.value ∙ ap (λ (v : TheMachine). process_at v p) (sym c.self.view_is) in
-    let count : c.count.result ≡ n = c.count.ensures.value ∙ ap (λ (v : TheMachine). length v.processes) (sym c.self.view_is) in
-    rw at sound.log.owner
+    let may = c.in_default.ensures.none in
+    let fits = snapshot-fits c.self.inside c.self.invariant c.args.self.now c.self.view_is c.args.p may.0 may.1 may.3 c.process.result.now c.process.ensures.value c.count.result c.count.ensures.value in
+    fits.owner
 
 pub snapshot-requires-clause-queues : goal.snapshot-requires-clause-queues
 snapshot-requires-clause-queues c =
-    let p = c.args.p in
-    let xs = c.self.inside.processes.items in
-    let n = length xs in
-    let positive = c.in_default.ensures.none.0 in
-    let within : p ≤ length xs = subst (λ (v : TheMachine). p ≤ length v.processes) (sym c.self.view_is) c.in_default.ensures.none.1 in
-    let sound = sound_at c.self.inside c.self.invariant p (idle_process 0 0 0) 0 positive within in
-    let at : c.process.result.now ≡ process_at (view_of c.self.inside) p = c.process.ensures.value ∙ ap (λ (v : TheMachine). process_at v p) (sym c.self.view_is) in
-    let count : c.count.result ≡ n = c.count.ensures.value ∙ ap (λ (v : TheMachine). length v.processes) (sym c.self.view_is) in
-    let wide : length c.process.result.now.outbox.log.queues ≡ length (process_at (view_of c.self.inside) p).outbox.log.queues = ap (λ (x : TheProcess). length x.outbox.log.queues) at in
-    omega (arith, wide, sound.log.width, count)
+    let may = c.in_default.ensures.none in
+    let fits = snapshot-fits c.self.inside c.self.invariant c.args.self.now c.self.view_is c.args.p may.0 may.1 may.3 c.process.result.now c.process.ensures.value c.count.result c.count.ensures.value in
+    omega (arith, fits.queues)
 
 pub invariant_of-self : goal.invariant_of-self
 invariant_of-self c =
@@ -83,22 +56,10 @@ invariant_of-self c =
     let count : c.count.result ≡ length xs = c.count.ensures.value ∙ ap (λ (v : TheMachine). length v.processes) (sym c.self.view_is) in
     let stable : c.in_ok-stable.stable ≡ saved_of p (length xs) was.state was.receipts was.outbox.log = c.in_ok-stable.ensures ∙ (λ j. saved_of p (count j) (taken j).state (taken j).receipts (taken j).outbox.log) ∙ ap (λ (x : TheProcess). saved_of p (length xs) x.state x.receipts x.outbox.log) (sym at) in
     let is : IsSaved (saved_of p (length xs) was.state was.receipts was.outbox.log) was y = subst (λ (z : TheSaved). IsSaved z was y) stable c.save.ensures in
-    let len = length-set xs (p - 1) y in
     let now : (e : ℕ) → IsSoundAt (length xs) p (slice_index_or lengths (p - 1) e) (c.self.inside.calls + 1) y =
     λ e. saved-sound (length xs) p _ c.self.inside.calls was y is (let up = subst (λ (v : TheMachine). is_up_at v p ≡ true) (sym c.self.view_is) c.in_default.ensures.none.3 in ap (λ (x : TheProcess). is_live x.mode) at ∙ is_live-at m p positive up) (subst (IsSoundAt (length xs) p (slice_index_or lengths (p - 1) e) c.self.inside.calls) (sym here) (sound_at c.self.inside i p was e positive within)) in
-    record {
-      some = omega (arith, len, i.some);
-      few = omega (arith, len, i.few);
-      lengths = i.lengths ∙ sym len;
-      processes = sound-set xs lengths p c.self.inside.calls y positive within i.processes now;
-      outside = subst (λ n. IsLogOf n 0 c.self.inside.outside.log) (sym len) i.outside;
-      calls = omega (arith, calls, c.in_default.ensures.none.2);
-      started = omega (arith, i.started);
-      inputs = λ d. omega (arith, i.inputs d);
-      shown = omega (arith, i.shown);
-      wire = subst (AreCarried c.self.inside.wire) (sym len) i.wire;
-      keys = i.keys;
-    }
+    let counted = count-sound c.self.inside i (omega (arith, calls, c.in_default.ensures.none.2)) in
+    put-sound (record c.self.inside { calls = c.self.inside.calls + 1 }) counted p y positive within now
 
 pub returns-clause-step : goal.returns-clause-step
 returns-clause-step c w s =

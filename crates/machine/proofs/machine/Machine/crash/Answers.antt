@@ -1,15 +1,16 @@
-use Rattle.std.proofs.Common.{rules, arith, ◌≡◌, ◌≤◌, ◌+◌, ◌-◌, subst, sym, ap, ◌∙◌, slice_index_or, length, map, set, ℕ}
+use Rattle.std.proofs.Common.{rules, arith, ◌≡◌, ◌≤◌, ◌+◌, ◌-◌, subst, sym, ap, ◌∙◌, slice_index_or, length, set, ℕ}
 use Rattle.std.proofs.lemmas.Grind.{common_steps}
-use Rattle.std.proofs.lemmas.List.{length-set, length-map, get_or_default, get_or-set_same}
+use Rattle.std.proofs.lemmas.List.{get_or_default, get_or-set_same}
 use Rattle.limits.specs.declared.TheConstants.{ENTRIES}
 use Rattle.world.specs.declared.call.Call.TheVariants.{Crash}
 use Rattle.world.specs.declared.answer.Answer.TheVariants.{Crashed}
 use Rattle.session_process.specs.Process.{TheProcess, idle_process, crashed}
 use Rattle.session_process.specs.Outbox.{empty_outbox}
-use Rattle.machine.specs.Fields.{AreCarried, IsLogOf, IsSoundAt}
+use Rattle.machine.specs.Fields.{IsSoundAt}
 use Rattle.machine.specs.Simulation.{TheMachine, Steps, process_at}
 use Rattle.machine.proofs.Crashes.{crash-step, crashed-sound}
-use Rattle.machine.proofs.Soundness.{sound_at, sound-set}
+use Rattle.machine.proofs.Restoration.{count-sound, put-sound}
+use Rattle.machine.proofs.Soundness.{sound_at}
 use Rattle.machine.proofs.machine.Machine.crash.Goals as goal
 
 pub crash-requires-clause-incarnation : goal.crash-requires-clause-incarnation
@@ -38,22 +39,10 @@ invariant_of-self c =
     let here : was ≡ slice_index_or xs (p - 1) was = first_of (search rules, grind (arith, common_steps)) in
     let outbox : c.in_ok-outbox.outbox ≡ empty_outbox p (length xs) = c.in_ok-outbox.ensures ∙ ap (empty_outbox p) (c.count.ensures.value ∙ ap (λ (v : TheMachine). length v.processes) (sym c.self.view_is)) in
     let is : y ≡ crashed c.in_ok-outbox.outbox was = c.crash.ensures in
-    let len = length-set xs (p - 1) y in
     let now : (e : ℕ) → IsSoundAt (length xs) p (slice_index_or lengths (p - 1) e) (c.self.inside.calls + 1) y =
     λ e. rw is (crashed-sound (length xs) p _ c.self.inside.calls was c.in_ok-outbox.outbox outbox (subst (IsSoundAt (length xs) p (slice_index_or lengths (p - 1) e) c.self.inside.calls) (sym here) (sound_at c.self.inside i p was e positive within))) in
-    record {
-      some = omega (arith, len, i.some);
-      few = omega (arith, len, i.few);
-      lengths = i.lengths ∙ sym len;
-      processes = sound-set xs lengths p c.self.inside.calls y positive within i.processes now;
-      outside = subst (λ n. IsLogOf n 0 c.self.inside.outside.log) (sym len) i.outside;
-      calls = omega (arith, calls, c.in_default.ensures.none.2);
-      started = omega (arith, i.started);
-      inputs = λ d. omega (arith, i.inputs d);
-      shown = omega (arith, i.shown);
-      wire = subst (AreCarried c.self.inside.wire) (sym len) i.wire;
-      keys = i.keys;
-    }
+    let counted = count-sound c.self.inside i (omega (arith, calls, c.in_default.ensures.none.2)) in
+    put-sound (record c.self.inside { calls = c.self.inside.calls + 1 }) counted p y positive within now
 
 pub returns-clause-step : goal.returns-clause-step
 returns-clause-step c w s =

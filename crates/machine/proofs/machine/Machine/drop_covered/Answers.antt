@@ -1,11 +1,11 @@
-use Rattle.std.proofs.Common.{rules, arith, ◌≡◌, ◌<◌, ◌≤◌, ◌-◌, subst, sym, ◌∙◌, slice_index_or, length, map, ℕ}
+use Rattle.std.proofs.Common.{rules, arith, ◌≡◌, ◌<◌, ◌≤◌, ◌-◌, subst, sym, slice_index_or, length, ℕ}
 use Rattle.std.proofs.lemmas.Grind.{common_steps}
-use Rattle.std.proofs.lemmas.List.{length-set}
 use Rattle.session_process.specs.Process.{trimmed_at}
-use Rattle.machine.specs.Fields.{AreCarried, IsLogOf, IsSoundAt}
+use Rattle.machine.specs.Fields.{IsSoundAt}
 use Rattle.machine.specs.Simulation.{TheMachine}
 use Rattle.machine.proofs.Trims.{trimmed-sound}
-use Rattle.machine.proofs.Soundness.{sound_at, sound-put}
+use Rattle.machine.proofs.Restoration.{put-sound}
+use Rattle.machine.proofs.Soundness.{sound_at}
 use Rattle.machine.proofs.machine.Machine.drop_covered.Goals as goal
 
 pub invariant_of-self-2 : goal.invariant_of-self-2
@@ -20,19 +20,6 @@ invariant_of-self-2 c =
     let within : p ≤ length xs = subst (λ (v : TheMachine). p ≤ length v.processes) (sym c.self.view_is) c.requires.0 in
     let here : was ≡ slice_index_or xs (p - 1) was = first_of (search rules, grind (arith, common_steps)) in
     let is : y ≡ trimmed_at c.args.d c.covered-covered.result was = c.trim-2.ensures.after in
-    let len = length-set xs (p - 1) y in
     let now : (e : ℕ) → IsSoundAt (length xs) p (slice_index_or lengths (p - 1) e) c.self.inside.calls y =
     λ e. rw is (trimmed-sound (length xs) p _ c.self.inside.calls c.args.d c.covered-covered.result was (subst (IsSoundAt (length xs) p (slice_index_or lengths (p - 1) e) c.self.inside.calls) (sym here) (sound_at c.self.inside i p was e positive within))) in
-    record {
-      some = omega (arith, len, i.some);
-      few = omega (arith, len, i.few);
-      lengths = i.lengths ∙ sym len;
-      processes = sound-put xs lengths p c.self.inside.calls y positive within i.processes now;
-      outside = subst (λ n. IsLogOf n 0 c.self.inside.outside.log) (sym len) i.outside;
-      calls = i.calls;
-      started = i.started;
-      inputs = i.inputs;
-      shown = i.shown;
-      wire = subst (AreCarried c.self.inside.wire) (sym len) i.wire;
-      keys = i.keys;
-    }
+    put-sound c.self.inside i p y positive within now

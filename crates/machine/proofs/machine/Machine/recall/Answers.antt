@@ -2,11 +2,12 @@ use Rattle.std.proofs.Common.{◌≡◌, ◌<◌, ◌+◌, ◌-◌, ℕ, arith, 
 use Rattle.std.specs.Prelude.{Result, Ok, Err, OnOk, OnErr, is_err, Some, None, nat_lt, unwrap_or, if◌then◌else◌}
 use Rattle.std.specs.Vec.{with_item}
 use Rattle.std.proofs.lemmas.Bool.Decides.{nat_tests}
+use Rattle.helpers.specs.declared.effects.Who.{Who}
 use Rattle.world.specs.declared.call.Call.TheVariants.{Finish}
 use Rattle.world.specs.declared.answer.Answer.TheVariants.{Replayed}
-use Rattle.replay.specs.Task.{TheTask, MayCall}
+use Rattle.replay.specs.Task.{TheTask, TheCompletion, MayCall}
 use Rattle.replay.specs.Plan.{ThePlan}
-use Rattle.session_process.specs.Process.{received, Recalls}
+use Rattle.session_process.specs.Process.{TheProcess, received, Recalls}
 use Rattle.session_process.specs.Mode.{is_replayed}
 use Rattle.machine.specs.Recoveries.{SettlesAt}
 use Rattle.machine.specs.Fields.{view_of}
@@ -26,6 +27,15 @@ refused : {X E P : Type 0} (r : Result X E) → is_err r ≡ true → OnErr r P 
 refused (Ok x) e p = absurd (true≢false (sym e))
 refused (Err x) e p = p
 
+-- the number of a task's process
+number : {a : Who} {t u : TheTask} → a ≡ t.who → t ≡ u → a.me ≡ u.who.me
+number e f = ap (λ (z : Who). z.me) e ∙ ap (λ (z : TheTask). z.who.me) f
+
+-- what a recall that was not refused says of the process and its flags
+recalled : {X E : Type 0} (r : Result X E) (b : TheCompletion) (was y : TheProcess) → is_err r ≡ false → OnOk r (Recalls b was y) → OnOk r (length was.receipts.acknowledged ≡ received was)
+    → Recalls b was y × (length was.receipts.acknowledged ≡ received was)
+recalled r b was y fine process flags = (taken r fine process, taken r fine flags)
+
 -- whether all of a plan is replayed
 ended : (b was is : Bool) → (if b then None else Some was) ≡ Some is → (b ≡ false) × (was ≡ is)
 ended true was is e = absurd (cc)
@@ -43,110 +53,49 @@ goes-at r n e = grind (arith, nat_tests)
 
 pub recall-requires-clause-room : goal.recall-requires-clause-room
 recall-requires-clause-room c =
-    let i = c.self.inside in
-    let m = c.args.self.now in
-    let b = c.args.done in
-    let t = b.task in
-    let k = c.requires.matches in
-    let p = c.who-me.result.me in
-    let p_is : p ≡ t.who.me = ap (λ z. z.me) c.who-me.ensures.value ∙ ap (λ (z : TheTask). z.who.me) c.task.ensures.value in
-    let was = c.index_mut-process.result.now in
+    let p_is = number c.who-me.ensures.value c.task.ensures.value in
     let calls = ap (λ (v : TheMachine). v.calls) c.self.view_is in
-    let fits = fits-at i c.self.invariant m c.self.view_is b k c.requires.down p p_is was c.index_mut-process.ensures.value in
+    let fits = fits-at c.self.inside c.self.invariant c.args.self.now c.self.view_is c.args.done c.requires.matches c.requires.down c.who-me.result.me p_is c.index_mut-process.result.now c.index_mut-process.ensures.value in
     omega (arith, fits, calls, c.requires.calls)
 
 pub recall-requires-clause-next : goal.recall-requires-clause-next
 recall-requires-clause-next c =
-    let i = c.self.inside in
-    let m = c.args.self.now in
-    let b = c.args.done in
-    let t = b.task in
-    let k = c.requires.matches in
-    let p = c.who-me.result.me in
-    let p_is : p ≡ t.who.me = ap (λ z. z.me) c.who-me.ensures.value ∙ ap (λ (z : TheTask). z.who.me) c.task.ensures.value in
-    let was = c.index_mut-process.result.now in
-    next-of i c.self.invariant m c.self.view_is b k c.requires.down p p_is was c.index_mut-process.ensures.value
+    let p_is = number c.who-me.ensures.value c.task.ensures.value in
+    next-of c.self.inside c.self.invariant c.args.self.now c.self.view_is c.args.done c.requires.matches c.requires.down c.who-me.result.me p_is c.index_mut-process.result.now c.index_mut-process.ensures.value
 
 pub invariant_of-self : goal.invariant_of-self
 invariant_of-self c =
-    let i = c.self.inside in
-    let m = c.args.self.now in
-    let b = c.args.done in
-    let t = b.task in
-    let k = c.requires.matches in
-    let p = c.who-me.result.me in
-    let p_is : p ≡ t.who.me = ap (λ z. z.me) c.who-me.ensures.value ∙ ap (λ (z : TheTask). z.who.me) c.task.ensures.value in
-    let was = c.index_mut-process.result.now in
-    undone-sound i c.self.invariant m c.self.view_is b k c.requires.down p p_is was c.index_mut-process.ensures.value c.recall.new.self (refused c.recall.result (sym c.is_err.ensures.value ∙ c.if-is_err.true) c.recall.ensures.err)
+    let p_is = number c.who-me.ensures.value c.task.ensures.value in
+    undone-sound c.self.inside c.self.invariant c.args.self.now c.self.view_is c.args.done c.requires.matches c.requires.down c.who-me.result.me p_is c.index_mut-process.result.now c.index_mut-process.ensures.value c.recall.new.self (refused c.recall.result (sym c.is_err.ensures.value ∙ c.if-is_err.true) c.recall.ensures.err)
 
 pub returns-then-is_err-clause-step : goal.returns-then-is_err-clause-step
 returns-then-is_err-clause-step c =
-    let i = c.self.inside in
-    let m = c.args.self.now in
-    let b = c.args.done in
-    let t = b.task in
-    let k = c.requires.matches in
-    let p = c.who-me.result.me in
-    let p_is : p ≡ t.who.me = ap (λ z. z.me) c.who-me.ensures.value ∙ ap (λ (z : TheTask). z.who.me) c.task.ensures.value in
-    let was = c.index_mut-process.result.now in (
+    let p_is = number c.who-me.ensures.value c.task.ensures.value in (
       refl,
-      undone-view i c.self.invariant m c.self.view_is b k c.requires.down p p_is was c.index_mut-process.ensures.value c.recall.new.self (refused c.recall.result (sym c.is_err.ensures.value ∙ c.if-is_err.true) c.recall.ensures.err),
-      λ w s. opens m t w s k,
+      undone-view c.self.inside c.self.invariant c.args.self.now c.self.view_is c.args.done c.requires.matches c.requires.down c.who-me.result.me p_is c.index_mut-process.result.now c.index_mut-process.ensures.value c.recall.new.self (refused c.recall.result (sym c.is_err.ensures.value ∙ c.if-is_err.true) c.recall.ensures.err),
+      λ w s. opens c.args.self.now c.args.done.task w s c.requires.matches,
     )
 
 pub invariant_of-self-in-Some : goal.invariant_of-self-in-Some
 invariant_of-self-in-Some c =
-    let i = c.self.inside in
-    let m = c.args.self.now in
-    let b = c.args.done in
-    let t = b.task in
-    let k = c.requires.matches in
-    let p = c.who-me.result.me in
-    let p_is : p ≡ t.who.me = ap (λ z. z.me) c.who-me.ensures.value ∙ ap (λ (z : TheTask). z.who.me) c.task.ensures.value in
-    let was = c.index_mut-process.result.now in
-    let y = c.recall.new.self in
-    let may : MayCall t.who = subst (λ (z : TheTask). MayCall z.who) c.task.ensures.value c.who-me.ensures.callable in
-    let fine : is_err c.recall.result ≡ false = sym c.is_err.ensures.value ∙ c.if-is_err.false in
-    let recalls : Recalls b was y = taken c.recall.result fine c.recall.ensures.process in
-    let flags : length was.receipts.acknowledged ≡ received was = taken c.recall.result fine c.recall.ensures.flags in
-    let size = c.task.ensures.size in
-    recalled-sound i c.self.invariant m c.self.view_is b k c.requires.down p p_is was c.index_mut-process.ensures.value y recalls flags size may
+    let p_is = number c.who-me.ensures.value c.task.ensures.value in
+    let took = recalled c.recall.result c.args.done c.index_mut-process.result.now c.recall.new.self (sym c.is_err.ensures.value ∙ c.if-is_err.false) c.recall.ensures.process c.recall.ensures.flags in
+    let may : MayCall c.args.done.task.who = subst (λ (z : TheTask). MayCall z.who) c.task.ensures.value c.who-me.ensures.callable in
+    recalled-sound c.self.inside c.self.invariant c.args.self.now c.self.view_is c.args.done c.requires.matches c.requires.down c.who-me.result.me p_is c.index_mut-process.result.now c.index_mut-process.ensures.value c.recall.new.self took.0 took.1 c.task.ensures.size may
 
 pub settle-requires : goal.settle-requires
 settle-requires c =
-    let i = c.self.inside in
-    let m = c.args.self.now in
-    let b = c.args.done in
-    let t = b.task in
-    let k = c.requires.matches in
-    let p = c.who-me.result.me in
-    let p_is : p ≡ t.who.me = ap (λ z. z.me) c.who-me.ensures.value ∙ ap (λ (z : TheTask). z.who.me) c.task.ensures.value in
-    let was = c.index_mut-process.result.now in
-    let y = c.recall.new.self in
-    let may : MayCall t.who = subst (λ (z : TheTask). MayCall z.who) c.task.ensures.value c.who-me.ensures.callable in
-    let fine : is_err c.recall.result ≡ false = sym c.is_err.ensures.value ∙ c.if-is_err.false in
-    let recalls : Recalls b was y = taken c.recall.result fine c.recall.ensures.process in
-    let flags : length was.receipts.acknowledged ≡ received was = taken c.recall.result fine c.recall.ensures.flags in
-    let size = c.task.ensures.size in
-    recalled-settles i c.self.invariant m c.self.view_is b k c.requires.down p p_is was c.index_mut-process.ensures.value y recalls flags size may
+    let p_is = number c.who-me.ensures.value c.task.ensures.value in
+    let took = recalled c.recall.result c.args.done c.index_mut-process.result.now c.recall.new.self (sym c.is_err.ensures.value ∙ c.if-is_err.false) c.recall.ensures.process c.recall.ensures.flags in
+    let may : MayCall c.args.done.task.who = subst (λ (z : TheTask). MayCall z.who) c.task.ensures.value c.who-me.ensures.callable in
+    recalled-settles c.self.inside c.self.invariant c.args.self.now c.self.view_is c.args.done c.requires.matches c.requires.down c.who-me.result.me p_is c.index_mut-process.result.now c.index_mut-process.ensures.value c.recall.new.self took.0 took.1 c.task.ensures.size may
 
 pub invariant_of-self-in_default : goal.invariant_of-self-in_default
 invariant_of-self-in_default c =
-    let i = c.self.inside in
-    let m = c.args.self.now in
-    let b = c.args.done in
-    let t = b.task in
-    let k = c.requires.matches in
-    let p = c.who-me.result.me in
-    let p_is : p ≡ t.who.me = ap (λ z. z.me) c.who-me.ensures.value ∙ ap (λ (z : TheTask). z.who.me) c.task.ensures.value in
-    let was = c.index_mut-process.result.now in
-    let y = c.recall.new.self in
-    let may : MayCall t.who = subst (λ (z : TheTask). MayCall z.who) c.task.ensures.value c.who-me.ensures.callable in
-    let fine : is_err c.recall.result ≡ false = sym c.is_err.ensures.value ∙ c.if-is_err.false in
-    let recalls : Recalls b was y = taken c.recall.result fine c.recall.ensures.process in
-    let flags : length was.receipts.acknowledged ≡ received was = taken c.recall.result fine c.recall.ensures.flags in
-    let size = c.task.ensures.size in
-    recalled-sound i c.self.invariant m c.self.view_is b k c.requires.down p p_is was c.index_mut-process.ensures.value y recalls flags size may
+    let p_is = number c.who-me.ensures.value c.task.ensures.value in
+    let took = recalled c.recall.result c.args.done c.index_mut-process.result.now c.recall.new.self (sym c.is_err.ensures.value ∙ c.if-is_err.false) c.recall.ensures.process c.recall.ensures.flags in
+    let may : MayCall c.args.done.task.who = subst (λ (z : TheTask). MayCall z.who) c.task.ensures.value c.who-me.ensures.callable in
+    recalled-sound c.self.inside c.self.invariant c.args.self.now c.self.view_is c.args.done c.requires.matches c.requires.down c.who-me.result.me p_is c.index_mut-process.result.now c.index_mut-process.ensures.value c.recall.new.self took.0 took.1 c.task.ensures.size may
 
 pub invariant_of-self-2 : goal.invariant_of-self-2
 invariant_of-self-2 c =
@@ -168,13 +117,13 @@ returns-clause-step c w s =
     let t = b.task in
     let k = c.requires.matches in
     let p = c.who-me.result.me in
-    let p_is : p ≡ t.who.me = ap (λ z. z.me) c.who-me.ensures.value ∙ ap (λ (z : TheTask). z.who.me) c.task.ensures.value in
+    let p_is : p ≡ t.who.me = number c.who-me.ensures.value c.task.ensures.value in
     let was = c.index_mut-process.result.now in
     let y = c.recall.new.self in
     let may : MayCall t.who = subst (λ (z : TheTask). MayCall z.who) c.task.ensures.value c.who-me.ensures.callable in
-    let fine : is_err c.recall.result ≡ false = sym c.is_err.ensures.value ∙ c.if-is_err.false in
-    let recalls : Recalls b was y = taken c.recall.result fine c.recall.ensures.process in
-    let flags : length was.receipts.acknowledged ≡ received was = taken c.recall.result fine c.recall.ensures.flags in
+    let took = recalled c.recall.result b was y (sym c.is_err.ensures.value ∙ c.if-is_err.false) c.recall.ensures.process c.recall.ensures.flags in
+    let recalls = took.0 in
+    let flags = took.1 in
     let size = c.task.ensures.size in
     let rsn_is : c.rsn-rsn.result ≡ t.rsn = c.rsn-rsn.ensures ∙ ap (λ (z : TheTask). z.rsn) c.task-2.ensures.value in
     let calls = c.self-2.inside.calls + 1 in

@@ -11,33 +11,21 @@ use Rattle.machine.specs.Arrival.{IsHandedOut}
 use Rattle.machine.specs.Simulation.{TheMachine, Steps, process_at}
 use Rattle.machine.proofs.Arrivals.{early, started, again}
 use Rattle.machine.proofs.JobLemmas.{handed-out}
-use Rattle.machine.proofs.Preservation.{later, carried-put, keys-put}
+use Rattle.machine.proofs.Preservation.{keys-put, sound-wire}
 use Rattle.machine.proofs.Status.{key-low}
 use Rattle.machine.proofs.machine.Machine.receive.Goals as goal
 
 pub invariant_of-self-in-Duplicate : goal.invariant_of-self-in-Duplicate
 invariant_of-self-in-Duplicate c =
-    let i = c.self.invariant in
+    let i = c.self.inside in
     let m = c.args.self.now in
-    let n = length c.self.inside.processes.items in
-    let wire : c.self.inside.wire ≡ m.slots = ap (λ (v : TheMachine). v.slots) c.self.view_is in
-    let many : length m.processes ≡ n = ap (λ (v : TheMachine). length v.processes) (sym c.self.view_is) in
-    let calls : c.self.inside.calls < ENTRIES = subst (λ (v : TheMachine). v.calls < ENTRIES) (sym c.self.view_is) c.requires.may.calls in
-    let low = key-low c.self.inside.wire c.args.key _ i.keys (ap (λ ws. slice_index_or ws c.args.key None) wire ∙ c.requires.may.found) in
+    let wire : i.wire ≡ m.slots = ap (λ (v : TheMachine). v.slots) c.self.view_is in
+    let many : length m.processes ≡ length i.processes.items = ap (λ (v : TheMachine). length v.processes) (sym c.self.view_is) in
+    let calls : i.calls < ENTRIES = subst (λ (v : TheMachine). v.calls < ENTRIES) (sym c.self.view_is) c.requires.may.calls in
+    let low = key-low i.wire c.args.key _ c.self.invariant.keys (ap (λ ws. slice_index_or ws c.args.key None) wire ∙ c.requires.may.found) in
     let k = c.requires.may.carried in
-    record {
-      some = i.some;
-      few = i.few;
-      lengths = i.lengths;
-      processes = λ p d e h. later n _ _ c.self.inside.calls _ (i.processes p d e h);
-      outside = i.outside;
-      calls = omega (arith, calls);
-      started = omega (arith, i.started);
-      inputs = λ d. omega (arith, i.inputs d);
-      shown = omega (arith, i.shown);
-      wire = carried-put c.self.inside.wire c.replace.new.self c.args.key _ _ c.replace.ensures n (c.requires.to, omega (arith, many, k.0), omega (arith, many, k.1), k.2, c.in-Duplicate.ensures.number) i.wire;
-      keys = keys-put c.self.inside.wire c.replace.new.self c.args.key _ _ c.replace.ensures low i.keys;
-    }
+    sound-wire i c.replace.new.self c.args.key _ _ c.self.invariant (omega (arith, calls)) c.replace.ensures (c.requires.to, omega (arith, many, k.0), omega (arith, many, k.1), k.2, c.in-Duplicate.ensures.number)
+    (keys-put i.wire c.replace.new.self c.args.key _ _ c.replace.ensures low c.self.invariant.keys)
 
 pub returns-in-Early-clause-step : goal.returns-in-Early-clause-step
 returns-in-Early-clause-step c w s =
