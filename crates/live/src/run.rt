@@ -10,7 +10,7 @@ ghost use Rattle.sessions.specs.Shares.{answers_of};
 ghost use Rattle.workers.specs.Continues.{Continues};
 ghost use Rattle.workers.specs.Runs.{CanRun, manned};
 ghost use Rattle.workers.specs.Shares.{AreServed};
-ghost use Rattle.live.specs.Inside.{HasMemory};
+ghost use Rattle.live.specs.Inside.{HasMemory, ended_of};
 ghost use Rattle.live.specs.Live.{IsLive};
 ghost use Rattle.results.specs.Results.{results_text};
 
@@ -99,6 +99,26 @@ fn served<L: Ledger + Send + Sync, R: Threads + Wait + Sync>(
     }
 }
 
+/// Writes what workers leave, and answers how they ended.
+fn tell_closed<L: Ledger>(
+    alloc: Global,
+    out: &mut String,
+    note: &mut String,
+    processes: &IndexMap<String, NamedProcess>,
+    closed: &Closed<L>,
+) -> Result<Vec<Ended>, AllocError>
+    requires { length processes.now.entries ≡ length closed.now.session.images }
+    ensures ended { IfOk result (λ ended. ended.items ≡ map ended_of closed.now.shares.items) }
+    ensures written { OnOk result (string_bytes out.new ≡ string_bytes out.old ++ results_text (names_of processes.now) closed.now.session.images closed.now.session.entries) }
+    ensures served { OnOk result (All HasMemory closed.now.shares.items) }
+    ensures unchanged { OnErr result (string_bytes out.new ≡ string_bytes out.old) }
+{
+    let ended = ends_of(alloc, closed.shares.as_slice())?;
+    note_refused(alloc, note, processes, closed.session.service());
+    push_closed(alloc, out, processes, closed)?;
+    Ok(ended)
+}
+
 /// Runs workers on a new session of this ledger.
 fn live_in<L: Ledger + Send + Sync, R: Threads + Wait + Sync>(
     rt: &R,
@@ -122,10 +142,7 @@ fn live_in<L: Ledger + Send + Sync, R: Threads + Wait + Sync>(
     let feeds = feeds_of(alloc, scenario.steps.as_slice())?;
     let session: Session<L> = opened(alloc, blank, images)?;
     let closed = served(rt, alloc, session, feeds.as_slice(), workers, budget)?;
-    let ended = ends_of(alloc, closed.shares.as_slice())?;
-    note_refused(alloc, note, &scenario.processes, closed.session.service());
-    push_closed(alloc, out, &scenario.processes, &closed)?;
-    Ok(ended)
+    tell_closed(alloc, out, note, &scenario.processes, &closed)
 }
 
 /// Runs workers, 1 to 16, on a session of these images, 1 to 15, one for each process of the scenario.

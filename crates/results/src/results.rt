@@ -2,11 +2,12 @@
 
 ghost use Rattle.std.specs.Prelude.{◌≡◌, ◌≤◌, ◌++◌, IfOk, OnErr, OnOk, length, string_bytes};
 ghost use Rattle.scenario.specs.Process.{names_of};
-ghost use Rattle.sessions.specs.Journal.{world_at};
-ghost use Rattle.results.specs.Results.{outputs_text, process_text_of, processes_text, results_text};
+ghost use Rattle.scenario.specs.Trace.{trace_text};
+ghost use Rattle.sessions.specs.Journal.{is_exact, world_at};
+ghost use Rattle.results.specs.Results.{outputs_text, process_text_of, processes_text, report_text, results_text};
 
 use indexmap::IndexMap;
-use scenario::{NamedProcess, name_at, push_exact, push_output, push_process, trace_text};
+use scenario::{NamedProcess, name_at, push_exact, push_output, push_process};
 use sessions::{Service, copied};
 use std::alloc::{AllocError, Global};
 use world::Message;
@@ -56,7 +57,29 @@ fn push_outputs(
     Ok(())
 }
 
-/// The trace of a session's journal, a line for each process, one for each output, and whether failures came one at a time.
+/// The trace of a session's journal.
+fn trace(alloc: Global, session: &Service) -> Result<String, AllocError>
+    ensures { IfOk result (λ text. string_bytes text ≡ trace_text session.now.entries) }
+{
+    let entries = copied(alloc, session.journal())?;
+    scenario::trace_text(alloc, entries.as_slice())
+}
+
+/// Writes a line for each process, one for each output, and whether failures came one at a time.
+fn push_report(
+    out: &mut String,
+    processes: &IndexMap<String, NamedProcess>,
+    session: &Service,
+) -> Result<(), AllocError>
+    requires { length processes.now.entries ≡ length session.now.images }
+    ensures { OnOk result (string_bytes out.new ≡ string_bytes out.old ++ report_text (names_of processes.now) (world_at session.now) (is_exact session.now)) }
+{
+    push_processes(out, processes, session)?;
+    push_outputs(out, processes, session.shown_since(0))?;
+    push_exact(out, session.exact())
+}
+
+/// The trace of a session's journal, and its report.
 fn results(
     alloc: Global,
     processes: &IndexMap<String, NamedProcess>,
@@ -65,11 +88,8 @@ fn results(
     requires { length processes.now.entries ≡ length session.now.images }
     ensures { IfOk result (λ text. string_bytes text ≡ results_text (names_of processes.now) session.now.images session.now.entries) }
 {
-    let entries = copied(alloc, session.journal())?;
-    let mut text = trace_text(alloc, entries.as_slice())?;
-    push_processes(&mut text, processes, session)?;
-    push_outputs(&mut text, processes, session.shown_since(0))?;
-    push_exact(&mut text, session.exact())?;
+    let mut text = trace(alloc, session)?;
+    push_report(&mut text, processes, session)?;
     Ok(text)
 }
 

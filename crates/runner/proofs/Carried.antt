@@ -1,7 +1,6 @@
 -- Orders that were carried out, from what a session's calls ensure.
 use Rattle.std.proofs.Common.{◌≡◌, ◌∙◌, ℕ, List, [], ◌∷◌, ◌++◌, ◌≤◌, Option, Some, None, Result, Ok, Err, refl, sym, ap, subst, inl, ◌⊎◌}
 use Rattle.std.specs.Prelude.{slice_set}
-use Rattle.std.specs.Result.{result_and}
 use Rattle.sessions.specs.Job.{TheJob, IsOpenJob}
 use Rattle.world.specs.declared.call.Call.{Call}
 use Rattle.world.specs.declared.answer.Answer.{Answer}
@@ -64,13 +63,13 @@ pub result-unnumbered : (old new : TheSession) (j : TheJob) (r : Refusal × TheJ
 result-unnumbered old new j r held n takes is = λ m next back. back.2 (subst (λ (x : Refusal). Told x (IsOpenJob old.images j (journal.world_at old))) is takes.3)
 
 -- a drive
-pub driven : {U : Type 0} (u : U) (budget : ℕ) (old new : TheSession) (r : Result ℕ Refusal) (held : List (Option TheJob)) (n : ℕ)
-    → Driven budget old new (own_seat old) (own_seat new) r → ComesTo (λ refused. IsDriven budget (at old held n) (at new held n) × (refused ≡ None)) (result_and r (Ok u))
-driven u budget old new (Ok k) held n made =
+pub driven : (budget : ℕ) (old new : TheSession) (r : Result ℕ Refusal) (held : List (Option TheJob)) (n : ℕ) → Driven budget old new (own_seat old) (own_seat new) r
+    → ComesTo (λ refused. IsDriven budget (at old held n) (at new held n) × (refused ≡ None)) r
+driven budget old new (Ok k) held n made =
     let ran = made.0 in
     let Q : ℕ → Type 0 = λ l. (budget ≤ l) ⊎ ((c : Call) → ¬ IsPick (journal.world_at new) (journal.room_at new) c) in
     (record { added = ran.added; new_is = ap (λ s. at s held n) ran.entries; run = ran.run; ended = subst Q (sym ran.as_many) made.1 }, refl)
-driven u budget old new (Err r) held n made = λ m told. absurd (unnumbered r m made.0 told)
+driven budget old new (Err r) held n made = λ m told. absurd (unnumbered r m made.0 told)
 
 -- what holds where memory runs out, or something else
 pub or_else : {X : Type 0} (P Q : Type 0) (r : Result X Refusal) → OnMemory P r → OnMemory (P ⊎ Q) r

@@ -1,9 +1,10 @@
 //! Runs of a scenario, and which line made each call.
 
-ghost use Rattle.std.specs.Prelude.{◌≡◌, ◌++◌, IfOk, None, OnOk, drop, map, replicate};
-ghost use Rattle.handlers.specs.Image.{image_in};
+ghost use Rattle.std.specs.Prelude.{◌≡◌, ◌++◌, IfOk, List, None, OnOk, drop, map, replicate};
+ghost use Rattle.handlers.specs.Image.{TheImage, image_in};
 ghost use Rattle.machine.specs.Openings.{AreFew};
-ghost use Rattle.runner.specs.Orders.{CarriesOut, world_at};
+ghost use Rattle.sessions.specs.Journal.{IsLegal};
+ghost use Rattle.runner.specs.Orders.{CarriesOut, beginning, world_at};
 ghost use Rattle.runner.specs.Inside.{AreNoted, IsNoted, notes_of, position_of};
 ghost use Rattle.runner.specs.Run.{IsChronicle, refused_moment, sent_by, sent_in};
 
@@ -139,6 +140,33 @@ fn copied_messages(alloc: Global, messages: &[Message]) -> Result<Vec<Message>, 
     messages.iter().copied().collect(alloc)
 }
 
+impl Player {
+    /// Copies of the accepted calls and of the outputs.
+    fn copies(&self, alloc: Global) -> Result<(Vec<Entry>, Vec<Message>), AllocError>
+        ensures entries { IfOk result (λ c. c.0.items ≡ (position_of self.now).entries) }
+        ensures shown { IfOk result (λ c. c.1.items ≡ (world_at (position_of self.now)).shown) }
+        ensures legal { IsLegal self.now.session }
+    {
+        let entries = copied(alloc, self.session.journal())?;
+        let shown = copied_messages(alloc, self.session.shown_since(0))?;
+        Ok((entries, shown))
+    }
+
+    /// Carries out the orders of all steps, and tells what they did.
+    fn chronicle(&mut self, alloc: Global, steps: &[Step]) -> Result<Chronicle, AllocError>
+        ensures { IfOk result (λ c. (images : List TheImage) → position_of self.old ≡ beginning images → IsChronicle images steps.now c.entries.items c.moments.items c.sent.items c.shown.items) }
+    {
+        let notes = self.tell_all(alloc, steps)?;
+        let copies = self.copies(alloc)?;
+        Ok(Chronicle {
+            entries: copies.0,
+            moments: notes.moments,
+            sent: notes.sent,
+            shown: copies.1,
+        })
+    }
+}
+
 /// What a scenario does if its orders are carried out as by [`run`](crate::run), in a session of these images, 1 to 15. Only
 /// memory can run out.
 pub fn chronicle_of(
@@ -150,13 +178,5 @@ pub fn chronicle_of(
     ensures { IfOk result (λ c. IsChronicle (map image_in images.items) scenario.now.steps.items c.entries.items c.moments.items c.sent.items c.shown.items) }
 {
     let mut player = Player::open(alloc, images)?;
-    let Notes { moments, sent } = player.tell_all(alloc, scenario.steps.as_slice())?;
-    let entries = copied(alloc, player.session.journal())?;
-    let shown = copied_messages(alloc, player.session.shown_since(0))?;
-    Ok(Chronicle {
-        entries,
-        moments,
-        sent,
-        shown,
-    })
+    player.chronicle(alloc, scenario.steps.as_slice())
 }

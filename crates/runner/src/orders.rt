@@ -81,6 +81,9 @@ impl Player {
     fn drive(&mut self, budget: u32) -> Result<(), Refusal>
         ensures { ComesTo (λ refused. IsDriven budget (position_of self.old) (position_of self.new) × (refused ≡ None)) result }
     {
-        self.session.drive(budget).and(Ok(()))
+        match self.session.drive(budget) {
+            Ok(_) => Ok(()),
+            Err(refusal) => Err(refusal),
+        }
     }
 }

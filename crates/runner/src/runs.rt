@@ -1,7 +1,7 @@
 //! Runs of a scenario.
 
-ghost use Rattle.std.specs.Prelude.{◌≡◌, ◌≢◌, ◌≤◌, ◌+◌, ◌*◌, ◌++◌, ℕ, IfErr, IfOk, OnErr, OnOk, Some, length, map, string_bytes, string_capacity, string_len};
-ghost use Rattle.handlers.specs.Image.{image_in};
+ghost use Rattle.std.specs.Prelude.{◌≡◌, ◌≢◌, ◌≤◌, ◌+◌, ◌*◌, ◌++◌, ℕ, IfErr, IfOk, List, OnErr, OnOk, Some, length, map, string_bytes, string_capacity, string_len};
+ghost use Rattle.handlers.specs.Image.{TheImage, image_in};
 ghost use Rattle.machine.specs.Openings.{AreFew};
 ghost use Rattle.scenario.specs.Process.{names_of};
 ghost use Rattle.runner.specs.Orders.{FindsNoMemory, beginning};
@@ -107,6 +107,20 @@ impl Player {
         }
         Ok(())
     }
+
+    /// Makes room for the lines of refused orders, and carries out the orders of all steps.
+    fn perform(
+        &mut self,
+        steps: &[Step],
+        out: &mut String,
+        told: &mut Vec<Told>,
+    ) -> Result<(), AllocError>
+        ensures done { OnOk result (ArePlayed steps.now (position_of self.old) (position_of self.new) (string_bytes out.old) (string_bytes out.new)) }
+        ensures short { (images : List TheImage) → position_of self.old ≡ beginning images → OnErr result (IsCut images steps.now (string_bytes out.old) (string_bytes out.new)) }
+    {
+        make_room(out, steps.len())?;
+        self.play(steps, out, told)
+    }
 }
 
 /// Carries out the orders in a session of these images, and answers the player.
@@ -122,8 +136,7 @@ fn played(
     ensures short { OnErr result (IsCut (map image_in images.items) steps.now (string_bytes out.old) (string_bytes out.new)) }
 {
     let mut player = Player::open(alloc, images)?;
-    make_room(out, steps.len())?;
-    player.play(steps, out, told)?;
+    player.perform(steps, out, told)?;
     Ok(player)
 }
 

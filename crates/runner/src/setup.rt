@@ -16,7 +16,7 @@ use std::sync::Arc;
 use world::Refusal;
 
 /// The error of a refusal that tells that memory ran out.
-pub(crate) fn want_of_memory(refusal: Refusal) -> AllocError
+fn want_of_memory(refusal: Refusal) -> AllocError
     requires { refusal ≡ Memory }
 {
     match refusal {
@@ -42,7 +42,10 @@ impl Player {
         requires { AreFew (map image_in images.items) }
         ensures { IfOk result (λ player. position_of player ≡ beginning (map image_in images.items)) }
     {
-        let session = Service::open(alloc, images).map_err(want_of_memory)?;
+        let session = match Service::open(alloc, images) {
+            Ok(session) => session,
+            Err(refusal) => return Err(want_of_memory(refusal)),
+        };
         let held = places(alloc)?;
         Ok(Player {
             session,

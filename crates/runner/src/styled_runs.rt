@@ -1,15 +1,18 @@
 //! Runs of a scenario in another style.
 
-ghost use Rattle.std.specs.Prelude.{◌≡◌, ◌≤◌, ◌++◌, IfOk, None, OnOk, Some, cond, length, map, option_map, string_bytes};
-ghost use Rattle.handlers.specs.Image.{image_in};
+ghost use Rattle.std.specs.Prelude.{◌≡◌, ◌≤◌, ◌++◌, IfOk, List, None, OnOk, Some, cond, length, map, option_map, string_bytes};
+ghost use Rattle.handlers.specs.Image.{TheImage, image_in};
 ghost use Rattle.machine.specs.Openings.{AreFew};
 ghost use Rattle.scenario.specs.Process.{names_of};
 ghost use Rattle.sessions.specs.Journal.{world_at};
+ghost use Rattle.styles.specs.Lines.{entries_text};
 ghost use Rattle.styles.specs.Style.{style_of};
 ghost use Rattle.results.specs.Results.{numbered};
+ghost use Rattle.runner.specs.Inside.{position_of};
+ghost use Rattle.runner.specs.Orders.{beginning};
 ghost use Rattle.runner.specs.Reports.{IsTelling, outputs_told, process_told, refusals_told, told_text};
 
-use crate::chronicle::{Moment, Notes};
+use crate::chronicle::Moment;
 use crate::player::Player;
 use handlers::Handler;
 use indexmap::IndexMap;
@@ -83,7 +86,39 @@ fn push_shown(
     Ok(())
 }
 
-/// The lines of the refused orders among these moments, the trace of the session's journal, and its report.
+/// Writes the trace of a session's journal.
+fn push_trace(
+    alloc: Global,
+    out: &mut String,
+    style: Style<'_>,
+    session: &Service,
+) -> Result<(), AllocError>
+    ensures { OnOk result (string_bytes out.new ≡ string_bytes out.old ++ entries_text (style_of style.entry) session.now.entries) }
+{
+    let entries = copied(alloc, session.journal())?;
+    style.push_entries(out, entries.as_slice())
+}
+
+/// Writes the lines of the refused orders among these moments, the trace of the session's journal, and its report.
+fn push_told(
+    alloc: Global,
+    out: &mut String,
+    style: Style<'_>,
+    processes: &IndexMap<String, NamedProcess>,
+    moments: &[Moment],
+    session: &Service,
+) -> Result<(), AllocError>
+    requires { length processes.now.entries ≡ length session.now.images }
+    ensures { OnOk result (string_bytes out.new ≡ string_bytes out.old ++ told_text (style_of style.entry) (names_of processes.now) session.now.images moments.now session.now.entries) }
+{
+    push_refusals(out, style, moments)?;
+    push_trace(alloc, out, style, session)?;
+    push_states(out, style, processes, session)?;
+    push_shown(out, style, processes, session.shown_since(0))?;
+    style.push_exact(out, session.exact())
+}
+
+/// What `push_told` writes, as a text of its own.
 fn told(
     alloc: Global,
     style: Style<'_>,
@@ -94,13 +129,8 @@ fn told(
     requires { length processes.now.entries ≡ length session.now.images }
     ensures { IfOk result (λ text. string_bytes text ≡ told_text (style_of style.entry) (names_of processes.now) session.now.images moments.now session.now.entries) }
 {
-    let entries = copied(alloc, session.journal())?;
     let mut text = String::new(alloc);
-    push_refusals(&mut text, style, moments)?;
-    style.push_entries(&mut text, entries.as_slice())?;
-    push_states(&mut text, style, processes, session)?;
-    push_shown(&mut text, style, processes, session.shown_since(0))?;
-    style.push_exact(&mut text, session.exact())?;
+    push_told(alloc, &mut text, style, processes, moments, session)?;
     Ok(text)
 }
 
@@ -112,6 +142,35 @@ fn names_if(
     ensures { option_map (λ m. names_of m.now) result ≡ cond named (Some (names_of processes.now)) None }
 {
     if named { Some(processes) } else { None }
+}
+
+impl Player {
+    /// Carries out the orders of a scenario, and gives the text of [`tell`].
+    fn telling(
+        &mut self,
+        alloc: Global,
+        scenario: &Scenario,
+        json: bool,
+        named: bool,
+    ) -> Result<String, AllocError>
+        requires { length scenario.now.processes.entries ≡ length self.old.session.images }
+        ensures { IfOk result (λ text. (images : List TheImage) → position_of self.old ≡ beginning images → IsTelling (names_of scenario.now.processes) images scenario.now.steps.items json named (string_bytes text)) }
+    {
+        let notes = self.tell_all(alloc, scenario.steps.as_slice())?;
+        // This call has the clause that the journal is legal.
+        let _journal = self.session.journal();
+        let style = Style {
+            json,
+            names: names_if(named, &scenario.processes),
+        };
+        told(
+            alloc,
+            style,
+            &scenario.processes,
+            notes.moments.as_slice(),
+            &self.session,
+        )
+    }
 }
 
 /// Carries out the orders of a scenario as [`run`](crate::run) does, and gives its text in another style: as lines of JSON, or
@@ -128,18 +187,5 @@ pub fn tell(
     ensures { IfOk result (λ text. IsTelling (names_of scenario.now.processes) (map image_in images.items) scenario.now.steps.items json named (string_bytes text)) }
 {
     let mut player = Player::open(alloc, images)?;
-    let Notes { moments, sent: _ } = player.tell_all(alloc, scenario.steps.as_slice())?;
-    // This call has the clause that the journal is legal.
-    let _journal = player.session.journal();
-    let style = Style {
-        json,
-        names: names_if(named, &scenario.processes),
-    };
-    told(
-        alloc,
-        style,
-        &scenario.processes,
-        moments.as_slice(),
-        &player.session,
-    )
+    player.telling(alloc, scenario, json, named)
 }

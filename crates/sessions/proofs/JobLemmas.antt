@@ -1,15 +1,13 @@
 -- Jobs: what a machine hands out, with its image, and what it takes back
-use Rattle.std.proofs.Common.{Bor, ◌≡◌, ℕ, zero, suc, ◌-◌, ◌<◌, ◌≤◌, List, [], ◌∷◌, ◌++◌, length, map, true, refl, sym, ap, ◌∙◌, subst, arith}
+use Rattle.std.proofs.Common.{Bor, ◌≡◌, ℕ, zero, suc, ◌-◌, ◌<◌, ◌≤◌, List, [], ◌∷◌, length, map, refl, sym, ap, ◌∙◌, subst, arith}
 use Rattle.std.specs.Prelude.{Option, Some, None, Ok, option_copied, slice_get, slice_index_or}
 use Rattle.std.specs.Option.{option_map}
 use Rattle.std.specs.Slice.{IsItemAt}
 use Rattle.std.proofs.lemmas.Bool.Decides.{nat_tests}
 use Rattle.std.proofs.lemmas.List.{get_or-map}
 use Rattle.std.proofs.lemmas.Option.{slice_get-get_or, slice_get-map, slice_get_past, slice_get_read}
-use Rattle.helpers.specs.declared.effects.Who.{Who}
 use Rattle.handlers.specs.Image.{TheImage}
-use Rattle.handlers.specs.Answer.{Handled, answered, run_of, shown}
-use Rattle.replay.specs.Emission.{emitted_to}
+use Rattle.handlers.specs.Answer.{answered, run_of, shown}
 use Rattle.replay.specs.Task.{TheTask, Answers}
 use Rattle.theorems.proofs.ListLemmas.{nth-within}
 use Rattle.world.specs.declared.message.Message.{Message}
@@ -23,7 +21,7 @@ use Rattle.world.specs.declared.refusal.Refusal.{Refusal}
 use Rattle.world.specs.declared.refusal.Refusal.TheVariants as refusals
 use Rattle.world.specs.History.{nth}
 use Rattle.world.specs.Handlers.{Handlers}
-use Rattle.world.specs.World.{World, is_inside}
+use Rattle.world.specs.World.{World}
 use Rattle.machine.specs.Arrival.{HasItsLength, IsHandedOut, IsJobFor, IsJobOf, IsOpen, OfJob, Told, answer_of as answer_of_arrival}
 use Rattle.machine.specs.declared.arrival.Arrival.{Arrival}
 use Rattle.machine.specs.declared.arrival.Arrival.TheVariants as arrivals

@@ -3,9 +3,10 @@
 
 ghost use Rattle.std.specs.Prelude.{◌≡◌, IfOk};
 ghost use Rattle.machine.specs.Simulation.{answering};
+ghost use Rattle.machine.specs.Dispatch.{TakesNoResult};
 ghost use Rattle.sessions.specs.Job.{IsJobAt, arrival_of};
 ghost use Rattle.sessions.specs.Journal.{HandsOut, IsOpenAt, ReturnsTo, world_at};
-ghost use Rattle.sessions.specs.Service.{Owes};
+ghost use Rattle.sessions.specs.Service.{Owes, Returns};
 
 use crate::job::Job;
 use crate::service::Service;
@@ -13,6 +14,16 @@ use machine::Arrival;
 use world::{Answer, Call, Feed, Refusal};
 
 impl Service {
+    // Makes a call, and answers what the journal keeps of it. A job that the call starts is given up.
+    fn answer_to(&mut self, call: &Call) -> Result<Answer, Refusal>
+        requires { TakesNoResult call.now }
+        ensures adds { Owes self.old self.new call.now result }
+        ensures exactly { IfOk result (Returns self.old self.new call.now) }
+    {
+        let reply = self.call(call)?;
+        Ok(reply.answer)
+    }
+
     /// Logs a message of the outside for a process, and answers its SSN. A feed number is taken once.
     ///
     /// ```text
@@ -21,12 +32,12 @@ impl Service {
     pub fn input(&mut self, feed: &Feed) -> Result<u32, Refusal>
         ensures { Owes self.old self.new (Call.Input feed.now.dst feed.now.number feed.now.payload) (answering Answer.Logged result) }
     {
-        let reply = self.call(&Call::Input {
+        let answer = self.answer_to(&Call::Input {
             to: feed.dst,
             feed: feed.number,
             payload: feed.payload,
         })?;
-        let Answer::Logged(ssn) = reply.answer else {
+        let Answer::Logged(ssn) = answer else {
             unreachable!()
         };
         Ok(ssn)
@@ -41,8 +52,8 @@ impl Service {
     pub fn transmit(&mut self, from: u8, to: u8, ssn: u32) -> Result<usize, Refusal>
         ensures { Owes self.old self.new (Call.Transmit from to ssn) (answering Answer.Placed result) }
     {
-        let reply = self.call(&Call::Transmit { from, to, ssn })?;
-        let Answer::Placed(key) = reply.answer else {
+        let answer = self.answer_to(&Call::Transmit { from, to, ssn })?;
+        let Answer::Placed(key) = answer else {
             unreachable!()
         };
         Ok(key)
@@ -56,8 +67,8 @@ impl Service {
     pub fn copy(&mut self, key: usize) -> Result<usize, Refusal>
         ensures { Owes self.old self.new (Call.Copy key) (answering Answer.Placed result) }
     {
-        let reply = self.call(&Call::Copy { key })?;
-        let Answer::Placed(copy) = reply.answer else {
+        let answer = self.answer_to(&Call::Copy { key })?;
+        let Answer::Placed(copy) = answer else {
             unreachable!()
         };
         Ok(copy)
@@ -71,7 +82,7 @@ impl Service {
     pub fn lose(&mut self, key: usize) -> Result<(), Refusal>
         ensures { Owes self.old self.new (Call.Lose key) (answering (λ _. Answer.Lost) result) }
     {
-        self.call(&Call::Lose { key })?;
+        self.answer_to(&Call::Lose { key })?;
         Ok(())
     }
 
@@ -99,8 +110,8 @@ impl Service {
     pub fn checkpoint(&mut self, p: u8) -> Result<u32, Refusal>
         ensures { Owes self.old self.new (Call.Checkpoint p) (answering Answer.Saved result) }
     {
-        let reply = self.call(&Call::Checkpoint { process: p })?;
-        let Answer::Saved(length) = reply.answer else {
+        let answer = self.answer_to(&Call::Checkpoint { process: p })?;
+        let Answer::Saved(length) = answer else {
             unreachable!()
         };
         Ok(length)
@@ -115,8 +126,8 @@ impl Service {
     pub fn trim(&mut self, to: u8) -> Result<u32, Refusal>
         ensures { Owes self.old self.new (Call.Trim to) (answering Answer.Trimmed result) }
     {
-        let reply = self.call(&Call::Trim { to })?;
-        let Answer::Trimmed(count) = reply.answer else {
+        let answer = self.answer_to(&Call::Trim { to })?;
+        let Answer::Trimmed(count) = answer else {
             unreachable!()
         };
         Ok(count)
@@ -130,8 +141,8 @@ impl Service {
     pub fn crash(&mut self, p: u8) -> Result<u32, Refusal>
         ensures { Owes self.old self.new (Call.Crash p) (answering Answer.Crashed result) }
     {
-        let reply = self.call(&Call::Crash { process: p })?;
-        let Answer::Crashed(incarnation) = reply.answer else {
+        let answer = self.answer_to(&Call::Crash { process: p })?;
+        let Answer::Crashed(incarnation) = answer else {
             unreachable!()
         };
         Ok(incarnation)
@@ -146,8 +157,8 @@ impl Service {
         ensures adds { Owes self.old self.new (Call.Recover p) (answering Answer.Kept result) }
         ensures exactly { IfOk result (ReturnsTo self.old self.new p) }
     {
-        let reply = self.call(&Call::Recover { process: p })?;
-        let Answer::Kept(kept) = reply.answer else {
+        let answer = self.answer_to(&Call::Recover { process: p })?;
+        let Answer::Kept(kept) = answer else {
             unreachable!()
         };
         Ok(kept)
@@ -162,8 +173,8 @@ impl Service {
     pub fn recover_alone(&mut self, p: u8) -> Result<u32, Refusal>
         ensures { Owes self.old self.new (Call.RecoverAlone p) (answering Answer.Kept result) }
     {
-        let reply = self.call(&Call::RecoverAlone { process: p })?;
-        let Answer::Kept(kept) = reply.answer else {
+        let answer = self.answer_to(&Call::RecoverAlone { process: p })?;
+        let Answer::Kept(kept) = answer else {
             unreachable!()
         };
         Ok(kept)
@@ -191,8 +202,8 @@ impl Service {
     pub fn resync(&mut self, p: u8, peer: u8) -> Result<u32, Refusal>
         ensures { Owes self.old self.new (Call.Resync p peer) (answering Answer.Restored result) }
     {
-        let reply = self.call(&Call::Resync { process: p, peer })?;
-        let Answer::Restored(count) = reply.answer else {
+        let answer = self.answer_to(&Call::Resync { process: p, peer })?;
+        let Answer::Restored(count) = answer else {
             unreachable!()
         };
         Ok(count)

@@ -2,10 +2,12 @@
 //! says what each refuses, and in which order.
 
 ghost use Rattle.std.specs.Prelude.{◌≡◌, IfOk, true};
+ghost use Rattle.machine.specs.Dispatch.{TakesNoResult};
 ghost use Rattle.machine.specs.Simulation.{answering};
 ghost use Rattle.world.specs.Useful.{may_call};
 ghost use Rattle.sessions.specs.Job.{IsJobAt, arrival_of};
 ghost use Rattle.sessions.specs.Journal.{Adds, HandsOut, IsOpenAt, ReturnsTo, world_at};
+ghost use Rattle.sessions.specs.Service.{Returns};
 
 use crate::job::Job;
 use crate::seat::Seat;
@@ -15,6 +17,18 @@ use std::sync::ledger::Ledger;
 use world::{Answer, Call, Feed, Refusal};
 
 impl<L: Ledger> Session<L> {
+    // Makes a call, and answers what the journal keeps of it. A job that the call starts is given up.
+    fn answer_to(&mut self, by: &mut Seat<L>, call: &Call) -> Result<Answer, Refusal>
+        requires result { TakesNoResult call.now }
+        requires may { may_call (world_at self.old) by.old.worker call.now ≡ true }
+        ensures adds { Adds self.old self.new by.old by.new call.now result }
+        ensures worker { by.new.worker ≡ by.old.worker }
+        ensures exactly { IfOk result (Returns self.old self.new call.now) }
+    {
+        let reply = self.call(by, call)?;
+        Ok(reply.answer)
+    }
+
     /// Logs a message of the outside for a process, and answers its SSN. A feed number is taken
     /// once. Any seat may call it.
     ///
@@ -30,8 +44,8 @@ impl<L: Ledger> Session<L> {
             feed: feed.number,
             payload: feed.payload,
         };
-        let reply = self.call(by, &call)?;
-        let Answer::Logged(ssn) = reply.answer else {
+        let answer = self.answer_to(by, &call)?;
+        let Answer::Logged(ssn) = answer else {
             unreachable!()
         };
         Ok(ssn)
@@ -54,8 +68,8 @@ impl<L: Ledger> Session<L> {
         ensures adds { Adds self.old self.new by.old by.new (Call.Transmit from to ssn) (answering Answer.Placed result) }
         ensures worker { by.new.worker ≡ by.old.worker }
     {
-        let reply = self.call(by, &Call::Transmit { from, to, ssn })?;
-        let Answer::Placed(key) = reply.answer else {
+        let answer = self.answer_to(by, &Call::Transmit { from, to, ssn })?;
+        let Answer::Placed(key) = answer else {
             unreachable!()
         };
         Ok(key)
@@ -71,8 +85,8 @@ impl<L: Ledger> Session<L> {
         ensures adds { Adds self.old self.new by.old by.new (Call.Copy key) (answering Answer.Placed result) }
         ensures worker { by.new.worker ≡ by.old.worker }
     {
-        let reply = self.call(by, &Call::Copy { key })?;
-        let Answer::Placed(copy) = reply.answer else {
+        let answer = self.answer_to(by, &Call::Copy { key })?;
+        let Answer::Placed(copy) = answer else {
             unreachable!()
         };
         Ok(copy)
@@ -88,7 +102,7 @@ impl<L: Ledger> Session<L> {
         ensures adds { Adds self.old self.new by.old by.new (Call.Lose key) (answering (λ _. Answer.Lost) result) }
         ensures worker { by.new.worker ≡ by.old.worker }
     {
-        self.call(by, &Call::Lose { key })?;
+        self.answer_to(by, &Call::Lose { key })?;
         Ok(())
     }
 
@@ -122,8 +136,8 @@ impl<L: Ledger> Session<L> {
         ensures adds { Adds self.old self.new by.old by.new (Call.Checkpoint p) (answering Answer.Saved result) }
         ensures worker { by.new.worker ≡ by.old.worker }
     {
-        let reply = self.call(by, &Call::Checkpoint { process: p })?;
-        let Answer::Saved(length) = reply.answer else {
+        let answer = self.answer_to(by, &Call::Checkpoint { process: p })?;
+        let Answer::Saved(length) = answer else {
             unreachable!()
         };
         Ok(length)
@@ -140,8 +154,8 @@ impl<L: Ledger> Session<L> {
         ensures adds { Adds self.old self.new by.old by.new (Call.Trim to) (answering Answer.Trimmed result) }
         ensures worker { by.new.worker ≡ by.old.worker }
     {
-        let reply = self.call(by, &Call::Trim { to })?;
-        let Answer::Trimmed(count) = reply.answer else {
+        let answer = self.answer_to(by, &Call::Trim { to })?;
+        let Answer::Trimmed(count) = answer else {
             unreachable!()
         };
         Ok(count)
@@ -157,8 +171,8 @@ impl<L: Ledger> Session<L> {
         ensures adds { Adds self.old self.new by.old by.new (Call.Crash p) (answering Answer.Crashed result) }
         ensures worker { by.new.worker ≡ by.old.worker }
     {
-        let reply = self.call(by, &Call::Crash { process: p })?;
-        let Answer::Crashed(incarnation) = reply.answer else {
+        let answer = self.answer_to(by, &Call::Crash { process: p })?;
+        let Answer::Crashed(incarnation) = answer else {
             unreachable!()
         };
         Ok(incarnation)
@@ -175,8 +189,8 @@ impl<L: Ledger> Session<L> {
         ensures worker { by.new.worker ≡ by.old.worker }
         ensures exactly { IfOk result (ReturnsTo self.old self.new p) }
     {
-        let reply = self.call(by, &Call::Recover { process: p })?;
-        let Answer::Kept(kept) = reply.answer else {
+        let answer = self.answer_to(by, &Call::Recover { process: p })?;
+        let Answer::Kept(kept) = answer else {
             unreachable!()
         };
         Ok(kept)
@@ -193,8 +207,8 @@ impl<L: Ledger> Session<L> {
         ensures adds { Adds self.old self.new by.old by.new (Call.RecoverAlone p) (answering Answer.Kept result) }
         ensures worker { by.new.worker ≡ by.old.worker }
     {
-        let reply = self.call(by, &Call::RecoverAlone { process: p })?;
-        let Answer::Kept(kept) = reply.answer else {
+        let answer = self.answer_to(by, &Call::RecoverAlone { process: p })?;
+        let Answer::Kept(kept) = answer else {
             unreachable!()
         };
         Ok(kept)
@@ -228,8 +242,8 @@ impl<L: Ledger> Session<L> {
         ensures adds { Adds self.old self.new by.old by.new (Call.Resync p peer) (answering Answer.Restored result) }
         ensures worker { by.new.worker ≡ by.old.worker }
     {
-        let reply = self.call(by, &Call::Resync { process: p, peer })?;
-        let Answer::Restored(count) = reply.answer else {
+        let answer = self.answer_to(by, &Call::Resync { process: p, peer })?;
+        let Answer::Restored(count) = answer else {
             unreachable!()
         };
         Ok(count)

@@ -1,41 +1,12 @@
-use Rattle.std.proofs.Common.{◌≡◌, ◌∙◌, ap, List, ℕ, Option, length, map, subst, sym}
+use Rattle.std.proofs.Common.{◌∙◌, ap, length, map, sym}
 use Rattle.std.proofs.lemmas.List.{length-map}
 use Rattle.std.proofs.lemmas.Result.{IfOk-weaker}
-use Rattle.std.specs.Prelude.{option_map, string_bytes}
 use Rattle.handlers.specs.Image.{image_in}
-use Rattle.scenario.specs.Process.{names_of}
-use Rattle.scenario.specs.declared.scenario.Step.{Step}
-use Rattle.styles.specs.Style.{TheStyle}
-use Rattle.runner.specs.Inside.{AreNoted, notes_of, position_of}
-use Rattle.runner.specs.Orders.{Position, beginning}
-use Rattle.runner.specs.Reports.{told_text}
-use Rattle.runner.proofs.Played.{runs-images, told-run}
+use Rattle.runner.specs.Orders.{Position}
 use Rattle.runner.proofs.styled_runs.tell.Goals as goal
 
-pub told-requires : goal.told-requires
-told-requires c =
-    let images = map image_in c.args.images.items in
-    let steps = c.args.scenario.now.steps.items in
-    let end = position_of c.tell_all.new.self in
-    let notes = notes_of c.in_ok-moments.field-0 in
-    let opened = subst (λ (xs : List Step). AreNoted xs (position_of c.in_ok-player.player) end notes) c.as_slice.ensures.value c.in_ok-moments.ensures in
-    let noted = subst (λ (p : Position). AreNoted steps p end notes) c.in_ok-player.ensures opened in
-    let same : end.images ≡ images = runs-images (beginning images) steps noted.0 end noted.1 in
-    c.requires.named ∙ sym (length-map c.args.images.items image_in) ∙ sym (ap length same)
+pub telling-requires : goal.telling-requires
+telling-requires c = c.requires.named ∙ sym (length-map c.args.images.items image_in) ∙ sym (ap (λ (p : Position). length p.images) c.in_ok-player.ensures)
 
 pub returns : goal.returns
-returns c =
-    let images = map image_in c.args.images.items in
-    let steps = c.args.scenario.now.steps.items in
-    let names = names_of c.args.scenario.now.processes in
-    let end = position_of c.tell_all.new.self in
-    let notes = notes_of c.in_ok-moments.field-0 in
-    let opened = subst (λ (xs : List Step). AreNoted xs (position_of c.in_ok-player.player) end notes) c.as_slice.ensures.value c.in_ok-moments.ensures in
-    let noted = subst (λ (p : Position). AreNoted steps p end notes) c.in_ok-player.ensures opened in
-    let style : Option (List (List ℕ)) → TheStyle = λ n. record { json = c.args.json; names = n } in
-    let shown = style (option_map (λ m. names_of m.now) c.names_if.result) in
-    let styled = ap style c.names_if.ensures in
-    IfOk-weaker c.told.result _ _
-    (λ text is. told-run names images end steps notes shown c.args.json c.args.named (string_bytes text) noted c.journal-journal.ensures.legal styled
-    (is ∙ ap (λ ms. told_text shown names end.images ms end.entries) c.as_slice-2.ensures.value))
-    c.told.ensures
+returns c = IfOk-weaker c.telling.result _ _ (λ text all. all (map image_in c.args.images.items) c.in_ok-player.ensures) c.telling.ensures

@@ -1,11 +1,14 @@
-use Rattle.std.proofs.Common.{ℕ, sym, subst}
-use Rattle.std.specs.Prelude.{Option}
+use Rattle.std.proofs.Common.{◌≡◌, ◌∙◌, ℕ, ap, sym, subst}
+use Rattle.std.specs.Prelude.{Err, IfErr, None, Option, Result}
+use Rattle.std.proofs.lemmas.Result.{err_from_is_err_and}
+use Rattle.world.specs.declared.refusal.Refusal.{Refusal}
+use Rattle.world.specs.declared.refusal.Refusal.TheVariants.{Memory}
 use Rattle.machine.specs.Dispatch.{job_of}
 use Rattle.sessions.specs.Journal.{IsOpenAt, room_at, world_at}
 use Rattle.sessions.specs.Driver.{Advances, Starts}
 use Rattle.sessions.specs.Job.{TheJob}
 use Rattle.sessions.specs.Service.{seat_of}
-use Rattle.sessions.proofs.Driven.{told-memory, advance-one, may-pick}
+use Rattle.sessions.proofs.Driven.{cause-memory, told-memory, advance-none, advance-one, may-pick}
 use Rattle.sessions.proofs.service.Service.advance.Goals as goal
 
 pub returns-clause-err : goal.returns-clause-err
@@ -27,3 +30,15 @@ returns-clause-err c =
 
 pub call_of-requires-clause-may : goal.call_of-requires-clause-may
 call_of-requires-clause-may c = may-pick (world_at c.args.self.now) (room_at c.args.self.now) c.args.worker c.args.call.now c.requires.pick
+
+pub returns-in_err-reply-clause-err : goal.returns-in_err-reply-clause-err
+returns-in_err-reply-clause-err c =
+    let old = c.args.self.now in
+    let new = c.call_of.new.self in
+    let by = seat_of c.args.worker old in
+    let by' = seat_of c.args.worker new in
+    let adds = c.in_err-reply.ensures.adds in
+    let memory = cause-memory c.in_err-reply.field-0.0 (sym adds.2 ∙ c.requires.pick.accepted) in
+    let out = err_from_is_err_and c.from_residual.result c.from_residual.ensures.1 in
+    let P : Result ℕ Refusal → Type 0 = λ r. IfErr r (λ e. (e ≡ Memory) × ((n : ℕ) × (left : Option ℕ) × Advances 1 old new by by' n left)) in
+    subst P (sym (out.1 ∙ ap Err out.2)) (memory, (0, None, advance-none 1 old new by by' adds.0 adds.1))

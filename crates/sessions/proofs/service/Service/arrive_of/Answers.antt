@@ -1,6 +1,6 @@
 use Rattle.std.specs.Prelude.{Err, Some}
 use Rattle.std.specs.Option.{option_map}
-use Rattle.std.proofs.Common.{◌≡◌, ◌-◌, ◌++◌, ◌∷◌, [], length, map, arith, ap, sym, subst, ◌∙◌}
+use Rattle.std.proofs.Common.{◌≡◌, ◌-◌, ◌++◌, ◌∷◌, [], length, map, arith, ap, refl, sym, subst, ◌∙◌}
 use Rattle.std.proofs.lemmas.Result.{err_from_is_err_and}
 use Rattle.limits.specs.declared.TheConstants.{ENTRIES}
 use Rattle.handlers.specs.Image.{TheImage, image_in}
@@ -8,7 +8,7 @@ use Rattle.replay.specs.Task.{TheTask}
 use Rattle.world.specs.declared.call.Call.TheVariants.{Arrive}
 use Rattle.world.specs.History.{nth}
 use Rattle.world.specs.Useful.{may_call}
-use Rattle.machine.specs.Arrival.{IsFor, IsHandedOut, IsJobFor, IsOpen, OfJob, answer_of}
+use Rattle.machine.specs.Arrival.{IsFor, IsHandedOut, IsJobFor, OfJob, answer_of}
 use Rattle.machine.specs.Simulation.{answering}
 use Rattle.machine.specs.declared.arrival.Arrival.TheVariants.{Started}
 use Rattle.sessions.specs.Fields.{starter}
@@ -117,3 +117,25 @@ returns-clause-target c =
     (of-job (λ (job : TheJob). (arrival ≡ Started job.task) × (option_map image_in c.in-Ok.handler ≡ Some job.image)) (λ (job : TheJob). IsFor (w.wire c.args.key) job.task.who.me) c.handed.result
     (λ j e h. subst (IsJobFor (w.wire c.args.key)) h.0 target)
     c.handed.ensures.job)
+
+-- what is refused before the machine takes the call
+pub returns-in_default-clause-adds : goal.returns-in_default-clause-adds
+returns-in_default-clause-adds c = (refl, refl, c.refusal.ensures)
+
+pub returns-in_default-clause-bound : goal.returns-in_default-clause-bound
+returns-in_default-clause-bound c = rw (← c.self.view_is) c.room-room.ensures.bound
+
+pub invariant_of-self : goal.invariant_of-self
+invariant_of-self c = rw c.reserve.ensures.entries c.self.invariant
+
+pub returns-then-not-reserve-clause-bound : goal.returns-then-not-reserve-clause-bound
+returns-then-not-reserve-clause-bound c = rw c.reserve.ensures.entries c.room-room.ensures.bound
+
+pub invariant_of-self-in_err-arrival : goal.invariant_of-self-in_err-arrival
+invariant_of-self-in_err-arrival c = rw (c.in_err-arrival.ensures.step.0, c.reserve.ensures.entries) c.self.invariant
+
+pub returns-in_err-arrival-clause-bound : goal.returns-in_err-arrival-clause-bound
+returns-in_err-arrival-clause-bound c = rw c.reserve.ensures.entries c.room-room.ensures.bound
+
+pub returns-clause-bound : goal.returns-clause-bound
+returns-clause-bound c = omega (arith, (done (goal.at.returns-clause-bound c).After-append).0.room)

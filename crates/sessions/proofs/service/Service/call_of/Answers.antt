@@ -1,9 +1,9 @@
 use Rattle.std.specs.Prelude.{Err, Some}
 use Rattle.std.specs.Option.{option_map}
-use Rattle.std.proofs.Common.{◌≡◌, ◌-◌, ◌++◌, ◌∷◌, [], List, ℕ, length, map, arith, refl, ap, sym, subst, ◌∙◌}
+use Rattle.std.proofs.Common.{◌≡◌, ◌-◌, ◌++◌, ◌∷◌, [], ℕ, length, map, arith, ap, sym, subst, ◌∙◌}
 use Rattle.std.proofs.lemmas.Result.{err_from_is_err_and}
 use Rattle.limits.specs.declared.TheConstants.{ENTRIES}
-use Rattle.handlers.specs.Image.{TheImage, image_in}
+use Rattle.handlers.specs.Image.{image_in}
 use Rattle.world.specs.History.{nth}
 use Rattle.world.specs.Legal.{is_single}
 use Rattle.machine.specs.Simulation.{answering}

@@ -92,3 +92,18 @@ returns-in_err-finished-clause-takes c =
     let told : Told r (IsOpenJob is j w) = told-job r (IsOpen j.task w) (IsOpenJob is j w) (λ o. record { task = o; code = its.0; form = its.1 }) (λ o. o.task) (e.1.2 w c.self.invariant.0.leads) in
     let out = err_from_is_err_and c.from_residual.result c.from_residual.ensures.1 in
     rw (← c.self.view_is, out.1 ∙ ap Err out.2, c.reserve.ensures.entries) (e.0, refl, refl, told)
+
+pub returns-then-not-is_of_its_handler-clause-bound : goal.returns-then-not-is_of_its_handler-clause-bound
+returns-then-not-is_of_its_handler-clause-bound c = rw (← c.self.view_is) (omega (arith, c.self.invariant.0.room))
+
+pub returns-then-is_open-clause-bound : goal.returns-then-is_open-clause-bound
+returns-then-is_open-clause-bound c = rw c.reserve.ensures.entries (omega (arith, c.self.invariant.0.room))
+
+pub returns-then-not-reserve-clause-bound : goal.returns-then-not-reserve-clause-bound
+returns-then-not-reserve-clause-bound c = rw c.reserve.ensures.entries (omega (arith, c.self.invariant.0.room))
+
+pub returns-in_err-finished-clause-bound : goal.returns-in_err-finished-clause-bound
+returns-in_err-finished-clause-bound c = rw c.reserve.ensures.entries (omega (arith, c.self.invariant.0.room))
+
+pub returns-clause-bound : goal.returns-clause-bound
+returns-clause-bound c = omega (arith, (done (goal.at.returns-clause-bound c).After-append).1.0.room)

@@ -1,4 +1,4 @@
-use Rattle.std.proofs.Common.{◌≡◌, ◌-◌, ◌<◌, map, arith, refl, sym, subst}
+use Rattle.std.proofs.Common.{◌≡◌, ◌-◌, arith, refl, subst}
 use Rattle.std.specs.Prelude.{option_copied}
 use Rattle.std.specs.Option.{option_map}
 use Rattle.std.specs.Slice.{IsItemAt}

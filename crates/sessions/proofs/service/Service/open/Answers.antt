@@ -1,8 +1,5 @@
-use Rattle.std.proofs.Common.{List, ap, map, refl, sym, subst, ◌∙◌}
-use Rattle.std.specs.Prelude.{Ok}
+use Rattle.std.proofs.Common.{map, refl}
 use Rattle.handlers.specs.Image.{image_in}
-use Rattle.machine.specs.Openings.{Opens}
-use Rattle.sessions.specs.Fields.{lengths_of}
 use Rattle.sessions.proofs.Steps.{opened}
 use Rattle.sessions.proofs.service.Service.open.Goals as goal
 

@@ -1,4 +1,4 @@
-use Rattle.std.proofs.Common.{◌≡◌, map, sym, subst}
+use Rattle.std.proofs.Common.{◌≡◌, map, subst}
 use Rattle.handlers.specs.Image.{image_in}
 use Rattle.world.specs.Refusals.{refusal_of, cause_of}
 use Rattle.sessions.specs.Journal.{TheSession, room_at, world_at}

@@ -1,6 +1,7 @@
-use Rattle.std.specs.Prelude.{None, Option, Some}
+use Rattle.std.specs.Prelude.{Err, None, Option, Some}
 use Rattle.std.specs.Option.{option_map}
 use Rattle.std.proofs.Common.{◌≡◌, ◌-◌, ◌++◌, ◌∷◌, [], length, map, arith, ap, refl, sym, subst, ◌∙◌}
+use Rattle.std.proofs.lemmas.Result.{err_from_is_err_and}
 use Rattle.limits.specs.declared.TheConstants.{ENTRIES}
 use Rattle.handlers.specs.Image.{TheImage, image_in}
 use Rattle.replay.specs.Task.{TheTask}
@@ -8,12 +9,14 @@ use Rattle.world.specs.declared.call.Call.TheVariants.{ReplayBegin}
 use Rattle.world.specs.declared.answer.Answer.TheVariants.{Started}
 use Rattle.world.specs.History.{nth}
 use Rattle.world.specs.Useful.{may_call}
+use Rattle.machine.specs.Simulation.{answering}
 use Rattle.sessions.specs.Fields.{starter}
+use Rattle.sessions.specs.Job.{TheJob}
 use Rattle.sessions.specs.Journal.{TheSession, entry, world_at}
 use Rattle.sessions.proofs.JobLemmas.{has-image, opens-job, sized}
 use Rattle.sessions.proofs.Rooms.{room-of}
 use Rattle.sessions.proofs.Steps.{carried, count-is, here}
-use Rattle.sessions.proofs.Own.{Grows, grows}
+use Rattle.sessions.proofs.Own.{Grows, grows, stays}
 use Rattle.sessions.proofs.service.Service.replay_begin_of.Goals as goal
 use Rattle.sessions.proofs.service.Service.replay_begin_of.Goals.{After-append}
 
@@ -82,3 +85,35 @@ returns-clause-job c =
     let found = imaged at in
     let its : found.0 ≡ image_in c.in-Some.handler = same at (option_map image_in c.in-Ok.handler) (image_in c.in-Some.handler) refl (ap (option_map image_in) c.in-Some.is) in
     rw c.new.ensures (opens-job is w (count-is is entries) c.in_ok-task.task (image_in c.in-Some.handler) (c.in_ok-task.ensures.job.1 w (done at).0.leads) (found.2 ∙ ap Some its))
+
+pub returns-in_err-task-clause-adds : goal.returns-in_err-task-clause-adds
+returns-in_err-task-clause-adds c =
+    let is = map image_in c.self.inside.images.items in
+    let es = c.self.inside.journal.entries in
+    let refusal = c.in_err-task.field-0.0 in
+    let step = rw c.room-room.ensures.value at c.in_err-task.ensures.step in
+    let out = err_from_is_err_and c.from_residual.result c.from_residual.ensures.1 in
+    let told = ap (answering (λ (job : TheJob). Started job.task.serial)) (out.1 ∙ ap Err out.2) in
+    stays c.args.worker c.args.self.now is es c.reserve.new.self.entries (ReplayBegin c.args.p) refusal _ c.self.view_is c.reserve.ensures.entries (step.1 (here is es) c.self.invariant.0.leads) told
+
+-- what is refused before the machine takes the call
+pub returns-in_default-clause-adds : goal.returns-in_default-clause-adds
+returns-in_default-clause-adds c = (refl, refl, c.refusal.ensures)
+
+pub returns-in_default-clause-bound : goal.returns-in_default-clause-bound
+returns-in_default-clause-bound c = rw (← c.self.view_is) c.room-room.ensures.bound
+
+pub invariant_of-self : goal.invariant_of-self
+invariant_of-self c = rw c.reserve.ensures.entries c.self.invariant
+
+pub returns-then-not-reserve-clause-bound : goal.returns-then-not-reserve-clause-bound
+returns-then-not-reserve-clause-bound c = rw c.reserve.ensures.entries c.room-room.ensures.bound
+
+pub invariant_of-self-in_err-task : goal.invariant_of-self-in_err-task
+invariant_of-self-in_err-task c = rw (c.in_err-task.ensures.step.0, c.reserve.ensures.entries) c.self.invariant
+
+pub returns-in_err-task-clause-bound : goal.returns-in_err-task-clause-bound
+returns-in_err-task-clause-bound c = rw c.reserve.ensures.entries c.room-room.ensures.bound
+
+pub returns-clause-bound : goal.returns-clause-bound
+returns-clause-bound c = omega (arith, (done (goal.at.returns-clause-bound c).After-append).0.room)

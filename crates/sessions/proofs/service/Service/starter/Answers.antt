@@ -1,6 +1,5 @@
-use Rattle.std.proofs.Common.{◌≡◌, map, subst, sym, ap, ◌∙◌}
+use Rattle.std.proofs.Common.{◌≡◌, map, subst}
 use Rattle.handlers.specs.Image.{image_in}
-use Rattle.world.specs.declared.call.Call.{Call}
 use Rattle.sessions.specs.Fields.{starter}
 use Rattle.sessions.specs.Journal.{TheSession, world_at}
 use Rattle.sessions.proofs.Steps.{here}
