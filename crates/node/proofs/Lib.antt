@@ -35,3 +35,4 @@ pub mod Begun
 pub mod Queues
 pub mod Posts
 pub mod Acknowledged
+pub mod Suspensions

@@ -54,7 +54,7 @@ all-true : {X : Type 0} (p : X → Bool) (xs : List X) → AllByRecursion (λ x.
 all-true p [] h = refl
 all-true p (x ∷ xs) h = rw (h.0, all-true p xs h.1) refl
 
-map-without : {X Y : Type 0} (f : X → Y) (me : ℕ) (xs : List X) → map f (without_own me xs) ≡ without_own me (map f xs)
+pub map-without : {X Y : Type 0} (f : X → Y) (me : ℕ) (xs : List X) → map f (without_own me xs) ≡ without_own me (map f xs)
 map-without f zero [] = refl
 map-without f zero (x ∷ xs) = refl
 map-without f (suc me) [] = refl

@@ -8,6 +8,7 @@ pub mod Answers
 pub mod Calls
 pub mod Stands
 pub mod Kept
+pub mod Suspension
 pub mod Beside
 pub mod Runs
 pub mod Status

@@ -3,6 +3,7 @@
 ghost use Rattle.node.specs.Beside.{NodesRun, OthersStand};
 ghost use Rattle.node.specs.Kept.{KeptStays};
 ghost use Rattle.node.specs.Runs.{CallsRun};
+ghost use Rattle.node.specs.Suspension.{WokenStands};
 
 /// A node still agrees with the cluster after the acts of another.
 pub fn others_stand()
@@ -26,4 +27,10 @@ pub fn kept_stays()
 /// output is shown once.
 pub fn calls_run()
     ensures { CallsRun }
+{}
+
+/// A node that was suspended and is resumed, durable or not as it was, agrees with each cluster
+/// with which it agreed. So a resume is no act of the cluster, and needs no answer of a peer.
+pub fn woken_stands()
+    ensures { WokenStands }
 {}

@@ -15,6 +15,9 @@
 //! A node keeps the [`Limits`] with which it is opened. A durable node sends only what its durable
 //! checkpoint covers: [`Node::saved`] releases it, and acknowledgements don't.
 //!
+//! A node whose checkpoint covers all can be suspended ([`Node::suspend`]): its bytes are the whole
+//! node but for its limits and the packets that wait. Crate `recovery` resumes it.
+//!
 //! A node answers recovering peers by pages of its log and of what it received. Its own recovery is
 //! in crate `recovery`.
 //!
@@ -42,12 +45,13 @@ mod queue;
 mod reception;
 mod reentry;
 mod status;
+mod suspension;
 mod transmission;
 
 pub use commit::log;
 pub use job::{Given, OpenJob};
 pub use kept::MOST_KEPT;
-pub use laws::{calls_run, kept_stays, nodes_run, others_stand};
+pub use laws::{calls_run, kept_stays, nodes_run, others_stand, woken_stands};
 pub use limit::{Limits, PAGE, TICK};
 pub use node::{MOST_GIVEN, MOST_RECEIVED, Node, WINDOW};
 pub use page::{PAIR_BYTES, RESTORED_BYTES};
@@ -55,3 +59,4 @@ pub use queries::entries;
 pub use queue::KeptQueue;
 pub use reentry::Returned;
 pub use status::{Stage, Standing};
+pub use suspension::{SUSPENSION_MAGIC, Unsuspended};
