@@ -12,6 +12,9 @@
 /* Where the store begins; bytes that are written before they are used, at once. */
 enum { BLOCK = 4096, AHEAD = 1 << 20 };
 
+/* What a piece of a store elsewhere counts as, beside its bytes: the next life may have to read each on its own. */
+enum { PIECE = 1 << 15 };
+
 static const char *const NAMES[2] = {"gateway.0", "gateway.1"}, *const BEFORE = "gateway.sqlite", MAGIC[] = "SBL1";
 static const char *const LOG = "gateway"; /* elsewhere than in a folder: a file that ends with its last record */
 
@@ -267,7 +270,7 @@ int gateway_store_open(struct gateway_store *store, const struct store *folder, 
 
 uint64_t gateway_store_confirm(struct gateway_store *store, bool goes_out) {
     if (!store_is_remote(store->folder) || (!goes_out && !store->waits)) return store->asked;
-    store->behind += BLOCK; /* it is one more piece there */
+    store->behind += PIECE;
     store->waits = false;
     return store->asked = syncer_ask(&store->syncer);
 }

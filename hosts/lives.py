@@ -170,7 +170,7 @@ class Program:
         until = time.monotonic() + seconds
         while not self.is_up.wait(0.2):
             if self.child.poll() is not None or time.monotonic() > until:
-                raise Wrong(f"{self.name} isn't up: {self.said[-3:]}, status {self.child.poll()}")
+                raise Wrong(f"{self.name} isn't up, status {self.child.poll()}:\n" + "\n".join(self.cluster.standings()))
 
     def id(self, line="cluster-id"):
         """The id of its cluster, or of a store, as its store has it; none while it has none."""
@@ -313,6 +313,12 @@ class Cluster:
                 time.sleep(0.01)
             rows.append(f"{program.name}: {program.status} {program.said[-12:]}")
         return rows
+
+    def goes_on(self):
+        """No program has ended by itself."""
+        for program in self.programs:
+            if program.child.poll() is not None:
+                raise Wrong(f"{program.name} ended with {program.ends()}: {program.said[-3:]}")
 
     def stop(self):
         """Each node behind its last checkpoint; the statuses."""

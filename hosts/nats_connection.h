@@ -6,10 +6,11 @@
 
 #include <nats/nats.h>
 
-/* The first connection is made in a thread, too: NATS_NOT_YET_CONNECTED where the server is away. The address stays the caller's. */
+/* To a server, or to one of several, whose addresses have commas between them. The first connection is made in a thread, too:
+   NATS_NOT_YET_CONNECTED where the server is away. The address stays the caller's. */
 natsStatus nats_connect(natsConnection **connection, const char *url);
 
-/* A server's address without name and password. */
+/* Servers' addresses after the last name and password. */
 const char *nats_shown(const char *url);
 
 #endif

@@ -9,7 +9,7 @@
 #include "files.h"
 #include "id.h"
 #include "nats_connection.h"
-#include "watch.h"
+#include "patience.h"
 
 #include <inttypes.h>
 #include <stdio.h>
@@ -17,9 +17,10 @@
 
 /* A value's head: the claim and the mark of the life that wrote it; of the files whose pieces follow, and the last one that they cover. */
 enum { MARK = 8, WRITER = 16, BASE = 24, HEAD = 32, WORD = 8 };
+enum { JET = 128 }; /* bytes that JetStream's head has at most: a revision, and whose value it has to be */
 
-/* Microseconds that a server may be away; milliseconds of a try, and between two; another life wrote meanwhile. */
-enum { AWAY = 30000000, TRY = 2000, AGAIN = 100, MOVED = -1, TEXT = 512 };
+/* Milliseconds of a try; another life wrote meanwhile. */
+enum { TRY = 2000, MOVED = -1, TEXT = 512 };
 
 static const char STREAM[] = "KV_", LOG[] = "gateway"; /* before a bucket's name; the file that pieces are put behind */
 
@@ -36,7 +37,7 @@ struct bucket {
     uint64_t claim, last, revision; /* this life's, its last piece, and the revision of the files */
     struct key covered;             /* whose pieces follow the files, and the last one that is in them */
     uint64_t stone;                 /* the revision of what stands behind those */
-    struct bytes files;
+    struct bytes files, pieces;     /* as the claim found them */
 };
 
 static const char *subject_of(const struct store *store, struct key key, char text[TEXT]) {
@@ -52,28 +53,37 @@ static int failed(const struct store *store, natsStatus status, jsErrCode code) 
     return STATUS_IO;
 }
 
+/* Whether a value fits the server's limit, as far as that is known; JetStream's own head comes before it. */
+static bool fits(const struct store *store, size_t size) {
+    int64_t most = natsConnection_GetMaxPayload(((const struct bucket *)store->place)->connection);
+    if (most <= 0 || size + JET <= (size_t)most) return true;
+    report("%s: it has a value of %zu bytes, and its server's max_payload is %" PRId64 ": make that greater", store->path, size, most);
+    return false;
+}
+
 /* Whether it has to be tried again, since the server is away, or its replicas choose a leader. */
-static bool is_away(natsStatus status, jsErrCode code, uint64_t until) {
+static bool is_away(natsStatus status, jsErrCode code, struct patience *patience) {
     bool is_silent = status == NATS_TIMEOUT || status == NATS_NO_RESPONDERS || status == NATS_CONNECTION_DISCONNECTED ||
                      status == NATS_NOT_YET_CONNECTED || code == JSClusterNotAvailErr;
-    if (!is_silent || clock_now() >= until) return false;
-    nats_Sleep(AGAIN);
-    return true;
+    if (!is_silent) patience_ends(patience);
+    return is_silent && patience_waits(patience);
 }
 
 /* The last value under a key, as the leader has it, and its revision; no bytes and 0 for none. */
 static int get(const struct store *store, struct key key, struct bytes *value, uint64_t *revision) {
     const struct bucket *bucket = store->place;
-    uint64_t until = clock_now() + AWAY;
+    struct patience patience;
     char subject[TEXT];
+    jsOptions options = {.Wait = TRY};
     natsMsg *found = NULL;
     natsStatus status;
     jsErrCode code;
     *value = (struct bytes){0};
+    patience_begin(&patience, store->path);
     do {
         code = 0;
-        status = js_GetLastMsg(&found, bucket->jet, bucket->stream, subject_of(store, key, subject), NULL, &code);
-    } while (status != NATS_OK && is_away(status, code, until));
+        status = js_GetLastMsg(&found, bucket->jet, bucket->stream, subject_of(store, key, subject), &options, &code);
+    } while (is_away(status, code, &patience));
     *revision = status == NATS_OK ? natsMsg_GetSequence(found) : 0;
     if (status != NATS_OK) return code == JSNoMessageFoundErr ? STATUS_DONE : failed(store, status, code);
     size_t size = (size_t)natsMsg_GetDataLength(found);
@@ -94,7 +104,7 @@ static int judge_moved(const struct store *store, struct key key, const struct b
 /* Puts bytes in this life's name over the value of this revision, which becomes theirs; MOVED where another life wrote meanwhile. */
 static int put(const struct store *store, struct key key, struct key covered, const void *bytes, size_t size, uint64_t *revision) {
     const struct bucket *bucket = store->place;
-    const uint64_t until = clock_now() + AWAY;
+    struct patience patience;
     char subject[TEXT];
     uint8_t head[HEAD];
     struct bytes value = {0};
@@ -107,14 +117,15 @@ static int put(const struct store *store, struct key key, struct key covered, co
     number_put(head + WRITER, covered.writer, WORD);
     number_put(head + BASE, covered.piece, WORD);
     if (!bytes_add(&value, head, HEAD) || !bytes_add(&value, bytes, size)) return store_lacks_memory(store);
+    patience_begin(&patience, store->path);
     do {
         code = 0;
         status = js_Publish(&taken, bucket->jet, subject_of(store, key, subject), value.at, (int)value.size, &options, &code);
-    } while (status != NATS_OK && is_away(status, code, until));
+    } while (is_away(status, code, &patience));
     int result = STATUS_DONE;
     if (status == NATS_OK) *revision = taken->Sequence;
     else if (code == JSStreamWrongLastSequenceErr) result = judge_moved(store, key, &value, revision);
-    else result = failed(store, status, code);
+    else result = fits(store, value.size) ? failed(store, status, code) : STATUS_IO;
     jsPubAck_Destroy(taken);
     bytes_end(&value);
     return result;
@@ -130,6 +141,7 @@ static int claim_files(const struct store *store) {
     bucket->covered = value.at ? (struct key){number_at(value.at + WRITER, WORD), number_at(value.at + BASE, WORD)} : FILES;
     bool has_memory = !value.at || bytes_add(files, value.at + HEAD, value.size - HEAD);
     bytes_end(&value);
+    if (status == STATUS_DONE && !fits(store, HEAD + files->size)) status = STATUS_IO;
     if (status != STATUS_DONE || store->is_looked_at) return status;
     return has_memory ? put(store, FILES, bucket->covered, files->at, files->size, &bucket->revision) : store_lacks_memory(store);
 }
@@ -150,13 +162,12 @@ static int read_pieces(const struct store *store, struct bytes *all, struct key 
     return status == STATUS_DONE && !has_memory ? store_lacks_memory(store) : status;
 }
 
-/* Puts a stone where an earlier life would put its next piece; MOVED where it put one there meanwhile. */
+/* Reads the pieces, and puts a stone where an earlier life would put its next one; MOVED where it put one there meanwhile. */
 static int claim_end(const struct store *store) {
     struct bucket *bucket = store->place;
-    struct bytes all = {0};
     struct key end;
-    int status = read_pieces(store, &all, &end, &bucket->stone);
-    bytes_end(&all);
+    bytes_end(&bucket->pieces);
+    int status = read_pieces(store, &bucket->pieces, &end, &bucket->stone);
     return status != STATUS_DONE || bucket->stone > 0 ? status : put(store, end, FILES, "", 0, &bucket->stone);
 }
 
@@ -171,13 +182,14 @@ static int nats_claim(struct store *store) {
 }
 
 static int nats_read(const struct store *store, const char *name, uint8_t **bytes, size_t *size) {
-    const struct bucket *bucket = store->place;
-    struct bytes all = {0};
+    struct bucket *bucket = store->place;
+    struct bytes all = {0}, *pieces = &bucket->pieces;
     struct key end;
     uint64_t stone;
     const uint8_t *found = files_find(&bucket->files, name, size);
-    bool has_memory = bytes_add(&all, found, *size);
-    int status = found && !strcmp(name, LOG) ? read_pieces(store, &all, &end, &stone) : STATUS_DONE;
+    bool is_log = found && !strcmp(name, LOG), has_memory = bytes_add(&all, found, *size);
+    int status = is_log && store->is_looked_at ? read_pieces(store, pieces, &end, &stone) : STATUS_DONE;
+    if (is_log) has_memory = has_memory && bytes_add(&all, pieces->at, pieces->size);
     *size = all.size;
     has_memory = has_memory && bytes_add(&all, "", 1);
     *bytes = found ? all.at : NULL;
@@ -219,6 +231,27 @@ static int nats_append(const struct store *store, const char *name, const void *
     return status == MOVED ? store_is_lost(store) : status;
 }
 
+/* Connects, and waits for the server. A connection that took too long is closed by the client's library. */
+static int wait_connected(struct bucket *bucket) {
+    struct patience patience;
+    natsStatus status = NATS_OK;
+    bool is_there = false, may_come = true;
+    patience_begin(&patience, bucket->path);
+    while (!is_there && may_come) {
+        if (bucket->connection && natsConnection_IsClosed(bucket->connection)) {
+            natsConnection_Destroy(bucket->connection);
+            bucket->connection = NULL;
+        }
+        if (!bucket->connection) status = nats_connect(&bucket->connection, bucket->url);
+        is_there = bucket->connection && natsConnection_Status(bucket->connection) == NATS_CONN_STATUS_CONNECTED;
+        bool is_silent = bucket->connection || status == NATS_TIMEOUT || status == NATS_NO_SERVER;
+        may_come = is_there || (is_silent && patience_waits(&patience));
+    }
+    if (is_there) patience_ends(&patience);
+    else report("%s: %s", bucket->path, bucket->connection ? "it doesn't answer" : natsStatus_GetText(status));
+    return is_there ? STATUS_DONE : STATUS_IO;
+}
+
 /* URL/BUCKET. */
 static int nats_open(struct store *store, const char *where) {
     static struct bucket own, *bucket = &own; /* a program has one store */
@@ -232,9 +265,8 @@ static int nats_open(struct store *store, const char *where) {
     snprintf(bucket->url, TEXT, "%.*s", (int)(slash - where), where);
     snprintf(bucket->stream, TEXT, "%s%s", STREAM, slash + 1);
     store->path = bucket->path;
-    natsStatus status = nats_connect(&bucket->connection, bucket->url);
-    if (status == NATS_NOT_YET_CONNECTED) status = NATS_OK;
-    if (status == NATS_OK) status = natsConnection_JetStream(&bucket->jet, bucket->connection, NULL);
+    if (wait_connected(bucket) != STATUS_DONE) return STATUS_IO;
+    natsStatus status = natsConnection_JetStream(&bucket->jet, bucket->connection, NULL);
     return status == NATS_OK ? id_draw(&bucket->mark) : failed(store, status, 0);
 }
 

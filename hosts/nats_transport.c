@@ -14,6 +14,12 @@
 
 enum { SUBJECT_LIMIT = 2 * NAME_LIMIT, AGAIN = 100, STASH = 1 << 20, BUFFER = 1 << 21 }; /* milliseconds; bytes */
 
+/* A server is asked each 5 seconds whether it is there, and given up after two questions without an answer; so is one that takes no
+   bytes for as long. */
+enum { QUESTION = 5000, QUESTIONS = 2 };
+
+enum { URL_LIMIT = 1024, SERVER_LIMIT = 16 }; /* bytes of a word with servers; servers in it */
+
 /* One connection for each server that is named. */
 struct nats_link {
     struct nats_link *next;
@@ -21,7 +27,7 @@ struct nats_link {
     natsConnection *connection;
 };
 
-const char *nats_shown(const char *url) { return strchr(url, '@') ? strchr(url, '@') + 1 : url; }
+const char *nats_shown(const char *url) { return strrchr(url, '@') ? strrchr(url, '@') + 1 : url; }
 
 /* With it the first connection is made in a thread, too, and the program doesn't wait for a server that is away. */
 static void connected(natsConnection *connection, void *url) {
@@ -29,13 +35,28 @@ static void connected(natsConnection *connection, void *url) {
     report_event(LEVEL_INFO, "server", "nats server %s: it answers", nats_shown(url));
 }
 
+/* One server, or several of one cluster, with commas between them. */
+static natsStatus set_servers(natsOptions *options, const char *url) {
+    char text[URL_LIMIT], *rest;
+    const char *servers[SERVER_LIMIT];
+    int count = 0;
+    if (strlen(url) >= URL_LIMIT) return NATS_INVALID_ARG;
+    strcpy(text, url);
+    for (char *server = strtok_r(text, ",", &rest); server && count < SERVER_LIMIT; server = strtok_r(NULL, ",", &rest))
+        servers[count++] = server;
+    return natsOptions_SetServers(options, servers, count);
+}
+
 natsStatus nats_connect(natsConnection **connection, const char *url) {
     natsOptions *options = NULL;
     natsStatus status = natsOptions_Create(&options);
-    if (status == NATS_OK) status = natsOptions_SetURL(options, url);
+    if (status == NATS_OK) status = set_servers(options, url);
     if (status == NATS_OK) status = natsOptions_SetMaxReconnect(options, -1);
     if (status == NATS_OK) status = natsOptions_SetReconnectWait(options, AGAIN);
     if (status == NATS_OK) status = natsOptions_SetReconnectJitter(options, AGAIN, AGAIN);
+    if (status == NATS_OK) status = natsOptions_SetPingInterval(options, QUESTION);
+    if (status == NATS_OK) status = natsOptions_SetMaxPingsOut(options, QUESTIONS);
+    if (status == NATS_OK) status = natsOptions_SetWriteDeadline(options, QUESTION);
     if (status == NATS_OK) status = natsOptions_SetReconnectBufSize(options, STASH);
     if (status == NATS_OK) status = natsOptions_SetRetryOnFailedConnect(options, true, connected, (void *)url);
     if (status == NATS_OK) status = natsOptions_SetSendAsap(options, true);

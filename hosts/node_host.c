@@ -3,6 +3,7 @@
 #include "limits.h"
 #include "node_state.h"
 #include "report.h"
+#include "text.h"
 #include "tls.h"
 
 #include <errno.h>
@@ -12,7 +13,7 @@
 #include <stdlib.h>
 #include <string.h>
 
-enum { TURN = 512, REPLAYS = 1024 }; /* messages of a turn */
+enum { TURN = 512, REPLAYS = 1024, LATE = 5 * SECOND }; /* messages of a turn; microseconds after which a way back is long */
 
 static const char *const STAGES[] = {"up", "busy", "frozen", "collecting", "replaying", "resuming"};
 
@@ -98,11 +99,23 @@ static void tell_up(const sblog_standing *now, uint64_t took) {
     report_figures("up", sentence, all, sizeof all / sizeof *all);
 }
 
+/* Whose answers it waits for, once, if the way back is long. */
+static void tell_waits(struct node_host *host) {
+    static struct text names;
+    if (host->has_told_waits || clock_now() - host->started < LATE) return;
+    host->has_told_waits = true;
+    for (int p = 0; p <= host->cluster->count; p++)
+        if (host->standing.waited_for >> p & 1) text_add(&names, " %s", host->cluster->processes[p].name);
+    report_event(LEVEL_WARNING, "waiting", "it is %s, and not up yet: it waits for%s", STAGES[host->standing.stage],
+                 names.size > 0 ? names.bytes : " nobody");
+}
+
 /* What changed since the last turn, for people. The store keeps the first life that isn't exact: a status. */
 static int tell(struct node_host *host) {
     const sblog_standing *now = &host->standing;
     bool is_up = now->stage <= SBLOG_NODE_FROZEN;
     if (is_up && !host->was_up) tell_up(now, clock_now() - host->started);
+    if (!is_up) tell_waits(host);
     int status = STATUS_DONE;
     if (host->was_exact && !now->exact) {
         tell_failures(host, now->base);

@@ -29,7 +29,7 @@ struct node_host {
     uint64_t refused, checkpoints;
     uint64_t confirmed; /* packets that were queued while the store was this life's */
     bool has_written;   /* in this turn */
-    bool was_up, was_exact, store_is_inexact, wants_memory;
+    bool was_up, was_exact, store_is_inexact, wants_memory, has_told_waits;
     uint8_t packet[PACKET_LIMIT];
 };
 

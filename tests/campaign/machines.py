@@ -1,11 +1,14 @@
 """Network namespaces in place of machines. Of two the link between delays packets and loses some, where the kernel has
 netem; else it is slow, and drops what waits too long."""
+import fcntl
 import os
 import shutil
 import subprocess
+import tempfile
 
 NAMES = ("sblog-one", "sblog-two")
 ADDRESSES = ("10.77.0.1", "10.77.0.2")
+LOCK = os.path.join(tempfile.gettempdir(), "sblog-machines.lock")
 LINKS = ("netem delay 5ms 2ms loss 1%", "tbf rate 4mbit burst 4kb latency 5ms")
 
 
@@ -57,7 +60,9 @@ class Lan:
         self.names = [f"sblog-{number}" if self.is_there else None for number in range(count)]
 
     def __enter__(self):
-        self.__exit__()
+        self.lock = open(LOCK, "w")
+        fcntl.flock(self.lock, fcntl.LOCK_EX)  # until another run of moves is over, whose machines have the same names
+        self.removes()
         if not self.is_there:
             return self
         run("ip link add sblog-lan type bridge")
@@ -76,6 +81,10 @@ class Lan:
         run(f"ip link set {name} {'down' if is_off else 'up'}")
 
     def __exit__(self, *_):
+        self.removes()
+        self.lock.close()
+
+    def removes(self):
         for name in self.names if self.is_there else ():
             for words in ("link", "netns"):
                 subprocess.run(["ip", words, "del", name], check=False, stderr=subprocess.DEVNULL)

@@ -1,6 +1,6 @@
-"""Nodes whose stores lie elsewhere go on on another machine, when theirs is cut off, stands still or is gone; the server of
-PostgreSQL is killed now and then. A life that was left behind and wakes up ends by itself, with status 7, and has written nothing; with
-status 6 if its server was killed before it could tell it so."""
+"""Nodes whose stores lie elsewhere go on on another machine, when theirs is cut off, stands still or is gone; servers that may fail are
+killed now and then. A life that was left behind and wakes up ends by itself, with status 7, and has written nothing; with status 6 if
+its machine was cut off for as long as it waits for its server."""
 import collections
 import copy
 import os
@@ -16,13 +16,23 @@ from server import Server
 from storage import Bucket
 
 MACHINES, LEFT, LOST = 8, 3, "has claimed the store"  # LEFT: lives left behind at a time
+PATIENCE = 25  # seconds that it waits for its server at least
 
 
 class Left:
-    """A life that another one followed, its machine, and how often the server had been killed when it woke up."""
+    """A life that another one followed, its machine, and when it was left."""
 
-    def __init__(self, program, machine, way, until, failures):
-        self.program, self.machine, self.way, self.until, self.failures = program, machine, way, until, failures
+    def __init__(self, program, machine, way):
+        self.program, self.machine, self.way, self.since, self.until = program, machine, way, time.monotonic(), None
+
+    def wakes(self):
+        """It is to end soon, by one of these statuses."""
+        now = time.monotonic()
+        self.statuses = (6, 7) if self.way == "cut" and now - self.since > PATIENCE else (7,)
+        self.until = now + 60
+
+    def is_right(self, status):
+        return status in self.statuses and (status == 6 or any(LOST in line for line in self.program.said))
 
 
 class Moves:
@@ -52,6 +62,7 @@ class Moves:
         if not program.number:
             self.campaign.feed.is_away.set()
         heir, machine = self.leave(program)
+        left = Left(program, machine, way)
         if way == "cut":
             self.lan.cuts(machine, True)
         elif way == "stop":
@@ -65,7 +76,7 @@ class Moves:
             heir.wait_up(60)
         self.campaign.pause(0.3)
         if way != "kill":
-            self.wakes(Left(program, machine, way, time.monotonic() + 60, self.ways["server"]))
+            self.wakes(left)
         self.ways[way] += 1
 
     def empties(self, program):
@@ -79,6 +90,7 @@ class Moves:
             self.lan.cuts(left.machine, False)
         else:
             left.program.child.send_signal(signal.SIGCONT)
+        left.wakes()
         self.left.append(left)
 
     def reap(self, most):
@@ -86,8 +98,7 @@ class Moves:
         while True:
             for left in [left for left in self.left if left.program.child.poll() is not None]:
                 status = left.program.ends()
-                was_told = status == 7 and any(LOST in line for line in left.program.said)
-                if not was_told and not (status == 6 and left.failures < self.ways["server"]):
+                if not left.is_right(status):
                     raise Wrong(f"{left.program.name} woke up after {left.way}, and ended with {status}: {left.program.said[-3:]}")
                 self.left.remove(left)
                 self.empties(left.program)
@@ -102,6 +113,7 @@ class Moves:
     def run(self, count):
         for number in range(count):
             self.reap(LEFT)
+            self.cluster.goes_on()
             if number % 25 == 20 and self.storage.may_fail:
                 self.storage.fails()
                 self.ways["server"] += 1
@@ -115,7 +127,7 @@ class Moves:
 
 def part(folder, kind, count, seed, port, begin):
     """So many moves; `begin` makes a campaign."""
-    with Lan(MACHINES) as lan, kind(folder, lan.host, port) as storage, Server(kind is not Bucket, port, lan.host):
+    with Lan(MACHINES) as lan, kind(folder, lan.host, port) as storage, Server(not issubclass(kind, Bucket), port, lan.host):
         places = [(name, lan.host) for name in lan.names[:4]]
         campaign = begin(os.path.join(folder, "cluster"), seed, "nats", ["--durable"], places=places, storage=storage)
         moving = Moves(campaign, lan, storage)

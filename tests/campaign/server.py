@@ -9,15 +9,15 @@ import lives
 class Server:
     """It runs in the `with`, if one is wanted."""
 
-    def __init__(self, is_wanted, port, host="127.0.0.1", streams=None):
-        """streams: the folder of JetStream, if that is wanted."""
-        self.is_wanted, self.port, self.host, self.streams = is_wanted, port, host, streams
+    def __init__(self, is_wanted, port, host="127.0.0.1", streams=None, words=()):
+        """streams: the folder of JetStream, if that is wanted; words: more of the command line."""
+        self.is_wanted, self.port, self.host, self.streams, self.words = is_wanted, port, host, streams, words
 
     def start(self):
         words = ["nats-server", "-a", self.host, "-p", str(self.port)]
         if self.streams:
             words += ["-js", "-sd", self.streams]
-        self.child = subprocess.Popen(words, stdout=subprocess.DEVNULL, stderr=subprocess.DEVNULL)
+        self.child = subprocess.Popen([*words, *self.words], stdout=subprocess.DEVNULL, stderr=subprocess.DEVNULL)
         lives.running.add(self.child)
 
     def kill(self):

@@ -1,9 +1,11 @@
 """Where stores may lie that outlive a machine: a bucket of a NATS server, a table of PostgreSQL. Each sees to it that what a life wrote is
 never followed by what an earlier life writes."""
+import base64
 import glob
 import json
 import os
 import pwd
+import queue
 import shutil
 import signal
 import socket
@@ -58,23 +60,26 @@ class Storage:
 class Bucket(Storage):
     """A bucket `bank`. What JetStream has taken it sends on, and it is looked at here."""
 
-    needs = "nats-server"
+    needs, replicas = "nats-server", 1
 
     def __init__(self, folder, host, port):
-        self.host, self.port, self.claims, self.last, self.fault = host, port, {}, {}, None
+        self.host, self.port, self.claims, self.fault, self.answers = host, port, {}, None, queue.Queue()
         self.server = Server(True, port, host, os.path.join(folder, "jetstream"))
         self.word = f"nats:nats://{host}:{port}/bank"
 
-    def __enter__(self):
+    def begins(self):
         self.server.__enter__()
-        self.is_made = threading.Event()
+
+    def __enter__(self):
+        self.begins()
         self.connect()
         config = {"name": "KV_bank", "subjects": ["$KV.bank.>"], "max_msgs_per_subject": 1, "discard": "new", "storage": "file",
-                  "allow_rollup_hdrs": True, "republish": {"src": ">", "dest": "taken.>"}}
-        text = json.dumps(config)
-        self.socket.sendall(f"PUB $JS.API.STREAM.CREATE.KV_bank made {len(text)}\r\n{text}\r\n".encode())
-        if not self.is_made.wait(10):
-            raise Wrong("NATS makes no bucket")
+                  "num_replicas": self.replicas, "allow_rollup_hdrs": True, "republish": {"src": ">", "dest": "taken.>"}}
+        until = time.monotonic() + 30
+        while "error" in (said := self.asks("CREATE", config)):
+            if time.monotonic() > until:
+                raise Wrong(f"NATS makes no bucket: {said}")
+            time.sleep(0.2)
         return self
 
     def __exit__(self, *_):
@@ -82,8 +87,17 @@ class Bucket(Storage):
 
     def connect(self):
         self.socket = socket.create_connection((self.host, self.port))
-        self.socket.sendall(b'CONNECT {"verbose":false,"headers":true}\r\nSUB taken.> 1\r\nSUB made 2\r\n')
+        self.socket.sendall(b'CONNECT {"verbose":false,"headers":true}\r\nSUB taken.> 1\r\nSUB asked 2\r\n')
         threading.Thread(target=self.look, args=[self.socket, self.socket.makefile("rb")], daemon=True).start()
+
+    def asks(self, what, about):
+        """What JetStream answers; while its servers don't know one another yet it says nothing."""
+        text = json.dumps(about)
+        self.socket.sendall(f"PUB $JS.API.STREAM.{what}.KV_bank asked {len(text)}\r\n{text}\r\n".encode())
+        try:
+            return json.loads(self.answers.get(timeout=5))
+        except queue.Empty:
+            return {"error": "no answer"}
 
     def look(self, out, stream):
         for line in stream:
@@ -95,8 +109,8 @@ class Bucket(Storage):
                 self.take(words[1].decode(), stream.read(int(words[-1]) + 2)[head:-2])
 
     def take(self, subject, value):
-        if subject == "made":
-            self.is_made.set()
+        if subject == "asked":
+            self.answers.put(value)
             return
         store, *piece = subject.split(".")[4:]
         place = (store, *piece[:1])  # the files, or pieces of a life, which may go on until another one has put a stone behind them
@@ -104,12 +118,11 @@ class Bucket(Storage):
         if claim < self.claims.get(place, 0):
             self.fault = f"life {claim} of process {store} writes {subject} after life {self.claims[place]}"
         self.claims[place] = claim
-        if not piece:
-            self.last[int(store)] = value
 
     def kept(self, number):
         """What the process keeps under the name `kept`, as its last write has it."""
-        value, at = self.last[number], 32
+        said = self.asks("MSG.GET", {"last_by_subj": f"$KV.bank.bank.{number}"})
+        value, at = base64.b64decode(said["message"]["data"]), 32
         while at < len(value):
             name, size = value[at:at + 12].rstrip(b"\0"), struct.unpack_from("<I", value, at + 12)[0]
             if name == b"kept":
