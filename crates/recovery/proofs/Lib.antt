@@ -28,3 +28,4 @@ pub mod Beginnings
 pub mod RestorationOthers
 pub mod Returns
 pub mod Fits
+pub mod Resumptions

@@ -17,3 +17,4 @@ pub mod RestorationStands
 pub mod RestorationBeside
 pub mod Fits
 pub mod RestorationQueries
+pub mod Resumption

@@ -3,6 +3,7 @@
 ghost use Rattle.recovery.specs.Beside.{OthersStand, ReplayingStands, ComesBackAgain};
 ghost use Rattle.recovery.specs.Kept.{WrittenRevives, KeptRevives};
 ghost use Rattle.recovery.specs.Moment.{KeepsWhatItHad};
+ghost use Rattle.recovery.specs.Resumption.{IsOneNode};
 ghost use Rattle.recovery.specs.StandsAtReplay.{OnlyReplays};
 
 /// A process that collects still agrees with the cluster after the acts of another.
@@ -43,4 +44,9 @@ pub fn comes_back_again()
 /// them.
 pub fn keeps_what_it_had()
     ensures { KeepsWhatItHad }
+{}
+
+/// Bytes are those of one suspended node at most, but for its limits and the packets that waited.
+pub fn one_node()
+    ensures { IsOneNode }
 {}

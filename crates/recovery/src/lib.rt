@@ -26,6 +26,9 @@
 //! process of more messages than it sent is taken, and it isn't exact any more; while failures come one
 //! at a time no page of a peer does ([`pages_fit`]).
 //!
+//! A node that was suspended doesn't come back this way: it is resumed from its bytes as it was
+//! ([`resume`]), so it asks nobody.
+//!
 //! ```text
 //! let mut node = Collecting::revive(alloc, &kept, incarnation)?;
 //! while let Some(packet) = node.take() {
@@ -58,13 +61,15 @@ mod plan;
 mod queries;
 mod replayed;
 mod replays;
+mod rest;
 mod restoration;
 mod restoration_laws;
 mod restoration_queries;
+mod resumption;
 
 pub use collection::{Collecting, comes_back};
 pub use laws::{
-    comes_back_again, keeps_what_it_had, kept_revives, only_replays, others_stand,
+    comes_back_again, keeps_what_it_had, kept_revives, one_node, only_replays, others_stand,
     replaying_stands, written_revives,
 };
 pub use moment::{Cause, Unrecovered};
@@ -72,3 +77,4 @@ pub use replayed::Replayed;
 pub use replays::Replaying;
 pub use restoration::Restoring;
 pub use restoration_laws::{pages_fit, replayed_stands, restoring_stands};
+pub use resumption::{Unresumed, resume};

@@ -1,0 +1,16 @@
+use Rattle.std.proofs.lemmas.Result.{err_from_is_err_and}
+use Rattle.packets.specs.Inside.Reader.{number_at, times}
+use Rattle.packets.proofs.Counted.{goes_on, ends, is_done}
+use Rattle.recovery.proofs.rest.numbers_of.Goals as goal
+
+pub returns-in_err-number : goal.returns-in_err-number
+returns-in_err-number c =
+    let p = err_from_is_err_and c.from_residual.result c.from_residual.ensures.1 in
+    rw (p.1, p.2) (ends c.in_err-number.field-0.0 (number_at 8) c.loop.numbers c.args.count c.loop.counter c.loop.rest.now (times (number_at 8) c.args.count c.args.bytes.now) c.loop-test.true c.in_err-number.ensures c.loop.invariant)
+
+pub loop-preserved : goal.loop-preserved
+loop-preserved c =
+    rw c.in_ok-push.ensures (goes_on (number_at 8) c.loop.numbers c.args.count c.loop.counter c.loop.rest.now c.in_ok-number.number c.in_ok-number.after.now (times (number_at 8) c.args.count c.args.bytes.now) c.loop-test.true c.in_ok-number.ensures c.loop.invariant)
+
+pub returns : goal.returns
+returns c = is_done (number_at 8) c.loop.numbers c.args.count c.loop.counter c.loop.rest.now (times (number_at 8) c.args.count c.args.bytes.now) c.loop-test.false c.loop.invariant
