@@ -38,6 +38,11 @@ def kept(me, n, state, length, counts, logs):
     return sealed(b"SBN1" + bytes([me, n]) + struct.pack("<H", len(state)) + numbers(length) + numbers(*counts) + state + fields)
 
 
+def suspended(kept, life, exact, heard, resumed, logs):
+    codes = b"".join(numbers(len(log), *(0 if number is None else number + 1 for number in log)) for log in logs)
+    return sealed(b"SBN2" + numbers(len(kept)) + kept + numbers(life) + bytes([exact]) + numbers(*heard) + bytes(resumed) + codes)
+
+
 def entry(number, ssn, data):
     return numbers(number, ssn) + payload(data)
 
