@@ -1,6 +1,7 @@
 -- One driven call more
 use Rattle.std.proofs.Common.{◌≡◌, ℕ, suc, ◌+◌, ◌-◌, ◌<◌, ◌≤◌, List, [], ◌∷◌, ◌++◌, length, length-append, append_assoc, Bool, true, false, refl, sym, ap, ◌∙◌, subst, arith}
 use Rattle.std.specs.Prelude.{Option, Some, None, Ok, ◌||◌, ◌==◌}
+use Rattle.std.proofs.lemmas.List.{append-nil}
 use Rattle.world.specs.declared.call.Call.{Call}
 use Rattle.world.specs.declared.call.Call.TheVariants.{Input, Transmit, Copy, Lose, Arrive, Finish, Checkpoint, Trim, Crash, Recover, RecoverAlone, ReplayBegin, Resync as ResyncWith}
 use Rattle.world.specs.declared.answer.Answer.{Answer}
@@ -11,6 +12,7 @@ use Rattle.world.specs.declared.refusal.Refusal.TheVariants.{Memory}
 use Rattle.sessions.specs.Fold.{handlers_of}
 use Rattle.world.specs.World.{World, opening}
 use Rattle.world.specs.Calls.{after}
+use Rattle.world.specs.Refusals.{cause_of}
 use Rattle.world.specs.Useful.{is_free, is_useful, may_call}
 use Rattle.world.specs.Legal.{world_after}
 use Rattle.world.proofs.Runs.{world_after-append}
@@ -45,6 +47,24 @@ takes-none (Trim d) move = absurd move
 takes-none (Crash p) move = absurd move
 takes-none (Recover p) move = absurd move
 takes-none (RecoverAlone p) move = absurd move
+
+-- a refusal without a cause of the world's is want of memory
+pub cause-memory : (r : Refusal) → cause_of r ≡ None → r ≡ Memory
+cause-memory refusals.NoSuchProcess e = absurd (cc)
+cause-memory refusals.NotUp e = absurd (cc)
+cause-memory refusals.Busy e = absurd (cc)
+cause-memory refusals.NoPacket e = absurd (cc)
+cause-memory refusals.SameProcess e = absurd (cc)
+cause-memory refusals.NotReleased e = absurd (cc)
+cause-memory refusals.NotLogged e = absurd (cc)
+cause-memory refusals.PeerNotUp e = absurd (cc)
+cause-memory refusals.StaleJob e = absurd (cc)
+cause-memory refusals.NotDown e = absurd (cc)
+cause-memory refusals.WrongPhase e = absurd (cc)
+cause-memory refusals.JournalFull e = absurd (cc)
+cause-memory refusals.WireFull e = absurd (cc)
+cause-memory refusals.FeedTaken e = absurd (cc)
+cause-memory refusals.Memory e = refl
 
 -- so is that of a result of the open job
 pub told-memory : (r : Refusal) (P : Type 0) → Told r P → P → r ≡ Memory
@@ -93,6 +113,19 @@ drives-append worker budget room (Some p) w (e ∷ es) fs left h short more =
 
 abbrev with_entries : TheSession → List Entry → TheSession
 with_entries s es = record s { entries = es }
+
+-- where no call is made, session and seat stay as they were
+pub advance-none : (budget : ℕ) (old new : TheSession) (by by' : TheSeat) → new ≡ old → by' ≡ by → Advances budget old new by by' 0 None
+advance-none budget old new by by' same seat =
+    let none : old.entries ++ [] ≡ old.entries = append-nil old.entries in
+    let zero_more : by.answered + 0 ≡ by.answered = omega arith in
+    record {
+      added = [];
+      as_many = refl;
+      entries = same ∙ ap (with_entries old) (sym none);
+      seat = seat ∙ ap (λ n. record by { answered = n }) (sym zero_more);
+      run = refl;
+    }
 
 -- and where one is, its entry comes last, and counts for the seat
 pub advance-one : (old new : TheSession) (by by' : TheSeat) (call : Call) (answer : Answer) → IsPick (world_at old) (room_at old) call → Adds old new by by' call (Ok answer) → Advances 1 old new by by' 1 (job_of (world_at old) call answer)

@@ -1,9 +1,10 @@
 use Rattle.std.proofs.Common.{rules, ◌≡◌, ◌+◌, ◌<◌, ◌∷◌, ◌++◌, [], ℕ, List, length, refl, sym, subst, arith}
+use Rattle.std.specs.Prelude.{drop}
 use Rattle.std.proofs.lemmas.Grind.{common_steps}
 use Rattle.packets.specs.declared.packet.NodePacket.{NodePacket}
 use Rattle.c_cluster.specs.Bundle.{FitsFrom}
 use Rattle.c_cluster.specs.Nodes.Bundles.{Waits, GivesTo}
-use Rattle.packets.specs.Format.{IsPacket}
+use Rattle.packets.specs.Format.{IsPacket, packet_bytes}
 use Rattle.c_cluster.proofs.Bundles.{none_laid, more_laid, one_more}
 use Rattle.c_cluster.proofs.nodes.results.take_all_of.Goals as goal
 
@@ -11,7 +12,7 @@ more : (b : ℕ) (bytes : List ℕ) → 0 < length (b ∷ bytes)
 more b bytes = omega arith
 
 some : (x : NodePacket) (bytes : List ℕ) → IsPacket x bytes → 0 < length bytes
-some x bytes p = subst (λ (b : List ℕ). 0 < length b) (sym p.bytes_are) (more _ _)
+some x bytes p = subst (λ (b : List ℕ). 0 < length b) (sym p.bytes_are) (more 83 (drop 1 (packet_bytes x)))
 
 pub loop-next-init : goal.loop-next-init
 loop-next-init c =
