@@ -647,6 +647,15 @@ uint32_t sblog_node_tick(sblog_node *node);
 uint32_t sblog_node_checkpoint(sblog_node *node, uint8_t *out, size_t out_len, size_t *size);
 /* They are kept; 22 where it doesn't wait for that. */
 uint32_t sblog_node_saved(sblog_node *node);
+/* The whole node, to be kept while its program ends; 22 unless it is up, its last checkpoint is durable, and it received
+   nothing since. The node stays open: close it, and don't send what it has still to give. */
+uint32_t sblog_node_suspend(sblog_node *node, uint8_t *out, size_t out_len, size_t *size);
+/* The node from these bytes as it was, in the same incarnation: it asks no peer, and none waits for it. Resume it once,
+   and only if it did nothing since. Its limits are given anew. 21 with fault 1: these are the bytes of no suspended node;
+   2: its state isn't as long as the image's. */
+uint32_t sblog_node_resume(const uint8_t *image, size_t image_len, const uint8_t *suspended, size_t suspended_len,
+                           uint32_t page, uint32_t tick, uint32_t numbers, uint32_t receipts, uint32_t durable,
+                           sblog_node *node, uint32_t *fault);
 uint32_t sblog_node_standing(sblog_node *node, sblog_standing *out);
 /* How many sends and outputs its helpers refused in this life, by the code that the handler got: 1, to no other process; 2,
    more than 8 of a call; 3, of more than 256 bytes. 0 for any other code, and of a closed handle. Not counted are those of a

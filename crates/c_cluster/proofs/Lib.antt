@@ -3,4 +3,5 @@ mod Bundles
 mod Called
 mod HostCalls
 mod Opened
+mod Resumed
 mod Outcomes

@@ -8,3 +8,4 @@ pub mod NodeJob
 pub mod HostCalls
 pub mod Label
 pub mod Bundles
+pub mod Suspension

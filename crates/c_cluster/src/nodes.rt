@@ -12,3 +12,4 @@ pub mod node_job;
 mod outcome;
 mod results;
 pub mod status;
+pub mod suspension;

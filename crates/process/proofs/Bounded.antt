@@ -442,7 +442,7 @@ stored-few : (ls : List KeptLog) → AllByRecursion IsKeptLog ls → kept (map q
 stored-few [] all = omega arith
 stored-few (l ∷ ls) all = let one : length l.payloads < 2 ^ 32 = all.0.1.0 in let rest = stored-few ls all.1 in omega arith
 
-begun : (limits : Limits) (k : Kept) (life : ℕ) (bytes : List ℕ) → AreAllowed limits → IsKept k bytes → OwnHolds (own.own_of limits k life) 0
+pub begun : (limits : Limits) (k : Kept) (life : ℕ) (bytes : List ℕ) → AreAllowed limits → IsKept k bytes → OwnHolds (own.own_of limits k life) 0
 begun limits k life bytes allowed is =
     let all = map queue_of k.logs in
     let cut = kept-cut k.me all in

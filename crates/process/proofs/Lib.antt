@@ -12,3 +12,4 @@ mod Ranges
 mod Questions
 mod Writes
 mod Within
+mod Suspensions

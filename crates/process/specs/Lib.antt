@@ -8,3 +8,4 @@ pub mod Checkpoints
 pub mod Job
 pub mod Bounds
 pub mod Holds
+pub mod Suspension

@@ -37,6 +37,7 @@ mod layout;
 mod lifecycle;
 mod process;
 mod queries;
+mod suspension;
 mod traffic;
 mod work;
 
@@ -49,3 +50,4 @@ pub use lifecycle::Lifecycle;
 pub use process::Member;
 pub use queries::{MOST_ENTRIES, MOST_STORED};
 pub use recovery::Cause;
+pub use suspension::ResumeError;

@@ -3,7 +3,7 @@
 python3 tests/model/nodes/calls.py prints the bytes as the tests have them."""
 import struct
 
-from packets import entry, kept, numbers, output, packet, page, payload, store
+from packets import entry, kept, numbers, output, packet, page, payload, store, suspended
 
 GATEWAY = {
     # the gateway of two processes logs an input for process 1, and sends it
@@ -38,6 +38,8 @@ NODE = {
     # its checkpoint then covers the message, which the gateway is told
     "KEPT": kept(1, 1, WORD, 1, [1], [(1, [SHOWN])]),
     "SAVED": packet(8, 1, 1, 0, numbers(1)),
+    # the whole node is suspended then; the number of its output isn't told yet
+    "SUSPENDED": suspended(kept(1, 1, WORD, 1, [1], [(1, [SHOWN])]), 1, 1, [1, 1], [1, 1], [[None], []]),
     # it comes back from nothing in its second incarnation: it asks, is told the message, replays it, asks for the number of
     # its output, and is up
     "ASK": packet(4, 1, 1, 0, numbers(2, 0)),

@@ -33,7 +33,7 @@ pub struct NodeLimits {
 
 impl NodeLimits {
     /// The node's limits, if each is in range.
-    fn of_node(self) -> Option<node::Limits>
+    pub(crate) fn of_node(self) -> Option<node::Limits>
         ensures { MatchOption result (¬ AreLimits self) (λ l. AreLimits self × (l ≡ limits_of self)) }
     {
         if self.page > MOST_PAGE || self.durable > 1 {
@@ -54,7 +54,7 @@ impl NodeLimits {
 }
 
 /// The handler of a file.
-fn handler_of(alloc: Global, file: &[u8]) -> Result<Arc<Handler>, NodeFault>
+pub(crate) fn handler_of(alloc: Global, file: &[u8]) -> Result<Arc<Handler>, NodeFault>
     ensures { MatchResult result (λ image. IsImageIn file.now (image_of (arc_value image))) (IsNotLoaded file.now) }
 {
     let image = match Handler::load(alloc, file) {
@@ -69,7 +69,7 @@ fn handler_of(alloc: Global, file: &[u8]) -> Result<Arc<Handler>, NodeFault>
 }
 
 /// Puts a process into a closed handle.
-fn put(alloc: Global, process: Member, handle: &mut NodeHandle) -> Result<(), NodeFault>
+pub(crate) fn put(alloc: Global, process: Member, handle: &mut NodeHandle) -> Result<(), NodeFault>
     ensures ok { OnOk result (handle.new.process.value ≡ Some process) }
     ensures err { IfErr result (λ why. (why ≡ Memory) × (handle.new.process.value ≡ handle.old.process.value)) }
 {
