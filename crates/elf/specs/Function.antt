@@ -1,7 +1,9 @@
 -- The function of an object file, and its code.
-use Rattle.std.specs.Prelude.{◌≡◌, ◌<◌, ◌≤◌, ◌⊎◌, ◌+◌, ◌*◌, ◌/◌, ℕ, List, [], ◌∷◌, Option, None, Some, length, filter, not, slice_index, slice_get, true}
+use Rattle.std.specs.Prelude.{◌≡◌, ◌<◌, ◌≤◌, ◌⊎◌, ◌+◌, ◌*◌, ◌/◌, ℕ, List, [], ◌∷◌, Option, None, Some, length, filter, not, slice_index}
+use Rattle.std.specs.Prelude.{slice_get, true}
 use Rattle.limits.specs.declared.TheConstants.{SLOTS}
-use Rattle.elf.specs.Object.{bytes_at, contents_of, functions_of, is_elf, number_at, relocation_at, relocation_size, section_at, section_count}
+use Rattle.elf.specs.Object.{bytes_at, contents_of, functions_of, is_elf, number_at, relocation_at, relocation_size, section_at}
+use Rattle.elf.specs.Object.{section_count}
 use Rattle.elf.specs.declared.section.Section.{Section}
 use Rattle.elf.specs.declared.symbol.Symbol.{Symbol}
 

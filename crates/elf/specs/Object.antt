@@ -1,5 +1,6 @@
 -- Object files: 64-bit ELF, the lowest byte first (System V gABI, chapter 4). In brackets stand the manual's names.
-use Rattle.std.specs.Prelude.{◌+◌, ◌*◌, ◌/◌, ◌%◌, ◌==◌, ◌&&◌, ℕ, Bool, cond, length, nat_le, nat_lt, zero, suc, List, [], ◌∷◌, ◌++◌, take, drop, slice_index}
+use Rattle.std.specs.Prelude.{◌+◌, ◌*◌, ◌/◌, ◌%◌, ◌==◌, ◌&&◌, ℕ, Bool, cond, length, nat_le, nat_lt, zero, suc, List, [], ◌∷◌, ◌++◌, take}
+use Rattle.std.specs.Prelude.{drop, slice_index}
 use Rattle.byteorder.specs.Endian.{little_number}
 use Rattle.elf.specs.declared.section.Section.{Section}
 use Rattle.elf.specs.declared.symbol.Symbol.{Symbol}
@@ -15,7 +16,8 @@ bytes_at at count bytes = take count (drop at bytes)
 -- an ELF file, by its first bytes [EI_MAG0 to EI_MAG3]
 abbrev pub is_elf : List ℕ → Bool
 is_elf file =
-    nat_le 4 (length file) && ((slice_index file 0 == 0x7f) && ((slice_index file 1 == 0x45) && ((slice_index file 2 == 0x4c) && (slice_index file 3 == 0x46))))
+    nat_le 4 (length file)
+    && ((slice_index file 0 == 0x7f) && ((slice_index file 1 == 0x45) && ((slice_index file 2 == 0x4c) && (slice_index file 3 == 0x46))))
 
 -- ---- sections
 
@@ -80,7 +82,8 @@ symbol_at file table row = symbol_in (section_at file table.link).offset (bytes_
 -- it is a function [STT_FUNC] in a section of code; section 0 and those that the file doesn't have stand for something else
 unfoldable pub is_function : List ℕ → Symbol → Bool
 is_function file symbol =
-    (symbol.kind == 2) && ((nat_lt 0 symbol.section && nat_lt symbol.section (section_count file)) && is_code (section_at file symbol.section))
+    (symbol.kind == 2)
+    && ((nat_lt 0 symbol.section && nat_lt symbol.section (section_count file)) && is_code (section_at file symbol.section))
 
 -- a symbol alone, if it is a function
 abbrev pub if_function : List ℕ → Symbol → List Symbol
@@ -112,4 +115,5 @@ relocation_size section = cond (section.kind == 4) 24 16
 
 -- where a row has a symbol's value put in, as a place in its section [r_offset]
 abbrev pub relocation_at : List ℕ → Section → ℕ → ℕ
-relocation_at file section row = number_at 8 0 (bytes_at (row * relocation_size section) (relocation_size section) (contents_of section file))
+relocation_at file section row =
+    number_at 8 0 (bytes_at (row * relocation_size section) (relocation_size section) (contents_of section file))

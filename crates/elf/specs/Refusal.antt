@@ -1,12 +1,15 @@
 -- Why an object file is refused.
-use Rattle.std.specs.Prelude.{◌≡◌, ◌≢◌, ◌<◌, ◌≤◌, ◌⊎◌, ◌+◌, ◌*◌, ◌/◌, ◌-◌, ◌^◌, ℕ, suc, List, [], Option, None, Some, length, slice_index, slice_get, false}
+use Rattle.std.specs.Prelude.{◌≡◌, ◌≢◌, ◌<◌, ◌≤◌, ◌⊎◌, ◌+◌, ◌*◌, ◌/◌, ◌-◌, ◌^◌, ℕ, suc, List, [], Option, None, Some, length, slice_index}
+use Rattle.std.specs.Prelude.{slice_get, false}
 use Rattle.limits.specs.declared.TheConstants.{SLOTS}
-use Rattle.elf.specs.Object.{bytes_at, contents_of, functions_of, is_elf, number_at, relocation_at, row_place, section_at, section_count, sizes_below, symbol_at}
+use Rattle.elf.specs.Object.{bytes_at, contents_of, functions_of, is_elf, number_at, relocation_at, row_place, section_at, section_count}
+use Rattle.elf.specs.Object.{sizes_below, symbol_at}
 use Rattle.elf.specs.Function.{IsCall, IsChosen, IsOnly, IsReference, IsText}
 use Rattle.elf.specs.declared.fault.ObjectError.{ObjectError}
 use Rattle.elf.specs.declared.fault.ObjectError.TheVariants.{Fault, Memory}
 use Rattle.elf.specs.declared.fault.ObjectFault.{ObjectFault}
-use Rattle.elf.specs.declared.fault.ObjectFault.TheVariants.{Kind, ByteOrder, Processor, Linked, Damaged, NoFunction, NoSuchFunction, Several, Outside, Reference, Call, Slots, State}
+use Rattle.elf.specs.declared.fault.ObjectFault.TheVariants.{Kind, ByteOrder, Processor, Linked, Damaged, NoFunction, NoSuchFunction}
+use Rattle.elf.specs.declared.fault.ObjectFault.TheVariants.{Several, Outside, Reference, Call, Slots, State}
 use Rattle.elf.specs.declared.section.Section.{Section}
 use Rattle.elf.specs.declared.symbol.Symbol.{Symbol}
 
@@ -39,8 +42,8 @@ abbrev pub IsNameless : List ℕ → Section → Type 0
 IsNameless file table =
     IsRowOutside file table.link ⊎ ((row : ℕ) × (row < table.size / 24) × (2 ^ 64 ≤ (symbol_at file table row).name))
 
--- a section has its row or its bytes outside of the file, those up to it have more bytes than the file, or it is a table of symbols that has
--- no names
+-- a section has its row or its bytes outside of the file, those up to it have more bytes than the file, or it is a table of symbols
+-- without names
 abbrev pub IsBadSection : List ℕ → ℕ → Type 0
 IsBadSection file index =
     IsRowOutside file index

@@ -9,7 +9,8 @@ use Rattle.images.specs.ImageFile.{IsFile}
 use Rattle.verifier.specs.declared.fault.HeaderFault.TheVariants.{SlotCount}
 use Rattle.image_commands.specs.Judged.{IsJudged}
 use Rattle.image_commands.specs.declared.fault.Fault.{Fault}
-use Rattle.image_commands.specs.declared.fault.Fault.TheVariants.{Usage, Header, Decode, Verify, Assemble, Object, NoState, Scenario, Memory, InputOutput}
+use Rattle.image_commands.specs.declared.fault.Fault.TheVariants.{Usage, Header, Decode, Verify, Assemble, Object, NoState, Scenario}
+use Rattle.image_commands.specs.declared.fault.Fault.TheVariants.{Memory, InputOutput}
 use Rattle.image_commands.specs.declared.judged.TheConstants.{TEXT_LIMIT}
 
 -- the source is the text of code of which these bytes are the file of this form, with a state of this length

@@ -24,7 +24,8 @@ use Rattle.verifier.specs.declared.fault.ImageError.{ImageError}
 use Rattle.verifier.specs.declared.fault.ImageError.TheVariants as image
 use Rattle.image_commands.specs.Files.{Content}
 use Rattle.image_commands.specs.declared.fault.Fault.{Fault}
-use Rattle.image_commands.specs.declared.fault.Fault.TheVariants.{Usage, Header, Decode, Verify, Assemble, Object, NoState, Scenario, Memory, InputOutput}
+use Rattle.image_commands.specs.declared.fault.Fault.TheVariants.{Usage, Header, Decode, Verify, Assemble, Object, NoState, Scenario}
+use Rattle.image_commands.specs.declared.fault.Fault.TheVariants.{Memory, InputOutput}
 use Rattle.image_commands.specs.declared.files.Failure.{Failure}
 use Rattle.image_commands.specs.declared.files.Failure.TheVariants as failure
 

@@ -17,7 +17,8 @@ use Rattle.block_order.specs.Ordered.{IsFileOf}
 use Rattle.block_order.specs.declared.blocks.Blocks.{Blocks}
 use Rattle.verifier.specs.declared.fault.HeaderFault.TheVariants.{SlotCount}
 use Rattle.image_commands.specs.declared.fault.Fault.{Fault}
-use Rattle.image_commands.specs.declared.fault.Fault.TheVariants.{Usage, Header, Decode, Verify, Assemble, Object, NoState, Scenario, Memory, InputOutput}
+use Rattle.image_commands.specs.declared.fault.Fault.TheVariants.{Usage, Header, Decode, Verify, Assemble, Object, NoState, Scenario}
+use Rattle.image_commands.specs.declared.fault.Fault.TheVariants.{Memory, InputOutput}
 
 -- the code is that of instructions of which these bytes are the file of this form, with a state of this length, and the blocks
 -- stand so in it
@@ -52,7 +53,8 @@ abbrev pub IsFileBy : Bool → Option ℕ → Option FileForm → Option (List �
 IsFileBy false state form name source bytes blocks =
     (length : ℕ) × (state ≡ Some length) × IsPacked source length (unwrap_or form Sbi1) bytes blocks
 IsFileBy true state form name source bytes blocks =
-    (length : ℕ) × IsLength state length × (code : List ℕ) × IsFunction source name code × IsPacked code length (unwrap_or form Sbi3) bytes blocks
+    (length : ℕ) × IsLength state length × (code : List ℕ) × IsFunction source name code
+    × IsPacked code length (unwrap_or form Sbi3) bytes blocks
 
 -- the same; an object file is known by its first bytes
 abbrev pub IsMade : Option ℕ → Option FileForm → Option (List ℕ) → List ℕ → List ℕ → Blocks → Type 0

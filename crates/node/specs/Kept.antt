@@ -51,7 +51,8 @@ is_short most l = nat_lt (l.first + length l.payloads) most
 
 -- the state is that of a process of a cluster, with counts and logs for each peer
 abbrev pub is_process : Kept → Bool
-is_process k = nat_lt 0 k.me && nat_le k.me k.count && nat_le k.count PROCESSES && (length k.counts == k.count) && (length k.logs == k.count)
+is_process k =
+    nat_lt 0 k.me && nat_le k.me k.count && nat_le k.count PROCESSES && (length k.counts == k.count) && (length k.logs == k.count)
 
 -- its numbers are in range, and for each received message at most sixteen were sent to each destination
 abbrev pub comes_back : Kept → Bool

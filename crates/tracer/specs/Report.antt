@@ -39,7 +39,8 @@ IsReport content (Check image) bytes text = (count : ℕ) × IsAccepted bytes co
 IsReport content (Asm source image state form) bytes text = ((file : List ℕ) × IsAssembled bytes state form file) × (text ≡ [])
 IsReport content (Explain image) bytes text = IsFileExplained bytes text
 IsReport content (Why rule) bytes text = text ≡ page_text rule
-IsReport content (Pack source image state form name) bytes text = ((file : List ℕ) × (blocks : Blocks) × IsMade state form name bytes file blocks)
+IsReport content (Pack source image state form name) bytes text =
+    ((file : List ℕ) × (blocks : Blocks) × IsMade state form name bytes file blocks)
     × (text ≡ [])
 IsReport content (Dis image) bytes text = IsListing bytes text
 IsReport content (Native image code) bytes text = ((file : List ℕ) × IsMachineCode bytes file) × (text ≡ [])

@@ -48,8 +48,8 @@ IsToldSo why.Memory fault = fault ≡ Memory
 IsToldSo why.Bytes fault = fault ≡ Bytes 1
 IsToldSo why.State fault = fault ≡ Bytes 2
 
--- why no process is resumed: the first of these: the handle is open, a limit is out of range, the file is not that of an image, the bytes are
--- refused, or memory ran out. The handle stays as it was
+-- why no process is resumed, the first of these: the handle is open, a limit is out of range, the file is no image, the bytes are refused,
+-- memory ran out. The handle stays as it was
 abbrev pub DoesNotResume : List ℕ → List ℕ → NodeLimits → Option TheProcess → Option TheProcess → NodeFault → Type 0
 DoesNotResume file bytes l old new Handle = ((p : TheProcess) × (old ≡ Some p)) × (new ≡ old)
 DoesNotResume file bytes l old new Limit = (old ≡ None) × (new ≡ None) × ¬ AreLimits l
@@ -58,7 +58,7 @@ DoesNotResume file bytes l old new (Bytes f) = (old ≡ None) × (new ≡ None) 
 DoesNotResume file bytes l old new Memory = (old ≡ None) × (new ≡ None) × AreLimits l
 DoesNotResume file bytes l old new other = ⊥
 
--- the meaning of a code when a process is resumed, by its image file, its bytes and its limits, with the number of the fault before and after
+-- the meaning of a code when a process is resumed, by its image file, its bytes and its limits, with the fault's number before and after
 abbrev pub AnswersResume : List ℕ → List ℕ → NodeLimits → ℕ → Option TheProcess → Option TheProcess → ℕ → ℕ → Type 0
 AnswersResume file bytes l code old new was fault =
     AnswersOfBytes code old new was fault (Resumes file bytes l) (DoesNotResume file bytes l)
