@@ -17,7 +17,7 @@
 //! again, and says why if it still can't go on.
 //!
 //! ```text
-//! let mut process = Process::revive(alloc, image, &kept, incarnation)?;
+//! let mut process = Member::revive(alloc, image, &kept, incarnation)?;
 //! process.receive_bytes(alloc, &bytes)?;
 //! while process.work(alloc)? {}
 //! while let Some(bytes) = process.take_bytes(alloc)? {
