@@ -1,6 +1,6 @@
 """Whole clusters are stopped by SIGTERM while transfers flow, and started again in a random order. In most rounds a node is killed, by
 SIGKILL, at some place of its stop or of the next start; or what it left is torn, old or another node's. Each other node goes on in the
-same incarnation, and is as exact as before."""
+same incarnation, and is as exact as before. Between two stops one node is stopped while another one comes back."""
 import itertools
 import os
 import shutil
@@ -106,6 +106,7 @@ class Stops:
             node.wait_up()
             self.judge(node, faults.get(node), lives_before[node], exact[node], node.said[said[node]:], has_bytes[node])
         self.old.update(kept)
+        self.roll([node for node in nodes if node not in following])
         outputs = self.cluster.outputs["notifier"]
         until = len(outputs) + FLOW
         self.cluster.wait_for(lambda: len(outputs) >= until)
@@ -122,6 +123,23 @@ class Stops:
             raise Wrong(f"{node.name}, {fault}, hasn't taken what it left")
         if goes_on and node.exact != was_exact:
             raise Wrong(f"{node.name}, {fault}, isn't as exact as it was: {said}")
+
+    def roll(self, nodes):
+        """A node is killed, and while it comes back another one is stopped and started, which is no failure."""
+        if len(nodes) < 2:
+            return
+        dead, other = self.chance.sample(nodes, 2)
+        life = life_of(other)
+        self.campaign.kill(dead)
+        dead.start()
+        self.campaign.pause(0.02)
+        if other.stop():
+            raise Wrong(f"{other.name} isn't stopped while {dead.name} comes back: {other.said[-3:]}")
+        other.start()
+        for node in (dead, other):
+            node.wait_up()
+        if life_of(other) != life:
+            raise Wrong(f"{other.name} doesn't go on: {other.said[-3:]}")
 
     def run(self):
         for faults, following in zip(self.plan, [*self.plan[1:], {}]):
