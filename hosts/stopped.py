@@ -14,6 +14,10 @@ LIMIT = 10  # seconds that a program has to end
 AWAY = "it isn't suspended: it is collecting"
 
 
+def path_of(node):
+    return os.path.join(node.store, "suspended")
+
+
 def lives_on(node, incarnation, is_resumed):
     """It is up in this incarnation, and says whether it was resumed."""
     said, node.status = len(node.said), None
@@ -58,7 +62,7 @@ def hangs(node, number, status, seconds):
     """The disk doesn't answer when the bytes get their name. A second signal ends the node, or else it ends when its time is over."""
     node.child.send_signal(number)
     began = time.monotonic()
-    while not os.path.exists(os.path.join(node.store, "suspended.new")):
+    while not os.path.exists(path_of(node) + ".new"):
         time.sleep(0.01)
     time.sleep(0.3)
     if node.child.poll() is not None:
@@ -100,22 +104,28 @@ def away(node, others):
         program.start()
 
 
+def comes_back(node, incarnation, left, sentence):
+    """What a stopped node left is this instead. It is refused, unless it is nothing, and the node comes back as after a kill."""
+    with open(path_of(node), "wb") as file:
+        file.write(left)
+    said = len(node.said)
+    lives_on(node, incarnation, False)
+    if any(f"{sentence}: the node isn't resumed" in line for line in node.said[said:]) != (len(left) > 0):
+        raise Wrong(f"{left} is left: {node.said[said:]}")
+
+
 def torn(node, incarnation):
-    """Each beginning of the bytes, to every 16th byte, is refused: the node comes back as after a kill. The incarnation after all."""
-    path = os.path.join(node.store, "suspended")
+    """Each beginning of what is left, to every 16th byte; then what an earlier life left, with the same checkpoint. The incarnation after."""
+    before = whole = b""
     for cut in itertools.count(0, 16):
         ends_well(node)
-        whole = read(path)
+        before, whole = whole, read(path_of(node))
         if cut >= len(whole):
             break
-        with open(path, "wb") as file:
-            file.write(whole[:cut])
-        incarnation, said = incarnation + 1, len(node.said)
-        lives_on(node, incarnation, False)
-        if any("the node isn't resumed" in line for line in node.said[said:]) != (cut > 0):
-            raise Wrong(f"{cut} bytes of {path} are left: {node.said[said:]}")
-    lives_on(node, incarnation, True)
-    return incarnation
+        incarnation += 1
+        comes_back(node, incarnation, whole[:cut], "")
+    comes_back(node, incarnation + 1, before, "it is of another life")
+    return incarnation + 1
 
 
 def joining(folder):
