@@ -128,6 +128,21 @@ def torn(node, incarnation):
     return incarnation + 1
 
 
+def earlier(cluster, talk, node, incarnation):
+    """What is of an earlier checkpoint of the same life, and what is of another store."""
+    tells(node, kept=0)
+    ends_well(node)
+    before = read(path_of(node))
+    lives_on(node, incarnation, True)
+    works(cluster, talk, 7)
+    tells(node, length=7, kept=0)
+    ends_well(node)
+    comes_back(node, incarnation + 1, before, "it is of another checkpoint")
+    ends_well(node)
+    comes_back(node, incarnation + 2, bytes(16) + read(path_of(node))[16:], "it is of another store")
+    return incarnation + 2
+
+
 def joining(folder):
     """A node that is no member yet goes on when the gateway is there."""
     cluster = Cluster(folder, "programs", PROCESSES)
@@ -173,7 +188,7 @@ def stopped(folder):
     one = connect(cluster)
     one.says("outputs", "took echo 5")
     works(cluster, one, 6)
-    incarnation = torn(relay, 7)
+    incarnation = torn(relay, earlier(cluster, one, relay, 7))
     cluster.stop()
     cluster.start()
     tells(relay, incarnation=incarnation, exact="yes")
