@@ -1,6 +1,7 @@
 """Stores that aren't in a folder. `tests/campaign/run moves` has lives on several machines."""
 import os
 import pwd
+import re
 import subprocess
 import tempfile
 import time
@@ -16,6 +17,10 @@ PORT = 17790
 
 def holds(cluster, program):
     return told(["--cluster", cluster.file_of(0), "--me", str(program.number), "--inspect", program.store])[0]
+
+
+def incarnation(cluster, program):
+    return int(re.search(r"(?m)^incarnation (\d+)$", holds(cluster, program))[1])
 
 
 def follows(cluster, program, act):
@@ -89,7 +94,29 @@ def lives_on(folder, storage):
     one.says("outputs")
     one.hears(*(f"output echo {number} {payload(number)}" for number in range(1, 6)))
     works(cluster, one, 6)
+    goes_on(cluster, relay)
+
+
+def goes_on(cluster, relay):
+    """All are stopped, and go on; after a kill nobody goes on from what was left before."""
+    life = incarnation(cluster, relay)
     cluster.stop()
+    if "suspended: the next start goes on" not in holds(cluster, relay):
+        raise Wrong(f"relay isn't suspended: {holds(cluster, relay)}")
+    cluster.start()
+    one = connect(cluster)
+    one.says("outputs", "took echo 6")
+    works(cluster, one, 7)
+    if incarnation(cluster, relay) != life or "suspended: " in holds(cluster, relay):
+        raise Wrong(f"relay doesn't go on: {relay.said[-3:]}")
+    relay.kill()
+    relay.start()
+    relay.wait_up()
+    works(cluster, one, 8)
+    if incarnation(cluster, relay) != life + 1:
+        raise Wrong(f"relay goes on twice: {relay.said[-3:]}")
+    if any(cluster.stop()):
+        raise Wrong(f"a program that is stopped ends otherwise: {[program.said[-1:] for program in cluster.programs]}")
 
 
 def elsewhere(folder):

@@ -230,6 +230,19 @@ static void wait(struct gateway_host *host, bool is_more) {
     watch_wait(&watch);
 }
 
+/* All that was asked for becomes durable, and what waits for that goes out; then what the outputs printed last leave to note. */
+static int settle(struct gateway_host *host) {
+    int status = give_out(host);
+    while (status == STATUS_DONE && host->turns.count > 0) {
+        struct watch watch;
+        watch_begin(&watch, UINT64_MAX);
+        watch_file(&watch, host->store.syncer.event, POLLIN);
+        watch_wait(&watch);
+        status = give_out(host);
+    }
+    return status == STATUS_DONE ? gateway_store_finish(&host->store) : status;
+}
+
 int gateway_run(const struct options *options, const struct cluster *cluster) {
     static struct gateway_host host;
     bool is_more;
@@ -242,9 +255,10 @@ int gateway_run(const struct options *options, const struct cluster *cluster) {
         status = turn(&host, &is_more);
         if (status == STATUS_DONE && !signal_stop) wait(&host, is_more);
     }
+    if (status == STATUS_DONE) status = settle(&host);
     gateway_store_rest(&host.store);
-    if (status == STATUS_DONE) status = give_out(&host);
-    transport_close(&host.transport, status != STATUS_STORE);
+    if (status != STATUS_STORE) transport_finish(&host.transport);
+    transport_close(&host.transport);
     metrics_close(&host.metrics);
     gateway_store_close(&host.store);
     clients_close(&host.clients);

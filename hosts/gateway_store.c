@@ -283,6 +283,13 @@ int gateway_store_synced(struct gateway_store *store, uint64_t *synced) {
     return failed(store, (int)(store->generation % 2));
 }
 
+int gateway_store_finish(struct gateway_store *store) {
+    uint64_t synced;
+    store->asked = syncer_ask(&store->syncer);
+    gateway_store_rest(store);
+    return gateway_store_synced(store, &synced);
+}
+
 void gateway_store_rest(struct gateway_store *store) { syncer_end(&store->syncer); }
 
 void gateway_store_close(struct gateway_store *store) {

@@ -46,6 +46,9 @@ uint64_t gateway_store_confirm(struct gateway_store *store, bool goes_out);
 /* Up to which sync all is durable; a status. */
 int gateway_store_synced(struct gateway_store *store, uint64_t *synced);
 
+/* Makes all durable that was appended, and rests; a status. */
+int gateway_store_finish(struct gateway_store *store);
+
 /* Waits until all is durable that was asked for; nothing is asked for from then on. */
 void gateway_store_rest(struct gateway_store *store);
 void gateway_store_close(struct gateway_store *store);

@@ -6,6 +6,7 @@
 #include "slots.h"
 #include "store.h"
 #include "stored.h"
+#include "suspension.h"
 
 #include <inttypes.h>
 #include <sblog.h>
@@ -33,7 +34,10 @@ static int inspect_process(const struct store *store) {
     free(kept);
     if (inexact == 0) puts("exact yes: no life has stored that it wasn't");
     else printf("exact no: incarnation %" PRIu64 " was the first that wasn't\n", inexact);
-    return STATUS_DONE;
+    status = store_read(store, SUSPENDED, &kept, &size);
+    if (status == STATUS_DONE && size > 0) puts("suspended: the next start goes on in this incarnation");
+    free(kept);
+    return status;
 }
 
 /* The name of a process, after its number in the line of all. */

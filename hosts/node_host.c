@@ -3,6 +3,7 @@
 #include "limits.h"
 #include "node_state.h"
 #include "report.h"
+#include "suspension.h"
 #include "text.h"
 #include "tls.h"
 
@@ -22,7 +23,7 @@ static const char *name_of(const struct node_host *host) { return host->cluster-
 /* A checkpoint is made, is durable, and counts. Where it isn't the time, there is none; one that can't be stored ends the life. */
 static int keep(struct node_host *host) {
     size_t size;
-    uint32_t code = node_freeze(host, &size);
+    uint32_t code = node_bytes(host, sblog_node_checkpoint, &size);
     if (code == SBLOG_NODE_UNREADY || code == SBLOG_NODE_MEMORY) return STATUS_DONE;
     if (code != SBLOG_NODE_DONE) return code_refused("checkpoint", code, 0);
     uint64_t since = clock_now();
@@ -187,7 +188,7 @@ static void tick(struct node_host *host, uint64_t now, int received) {
 }
 
 static bool is_time_to_keep(const struct node_host *host) {
-    uint64_t most = host->options->durable || signal_stop ? 1 : host->options->checkpoint_every;
+    uint64_t most = host->options->durable ? 1 : host->options->checkpoint_every;
     return host->standing.stage == SBLOG_NODE_UP && host->standing.receipts >= most;
 }
 
@@ -222,6 +223,23 @@ static int turn(struct node_host *host, bool *is_more) {
     return status;
 }
 
+/* A node that is up takes nothing more, and is suspended once its checkpoint covers all. Nothing is sent from then on. */
+static int stop(struct node_host *host) {
+    uint64_t stage = host->standing.stage;
+    if (stage > SBLOG_NODE_FROZEN) {
+        report_event(LEVEL_WARNING, "suspended", "it isn't suspended: it is %s; it will come back as after a kill", STAGES[stage]);
+        return STATUS_DONE;
+    }
+    while (work(host, REPLAYS) == SBLOG_NODE_DONE) continue;
+    int status = keep(host);
+    if (status != STATUS_DONE) return status;
+    put_out(host);
+    status = confirm(host);
+    if (status != STATUS_DONE) return status;
+    transport_finish(&host->transport);
+    return suspension_write(host);
+}
+
 static int run(struct node_host *host) {
     struct watch watch;
     bool is_more;
@@ -234,8 +252,7 @@ static int run(struct node_host *host) {
         metrics_watch(&host->metrics, &watch);
         watch_wait(&watch);
     } while (status == STATUS_DONE && !signal_stop);
-    if (status == STATUS_DONE) status = turn(host, &is_more); /* behind its last checkpoint */
-    return status;
+    return status == STATUS_DONE ? stop(host) : status;
 }
 
 int node_run(const struct options *options, const struct cluster *cluster) {
@@ -249,7 +266,8 @@ int node_run(const struct options *options, const struct cluster *cluster) {
     if (status != STATUS_DONE || options->looks) return status;
     host.metrics.has_lines = options->status;
     status = run(&host);
-    transport_close(&host.transport, status != STATUS_STORE);
+    if (status != STATUS_DONE && status != STATUS_STORE) transport_finish(&host.transport);
+    transport_close(&host.transport);
     metrics_close(&host.metrics);
     store_close(&host.store);
     return status;

@@ -6,6 +6,7 @@
 #include "membership.h"
 #include "privileges.h"
 #include "report.h"
+#include "suspension.h"
 
 #include <inttypes.h>
 #include <stdio.h>
@@ -34,9 +35,9 @@ static int read_image(struct node_host *host, char hash[HASH_TEXT]) {
     return host->image ? STATUS_DONE : STATUS_IO;
 }
 
-uint32_t node_freeze(struct node_host *host, size_t *size) {
+uint32_t node_bytes(struct node_host *host, uint32_t (*call)(sblog_node *, uint8_t *, size_t, size_t *), size_t *size) {
     uint32_t code;
-    while ((code = sblog_node_checkpoint(&host->node, host->bytes, host->room, size)) == SBLOG_NODE_ROOM)
+    while ((code = call(&host->node, host->bytes, host->room, size)) == SBLOG_NODE_ROOM)
         if (!bytes_fit(&host->bytes, &host->room, *size)) return SBLOG_NODE_MEMORY;
     return code;
 }
@@ -70,7 +71,7 @@ static int begin_new(struct node_host *host, const struct owner *owner, uint64_t
     }
     int status = open_new(host, owner);
     if (status != STATUS_DONE) return status;
-    uint32_t code = node_freeze(host, &size);
+    uint32_t code = node_bytes(host, sblog_node_checkpoint, &size);
     if (code != SBLOG_NODE_DONE) return code_refused("checkpoint", code, 0);
     status = judge_new(host, size);
     if (status == STATUS_DONE) status = slots_write(&host->slots, host->bytes, size);
@@ -82,11 +83,21 @@ static int begin_new(struct node_host *host, const struct owner *owner, uint64_t
     return code == SBLOG_NODE_DONE ? STATUS_DONE : code_refused("saved", code, 0);
 }
 
-/* A life after another one: its incarnation is durable first. */
+/* A life after another one that was killed: its incarnation is durable first. */
+static int revive(struct node_host *host, const struct owner *owner, uint64_t incarnation, const uint8_t *kept, size_t size) {
+    uint32_t fault = 0;
+    int status = store_write_incarnation(&host->store, incarnation);
+    if (status != STATUS_DONE) return status;
+    uint32_t code = sblog_node_revive(host->image, host->image_size, kept, size, incarnation, PAGE, TICK, NUMBERS, RECEIPTS, owner->durable,
+                                      &host->node, &fault);
+    return code == SBLOG_NODE_DONE ? STATUS_DONE : code_refused(KEPT, code, fault);
+}
+
+/* A life that was suspended goes on; a new one begins after any other. */
 static int begin_again(struct node_host *host, const struct owner *owner, uint64_t incarnation) {
     uint8_t *kept;
     size_t size;
-    uint32_t fault = 0;
+    bool is_resumed;
     int status = slots_open(&host->slots, &host->store, &kept, &size);
     if (status != STATUS_DONE) return status;
     if (!kept || incarnation == 0) {
@@ -94,12 +105,10 @@ static int begin_again(struct node_host *host, const struct owner *owner, uint64
         free(kept);
         return STATUS_STORE;
     }
-    status = store_write_incarnation(&host->store, incarnation + 1);
-    if (status != STATUS_DONE) return status;
-    uint32_t code = sblog_node_revive(host->image, host->image_size, kept, size, incarnation + 1, PAGE, TICK, NUMBERS, RECEIPTS,
-                                      owner->durable, &host->node, &fault);
+    status = suspension_take(host, incarnation, kept, size, &is_resumed);
+    if (status == STATUS_DONE && !is_resumed) status = revive(host, owner, incarnation + 1, kept, size);
     free(kept);
-    return code == SBLOG_NODE_DONE ? STATUS_DONE : code_refused(KEPT, code, fault);
+    return status;
 }
 
 static int begin_life(struct node_host *host, const struct owner *owner, bool is_new) {

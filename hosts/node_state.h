@@ -39,7 +39,7 @@ int node_begin(struct node_host *host);
 /* Whether that would do: nothing is taken or written. The status that it would have, and a line a fault. */
 int node_look(struct node_host *host);
 
-/* The bytes of a checkpoint and how many they are; a code of the library. */
-uint32_t node_freeze(struct node_host *host, size_t *size);
+/* Bytes of the node, of whatever size: of a checkpoint, or all of it. A code of the library. */
+uint32_t node_bytes(struct node_host *host, uint32_t (*call)(sblog_node *, uint8_t *, size_t, size_t *), size_t *size);
 
 #endif

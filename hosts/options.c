@@ -8,8 +8,10 @@
 #include <stdio.h>
 #include <stdlib.h>
 #include <string.h>
+#include <unistd.h>
 
 enum { THOUSAND = 1000, EVERY = 256, USUAL_TICK = 5, TICK_LIMIT = 10000 };
+enum { STOPPING = 10 }; /* seconds that a program has to end after a signal */
 
 /* hosts/build names it. */
 #ifndef SBLOG_VERSION
@@ -40,7 +42,8 @@ static const char USAGE[] =
     "  --inspect STORE        says what a store holds, and ends\n"
     "  --version              says which version this is, and ends\n"
     "\n"
-    "SIGUSR1 prints that line once. SIGHUP reads the files of --tls again. SIGTERM and SIGINT end it, a process behind a checkpoint.\n"
+    "SIGUSR1 prints that line once. SIGHUP reads the files of --tls again. SIGTERM and SIGINT end a gateway, and suspend a process:\n"
+    "its next start goes on. A second one ends it as SIGKILL does, and so does a disk that takes over 10 seconds.\n"
     "Statuses: 0; 2 the command line; 3 a refused image; 4 a refused cluster file; 5 want of memory;\n"
     "6 input and output; 7 a store that isn't this process's or its cluster's, is in use, or was claimed by another life.\n";
 
@@ -161,8 +164,14 @@ int options_read(int argc, char **argv, struct options *options) {
 
 volatile sig_atomic_t signal_stop, signal_status, signal_reload;
 
+/* From now on the next such signal ends the program as SIGKILL would, and so does a disk that doesn't answer in time. */
 static void stop(int signal) {
+    const struct sigaction by_default = {.sa_handler = SIG_DFL};
     (void)signal;
+    sigaction(SIGTERM, &by_default, NULL);
+    sigaction(SIGINT, &by_default, NULL);
+    sigaction(SIGALRM, &by_default, NULL);
+    alarm(STOPPING);
     signal_stop = 1;
 }
 

@@ -20,7 +20,7 @@ struct options {
 /* Reads the command line; a status, and what isn't taken is reported. */
 int options_read(int argc, char **argv, struct options *options);
 
-/* Set by SIGTERM or SIGINT, by SIGUSR1, and by SIGHUP, which ends a program that has no certificate. */
+/* Set by the first SIGTERM or SIGINT, by SIGUSR1, and by SIGHUP, which ends a program that has no certificate. */
 extern volatile sig_atomic_t signal_stop, signal_status, signal_reload;
 
 void signals_take(bool reloads);

@@ -209,10 +209,10 @@ static bool is_waiting(const struct transport *transport) {
     return false;
 }
 
-void transport_close(struct transport *transport, bool sends) {
+void transport_finish(struct transport *transport) {
     uint64_t until = clock_now() + CLOSING;
-    if (sends) transport_serve(transport);
-    while (sends && is_waiting(transport) && clock_now() < until) {
+    transport_serve(transport);
+    while (is_waiting(transport) && clock_now() < until) {
         struct watch watch;
         watch_begin(&watch, until);
         for (int p = 0; p <= transport->cluster->count; p++)
@@ -220,5 +220,8 @@ void transport_close(struct transport *transport, bool sends) {
         watch_wait(&watch);
         transport_serve(transport);
     }
+}
+
+void transport_close(struct transport *transport) {
     if (transport->inlet == &unix_inlet) unlink(transport->cluster->processes[transport->me].address.where);
 }

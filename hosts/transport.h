@@ -95,8 +95,9 @@ void transport_reload(struct transport *transport);
 void transport_watch(struct transport *transport, struct watch *watch);
 void transport_serve(struct transport *transport);
 
-/* Sends what it can of what waits, for at most so long, if it may. */
-void transport_close(struct transport *transport, bool sends);
+/* Sends what it can of what waits, for at most a fifth of a second. */
+void transport_finish(struct transport *transport);
+void transport_close(struct transport *transport);
 
 /* The next datagram of the transport's file. */
 size_t datagram_receive(struct transport *transport, const uint8_t **frame);

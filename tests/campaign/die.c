@@ -1,6 +1,7 @@
 /* Kills its program before the n-th call that changes a file: write, pwrite, fsync, fdatasync, rename, ftruncate, unlink. It is loaded
    in front of the C library, and DIE_AT is n. A write of an even n is cut in half first. If DIE_ON names one of them, or openat to
-   write, the n-th of these counts. If FAIL is set, that call fails once instead: EIO, and a line says so. */
+   write, the n-th of these counts. If FAIL is set, that call fails once instead: EIO, and a line says so. If HANG is set, it never
+   answers. */
 #include <dlfcn.h>
 #include <errno.h>
 #include <fcntl.h>
@@ -23,6 +24,7 @@ static int is_last(const char *call) {
 }
 
 static int die(void) {
+    while (getenv("HANG")) pause();
     if (!getenv("FAIL")) kill(getpid(), SIGKILL);
     dprintf(STDERR_FILENO, "the disk fails\n");
     errno = EIO;
