@@ -27,7 +27,7 @@ use Rattle.recovery.proofs.Fits.{pages-fit}
 use Rattle.gateway.specs.Gateway.{TheGateway}
 use Rattle.node_laws.specs.Together.{IsFirst}
 use Rattle.node_laws.specs.Process.{Process, Up, Covered, Collects, Replays, Replayed, Restores, Killed, StandsAs, IsKilled, IsStoredOf, ComesFrom, covered}
-use Rattle.node_laws.specs.System.{System, new_system, AreStoredOf, Call, Gave, Handed, Worked, Did, Stored, Saved, Died, Revived, GaveOut, HandedOut, DidOut, StoredOut, StoredBut, RevivedOut, DoesIt, after_call, Calls, AreExact, StayExact}
+use Rattle.node_laws.specs.System.{System, new_system, AreStoredOf, Call, Gave, Handed, Worked, Did, Stored, Saved, Resumed, Died, Revived, GaveOut, HandedOut, DidOut, StoredOut, StoredBut, RevivedOut, DoesIt, after_call, Calls, AreExact, StayExact}
 use Rattle.node_laws.specs.Alone.{is_up, FailsAlone, OneAtATime, LoneFailuresStayExact, LoneLivesRun, NothingIsLostAlone, RecoversExactlyAlone}
 use Rattle.node_laws.proofs.Lives.{WasPut, lives-run}
 use Rattle.node_laws.proofs.Lives as runs
@@ -37,7 +37,7 @@ use Rattle.node_laws.proofs.OwnSound.{IsAlone, of-other}
 use Rattle.node_laws.proofs.CollectingSound as collecting
 use Rattle.node_laws.proofs.GatewaySound as gateways
 use Rattle.node_laws.proofs.Lone.{Returns, IsOf, stands-of, Good, Goes, Back, Lone, IsLone, is-alone, process-goes, process-dies, only-comes, process-comes}
-use Rattle.node_laws.proofs.LoneCalls.{Fits, giving, hearing, working, acting, storing, telling}
+use Rattle.node_laws.proofs.LoneCalls.{Fits, giving, hearing, working, acting, storing, telling, waking}
 
 -- ---- no page tells of more than was sent
 
@@ -165,6 +165,7 @@ module _ (f : Answering) (len : ℕ → ℕ) (n : ℕ) (s : System) (acts : List
   call-alone (Did p new) m a = goes p new m.0 (acting s.lives back n p (s.processes p) new m.1 (is-of f len n s acts r p m.0) (only p m.0) (h.good p m.0))
   call-alone (Stored p bytes) m a = goes p (covered (s.processes p)) m.0 (storing s.lives back n p bytes (s.processes p) m.1 (h.good p m.0))
   call-alone (Saved p new) m a = goes p new m.0 (telling s.lives back n p (s.processes p) new m.1 (h.good p m.0))
+  call-alone (Resumed p limits new) m a = goes p new m.0 (waking s.lives back n p limits (s.processes p) new m.1 (h.good p m.0))
   call-alone (Died p) m a = process-dies n s.processes s.lives s.given s.gateway.out h p m Killed refl a
   call-alone (Revived p life new) m a = revives p life new m.0 m.1.0 m.1.1.0 m.1.1.1
   call-alone (GaveOut x new) m a =

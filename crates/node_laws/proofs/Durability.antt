@@ -18,6 +18,7 @@ use Rattle.node.specs.Node.{TheNode}
 use Rattle.node.specs.Calls.{handed, did_work}
 use Rattle.node.specs.Transmission.{ticked}
 use Rattle.node.specs.Checkpoints.{froze}
+use Rattle.node.specs.Suspension.{woken}
 use Rattle.node.specs.Kept.{kept_of, with_own}
 use Rattle.node.specs.Stands.{Each, job_of, payloads_to}
 use Rattle.node.specs.Runs.{Answer, Answering, handlers_of, state_from, sends_from}
@@ -29,7 +30,7 @@ use Rattle.recovery.specs.Collection.{TheCollecting, begins, revived, asks, asks
 use Rattle.recovery.specs.Replays.{TheReplaying, next_job, next_number, did_replay, is_over, receipts_of}
 use Rattle.recovery.specs.StandsAtReplay.{replayed_of}
 use Rattle.recovery.specs.Restoration.{TheRestoring}
-use Rattle.node_laws.specs.Process.{Process, Up, Covered, Collects, Replays, Replayed, Restores, Killed, Gives, Hears, Works, Acts, WaitsFor, covered, IsTold, ComesFrom}
+use Rattle.node_laws.specs.Process.{Process, Up, Covered, Collects, Replays, Replayed, Restores, Killed, Gives, Hears, Works, Acts, WaitsFor, covered, IsTold, Wakes, ComesFrom}
 use Rattle.node_laws.specs.Durable.{IsAfter, ReplaysAll}
 use Rattle.recovery.specs.Plan.{IsCovered, Plans, told_under}
 use Rattle.node_laws.proofs.Taken.{IsFair, IsSent, IsIn, HasTaken, sender_of, taken-plan, told-good, taken-more}
@@ -238,6 +239,35 @@ module _ (f : Answering) (len : ℕ → ℕ) (top p : ℕ) (durable tells : Bool
   telling h (Replayed n) new g s = absurd g
   telling h (Restores n) new g s = absurd g
   telling h Killed new g s = absurd g
+
+  -- it was suspended, and is resumed
+  woken-on : (h g : List Message) (limits : Limits) (n : TheNode) → (durable ≡ true → limits.durable ≡ true) → Node h g n → Node h g (woken limits n)
+  woken-on h g limits n lasting s =
+      record {
+        me = s.me;
+        count = s.count;
+        wide = s.wide;
+        base = s.base;
+        more = s.more;
+        begins = s.begins;
+        many = s.many;
+        taken = s.taken;
+        job = s.job;
+        state = s.state;
+        logs = s.logs;
+        out = tt;
+        rests = s.rests;
+        is_durable = lasting;
+      }
+
+  pub waking : (h : List Message) (limits : Limits) (old new : Process) → Wakes limits old new → (durable ≡ true → limits.durable ≡ true) → IsFor h old → IsFor h new
+  waking h limits (Up n) new g lasting s = subst (IsFor h) (sym (g.1.1.0 ∙ ap Up g.1.1.1)) (s.0, woken-on h s.0 limits n lasting s.1)
+  waking h limits (Covered n) new g lasting s = absurd g
+  waking h limits (Collects n) new g lasting s = absurd g
+  waking h limits (Replays n) new g lasting s = absurd g
+  waking h limits (Replayed n) new g lasting s = absurd g
+  waking h limits (Restores n) new g lasting s = absurd g
+  waking h limits Killed new g lasting s = absurd g
 
 -- the limits of one that comes back are those that it was given
 limits-below : (me d : ℕ) (n : TheCollecting) → (asks_below me d n).own.limits ≡ n.own.limits

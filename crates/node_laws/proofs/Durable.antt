@@ -20,13 +20,13 @@ use Rattle.node.specs.Stands.{Each}
 use Rattle.node.proofs.Lists.{all-more}
 use Rattle.gateway.proofs.Steps.{by-if}
 use Rattle.node_laws.specs.Together.{IsFirst}
-use Rattle.node_laws.specs.Process.{Process, Up, Collects, Killed, Gives, Hears, Works, Acts, WaitsFor, covered, IsTold, ComesFrom}
-use Rattle.node_laws.specs.System.{System, new_system, AreStored, Call, Gave, Handed, Worked, Did, Stored, Saved, Died, Revived, GaveOut, HandedOut, DidOut, StoredOut, StoredBut, RevivedOut, DoesIt, after_call, Calls, after_calls}
+use Rattle.node_laws.specs.Process.{Process, Up, Collects, Killed, Gives, Hears, Works, Acts, WaitsFor, covered, IsTold, Wakes, ComesFrom}
+use Rattle.node_laws.specs.System.{System, new_system, AreStored, Call, Gave, Handed, Worked, Did, Stored, Saved, Resumed, Died, Revived, GaveOut, HandedOut, DidOut, StoredOut, StoredBut, RevivedOut, DoesIt, after_call, Calls, after_calls}
 use Rattle.node_laws.specs.Durable.{AreAfter, IsSentBy, given_by, ReplaysAll, ReplaysWhole, ReplayWhole, KeepsDurable, StaysDurable, HasAfter, StoredStays, DurableLast}
 use Rattle.node_laws.proofs.Held.{Holds}
 use Rattle.node_laws.proofs.HeldNode.{IsGiven, OfNode, keeping, counting-again}
 use Rattle.node_laws.proofs.Taken.{fair-none, fair-of}
-use Rattle.node_laws.proofs.Durability.{IsStored, IsFor, IsFairHere, gave-later, giving, hearing, working, acting, storing, telling, reviving}
+use Rattle.node_laws.proofs.Durability.{IsStored, IsFor, IsFairHere, gave-later, giving, hearing, working, acting, storing, telling, waking, reviving}
 
 -- of a function that is changed at q, what holds at p
 pub at-place : {X : Type 0} (g : ℕ → X) (q p : ℕ) (x : X) (P : X → Type 0) → (q ≢ p → P (g p)) → (q ≡ p → P x) → P (put g q x p)
@@ -159,6 +159,14 @@ module _ (f : Answering) (len : ℕ → ℕ) (top p : ℕ) (durable tells : Bool
         now = record { holds = goes-on h s q new now (λ e. telling f len top p durable tells D In low h (s.processes p) new (subst (λ z. IsTold (s.processes z) new) e m.1) now.holds); stored = now.stored };
         gives = λ ks late b a. a;
       }
+  step h s (Resumed q limits new) now m v w fair =
+      record {
+        to = h;
+        begins = begins-self h;
+        still = λ e. refl;
+        now = record { holds = goes-on h s q new now (λ e. waking f len top p durable tells D In low h limits (s.processes p) new (subst (λ z. Wakes limits (s.processes z) new) e m.1) (λ t. w t (sym e)) now.holds); stored = now.stored };
+        gives = λ ks late b a. a;
+      }
   step h s (Died q) now m v w fair =
       record { to = h; begins = begins-self h; still = λ e. refl; now = record { holds = goes-on h s q Killed now (λ e. tt); stored = now.stored }; gives = λ ks late b a. a }
   step h s (Revived q life new) now m v w fair =
@@ -226,6 +234,7 @@ all-fair f len top p durable low h (Worked q a new) = tt
 all-fair f len top p durable low h (Did q new) = tt
 all-fair f len top p durable low h (Stored q bytes) = tt
 all-fair f len top p durable low h (Saved q new) = tt
+all-fair f len top p durable low h (Resumed q limits new) = tt
 all-fair f len top p durable low h (Died q) = tt
 all-fair f len top p durable low h (Revived q life new) = tt
 all-fair f len top p durable low h (GaveOut x new) = tt

@@ -6,7 +6,7 @@ use Rattle.world.specs.declared.message.Message.{Message}
 use Rattle.node.specs.Runs.{Answering}
 use Rattle.node_laws.specs.Together.{IsFirst}
 use Rattle.node_laws.specs.Process.{Process, Up, Covered, Collects, Replays, Replayed, Restores, Killed, is_exact}
-use Rattle.node_laws.specs.System.{System as Lived, Call, Gave, Handed, Worked, Did, Stored, Saved, Died, Revived, GaveOut, HandedOut, DidOut, StoredOut, StoredBut, RevivedOut, handed_out, Calls, after_call, after_calls, AreExact, StayExact}
+use Rattle.node_laws.specs.System.{System as Lived, Call, Gave, Handed, Worked, Did, Stored, Saved, Resumed, Died, Revived, GaveOut, HandedOut, DidOut, StoredOut, StoredBut, RevivedOut, handed_out, Calls, after_call, after_calls, AreExact, StayExact}
 use Rattle.node_laws.specs.Alone.{OneAtATime}
 use Rattle.node_laws.specs.Durable.{ReplayWhole, StaysDurable, given_by, outputs_of}
 use Rattle.node_laws.specs.Outputs.{OneLife}
@@ -63,6 +63,7 @@ outputs-append t (Worked p a new ∷ xs) ys = outputs-append (after_call t (Work
 outputs-append t (Did p new ∷ xs) ys = outputs-append (after_call t (Did p new)) xs ys
 outputs-append t (Stored p bytes ∷ xs) ys = outputs-append (after_call t (Stored p bytes)) xs ys
 outputs-append t (Saved p new ∷ xs) ys = outputs-append (after_call t (Saved p new)) xs ys
+outputs-append t (Resumed p limits new ∷ xs) ys = outputs-append (after_call t (Resumed p limits new)) xs ys
 outputs-append t (Died p ∷ xs) ys = outputs-append (after_call t (Died p)) xs ys
 outputs-append t (Revived p life new ∷ xs) ys = outputs-append (after_call t (Revived p life new)) xs ys
 outputs-append t (GaveOut x new ∷ xs) ys = outputs-append (after_call t (GaveOut x new)) xs ys
@@ -87,6 +88,7 @@ given-append p (Worked q a new ∷ xs) ys = given-append p xs ys
 given-append p (Did q new ∷ xs) ys = given-append p xs ys
 given-append p (Stored q bytes ∷ xs) ys = given-append p xs ys
 given-append p (Saved q new ∷ xs) ys = given-append p xs ys
+given-append p (Resumed q limits new ∷ xs) ys = given-append p xs ys
 given-append p (Died q ∷ xs) ys = given-append p xs ys
 given-append p (Revived q life new ∷ xs) ys = given-append p xs ys
 given-append p (GaveOut x new ∷ xs) ys = given-append p xs ys

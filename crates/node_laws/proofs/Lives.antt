@@ -38,9 +38,9 @@ use Rattle.gateway.proofs.Views.{takes-so}
 use Rattle.node_laws.specs.Together.{IsFirst}
 use Rattle.node_laws.proofs.JointGateways.{gateway-stands, all-by-gateway}
 use Rattle.node_laws.specs.Process.{Process, Collects, Killed, StandsAs, is_exact, covered}
-use Rattle.node_laws.specs.System.{System, new_system, AreStored, Call, Gave, Handed, Worked, Did, Stored, Saved, Died, Revived, GaveOut, HandedOut, DidOut, StoredOut, StoredBut, RevivedOut, handed_out, untaken, DoesIt, after_call, Calls, after_calls, AreStoredOf, AreExact, StayExact, AllStand, LivesRun}
+use Rattle.node_laws.specs.System.{System, new_system, AreStored, Call, Gave, Handed, Worked, Did, Stored, Saved, Resumed, Died, Revived, GaveOut, HandedOut, DidOut, StoredOut, StoredBut, RevivedOut, handed_out, untaken, DoesIt, after_call, Calls, after_calls, AreStoredOf, AreExact, StayExact, AllStand, LivesRun}
 use Rattle.node_laws.proofs.Moves.{Moves, stands-still, stored-still, lives-still}
-use Rattle.node_laws.proofs.Steps.{giving, hearing, working, acting, storing, telling, dying, reviving}
+use Rattle.node_laws.proofs.Steps.{giving, hearing, working, acting, storing, telling, waking, dying, reviving}
 use Rattle.node_laws.proofs.Losses.{loss-is-dropped}
 use Rattle.node_laws.proofs.Untaken.{goes-fewer, goes-taken-out, dealing, handing}
 use Rattle.node_laws.proofs.Gateways.{Ahead, PutsMore, ahead-none, ahead-still, ahead-acts, out-more, stands-as}
@@ -236,6 +236,8 @@ call-goes f len n s c (Stored p bytes) h m exact =
     (at-itself p (λ b. P (if b then bytes else s.stored p)) (storing c p bytes (s.lives p) (h.lives p m.0) (s.stored p) (s.processes p) m.1 (h.processes p m.0) (h.stored p m.0)))
 call-goes f len n s c (Saved p new) h m exact =
     process-acts (handlers_of f len) n s c h p new m.0 (telling c p (s.stored p) (s.lives p) (h.lives p m.0) (s.processes p) new m.1 (h.processes p m.0) (h.stored p m.0))
+call-goes f len n s c (Resumed p limits new) h m exact =
+    process-acts (handlers_of f len) n s c h p new m.0 (waking c p (s.stored p) (s.lives p) (h.lives p m.0) limits (s.processes p) new m.1 (h.processes p m.0) (h.stored p m.0))
 call-goes f len n s c (Died p) h m exact = process-acts (handlers_of f len) n s c h p Killed m (dying c p (s.stored p) (s.lives p) (s.processes p) (h.lives p m) (h.processes p m) (h.stored p m))
 call-goes f len n s c (Revived p life new) h m exact =
     let P : ℕ → Type 0 = λ l. Moves p (Collects new) (s.stored p) l c in

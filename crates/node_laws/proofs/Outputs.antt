@@ -24,7 +24,7 @@ use Rattle.node.specs.Stands.{Each, InOrderFrom}
 use Rattle.node.proofs.Lists.{all-more, count-append}
 use Rattle.node.proofs.Numbers.{InOrderFrom-push}
 use Rattle.recovery.proofs.Lists.{each-append}
-use Rattle.node_laws.specs.System.{System, new_system, Call, Gave, Handed, Worked, Did, Stored, Saved, Died, Revived, GaveOut, HandedOut, DidOut, StoredOut, StoredBut, RevivedOut, handed_out, untaken, DoesIt, after_call, Calls, after_calls}
+use Rattle.node_laws.specs.System.{System, new_system, Call, Gave, Handed, Worked, Did, Stored, Saved, Resumed, Died, Revived, GaveOut, HandedOut, DidOut, StoredOut, StoredBut, RevivedOut, handed_out, untaken, DoesIt, after_call, Calls, after_calls}
 use Rattle.node_laws.specs.Durable.{outputs_of, Keep}
 use Rattle.node_laws.specs.Outputs.{LivesOn, OneLife, IsOut, AllOut, LeavesNoGap, AreBehind, SayTheSame, OutputsInOrder, OutputsWithoutGap, OutputsStayOut, OutputsAgree}
 use Rattle.node_laws.proofs.Back.{after-append, calls-parts}
@@ -179,6 +179,7 @@ outputs-first s (Worked p a new) ks = refl
 outputs-first s (Did p new) ks = refl
 outputs-first s (Stored p bytes) ks = refl
 outputs-first s (Saved p new) ks = refl
+outputs-first s (Resumed p limits new) ks = refl
 outputs-first s (Died p) ks = refl
 outputs-first s (Revived p life new) ks = refl
 outputs-first s (GaveOut x new) ks = refl
@@ -319,6 +320,7 @@ module _ (c d : ℕ → ℕ) (s : System) (a : UpTo c d s) where
   turns f n (Did p new) m = rests (Did p new) (record { gateway = a.gateway; durable = a.durable; shadow = a.shadow; leads = a.leads }) refl
   turns f n (Stored p bytes) m = rests (Stored p bytes) (record { gateway = a.gateway; durable = a.durable; shadow = a.shadow; leads = a.leads }) refl
   turns f n (Saved p new) m = rests (Saved p new) (record { gateway = a.gateway; durable = a.durable; shadow = a.shadow; leads = a.leads }) refl
+  turns f n (Resumed p limits new) m = rests (Resumed p limits new) (record { gateway = a.gateway; durable = a.durable; shadow = a.shadow; leads = a.leads }) refl
   turns f n (Died p) m = rests (Died p) (record { gateway = a.gateway; durable = a.durable; shadow = a.shadow; leads = a.leads }) refl
   turns f n (Revived p life new) m = rests (Revived p life new) (record { gateway = a.gateway; durable = a.durable; shadow = a.shadow; leads = a.leads }) refl
   turns f n (GaveOut x new) m = gives-out x new m.1.0

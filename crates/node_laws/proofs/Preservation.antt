@@ -24,7 +24,7 @@ use Rattle.recovery.proofs.Preservation.{each-drop}
 use Rattle.recovery.proofs.Lists.{each-append}
 use Rattle.node_laws.specs.Together.{IsFirst}
 use Rattle.node_laws.specs.Process.{Process, Up, Gives, WaitsFor, covered}
-use Rattle.node_laws.specs.System.{System, new_system, Call, Gave, Handed, Worked, Did, Stored, Saved, Died, Revived, GaveOut, HandedOut, DidOut, StoredOut, StoredBut, RevivedOut, handed_out, untaken, DoesIt, after_call, Calls, after_calls}
+use Rattle.node_laws.specs.System.{System, new_system, Call, Gave, Handed, Worked, Did, Stored, Saved, Resumed, Died, Revived, GaveOut, HandedOut, DidOut, StoredOut, StoredBut, RevivedOut, handed_out, untaken, DoesIt, after_call, Calls, after_calls}
 use Rattle.node_laws.specs.Durable.{ReplaysWhole, ReplayWhole, KeepsDurable, StaysDurable, HasAfter, IsSentBy, outputs_of, Knows, DurableKeep}
 use Rattle.node_laws.proofs.Taken.{IsFair, fair-more, fair-of}
 use Rattle.node_laws.proofs.HeldNode.{grown}
@@ -229,6 +229,7 @@ module _ (f : Answering) (len : ℕ → ℕ) (n : ℕ) (D : ℕ → Bool) (prope
   goes H s (Did q new) a m v w = stays H s (Did q new) refl a m v w (λ p l. tt) a.given a.gateway a.durable a.taken (λ ks G b o. o)
   goes H s (Stored q bytes) a m v w = stores H s q bytes a m.0 m.1
   goes H s (Saved q new) a m v w = stays H s (Saved q new) refl a m v w (λ p l. tt) a.given a.gateway a.durable a.taken (λ ks G b o. o)
+  goes H s (Resumed q limits new) a m v w = stays H s (Resumed q limits new) refl a m v w (λ p l. tt) a.given a.gateway a.durable a.taken (λ ks G b o. o)
   goes H s (Died q) a m v w = stays H s (Died q) refl a m v w (λ p l. tt) a.given a.gateway a.durable a.taken (λ ks G b o. o)
   goes H s (Revived q life new) a m v w = stays H s (Revived q life new) refl a m v w (λ p l. tt) a.given a.gateway a.durable a.taken (λ ks G b o. o)
   goes H s (GaveOut x new) a m v w =

@@ -15,16 +15,19 @@ use Rattle.packets.specs.Kept.{IsKept}
 use Rattle.packets.proofs.KeptLemmas.{one_kept}
 use Rattle.packets.specs.Says.{WasSaid}
 use Rattle.node.specs.declared.job.OpenJob.{OpenJob}
+use Rattle.node.specs.declared.limit.Limits.{Limits}
 use Rattle.node.specs.Node.{TheNode}
 use Rattle.node.specs.Calls.{handed, did_work}
 use Rattle.node.specs.Transmission.{ticked}
 use Rattle.node.specs.Checkpoints.{froze}
 use Rattle.node.specs.Kept.{kept_of, Covers, IsKeptOf}
+use Rattle.node.specs.Suspension.{woken}
 use Rattle.node.specs.Stands.{Each, Stands, GoesTo, PutOut, IsHanded, Handles, actor, phase_of, stage_of, job_of, payloads_to}
 use Rattle.node.specs.Runs.{Answer, Answering, handlers_of, state_from, sends_from}
 use Rattle.node.proofs.Steps.{owes-at, saves-at}
 use Rattle.node.proofs.Preservation.{kept-stays, resting-stands}
 use Rattle.node.proofs.Runs.{answers, state-more, sends-more}
+use Rattle.node.proofs.Suspensions.{woken-stands}
 use Rattle.recovery.specs.Collection.{TheCollecting}
 use Rattle.recovery.specs.Overlap.{is_loss}
 use Rattle.recovery.specs.Stands.{StandsCollecting, IsSaid, IsSent, Reopens}
@@ -35,7 +38,7 @@ use Rattle.recovery.specs.StandsAtReplay as replaying
 use Rattle.recovery.proofs.Acts.{goes-self, goes-one}
 use Rattle.recovery.proofs.Posts.{replayed-out}
 use Rattle.recovery.specs.RestorationStands.{StandsRestoring}
-use Rattle.node_laws.specs.Process.{Process, Up, Covered, Collects, Replays, Replayed, Restores, Killed, StandsAs, is_exact, Gives, Hears, Works, Acts, WaitsFor, covered, IsTold, IsKilled, ComesFrom, IsAnswerAgain}
+use Rattle.node_laws.specs.Process.{Process, Up, Covered, Collects, Replays, Replayed, Restores, Killed, StandsAs, is_exact, Gives, Hears, Works, Acts, WaitsFor, covered, IsTold, Wakes, IsKilled, ComesFrom, IsAnswerAgain}
 use Rattle.node_laws.specs.System.{AreStoredOf}
 use Rattle.node_laws.proofs.Moves.{Moves, IsPlain, moves-own, moves-none}
 use Rattle.node_laws.proofs.Losses.{loss-is-dropped}
@@ -218,6 +221,18 @@ module _ (c : Cluster) (p : ℕ) (bytes : List ℕ) (life : ℕ) (low : c.stored
   telling (Replayed n) new g s are = absurd g
   telling (Restores n) new g s are = absurd g
   telling Killed new g s are = absurd g
+
+  -- it was suspended, and is resumed
+  pub waking : (limits : Limits) (old new : Process) → Wakes limits old new → StandsAs old c p → AreStoredOf bytes old c p → Goes new
+  waking limits (Up n) new g s are =
+      let to : Process = Up (woken limits n) in
+      becomes p to new bytes life c (g.1.1.0 ∙ ap Up g.1.1.1) (moves-none p to bytes life c (woken-stands n limits c p g.0 s) are low)
+  waking limits (Covered n) new g s are = absurd g
+  waking limits (Collects n) new g s are = absurd g
+  waking limits (Replays n) new g s are = absurd g
+  waking limits (Replayed n) new g s are = absurd g
+  waking limits (Restores n) new g s are = absurd g
+  waking limits Killed new g s are = absurd g
 
 -- it is killed
 killed : (c : Cluster) (p : ℕ) (bytes : List ℕ) (life : ℕ) (k : Kept) → c.stored p ≤ life → IsNode c p → c.stage p ≢ Dead → IsKept k bytes → IsKeptOf k c p → Moves p Killed bytes life c

@@ -19,7 +19,7 @@ use Rattle.stores.specs.declared.change.Output.{Output}
 use Rattle.node_laws.specs.Together.{IsFirst}
 use Rattle.node_laws.specs.Back.{length_of}
 use Rattle.node_laws.specs.Process.{Process, Up, Replays, Replayed}
-use Rattle.node_laws.specs.System.{System, new_system, AreStored, Call, Gave, Did, Revived, DidOut, handed_out, Calls, after_call}
+use Rattle.node_laws.specs.System.{System, new_system, AreStored, Call, Gave, Did, Resumed, Revived, DidOut, handed_out, Calls, after_call}
 use Rattle.node_laws.specs.System.{after_calls}
 
 -- ---- what is stored
@@ -82,9 +82,10 @@ abbrev pub ReplayWhole : System → List Call → Type 0
 ReplayWhole s [] = Unit {0}
 ReplayWhole s (k ∷ ks) = ReplaysWhole s k × ReplayWhole (after_call s k) ks
 
--- if p comes back by this call, it comes back as durable
+-- if p comes back or is resumed by this call, it is durable then
 abbrev pub KeepsDurable : ℕ → System → Call → Type 0
 KeepsDurable p s (Revived q life new) = p ≡ q → new.own.limits.durable ≡ true
+KeepsDurable p s (Resumed q limits new) = p ≡ q → limits.durable ≡ true
 KeepsDurable p s call = Unit {0}
 
 -- so by each of these calls

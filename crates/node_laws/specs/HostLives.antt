@@ -20,7 +20,7 @@ use Rattle.node_laws.specs.Outputs.{NoGap, GoOn, AreBehind, SayTheSame}
 use Rattle.process.specs.Process.{TheProcess}
 use Rattle.node_laws.specs.HostProcess.{as_process}
 use Rattle.node_laws.specs.HostReplies.{answering}
-use Rattle.node_laws.specs.HostSystem.{System, Opens, new_system, HostCall, Gave, GaveBytes, Died, Revived, Outside, as_lives, AreCalls}
+use Rattle.node_laws.specs.HostSystem.{System, Opens, new_system, HostCall, Gave, GaveBytes, Resumed, Died, Revived, Outside, as_lives, AreCalls}
 use Rattle.node_laws.specs.HostSystem.{after_call, after_calls}
 
 -- the first n processes are the same in both systems, and so are what is stored of them, their incarnations, the gateway and the packets
@@ -65,7 +65,7 @@ abbrev pub StayExact : ℕ → System → List HostCall → Type 0
 StayExact n s [] = Unit {0}
 StayExact n s (k ∷ ks) = called.AreExact n (as_lives (after_call s k)) × StayExact n (after_call s k) ks
 
--- a process is killed only while all others are up
+-- a process is killed only while all others are up; one that was suspended is up
 abbrev pub FailsAlone : ℕ → System → HostCall → Type 0
 FailsAlone n s (Died p) = (q : ℕ) → IsFirst n q → q ≢ p → is_up (as_process (s.processes q)) ≡ true
 FailsAlone n s call = Unit {0}
@@ -75,9 +75,10 @@ abbrev pub OneAtATime : ℕ → System → List HostCall → Type 0
 OneAtATime n s [] = Unit {0}
 OneAtATime n s (k ∷ ks) = FailsAlone n s k × OneAtATime n (after_call s k) ks
 
--- if p comes back by this call, it comes back as durable
+-- if p comes back or is resumed by this call, it is durable then
 abbrev pub KeepsDurable : ℕ → HostCall → Type 0
 KeepsDurable p (Revived q limits life new) = p ≡ q → limits.durable ≡ true
+KeepsDurable p (Resumed q limits new) = p ≡ q → limits.durable ≡ true
 KeepsDurable p call = Unit {0}
 
 -- so by each of these calls

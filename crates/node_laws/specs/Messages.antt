@@ -1,5 +1,5 @@
--- A worked list of calls with messages: the only process of a cluster receives three, keeps a checkpoint after the first, is killed when
--- two are acknowledged, and comes back with all, of which it replays two
+-- A worked list of calls with messages: the only process of a cluster receives three. After the first it keeps a checkpoint, and is suspended
+-- and resumed. It is killed when two are acknowledged, and comes back with all, of which it replays two
 use Rattle.std.specs.Prelude.{◌≡◌, ℕ, List, [], ◌∷◌, Some, true, false}
 use Rattle.packets.specs.declared.packet.Body.TheVariants.{Delivery, Number, Acknowledgement, Saved, Ask, Told, Resume, Restored}
 use Rattle.packets.specs.declared.packet.NodePacket.{NodePacket}
@@ -24,7 +24,7 @@ use Rattle.recovery.specs.Restoration as restoring
 use Rattle.gateway.specs.Gateway.{TheGateway, new_gateway, puts_in}
 use Rattle.gateway.specs.Calls as gateways
 use Rattle.node_laws.specs.Process.{Up, Collects, Replays, Replayed, Restores}
-use Rattle.node_laws.specs.System.{System, new_system, AreStored, Call, Gave, Handed, Worked, Did, Stored, Saved as WasSaved, Died}
+use Rattle.node_laws.specs.System.{System, new_system, AreStored, Call, Gave, Handed, Worked, Did, Stored, Saved as WasSaved, Resumed, Died}
 use Rattle.node_laws.specs.System.{Revived, GaveOut, HandedOut, DidOut, StoredOut, Calls, after_calls, StayExact}
 use Rattle.node_laws.specs.Alone.{OneAtATime}
 use Rattle.node_laws.specs.Back.{length_of}
@@ -234,6 +234,7 @@ before bytes =
     ∷ Stored 1 bytes
     ∷ WasSaved 1 (Up n5)
     ∷ Gave 1 covers (Up (quiet n5))
+    ∷ Resumed 1 usual (Up (quiet n5))
     ∷ DidOut g3
     ∷ DidOut g4
     ∷ StoredOut

@@ -25,7 +25,7 @@ use Rattle.gateway.specs.Stands as gateways
 use Rattle.gateway.specs.Since.{revived, StandsFor}
 use Rattle.node_laws.specs.Together.{IsFirst}
 use Rattle.node_laws.specs.Process.{Process, Up, Collects, Killed, StandsAs, IsStoredOf, is_exact, Gives, Hears, Works, Acts, WaitsFor}
-use Rattle.node_laws.specs.Process.{covered, IsTold, IsKilled, ComesFrom}
+use Rattle.node_laws.specs.Process.{covered, IsTold, Wakes, IsKilled, ComesFrom}
 
 -- the processes by number; for each the bytes that are stored, and the greatest incarnation; the gateway, and the gateway that its store
 -- gives; the outputs that it gave without having stored so; and the packets that were given
@@ -69,6 +69,8 @@ pub data Call : Type 0 where
   Stored : ℕ → List ℕ → Call
   -- a process was told that its checkpoint is durable
   Saved : ℕ → Process → Call
+  -- a process that was suspended is resumed, with these limits. It makes no call between the two, so both are one call
+  Resumed : ℕ → Limits → Process → Call
   -- a process was killed
   Died : ℕ → Call
   -- a process came back in this incarnation
@@ -112,6 +114,7 @@ DoesIt f n s (Worked p a new) = IsFirst n p × Works f p a (s.processes p) new
 DoesIt f n s (Did p new) = IsFirst n p × Acts (s.processes p) new
 DoesIt f n s (Stored p bytes) = IsFirst n p × WaitsFor bytes (s.processes p)
 DoesIt f n s (Saved p new) = IsFirst n p × IsTold (s.processes p) new
+DoesIt f n s (Resumed p limits new) = IsFirst n p × Wakes limits (s.processes p) new
 DoesIt f n s (Died p) = IsFirst n p
 DoesIt f n s (Revived p life new) = IsFirst n p × (IsKilled (s.processes p) × ((s.lives p < life) × ComesFrom (s.stored p) life new))
 DoesIt f n s (GaveOut x new) = (s.durable.store ≡ (untaken s.taken s.gateway).store) × gateways.Takes (Some x) s.gateway new
@@ -129,6 +132,7 @@ after_call s (Worked p a new) = record s { processes = put s.processes p new }
 after_call s (Did p new) = record s { processes = put s.processes p new }
 after_call s (Stored p bytes) = record s { processes = put s.processes p (covered (s.processes p)); stored = put s.stored p bytes }
 after_call s (Saved p new) = record s { processes = put s.processes p new }
+after_call s (Resumed p limits new) = record s { processes = put s.processes p new }
 after_call s (Died p) = record s { processes = put s.processes p Killed }
 after_call s (Revived p life new) = record s { processes = put s.processes p (Collects new); lives = put s.lives p life }
 after_call s (GaveOut x new) = record s { gateway = new; given = x ∷ s.given }
