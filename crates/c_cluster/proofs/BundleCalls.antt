@@ -18,8 +18,8 @@ use Rattle.node_laws.proofs.Sound.{raised-here}
 use Rattle.c_cluster.specs.declared.bundle.BundleTally.{BundleTally}
 use Rattle.c_cluster.specs.declared.nodes.fault.NodeFault.{NodeFault}
 use Rattle.c_cluster.specs.declared.nodes.fault.NodeFault.TheVariants.{Memory, Handle, Image, Room, Absent, Bytes, Unready, Limit, Left}
-use Rattle.c_cluster.specs.Bundle.{IsBundle, InOrder, none_counted}
-use Rattle.c_cluster.specs.Nodes.Bundles.{Counting, Serves, IsToWork, GivesTo, TakesAll}
+use Rattle.c_cluster.specs.Bundle.{IsBundle, InOrder, none_counted, Counting, GivesTo, GivesAll}
+use Rattle.c_cluster.specs.Nodes.Bundles.{Serves, IsToWork, Leaves}
 use Rattle.c_cluster.specs.Nodes.Calls.{IsUnreceived, HasNotWorked}
 use Rattle.c_cluster.specs.Nodes.HostCalls.{IsToServe, IsToTake, bytes_taken, AreMade, WereGiven, AreGiven}
 
@@ -90,7 +90,7 @@ module _ (images : ℕ → AnyImage) (n p : ℕ) (first : IsFirst n p) (w : Chec
   works-on s old new mid runs (inr h) rest = rest s old refl runs (unworked old mid h.0 h.1)
 
   -- it was handed over, or wasn't, and then so on
-  serves-one : (bytes : List ℕ) (s : System) (old new : TheProcess) (a mid : Counting) → Runs-as s old → a.0 ≡ Some old → ((x : NodePacket) → IsPacket x bytes → IsOne x s.given)
+  serves-one : (bytes : List ℕ) (s : System) (old new : TheProcess) (a mid : Counting TheProcess) → Runs-as s old → a.0 ≡ Some old → ((x : NodePacket) → IsPacket x bytes → IsOne x s.given)
       → ((t : System) (now : TheProcess) → t.given ≡ s.given → Runs-as t now → mid.0 ≡ Some now → Made t new) → Serves bytes a mid → Made s new
   serves-one bytes s old new a mid runs e given rest (inl h) =
       let r = h.1 in
@@ -106,14 +106,14 @@ module _ (images : ℕ → AnyImage) (n p : ℕ) (first : IsFirst n p) (w : Chec
   serves-one bytes s old new a mid runs e given rest (inr h) =
       rest s old refl runs (unreceived bytes old mid.0 h.0 (subst (λ z. IsUnreceived bytes z mid.0 h.0) e h.1))
 
-  serves : (packets : List (List ℕ)) (s : System) (old new : TheProcess) (a b : Counting) → Runs-as s old → a.0 ≡ Some old → b.0 ≡ Some new → Given s.given packets → InOrder Serves packets a b → Made s new
-  serves [] s old new a b runs e f given done = ([], none-made s old new (IsToServe p) runs (held old new (sym e ∙ ap (λ (z : Counting). z.0) (sym done) ∙ f)))
+  serves : (packets : List (List ℕ)) (s : System) (old new : TheProcess) (a b : Counting TheProcess) → Runs-as s old → a.0 ≡ Some old → b.0 ≡ Some new → Given s.given packets → InOrder Serves packets a b → Made s new
+  serves [] s old new a b runs e f given done = ([], none-made s old new (IsToServe p) runs (held old new (sym e ∙ ap (λ (z : Counting TheProcess). z.0) (sym done) ∙ f)))
   serves (bytes ∷ packets) s old new a b runs e f given done =
       serves-one bytes s old new a done.0 runs e given.0 (λ t now g r m. serves packets t now new done.0 b r m f (subst (λ z. Given z packets) (sym g) given.1) done.2) done.1
 
   -- ---- packets are taken
 
-  takes : (to : ℕ) (packets : List (List ℕ)) (s : System) (old new : TheProcess) → Runs-as s old → InOrder (GivesTo to) packets old new
+  takes : (to : ℕ) (packets : List (List ℕ)) (s : System) (old new : TheProcess) → Runs-as s old → InOrder (GivesTo Leaves to) packets old new
       → (calls : List HostCall) × (bytes_taken calls ≡ packets) × (length calls ≡ length packets) × AreMade images n s p w new (IsToTake p to) calls
   takes to [] s old new runs done = ([], refl, refl, none-made s old new (IsToTake p to) runs done)
   takes to (bytes ∷ packets) s old new runs done =
@@ -128,7 +128,7 @@ module _ (images : ℕ → AnyImage) (n p : ℕ) (first : IsFirst n p) (w : Chec
         one-more s new (IsToTake p to) k more.0 (first, (h.1, alive (λ z. GivesBytes bytes z mid) s old runs (x, h.1, h.3))) (refl, h.2) more.3,
       )
 
-  pub all-taken : (out out' : List ℕ) (size to count : ℕ) (s : System) (old new : TheProcess) → Runs-as s old → TakesAll out out' size to count old new → AreGiven images n s p w out out' size to count new
+  pub all-taken : (out out' : List ℕ) (size to count : ℕ) (s : System) (old new : TheProcess) → Runs-as s old → GivesAll Leaves out out' size to count old new → AreGiven images n s p w out out' size to count new
   all-taken out out' size to count s old new runs t =
       let made = takes to t.packets s old new runs t.given in
       record {
