@@ -58,11 +58,11 @@ held-back images n s p w old new Left h b = absurd b
 pub exports-are-calls : ExportsAreCalls
 exports-are-calls =
     record {
-      opened = λ file me n l new o.
+      opened = λ file me n l state new o.
           let is : o.process ≡ new = held new o.process (o.is) in
-          let opened : IsOpened o.image (limits_of l) me n new = subst (λ p. IsOpened o.image (limits_of l) me n p) is o.opened in
+          let opened : IsOpened o.image (limits_of l) me n (state o.image) new = subst (λ p. IsOpened o.image (limits_of l) me n (state o.image) p) is o.opened in
           let image : o.image ≡ new.image = sym opened.image_is in
-          (subst (IsImageIn file) image o.image_is, subst (λ i. IsOpened i (limits_of l) me n new) image opened);
+          (subst (IsImageIn file) image o.image_is, subst (λ i. IsOpened i (limits_of l) me n (state i) new) image opened);
       revived = λ images n s p file life l new first dead above is r.
           let e : r.process ≡ new = held new r.process (r.is) in
           (first, (dead, (above, (r.image, (same-image file r.image (images p) r.image_is is, subst (λ q. IsRevived r.image (limits_of l) (s.stored p) life q) e r.revived)))));

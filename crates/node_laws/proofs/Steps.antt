@@ -1,6 +1,6 @@
 -- What each call of a process makes of the cluster
 use Rattle.std.proofs.Common.{◌≡◌, ◌≢◌, inl, inr, ℕ, suc, ◌+◌, ◌≤◌, ◌<◌, List, [], ◌∷◌, ◌++◌, take, refl, sym, ap, ◌∙◌, subst, arith, Bool, true, false}
-use Rattle.std.specs.Prelude.{Some, Option, None, replicate, ◌⊎◌, if◌then◌else◌}
+use Rattle.std.specs.Prelude.{Some, Option, None, ◌⊎◌, if◌then◌else◌}
 use Rattle.theorems.proofs.Changes.{at-itself}
 use Rattle.world.specs.declared.message.Message.{Message}
 use Rattle.world.specs.Handlers.{Handlers}
@@ -67,15 +67,15 @@ work-rests c p n a h e s =
 
 -- ---- the handler's answer to a message that is replayed
 
-answers-again : (f : Answering) (len : ℕ → ℕ) (n : TheReplaying) (c : Cluster) (p : ℕ) (a : Answer) → c.handlers ≡ handlers_of f len → StandsReplaying n c p → IsAnswerAgain f p n a → replaying.Handles a.state a.given n c
-answers-again f len n c p a handlers s is j next =
+answers-again : (f : Answering) (states : ℕ → List ℕ) (n : TheReplaying) (c : Cluster) (p : ℕ) (a : Answer) → c.handlers ≡ handlers_of f states → StandsReplaying n c p → IsAnswerAgain f p n a → replaying.Handles a.state a.given n c
+answers-again f states n c p a handlers s is j next =
     let h : List Message = take (n.own.base + n.done) (c.history p) in
-    let here : state_from f p (replicate (len p) 0) h ≡ n.own.state = ap (λ (g : Handlers). g.state p h) (sym handlers) ∙ s.own.state in
-    let answer : f p (state_from f p (replicate (len p) 0) h) (job_of j) ≡ a = ap (λ z. f p z (job_of j)) here ∙ sym (is j next) in
+    let here : state_from f p (states p) h ≡ n.own.state = ap (λ (g : Handlers). g.state p h) (sym handlers) ∙ s.own.state in
+    let answer : f p (state_from f p (states p) h) (job_of j) ≡ a = ap (λ z. f p z (job_of j)) here ∙ sym (is j next) in
     subst (λ k. AnswersAfter c.handlers k (take (n.own.base + n.done) (c.history k)) (job_of j) a.state a.given) (sym s.own.me) (record {
-      state_is = ap (λ (g : Handlers). g.state p (h ++ job_of j ∷ [])) handlers ∙ state-more f p (replicate (len p) 0) h (job_of j) ∙ ap (λ (z : Answer). z.state) answer;
-      sends_are = λ d. ap (λ (g : Handlers). g.sends p (h ++ job_of j ∷ []) d) handlers ∙ sends-more f p (replicate (len p) 0) h (job_of j) d
-          ∙ ap (λ (z : Answer). sends_from f p (replicate (len p) 0) h d ++ payloads_to d z.given) answer ∙ ap (λ (g : Handlers). g.sends p h d ++ payloads_to d a.given) (sym handlers);
+      state_is = ap (λ (g : Handlers). g.state p (h ++ job_of j ∷ [])) handlers ∙ state-more f p (states p) h (job_of j) ∙ ap (λ (z : Answer). z.state) answer;
+      sends_are = λ d. ap (λ (g : Handlers). g.sends p (h ++ job_of j ∷ []) d) handlers ∙ sends-more f p (states p) h (job_of j) d
+          ∙ ap (λ (z : Answer). sends_from f p (states p) h d ++ payloads_to d z.given) answer ∙ ap (λ (g : Handlers). g.sends p h d ++ payloads_to d a.given) (sym handlers);
     })
 
 -- ---- acts before others
@@ -152,19 +152,19 @@ module _ (c : Cluster) (p : ℕ) (bytes : List ℕ) (life : ℕ) (low : c.stored
   hearing x Killed new g exact said s are = absurd g
 
   -- its handler answered
-  pub working : (f : Answering) (len : ℕ → ℕ) (a : Answer) (old new : Process) → Works f p a old new → c.handlers ≡ handlers_of f len → worlds.Holds c → StandsAs old c p → AreStoredOf bytes old c p → Goes new
-  working f len a (Up n) new g handlers h s are =
-      becomes p (Up g.1.0) new bytes life c g.1.1.0 (own (Up g.1.0) are.0 (λ k d z. z) are.1 (owes-at (Handles a.state a.given n) n g.1.0 c p g.1.1.1.1 s (answers f len n c p a handlers s g.0)))
-  working f len a (Covered n) new g handlers h s are =
+  pub working : (f : Answering) (states : ℕ → List ℕ) (a : Answer) (old new : Process) → Works f p a old new → c.handlers ≡ handlers_of f states → worlds.Holds c → StandsAs old c p → AreStoredOf bytes old c p → Goes new
+  working f states a (Up n) new g handlers h s are =
+      becomes p (Up g.1.0) new bytes life c g.1.1.0 (own (Up g.1.0) are.0 (λ k d z. z) are.1 (owes-at (Handles a.state a.given n) n g.1.0 c p g.1.1.1.1 s (answers f states n c p a handlers s g.0)))
+  working f states a (Covered n) new g handlers h s are =
       becomes p (Covered n) new bytes life c (g.1.0 ∙ ap Covered (g.1.1 ∙ work-rests c p n a h s.0 s.1)) (moves-none p (Covered n) bytes life c s are low)
-  working f len a (Replays n) new g handlers h s are =
+  working f states a (Replays n) new g handlers h s are =
       let P : ℕ → Type 0 = λ q. GoesTo q (λ d. StandsReplaying g.1.0 d q) c in
       becomes p (Replays g.1.0) new bytes life c g.1.1.0
-      (own (Replays g.1.0) are.0 (λ k d z. z) are.1 (subst P s.own.me (g.1.1.1.1 c (subst (StandsReplaying n c) (sym s.own.me) s) (answers-again f len n c p a handlers s g.0))))
-  working f len a (Collects n) new g handlers h s are = absurd g
-  working f len a (Replayed n) new g handlers h s are = absurd g
-  working f len a (Restores n) new g handlers h s are = absurd g
-  working f len a Killed new g handlers h s are = absurd g
+      (own (Replays g.1.0) are.0 (λ k d z. z) are.1 (subst P s.own.me (g.1.1.1.1 c (subst (StandsReplaying n c) (sym s.own.me) s) (answers-again f states n c p a handlers s g.0))))
+  working f states a (Collects n) new g handlers h s are = absurd g
+  working f states a (Replayed n) new g handlers h s are = absurd g
+  working f states a (Restores n) new g handlers h s are = absurd g
+  working f states a Killed new g handlers h s are = absurd g
 
   -- it acts, or goes on to its next stage
   pub acting : (old new : Process) → Acts old new → worlds.Holds c → StandsAs old c p → AreStoredOf bytes old c p → Goes new

@@ -8,7 +8,7 @@ use Rattle.helpers.specs.declared.effects.Who.{Who}
 use Rattle.images.specs.declared.any_image.AnyImage.{AnyImage}
 use Rattle.images.specs.declared.file_form.FileForm.{FileForm}
 use Rattle.images.specs.declared.file_form.FileForm.TheVariants.{Sbi1}
-use Rattle.images.specs.AnyImage.{state_of, code_of}
+use Rattle.images.specs.AnyImage.{code_of}
 use Rattle.interp.specs.HandlerCall.{Handled, handled_by}
 use Rattle.interp.specs.Configuration.{entry}
 use Rattle.handlers.specs.Answer.{answer_by, run_of, shown}
@@ -167,25 +167,26 @@ works image c d e k next is takes passes =
 -- ---- all of it
 
 module _ (image : AnyImage) (is : IsCopying image) (stored bytes : List ℕ) (kept-0 : IsKept (kept_of n0) stored) (kept-4 : IsKept (kept_of n4) bytes) where
-  one-process : IsOpened image usual 1 1 (process image (Up n0))
+  one-process : IsOpened image usual 1 1 (0 ∷ []) (process image (Up n0))
   one-process =
       record {
+        long = sym is.is_image.len_is;
         image_is = refl;
-        lifecycle_is = ap (λ (l : ℕ). Up (new_node usual 1 1 l)) (sym is.is_image.len_is);
-        stands = λ f b. stands-opened usual 1 1 (state_of image) f (omega arith) (omega arith) b;
+        lifecycle_is = refl;
+        stands = λ f b. stands-opened usual 1 1 (0 ∷ []) f (omega arith) (omega arith) b;
       }
 
-  opens : Opens 1 (λ _. image) (λ _. usual) (λ _. process image (Up n0)) (λ _. stored)
+  opens : Opens 1 (λ _. image) (λ _. usual) (λ _. process image (Up n0)) (λ _. 0 ∷ []) (λ _. stored)
   opens =
       record {
-        opened = λ p inside. let one : 1 ≡ p = omega (arith, inside.0, inside.1) in let P : ℕ → Type 0 = λ q. IsOpened image usual q 1 (process image (Up n0)) in subst P one one-process;
-        stored = λ p inside. (kept-0, kept-covers n0 (within-begun usual 1 1 1 usual-allowed (omega arith) (omega arith) (omega arith)));
+        opened = λ p inside. let one : 1 ≡ p = omega (arith, inside.0, inside.1) in let P : ℕ → Type 0 = λ q. IsOpened image usual q 1 (0 ∷ []) (process image (Up n0)) in subst P one one-process;
+        stored = λ p inside. (kept-0, kept-covers n0 (within-begun usual 1 1 (0 ∷ []) usual-allowed (omega arith) (omega arith) (omega arith)));
       }
 
   lives : lived.IsWorked (λ _. stored) bytes
   lives =
-      let at-opening : called.AreStored 1 (λ _. 1) (λ _. stored) =
-      λ p inside. let one : 1 ≡ p = omega (arith, inside.0, inside.1) in let P : ℕ → Type 0 = λ q. IsKept (kept_of (new_node usual q 1 1)) stored in subst P one kept-0 in
+      let at-opening : called.AreStored 1 (λ _. 0 ∷ []) (λ _. stored) =
+      λ p inside. let one : 1 ≡ p = omega (arith, inside.0, inside.1) in let P : ℕ → Type 0 = λ q. IsKept (kept_of (new_node usual q 1 (0 ∷ []))) stored in subst P one kept-0 in
       replays-two (λ _. stored) bytes at-opening kept-4
 
   resumed-5 : IsResumed image usual (suspended_bytes (quiet n5)) (process image (Up (quiet n5)))
@@ -240,7 +241,7 @@ worked image is stored bytes kept-0 kept-4 =
       opens = begins;
       calls = all;
       alone = lone;
-      exact = hosted-alone (λ _. image) 1 PAGE TICK (λ _. usual) (λ _. process image (Up n0)) (λ _. stored) ks (omega arith) begins all lone;
+      exact = hosted-alone (λ _. image) 1 PAGE TICK (λ _. usual) (λ _. process image (Up n0)) (λ _. 0 ∷ []) (λ _. stored) ks (omega arith) begins all lone;
       sleeps = refl;
       wakes = refl;
       was_up = refl;

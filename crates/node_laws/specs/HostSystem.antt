@@ -39,9 +39,10 @@ pub record System : Type 0 where
   pub taken : List Output
   pub given : List NodePacket
 
--- the system at the start: each process is opened, and its kept state stored; and the gateway
-pub record Opens (n : ℕ) (images : ℕ → AnyImage) (limits : ℕ → Limits) (processes : ℕ → TheProcess) (bytes : ℕ → List ℕ) : Type 0 where
-  pub opened : (p : ℕ) → IsFirst n p → IsOpened (images p) (limits p) p n (processes p)
+-- the system at the start: each process is opened with its opening state, and its kept state stored; and the gateway
+pub record Opens (n : ℕ) (images : ℕ → AnyImage) (limits : ℕ → Limits) (processes : ℕ → TheProcess)
+    (states bytes : ℕ → List ℕ) : Type 0 where
+  pub opened : (p : ℕ) → IsFirst n p → IsOpened (images p) (limits p) p n (states p) (processes p)
   pub stored : (p : ℕ) → IsFirst n p → Keeps (processes p).lifecycle (bytes p)
 
 -- n processes and the gateway, before their first call

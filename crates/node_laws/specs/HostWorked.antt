@@ -144,7 +144,7 @@ later image stored bytes k = after_calls (opened image stored) (before image byt
 -- exact. After fifteen calls it is suspended, and after one more it runs again as it was. When it is killed it has three messages, of which two are acknowledged without a gap. It collects, until a call after which it has
 -- two to replay. Then it is up in its second incarnation, with all three and the state that it had
 pub record IsWorked (image : AnyImage) (stored bytes : List ℕ) : Type 0 where
-  pub opens : Opens 1 (λ _. image) (λ _. usual) (λ _. process image (Up n0)) (λ _. stored)
+  pub opens : Opens 1 (λ _. image) (λ _. usual) (λ _. process image (Up n0)) (λ _. 0 ∷ []) (λ _. stored)
   pub calls : AreCalls (λ _. image) 1 (opened image stored) (before image bytes ++ behind image)
   pub alone : OneAtATime 1 (opened image stored) (before image bytes ++ behind image)
   pub exact : StayExact 1 (opened image stored) (before image bytes ++ behind image)

@@ -131,7 +131,7 @@ works k n = nodes.did_work (input k) [] n.working n
 
 -- the process at its opening
 abbrev pub n0 : TheNode
-n0 = new_node usual 1 1 1
+n0 = new_node usual 1 1 (0 ∷ [])
 
 -- the first message comes
 abbrev pub n1 : TheNode
@@ -279,7 +279,7 @@ behind =
 
 -- the process is opened, with these bytes of its opening
 abbrev pub opened : (ℕ → List ℕ) → System
-opened stored = new_system 1 (λ _. usual) (λ _. 1) stored PAGE TICK
+opened stored = new_system 1 (λ _. usual) (λ _. 0 ∷ []) stored PAGE TICK
 
 -- they are such calls, and it stays exact. When it is killed it has three messages, of which two are acknowledged without a gap; in the end
 -- it is up in its second incarnation, with these three and the state that it had
@@ -301,4 +301,4 @@ pub record IsWorked (stored : ℕ → List ℕ) (bytes : List ℕ) : Type 0 wher
 
 -- so it goes for all bytes of its opening and of its checkpoint
 abbrev pub ReplaysTwo : Type 0
-ReplaysTwo = (stored : ℕ → List ℕ) (bytes : List ℕ) → AreStored 1 (λ _. 1) stored → IsKept (kept_of n4) bytes → IsWorked stored bytes
+ReplaysTwo = (stored : ℕ → List ℕ) (bytes : List ℕ) → AreStored 1 (λ _. 0 ∷ []) stored → IsKept (kept_of n4) bytes → IsWorked stored bytes

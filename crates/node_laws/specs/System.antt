@@ -38,11 +38,11 @@ pub record System : Type 0 where
   pub taken : List Output
   pub given : List NodePacket
 
--- n new processes, each with its limits, and their gateway
-abbrev pub new_system : ℕ → (ℕ → Limits) → (ℕ → ℕ) → (ℕ → List ℕ) → ℕ → ℕ → System
-new_system n limits len bytes page tick =
+-- n new processes, each with its limits and its opening state, and their gateway
+abbrev pub new_system : ℕ → (ℕ → Limits) → (ℕ → List ℕ) → (ℕ → List ℕ) → ℕ → ℕ → System
+new_system n limits states bytes page tick =
     record {
-      processes = λ p. Up (new_node (limits p) p n (len p));
+      processes = λ p. Up (new_node (limits p) p n (states p));
       stored = bytes;
       lives = λ _. 1;
       gateway = new_gateway n page tick;
@@ -52,8 +52,8 @@ new_system n limits len bytes page tick =
     }
 
 -- before a process opens, its bytes are stored. They don't hold its limits
-abbrev pub AreStored : ℕ → (ℕ → ℕ) → (ℕ → List ℕ) → Type 0
-AreStored n len bytes = (p : ℕ) → IsFirst n p → IsKept (kept_of (new_node usual p n (len p))) (bytes p)
+abbrev pub AreStored : ℕ → (ℕ → List ℕ) → (ℕ → List ℕ) → Type 0
+AreStored n states bytes = (p : ℕ) → IsFirst n p → IsKept (kept_of (new_node usual p n (states p))) (bytes p)
 
 -- a call that isn't refused, and the process or the gateway after it; or something that happens to one of them
 pub data Call : Type 0 where
@@ -193,7 +193,7 @@ pub record IsRunOf (n : ℕ) (f : Handlers) (s : System) : Type 0 where
 -- calls of processes and the gateway in any order, with packets that come late, twice or never, and processes killed and brought back at
 -- any moment, are a run of a cluster, if each that is alive stays exact
 abbrev pub LivesRun : Type 0
-LivesRun = (f : Answering) (n page tick : ℕ) (limits : ℕ → Limits) (len : ℕ → ℕ) (bytes : ℕ → List ℕ) (calls : List Call) → n ≤ 15
-    → AreStored n len bytes → Calls f n (new_system n limits len bytes page tick) calls
-    → StayExact n (new_system n limits len bytes page tick) calls
-    → IsRunOf n (handlers_of f len) (after_calls (new_system n limits len bytes page tick) calls)
+LivesRun = (f : Answering) (n page tick : ℕ) (limits : ℕ → Limits) (states bytes : ℕ → List ℕ) (calls : List Call) → n ≤ 15
+    → AreStored n states bytes → Calls f n (new_system n limits states bytes page tick) calls
+    → StayExact n (new_system n limits states bytes page tick) calls
+    → IsRunOf n (handlers_of f states) (after_calls (new_system n limits states bytes page tick) calls)

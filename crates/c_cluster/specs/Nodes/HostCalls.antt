@@ -103,8 +103,9 @@ pub record AreGiven (images : ℕ
 -- a process of its file's image; a node that comes back or is resumed with the same file has the handler of that image, whatever its form.
 -- `receive_all` is `receive` and `work` with the packets of a bundle, and `take_all` is `take` for each of its packets
 pub record ExportsAreCalls : Type 0 where
-  pub opened : (file : List ℕ) (me n : ℕ) (l : NodeLimits) (new : TheProcess) → Opens file me n l None (Some new)
-      → IsImageIn file new.image × IsOpened new.image (limits_of l) me n new
+  pub opened : (file : List ℕ) (me n : ℕ) (l : NodeLimits) (state : AnyImage → List ℕ) (new : TheProcess)
+      → Opens file me n l state None (Some new)
+      → IsImageIn file new.image × IsOpened new.image (limits_of l) me n (state new.image) new
   pub revived : (images : ℕ → AnyImage) (n : ℕ) (s : System) (p : ℕ) (file : List ℕ) (life : ℕ) (l : NodeLimits) (new : TheProcess)
       → IsFirst n p → s.processes p ≡ Killed → s.lives p < life → IsImageIn file (images p)
       → Revives file (s.stored p) life l None (Some new) → DoesIt images n s (Revived p (limits_of l) life new)
