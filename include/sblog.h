@@ -615,6 +615,10 @@ SBLOG_NODE_ASSERT(offsetof(sblog_node, held) == 8, "place of held");
 uint32_t sblog_node_open(const uint8_t *image, size_t image_len, uint8_t me, uint8_t n, uint32_t page,
                          uint32_t tick, uint32_t numbers, uint32_t receipts, uint32_t durable,
                          sblog_node *node);
+/* The same with this opening state in place of zeros; 21, if it isn't as long as the image's. */
+uint32_t sblog_node_open_with(const uint8_t *image, size_t image_len, uint8_t me, uint8_t n, uint32_t page,
+                              uint32_t tick, uint32_t numbers, uint32_t receipts, uint32_t durable,
+                              const uint8_t *state, size_t state_len, sblog_node *node);
 /* From what was kept, in an incarnation that is higher than any before it. */
 uint32_t sblog_node_revive(const uint8_t *image, size_t image_len, const uint8_t *kept, size_t kept_len,
                            uint64_t incarnation, uint32_t page, uint32_t tick, uint32_t numbers,

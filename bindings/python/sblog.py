@@ -344,7 +344,7 @@ class Gateway(_Party):
 
 
 class Node(_Party):
-    """Process `me` of `n` in a cluster, which received nothing, by the image file of its handler.
+    """Process `me` of `n` in a cluster, which received nothing, by the image file of its handler, with this opening state or zeros.
 
     revive      one that comes back from what was kept, in an incarnation that is higher than any before
     work        runs the handler on the message that it received, or on the next one that is replayed; whether there was one
@@ -364,8 +364,9 @@ class Node(_Party):
 
     _error = NodeError
 
-    def __init__(self, image: bytes, me: int, n: int, limits: Limits = Limits()) -> None:
-        self._open("open", *_sent(image), _u8(me), _u8(n), *map(_u32, limits))
+    def __init__(self, image: bytes, me: int, n: int, limits: Limits = Limits(), state: bytes | None = None) -> None:
+        name, given = ("open", ()) if state is None else ("open_with", _sent(state))
+        self._open(name, *_sent(image), _u8(me), _u8(n), *map(_u32, limits), *given)
 
     @classmethod
     def revive(cls, image: bytes, kept: bytes, incarnation: int, limits: Limits = Limits()) -> Node:

@@ -194,6 +194,13 @@ class Handles(unittest.TestCase):
             node.done(job, record)
         self.assertEqual(caught.exception.code, 20)
 
+    def test_a_node_opens_with_a_state(self):
+        counter, five = (EXAMPLES / "node/counter.sbi").read_bytes(), (5).to_bytes(8, "little")
+        self.assertEqual(sblog.Node(counter, 1, 1, state=five).state(), five)
+        with self.assertRaises(sblog.NodeError) as caught:
+            sblog.Node(counter, 1, 1, state=five[1:])
+        self.assertEqual(caught.exception.code, 21)
+
 
 if __name__ == "__main__":
     unittest.main()

@@ -100,6 +100,17 @@ impl Node {
         Ok(Node(Held::opened(sblog_node_close, open)?))
     }
 
+    /// The same with this opening state in place of zeros. One of another length than the image's is refused as bytes, by fault 9.
+    pub fn open_with(image: &[u8], me: u8, n: u8, limits: Limits, state: &[u8]) -> Done<Node> {
+        let Limits { page, tick, numbers, receipts, is_durable } = limits;
+        let (at, len, durable, state, state_len) = (image.as_ptr(), image.len(), is_durable.into(), state.as_ptr(), state.len());
+        let open = |it, fault: &mut u32| unsafe {
+            *fault = 9;
+            sblog_node_open_with(at, len, me, n, page, tick, numbers, receipts, durable, state, state_len, it)
+        };
+        Ok(Node(Held::opened(sblog_node_close, open)?))
+    }
+
     /// Opens it from what was kept, in an incarnation that is higher than any before.
     pub fn revive(image: &[u8], kept: &[u8], incarnation: u64, limits: Limits) -> Done<Node> {
         let Limits { page, tick, numbers, receipts, is_durable } = limits;

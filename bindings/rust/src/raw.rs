@@ -77,6 +77,10 @@ unsafe extern "C" {
     pub fn sblog_node_open(
         image: In, image_len: usize, me: u8, n: u8, page: u32, tick: u32, numbers: u32, receipts: u32, durable: u32, node: At,
     ) -> u32;
+    pub fn sblog_node_open_with(
+        image: In, image_len: usize, me: u8, n: u8, page: u32, tick: u32, numbers: u32, receipts: u32, durable: u32, state: In,
+        state_len: usize, node: At,
+    ) -> u32;
     pub fn sblog_node_revive(
         image: In, image_len: usize, kept: In, kept_len: usize, incarnation: u64, page: u32, tick: u32, numbers: u32, receipts: u32,
         durable: u32, node: At, fault: Number,

@@ -104,6 +104,14 @@ fn a_host_makes_the_call_of_a_node() {
 }
 
 #[test]
+fn a_node_opens_with_a_state() {
+    let (counter, five) = (file("node/counter.sbi"), 5u64.to_le_bytes());
+    let open = |state: &[u8]| Node::open_with(&counter, 1, 1, Limits::default(), state);
+    assert_eq!(open(&five).unwrap().state().unwrap(), five);
+    assert_eq!(open(&five[1..]).unwrap_err(), NodeError::Bytes(9));
+}
+
+#[test]
 fn versions_are_the_same() {
     assert_eq!(version(), env!("CARGO_PKG_VERSION"));
 }

@@ -6,6 +6,8 @@ use Rattle.std.proofs.lemmas.Bool.{ne_eqb, false≢true}
 use Rattle.byteorder.specs.Endian.{little_bytes, little_number}
 use Rattle.byteorder.specs.Numbers.{little_number-reads_back, length-bytes_low_first}
 use Rattle.operations.specs.Bytes.{overwritten}
+use Rattle.packets.specs.declared.packet.NodePacket.{NodePacket}
+use Rattle.packets.specs.Format.{IsPacket, packet_bytes}
 use Rattle.c_cluster.specs.Bundle.{IsPart, IsBundle, part_bytes, BeginsWithNone, FitsFrom, InOrder}
 use Rattle.c_handles.proofs.Overwritten.{overwritten_none, put_more}
 
@@ -107,6 +109,12 @@ goes_on Does packets packet bytes rest after a b c n m front all few part e one 
     (packets ++ packet ∷ [], more_front packets packet bytes rest after front part e, one_more Does packets packet a b c all one, omega (arith, size, few, count))
 
 -- ---- packets that are written
+
+one_byte : (b : ℕ) (bytes : List ℕ) → 0 < length (b ∷ bytes)
+one_byte b bytes = omega arith
+
+pub packet_some : (x : NodePacket) (bytes : List ℕ) → IsPacket x bytes → 0 < length bytes
+packet_some x bytes p = subst (λ (b : List ℕ). 0 < length b) (sym p.bytes_are) (one_byte 83 (drop 1 (packet_bytes x)))
 
 -- these packets are at the front of a buffer, up to here; this many
 pub record Laid (out out' : List ℕ) (end count : ℕ) (packets : List (List ℕ)) : Type 0 where

@@ -12,10 +12,11 @@ use Rattle.process.specs.Calls.{Calls, Stays, IsHanded, Ticks, Freezes, Thaws}
 use Rattle.process.specs.Revival.{IsOpened, IsRevived}
 use Rattle.process.specs.Packets.{GivesBytes}
 use Rattle.process.specs.Checkpoints.{IsSavable, Keeps}
+use Rattle.process.specs.Suspension.{Suspends, IsResumed}
 use Rattle.process.specs.Work.{Works}
 use Rattle.process.specs.Job.{IsAnswered, WorksAs}
-use Rattle.node_laws.specs.HostProcess.{Checkpoint, Alive, Has, Durable}
-use Rattle.node_laws.specs.HostSystem.{System, Ticked, AnswersSo, DoesIt}
+use Rattle.node_laws.specs.HostProcess.{Checkpoint, Alive, Has, Asleep, Durable}
+use Rattle.node_laws.specs.HostSystem.{System, Ticked, AnswersSo, ResumesAs, DoesIt}
 use Rattle.c_cluster.specs.declared.nodes.fault.NodeFault.{NodeFault}
 use Rattle.c_cluster.specs.declared.nodes.fault.NodeFault.TheVariants.{Memory, Handle, Image, Room, Absent, Bytes, Unready, Limit, Left}
 use Rattle.c_cluster.specs.Nodes.Answers.{OfBoth}
@@ -23,9 +24,7 @@ use Rattle.c_cluster.specs.Nodes.Calls.{IsHeldBack}
 use Rattle.c_cluster.specs.Nodes.NodeJob.{state_in}
 use Rattle.c_cluster.specs.Nodes.Lifetime.{IsImageIn, limits_of}
 use Rattle.c_cluster.specs.Nodes.HostCalls.{Holds, ExportsAreCalls}
-
-held : {X : Type 0} (a b : X) → Some a ≡ Some b → b ≡ a
-held a b e = cc (e)
+use Rattle.c_cluster.proofs.BundleCalls.{held, all-received, all-taken}
 
 -- what holds of the processes before and after
 of-both : (old new : TheProcess) (H : TheProcess → TheProcess → Type 0) → OfBoth (Some old) (Some new) H → H old new
@@ -59,11 +58,11 @@ held-back images n s p w old new Left h b = absurd b
 pub exports-are-calls : ExportsAreCalls
 exports-are-calls =
     record {
-      opened = λ file me n l new o.
+      opened = λ file me n l state new o.
           let is : o.process ≡ new = held new o.process (o.is) in
-          let opened : IsOpened o.image (limits_of l) me n new = subst (λ p. IsOpened o.image (limits_of l) me n p) is o.opened in
+          let opened : IsOpened o.image (limits_of l) me n (state o.image) new = subst (λ p. IsOpened o.image (limits_of l) me n (state o.image) p) is o.opened in
           let image : o.image ≡ new.image = sym opened.image_is in
-          (subst (IsImageIn file) image o.image_is, subst (λ i. IsOpened i (limits_of l) me n new) image opened);
+          (subst (IsImageIn file) image o.image_is, subst (λ i. IsOpened i (limits_of l) me n (state i) new) image opened);
       revived = λ images n s p file life l new first dead above is r.
           let e : r.process ≡ new = held new r.process (r.is) in
           (first, (dead, (above, (r.image, (same-image file r.image (images p) r.image_is is, subst (λ q. IsRevived r.image (limits_of l) (s.stored p) life q) e r.revived)))));
@@ -103,4 +102,17 @@ exports-are-calls =
           };
       saved = λ images n s p old new h k.
           (h.first, (subst (Has (λ checkpoint. checkpoint ≡ Durable)) (sym h.runs) refl, alive (λ o. Stays Thaws o new) n s p Durable old h (of-both old new _ k).1));
+      suspended = λ images n s p w old new out out' size h k.
+          let bytes = k.3.0 in
+          record {
+            bytes = bytes;
+            copied = k.3.2;
+            is = (h.first, alive (λ o. Suspends o.lifecycle bytes) n s p w old h (subst (λ o. Suspends o.lifecycle bytes) (held old k.0 k.1) k.3.1));
+          };
+      resumed = λ images n s p file bytes l old new first sleeps is r.
+          let e : r.process ≡ new = held new r.process (r.is) in
+          let resumed : ResumesAs (images p) (limits_of l) bytes new = (r.image, (same-image file r.image (images p) r.image_is is, subst (λ q. IsResumed r.image (limits_of l) bytes q) e r.resumed)) in
+          (first, subst (Asleep (λ bs. ResumesAs (images p) (limits_of l) bs new)) (sym sleeps) resumed);
+      received_all = λ images n s p w old new bundle tally h given k. all-received images n p h.first w bundle tally s old new h.runs given k.0 k.1 k.2;
+      taken_all = λ images n s p w old new out out' size to count h k. all-taken images n p h.first w out out' size to count s old new h.runs (of-both old new _ k);
     }

@@ -1,4 +1,5 @@
 mod AsBox
+mod BundleCalls
 mod Bundles
 mod Called
 mod HostCalls

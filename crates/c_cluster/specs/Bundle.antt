@@ -1,7 +1,10 @@
 -- The packets of a bundle (docs/FORMATS.md, "Bundle"), and what is done with each
-use Rattle.std.specs.Prelude.{◌≡◌, ℕ, ◌+◌, ◌^◌, ◌<◌, ◌≤◌, List, [], ◌∷◌, ◌++◌, length}
+use Rattle.std.specs.Prelude.{◌≡◌, ℕ, ◌+◌, ◌^◌, ◌<◌, ◌≤◌, List, [], ◌∷◌, ◌++◌, length, Option}
 use Rattle.std.specs.List.{flat_map, AllByRecursion}
 use Rattle.byteorder.specs.Endian.{little_bytes}
+use Rattle.packets.specs.declared.packet.NodePacket.{NodePacket}
+use Rattle.packets.specs.Format.{IsPacket}
+use Rattle.c_handles.specs.Buffer.{IsCopied}
 use Rattle.c_cluster.specs.declared.bundle.BundleTally.{BundleTally}
 
 -- ---- their bytes
@@ -47,3 +50,38 @@ one_refused t = record t { refused = t.refused + 1 }
 
 abbrev pub one_lost : BundleTally → BundleTally
 one_lost t = record t { lost = t.lost + 1 }
+
+-- what a handle holds, and what was counted
+abbrev pub Counting : Type 0 → Type 0
+Counting S = Option S × BundleTally
+
+-- this is done with each packet of the bundle in these bytes, from the first on, and so many were taken and not taken
+abbrev pub IsReceivedAll : {S : Type 0} → (List ℕ → Counting S → Counting S → Type 0) → List ℕ → BundleTally → Option S → Option S → Type 0
+IsReceivedAll Does bundle tally old new =
+    (packets : List (List ℕ)) × IsBundle packets bundle × InOrder Does packets (old, none_counted) (new, tally)
+
+-- so it is with the packets at the front of some bytes
+pub record IsFrontReceived {S : Type 0} (Does : List ℕ → Counting S → Counting S → Type 0) (bytes : List ℕ) (old new : Option S) (tally : BundleTally)
+    : Type 0 where
+  pub packets : List (List ℕ)
+  pub rest : List ℕ
+  pub each : AllByRecursion IsPart packets
+  pub joined : bytes ≡ flat_map part_bytes packets ++ rest
+  pub none : BeginsWithNone rest
+  pub done : InOrder Does packets (old, none_counted) (new, tally)
+
+-- ---- packets out
+
+-- a packet to this process, with these bytes, is taken
+abbrev pub GivesTo : {S : Type 0} → (NodePacket → S → S → Type 0) → ℕ → List ℕ → S → S → Type 0
+GivesTo Gives to bytes old new = (x : NodePacket) × IsPacket x bytes × (x.to ≡ to) × Gives x old new
+
+-- the first packets that wait are taken, which all go to this process: the buffer begins with the packets of a bundle
+pub record GivesAll {S : Type 0} (Gives : NodePacket → S → S → Type 0) (out out' : List ℕ) (size to count : ℕ) (old new : S) : Type 0 where
+  pub packets : List (List ℕ)
+  pub bundle : List ℕ
+  pub some : 0 < count
+  pub count_is : count ≡ length packets
+  pub given : InOrder (GivesTo Gives to) packets old new
+  pub is_bundle : IsBundle packets bundle
+  pub copied : IsCopied bundle out out' size

@@ -1,12 +1,13 @@
 //! The gateway and the nodes of a cluster for programs in C and Rust: a static library over
 //! [`gateway`] and [`process`].
 //!
-//! `gateways::exports` and `nodes::exports` have the functions for C. A program holds a gateway
-//! or a node by a handle, two words of its own that it makes of zeros, which means closed.
+//! `gateways::exports` and `nodes::exports` have the functions for C. A program holds a gateway or
+//! a node by a handle, two words of its own that it makes of zeros, which means closed.
 //! `sblog_gateway_open` and `sblog_node_open` open one that received nothing,
-//! `sblog_gateway_revive` and `sblog_node_revive` one from what was kept, the other functions are
-//! calls of its host, and `sblog_gateway_close` and `sblog_node_close` give all memory back. Code 0
-//! means done, the numbers from 15 on say why not. docs/EMBEDDING.md describes functions and codes.
+//! `sblog_node_open_with` a node with an opening state other than zeros, `sblog_gateway_revive` and
+//! `sblog_node_revive` one from what was kept, the other functions are calls of its host, and
+//! `sblog_gateway_close` and `sblog_node_close` give all memory back. Code 0 means done, the
+//! numbers from 15 on say why not. docs/EMBEDDING.md describes functions and codes.
 //! `sblog_packet_label` needs no handle: it tells a host what the bytes of a packet are.
 //! `sblog_gateway_receive_all` and `sblog_node_receive_all` do for each packet of a bundle what the
 //! single calls do, a node's `sblog_node_work` after each packet included. `sblog_gateway_take_all`

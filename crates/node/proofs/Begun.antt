@@ -24,8 +24,8 @@ sum-zeros (suc k) = sum-zeros k
 one-more : (count : ℕ) → count + 1 ≡ suc count
 one-more count = omega arith
 
-pub within-begun : (limits : Limits) (me count len : ℕ) → AreAllowed limits → 1 ≤ me → me ≤ count → count ≤ 15 → Within (new_node limits me count len)
-within-begun limits me count len allowed some low few = record {
+pub within-begun : (limits : Limits) (me count : ℕ) (state : List ℕ) → AreAllowed limits → 1 ≤ me → me ≤ count → count ≤ 15 → Within (new_node limits me count state)
+within-begun limits me count state allowed some low few = record {
   allowed = allowed;
   inside = some;
   within = low;
@@ -57,6 +57,6 @@ begins-with limits me count state covered heard resumed logs receipts out =
     record { limits = limits; me = me; count = count; life = 1; state = state; base = 0; covered = covered; receipts = receipts; logs = logs; waiting = 0; heard = heard; resumed = resumed; exact = true; working = None; frozen = false; out = out }
 
 -- a new node, by its parts
-pub same-begun : (limits : Limits) (me count len : ℕ) (state covered heard : List ℕ) (resumed : List Bool) (logs : List TheQueue) (receipts : Received) (out : List NodePacket) → state ≡ replicate len 0 → covered ≡ replicate (count + 1) 0 → heard ≡ replicate (count + 1) 1
-    → resumed ≡ replicate (count + 1) true → logs ≡ replicate (count + 1) no_queue → receipts ≡ record { senders = []; acknowledged = [] } → out ≡ [] → begins-with limits me count state covered heard resumed logs receipts out ≡ new_node limits me count len
-same-begun limits me count len state covered heard resumed logs receipts out a b c d e f g = rw (a, b, c, d, e, f, g) refl
+pub same-begun : (limits : Limits) (me count : ℕ) (given state covered heard : List ℕ) (resumed : List Bool) (logs : List TheQueue) (receipts : Received) (out : List NodePacket) → state ≡ given → covered ≡ replicate (count + 1) 0 → heard ≡ replicate (count + 1) 1
+    → resumed ≡ replicate (count + 1) true → logs ≡ replicate (count + 1) no_queue → receipts ≡ record { senders = []; acknowledged = [] } → out ≡ [] → begins-with limits me count state covered heard resumed logs receipts out ≡ new_node limits me count given
+same-begun limits me count given state covered heard resumed logs receipts out a b c d e f g = rw (a, b, c, d, e, f, g) refl

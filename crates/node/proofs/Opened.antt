@@ -32,9 +32,9 @@ none-logged zero d = refl
 none-logged (suc n) zero = refl
 none-logged (suc n) (suc d) = none-logged n d
 
-module _ (limits : Limits) (me count len : ℕ) (allowed : AreAllowed limits) (some : 1 ≤ me) (low : me ≤ count) (few : count ≤ 15) where
+module _ (limits : Limits) (me count : ℕ) (state : List ℕ) (allowed : AreAllowed limits) (some : 1 ≤ me) (low : me ≤ count) (few : count ≤ 15) where
   abbrev n : TheNode
-  n = new_node limits me count len
+  n = new_node limits me count state
 
   -- its numbers are in their ranges
   pub opened-within : Within n
@@ -62,7 +62,7 @@ module _ (limits : Limits) (me count len : ℕ) (allowed : AreAllowed limits) (s
         fit = tt;
       }
 
-  module _ (f : Handlers) (begins : BeginsWith f me len) where
+  module _ (f : Handlers) (begins : BeginsWith f me state) where
     abbrev c : Cluster
     c = opening count f
 
@@ -70,7 +70,7 @@ module _ (limits : Limits) (me count len : ℕ) (allowed : AreAllowed limits) (s
     waits = does c (Freezes me)
 
     stands : Stands n c me
-    stands = stands-opened limits me count len f some low begins
+    stands = stands-opened limits me count state f some low begins
 
     stands-resting : Stands (resting n) waits me
     stands-resting =

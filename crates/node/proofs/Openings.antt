@@ -1,5 +1,5 @@
 -- A node at the opening
-use Rattle.std.proofs.Common.{◌≡◌, ℕ, ◌+◌, ◌≤◌, [], Bool, false, refl, sym, ap, length, subst, arith}
+use Rattle.std.proofs.Common.{◌≡◌, ℕ, ◌+◌, ◌≤◌, List, [], Bool, false, refl, sym, ap, length, subst, arith}
 use Rattle.std.specs.Prelude.{None, true}
 use Rattle.std.proofs.lemmas.List.{get_or-replicate}
 use Rattle.world.specs.Handlers.{Handlers}
@@ -9,8 +9,8 @@ use Rattle.node.specs.Queue.{no_queue}
 use Rattle.node.specs.Node.{new_node}
 use Rattle.node.specs.Stands.{Stands, KeepsOf, IsShut, sent_by, freed_in, most_released, BeginsWith}
 
-pub stands-opened : (limits : Limits) (me count len : ℕ) (f : Handlers) → 1 ≤ me → me ≤ count → BeginsWith f me len → Stands (new_node limits me count len) (opening count f) me
-stands-opened limits me count len f some low begins =
+pub stands-opened : (limits : Limits) (me count : ℕ) (state : List ℕ) (f : Handlers) → 1 ≤ me → me ≤ count → BeginsWith f me state → Stands (new_node limits me count state) (opening count f) me
+stands-opened limits me count state f some low begins =
     record {
       me = refl;
       count = refl;

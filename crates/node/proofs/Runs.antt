@@ -1,6 +1,6 @@
 -- Calls of nodes, one after another
 use Rattle.std.proofs.Common.{◌≡◌, inl, inr, ℕ, zero, suc, ◌≤◌, ◌<◌, List, [], ◌∷◌, ◌++◌, false, refl, sym, ap, ◌∙◌, subst, arith, append_assoc}
-use Rattle.std.specs.Prelude.{Option, Some, None, replicate, ◌==◌}
+use Rattle.std.specs.Prelude.{Option, Some, None, ◌==◌}
 use Rattle.std.proofs.lemmas.Bool.Decides.{nat_tests}
 use Rattle.world.specs.declared.message.Message.{Message}
 use Rattle.world.specs.Handlers.{Handlers}
@@ -43,8 +43,8 @@ sends-more f p s (x ∷ h) m d =
     ∙ sym (append_assoc (payloads_to d (f p s x).given) (sends_from f p (f p s x).state h d) (payloads_to d (f p (state_from f p (f p s x).state h) m).given))
 
 -- such handlers take nothing back
-pub grows : (f : Answering) (len : ℕ → ℕ) → Grows (handlers_of f len)
-grows f len p h m d = (payloads_to d (f p (state_from f p (replicate (len p) 0) h) m).given, sym (sends-more f p (replicate (len p) 0) h m d))
+pub grows : (f : Answering) (states : ℕ → List ℕ) → Grows (handlers_of f states)
+grows f states p h m d = (payloads_to d (f p (state_from f p (states p) h) m).given, sym (sends-more f p (states p) h m d))
 
 -- a cluster in which all nodes of a system stand, whose gateway has what that of the system has, and in which was put out what was given
 record Holds (f : Handlers) (s : System) (c : Cluster) : Type 0 where
@@ -117,16 +117,16 @@ put-out f s c x h (inl i) = one-was (λ (y : NodePacket). PutOut c.count c.parce
 put-out f s c x h (inr o) = put-still s.outside c x.from x h.outside.count (λ b i. h.outside.parcels (parcel x.from x.to b) i) o
 
 -- the handler's answer is what the cluster's handlers say
-pub answers : (f : Answering) (len : ℕ → ℕ) (n : TheNode) (c : Cluster) (p : ℕ) (a : Answer) → c.handlers ≡ handlers_of f len → Stands n c p → IsAnswer f p n a → Handles a.state a.given n c
-answers f len n c p a handlers s is j busy =
+pub answers : (f : Answering) (states : ℕ → List ℕ) (n : TheNode) (c : Cluster) (p : ℕ) (a : Answer) → c.handlers ≡ handlers_of f states → Stands n c p → IsAnswer f p n a → Handles a.state a.given n c
+answers f states n c p a handlers s is j busy =
     let me : n.me ≡ p = s.me in
     let h : List Message = c.history p in
-    let here : state_from f p (replicate (len p) 0) h ≡ n.state = ap (λ (g : Handlers). g.state p h) (sym handlers) ∙ s.state in
-    let answer : f p (state_from f p (replicate (len p) 0) h) (job_of j) ≡ a = ap (λ z. f p z (job_of j)) here ∙ sym (is j busy) in
+    let here : state_from f p (states p) h ≡ n.state = ap (λ (g : Handlers). g.state p h) (sym handlers) ∙ s.state in
+    let answer : f p (state_from f p (states p) h) (job_of j) ≡ a = ap (λ z. f p z (job_of j)) here ∙ sym (is j busy) in
     subst (λ k. Answers c k (job_of j) a.state a.given) (sym me) (record {
-      state_is = ap (λ (g : Handlers). g.state p (h ++ job_of j ∷ [])) handlers ∙ state-more f p (replicate (len p) 0) h (job_of j) ∙ ap (λ (z : Answer). z.state) answer;
-      sends_are = λ d. ap (λ (g : Handlers). g.sends p (h ++ job_of j ∷ []) d) handlers ∙ sends-more f p (replicate (len p) 0) h (job_of j) d
-          ∙ ap (λ (z : Answer). sends_from f p (replicate (len p) 0) h d ++ payloads_to d z.given) answer ∙ ap (λ (g : Handlers). g.sends p h d ++ payloads_to d a.given) (sym handlers);
+      state_is = ap (λ (g : Handlers). g.state p (h ++ job_of j ∷ [])) handlers ∙ state-more f p (states p) h (job_of j) ∙ ap (λ (z : Answer). z.state) answer;
+      sends_are = λ d. ap (λ (g : Handlers). g.sends p (h ++ job_of j ∷ []) d) handlers ∙ sends-more f p (states p) h (job_of j) d
+          ∙ ap (λ (z : Answer). sends_from f p (states p) h d ++ payloads_to d z.given) answer ∙ ap (λ (g : Handlers). g.sends p h d ++ payloads_to d a.given) (sym handlers);
     })
 
 -- whose act it is
@@ -137,15 +137,15 @@ of-gateway (Arrives q zero x) o = refl
 of-gateway act o = absurd o
 
 -- a node acts, and is told nothing
-acts-on : (f : Answering) (len : ℕ → ℕ) (s : System) (c : Cluster) (p : ℕ) (new : TheNode) → Holds (handlers_of f len) s c → 0 < p → p ≤ s.outside.count → Acts (s.nodes p) new → Onward (handlers_of f len) c (record s { nodes = put s.nodes p new })
-acts-on f len s c p new h some low owed =
-    let at : Stands (s.nodes p) c p = stands-at (handlers_of f len) s c p some low h in
-    node-goes (handlers_of f len) s c p new some h (on-goes p new c (owes-at (λ d. Unit {0}) (s.nodes p) new c p owed at tt))
+acts-on : (f : Answering) (states : ℕ → List ℕ) (s : System) (c : Cluster) (p : ℕ) (new : TheNode) → Holds (handlers_of f states) s c → 0 < p → p ≤ s.outside.count → Acts (s.nodes p) new → Onward (handlers_of f states) c (record s { nodes = put s.nodes p new })
+acts-on f states s c p new h some low owed =
+    let at : Stands (s.nodes p) c p = stands-at (handlers_of f states) s c p some low h in
+    node-goes (handlers_of f states) s c p new some h (on-goes p new c (owes-at (λ d. Unit {0}) (s.nodes p) new c p owed at tt))
 
 -- each call
-call-goes : (f : Answering) (len : ℕ → ℕ) (s : System) (c : Cluster) (k : Call) → Holds (handlers_of f len) s c → DoesIt f s k → Onward (handlers_of f len) c (after_call s k)
-call-goes f len s c (Gave p x new) h m =
-    let at : Stands (s.nodes p) c p = stands-at (handlers_of f len) s c p m.0 m.1 h in
+call-goes : (f : Answering) (states : ℕ → List ℕ) (s : System) (c : Cluster) (k : Call) → Holds (handlers_of f states) s c → DoesIt f s k → Onward (handlers_of f states) c (after_call s k)
+call-goes f states s c (Gave p x new) h m =
+    let at : Stands (s.nodes p) c p = stands-at (handlers_of f states) s c p m.0 m.1 h in
     let me : (s.nodes p).me ≡ p = at.me in
     let took : PutOut c.count c.parcels p x × Stands new c p = subst (λ k. PutOut c.count c.parcels k x × Stands new c k) me (m.2.1 c (subst (Stands (s.nodes p) c) (sym me) at)) in
     let put : PutOut c.count c.parcels x.from x = subst (λ k. PutOut c.count c.parcels k x) (sym took.0.from) took.0 in
@@ -175,17 +175,17 @@ call-goes f len s c (Gave p x new) h m =
         handlers = h.handlers;
       };
     }
-call-goes f len s c (Handed p x new) h m =
-    let at : Stands (s.nodes p) c p = stands-at (handlers_of f len) s c p m.0 m.1 h in
-    node-goes (handlers_of f len) s c p new m.0 h
-    (on-goes p new c (owes-at (λ d. WasSaid d.parcels x.from x.to x.body) (s.nodes p) new c p m.3 at (put-out (handlers_of f len) s c x h m.2).said))
-call-goes f len s c (Worked p a new) h m =
-    let at : Stands (s.nodes p) c p = stands-at (handlers_of f len) s c p m.0 m.1 h in
-    node-goes (handlers_of f len) s c p new m.0 h (on-goes p new c (owes-at (Handles a.state a.given (s.nodes p)) (s.nodes p) new c p m.3 at (answers f len (s.nodes p) c p a h.handlers at m.2)))
-call-goes f len s c (Ticked p new) h m = acts-on f len s c p new h m.0 m.1 m.2
-call-goes f len s c (Froze p new) h m = acts-on f len s c p new h m.0 m.1 m.2
-call-goes f len s c (Thawed p new) h m = node-goes (handlers_of f len) s c p new m.0 h (saves-goes (s.nodes p) new c p m.2 (stands-at (handlers_of f len) s c p m.0 m.1 h))
-call-goes f len s c (Acted a) h m =
+call-goes f states s c (Handed p x new) h m =
+    let at : Stands (s.nodes p) c p = stands-at (handlers_of f states) s c p m.0 m.1 h in
+    node-goes (handlers_of f states) s c p new m.0 h
+    (on-goes p new c (owes-at (λ d. WasSaid d.parcels x.from x.to x.body) (s.nodes p) new c p m.3 at (put-out (handlers_of f states) s c x h m.2).said))
+call-goes f states s c (Worked p a new) h m =
+    let at : Stands (s.nodes p) c p = stands-at (handlers_of f states) s c p m.0 m.1 h in
+    node-goes (handlers_of f states) s c p new m.0 h (on-goes p new c (owes-at (Handles a.state a.given (s.nodes p)) (s.nodes p) new c p m.3 at (answers f states (s.nodes p) c p a h.handlers at m.2)))
+call-goes f states s c (Ticked p new) h m = acts-on f states s c p new h m.0 m.1 m.2
+call-goes f states s c (Froze p new) h m = acts-on f states s c p new h m.0 m.1 m.2
+call-goes f states s c (Thawed p new) h m = node-goes (handlers_of f states) s c p new m.0 h (saves-goes (s.nodes p) new c p m.2 (stands-at (handlers_of f states) s c p m.0 m.1 h))
+call-goes f states s c (Acted a) h m =
     record {
       acts = a ∷ [];
       run = (may-too s.outside c h.outside a m.0 m.1, tt);
@@ -197,25 +197,25 @@ call-goes f len s c (Acted a) h m =
       };
     }
 
-calls-go : (f : Answering) (len : ℕ → ℕ) (s : System) (c : Cluster) (ks : List Call) → Holds (handlers_of f len) s c → Calls f s ks → Onward (handlers_of f len) c (after_calls s ks)
-calls-go f len s c [] h m = record { acts = []; run = tt; holds = h }
-calls-go f len s c (k ∷ ks) h m =
-    let one = call-goes f len s c k h m.0 in
-    let rest = calls-go f len (after_call s k) (after_run c one.acts) ks one.holds m.1 in
+calls-go : (f : Answering) (states : ℕ → List ℕ) (s : System) (c : Cluster) (ks : List Call) → Holds (handlers_of f states) s c → Calls f s ks → Onward (handlers_of f states) c (after_calls s ks)
+calls-go f states s c [] h m = record { acts = []; run = tt; holds = h }
+calls-go f states s c (k ∷ ks) h m =
+    let one = call-goes f states s c k h m.0 in
+    let rest = calls-go f states (after_call s k) (after_run c one.acts) ks one.holds m.1 in
     let both = run-on c one.acts rest.acts one.run rest.run in
     record {
       acts = one.acts ++ rest.acts;
       run = both.0;
-      holds = subst (Holds (handlers_of f len) (after_calls (after_call s k) ks)) (sym both.1) rest.holds;
+      holds = subst (Holds (handlers_of f states) (after_calls (after_call s k) ks)) (sym both.1) rest.holds;
     }
 
 pub calls-run : CallsRun
-calls-run f n limits len calls few m =
-    let g : Handlers = handlers_of f len in
-    let s : System = new_system n limits len g in
-    let begins : Holds g s (opening n g) = record { stand = λ p some low. stands-opened (limits p) p n (len p) g some low (record { state_is = refl; sends_are = λ d. refl }); outside = outside-self (opening n g); given = tt; handlers = refl } in
-    let all = calls-go f len s (opening n g) calls begins m in
-    let keeps = nodes-keep n g all.acts few (grows f len) all.run in
+calls-run f n limits states calls few m =
+    let g : Handlers = handlers_of f states in
+    let s : System = new_system n limits states g in
+    let begins : Holds g s (opening n g) = record { stand = λ p some low. stands-opened (limits p) p n (states p) g some low (record { state_is = refl; sends_are = λ d. refl }); outside = outside-self (opening n g); given = tt; handlers = refl } in
+    let all = calls-go f states s (opening n g) calls begins m in
+    let keeps = nodes-keep n g all.acts few (grows f states) all.run in
     record {
       acts = all.acts;
       run = all.run;

@@ -1,13 +1,18 @@
 -- A node that is suspended, and one that is resumed
-use Rattle.std.proofs.Common.{◌≡◌, ℕ, zero, suc, ◌+◌, ◌-◌, ◌^◌, ◌<◌, ◌≤◌, List, [], ◌∷◌, length, Bool, true, false, refl, sym, ap, ◌∙◌, subst, arith}
-use Rattle.std.specs.Prelude.{Option, Some, None, min, ◌&&◌, nat_lt, nat_le, if◌then◌else◌, slice_index_or}
-use Rattle.std.specs.List.{AllByRecursion}
+use Rattle.std.proofs.Common.{◌≡◌, ◌≢◌, ℕ, zero, suc, ◌+◌, ◌-◌, ◌^◌, ◌<◌, ◌≤◌, List, [], ◌∷◌, ◌++◌, length, Bool, true, false, refl, sym, ap, ◌∙◌, subst, arith}
+use Rattle.std.specs.Prelude.{Some, None, min, ◌&&◌, ◌==◌, nat_lt, nat_le, if◌then◌else◌, slice_index_or}
+use Rattle.std.specs.List.{list_all, AllByRecursion}
 use Rattle.std.proofs.lemmas.Bool.Decides.{nat_tests}
+use Rattle.std.proofs.lemmas.List.{length-append, length-map, nil_from_length, take_all}
 use Rattle.theorems.proofs.Tests.{both}
-use Rattle.node.specs.Queue.{IsSmall}
-use Rattle.node.specs.Node.{log_at}
+use Rattle.theorems.proofs.RunLemmas.{run_to-whole}
+use Rattle.world.specs.declared.message.Message.{Message}
+use Rattle.cluster.specs.Cluster.{Cluster}
+use Rattle.node.specs.declared.limit.Limits.{Limits}
+use Rattle.node.specs.Queue.{TheQueue, IsSmall, leading}
+use Rattle.node.specs.Node.{TheNode, log_at}
 use Rattle.node.specs.Stands.{Stands, IsShut, most_released, freed_in, sent_by}
-use Rattle.node.specs.Suspension.{joined_by, number_of_code, woken, WokenStands}
+use Rattle.node.specs.Suspension.{joined_by, number_of_code, is_sent, is_unused, CanSuspend, woken, WokenStands}
 
 -- ---- two lists joined
 
@@ -59,25 +64,86 @@ code-small code = split (nat_lt 0 code && nat_le code (2 ^ 63)) refl
 
 -- ---- in the cluster
 
+sent-at : (qs : List TheQueue) (d : ℕ) → list_all is_sent qs ≡ true → is_sent (log_at qs d) ≡ true
+sent-at [] d e = refl
+sent-at (q ∷ qs) zero e = (both (is_sent q) (list_all is_sent qs) e).0
+sent-at (q ∷ qs) (suc d) e = sent-at qs d (both (is_sent q) (list_all is_sent qs) e).1
+
+module _ (n : TheNode) (c : Cluster) (p : ℕ) (can : CanSuspend n) (s : Stands n c p) where
+  abbrev h : List Message
+  h = c.history p
+
+  -- how many messages it has sent to d
+  abbrev many : ℕ → ℕ
+  many d = length (c.handlers.sends p h d)
+
+  covers : ((length n.receipts.senders == 0) ≡ true) × (list_all is_sent n.logs ≡ true)
+  covers = both (length n.receipts.senders == 0) (list_all is_sent n.logs) (both ((length n.receipts.senders == 0) && list_all is_sent n.logs) (is_unused (log_at n.logs n.me)) can.covered).0
+
+  -- its checkpoint covers all that it received
+  all-covered : length h ≡ n.base
+  all-covered =
+      let r = s.received in
+      let none : length n.receipts.senders ≡ 0 = (let z : (length n.receipts.senders == 0) ≡ true = covers.0 in grind (arith, nat_tests)) in
+      let behind : length n.receipts.senders ≡ length r.behind = ap length r.senders ∙ length-map r.behind (λ (m : Message). m.sender) in
+      let long : length (r.before ++ r.behind) ≡ length h = ap length r.joined in
+      omega (arith, long, length-append r.before r.behind, r.many, behind, none)
+
+  -- so all that it received is acknowledged, and frees what it sent, whether it is durable or not
+  all-freed : (durable : Bool) → freed_in durable c p ≡ length h
+  all-freed true = s.saved ∙ sym all-covered
+  all-freed false = run_to-whole (c.acknowledged p) (length h) each
+    where
+      each : (k : ℕ) → 0 < k → k ≤ length h → c.acknowledged p k ≡ true
+      each zero some low = absurd (omega (arith, some))
+      each (suc k) some low = s.received.below k (omega (arith, low, all-covered))
+
+  freed-sends : (durable : Bool) (d : ℕ) → sent_by c.handlers p h d (freed_in durable c p) ≡ many d
+  freed-sends durable d =
+      ap (sent_by c.handlers p h d) (all-freed durable) ∙ ap (λ z. length (c.handlers.sends p z d)) (take_all (length h) h (omega arith))
+
+  all-out : (d : ℕ) → many d ≤ c.released p d
+  all-out d = subst (λ k. k ≤ c.released p d) (freed-sends n.limits.durable d) (s.free d)
+
+  most-is : (durable : Bool) (d : ℕ) → many d ≤ most_released durable c p d
+  most-is true d = (let e : sent_by c.handlers p h d (c.saved p) ≡ many d = freed-sends true d in omega (arith, e))
+  most-is false d = all-out d
+
+  -- it released all
+  shut-again : (durable : Bool) (d : ℕ) → d ≤ c.count → d ≢ p → IsShut (log_at n.logs d) (length h) (most_released durable c p d) (sent_by c.handlers p h d)
+  shut-again durable d low other =
+      let q : TheQueue = log_at n.logs d in
+      let k = s.logs d low other in
+      let within = (s.gates d low other).within in
+      let all : q.released ≡ q.dropped + length q.payloads = (let z : (q.released == q.dropped + length q.payloads) ≡ true = sent-at n.logs d covers.1 in grind (arith, nat_tests)) in
+      let sent : length (k.before ++ q.payloads) ≡ many d = ap length k.joined in
+      let few : q.released ≡ many d = omega (arith, all, sent, length-append k.before q.payloads, k.many) in
+      let none : q.held ≡ [] = nil_from_length q.held (omega (arith, within, all)) in
+      let most : many d ≤ most_released durable c p d = most-is durable d in
+      record { within = within; waits = λ i l. (let z : leading i q.held ≡ 0 = ap (leading i) none in omega (arith, few, most, z)) }
+
+  stands-again : (limits : Limits) → Stands (woken limits n) c p
+  stands-again limits =
+      record {
+        me = s.me;
+        count = s.count;
+        inside = s.inside;
+        stage = s.stage;
+        greeted = s.greeted;
+        phase = s.phase;
+        works = s.works;
+        life = s.life;
+        state = s.state;
+        saved = s.saved;
+        received = s.received;
+        waits = s.waits;
+        logs = s.logs;
+        gates = shut-again limits.durable;
+        free = λ d. (let e : sent_by c.handlers p h d (freed_in limits.durable c p) ≡ many d = freed-sends limits.durable d in let l : many d ≤ c.released p d = all-out d in omega (arith, e, l));
+        heard = s.heard;
+        resumed = s.resumed;
+        out = tt;
+      }
+
 pub woken-stands : WokenStands
-woken-stands n limits c p durable s =
-    record {
-      me = s.me;
-      count = s.count;
-      inside = s.inside;
-      stage = s.stage;
-      greeted = s.greeted;
-      phase = s.phase;
-      works = s.works;
-      life = s.life;
-      state = s.state;
-      saved = s.saved;
-      received = s.received;
-      waits = s.waits;
-      logs = s.logs;
-      gates = λ d l o. subst (λ b. IsShut (log_at n.logs d) (length (c.history p)) (most_released b c p d) (sent_by c.handlers p (c.history p) d)) (sym durable) (s.gates d l o);
-      free = λ d. subst (λ b. sent_by c.handlers p (c.history p) d (freed_in b c p) ≤ c.released p d) (sym durable) (s.free d);
-      heard = s.heard;
-      resumed = s.resumed;
-      out = tt;
-    }
+woken-stands n limits c p can s = stands-again n c p can s limits

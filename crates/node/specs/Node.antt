@@ -1,5 +1,5 @@
 -- A node as clauses see it
-use Rattle.std.specs.Prelude.{◌≡◌, ◌≢◌, ℕ, suc, ◌+◌, ◌-◌, ◌*◌, ◌^◌, ◌<◌, ◌≤◌, List, [], ◌∷◌, length, Option, Some, None, is_some, Bool}
+use Rattle.std.specs.Prelude.{◌≡◌, ◌≢◌, ℕ, suc, ◌+◌, ◌-◌, ◌*◌, ◌<◌, ◌≤◌, List, [], ◌∷◌, length, Option, Some, None, is_some, Bool}
 use Rattle.std.specs.Prelude.{true, false, slice_get, slice_index_or, slice_set, replicate, sum}
 use Rattle.std.specs.List.{AllByRecursion}
 use Rattle.limits.specs.declared.TheConstants.{PROCESSES}
@@ -160,15 +160,15 @@ numbered d ssn k n = record n { logs = slice_set n.logs d (recorded ssn k (log_a
 abbrev pub counted : ℕ → TheNode → TheNode
 counted k n = record n { receipts = acknowledged k n.receipts; waiting = n.waiting - 1 }
 
--- a node with these limits that received nothing, with a state of zeros
-abbrev pub new_node : Limits → ℕ → ℕ → ℕ → TheNode
-new_node limits me count len =
+-- a node with these limits that received nothing, with this opening state
+abbrev pub new_node : Limits → ℕ → ℕ → List ℕ → TheNode
+new_node limits me count state =
     record {
       limits = limits;
       me = me;
       count = count;
       life = 1;
-      state = replicate len 0;
+      state = state;
       base = 0;
       covered = replicate (count + 1) 0;
       receipts = record { senders = []; acknowledged = [] };

@@ -1,5 +1,5 @@
 -- Calls of nodes, one after another, together with a gateway
-use Rattle.std.specs.Prelude.{◌≡◌, ◌⊎◌, ℕ, zero, ◌<◌, ◌≤◌, List, [], ◌∷◌, ◌++◌, Option, Some, None, replicate}
+use Rattle.std.specs.Prelude.{◌≡◌, ◌⊎◌, ℕ, zero, ◌<◌, ◌≤◌, List, [], ◌∷◌, ◌++◌, Option, Some, None}
 use Rattle.limits.specs.declared.TheConstants.{PROCESSES}
 use Rattle.world.specs.declared.message.Message.{Message}
 use Rattle.world.specs.History.{Payload}
@@ -37,10 +37,9 @@ abbrev pub sends_from : Answering → ℕ → List ℕ → List Message → ℕ 
 sends_from f p s [] d = []
 sends_from f p s (m ∷ h) d = payloads_to d (f p s m).given ++ sends_from f p (f p s m).state h d
 
--- the handlers that answer so, from states of zeros
-abbrev pub handlers_of : Answering → (ℕ → ℕ) → Handlers
-handlers_of f len =
-    record { state = λ p h. state_from f p (replicate (len p) 0) h; sends = λ p h d. sends_from f p (replicate (len p) 0) h d }
+-- the handlers that answer so, from these opening states
+abbrev pub handlers_of : Answering → (ℕ → List ℕ) → Handlers
+handlers_of f states = record { state = λ p h. state_from f p (states p) h; sends = λ p h d. sends_from f p (states p) h d }
 
 -- the nodes by number; a cluster as the gateway sees it: all of itself, and of the nodes what they gave to it or to each other; and the
 -- packets that they gave
@@ -49,9 +48,9 @@ pub record System : Type 0 where
   pub outside : Cluster
   pub given : List NodePacket
 
--- n new nodes, each with its limits, and a gateway
-abbrev pub new_system : ℕ → (ℕ → Limits) → (ℕ → ℕ) → Handlers → System
-new_system n limits len f = record { nodes = λ p. new_node (limits p) p n (len p); outside = opening n f; given = [] }
+-- n new nodes, each with its limits and its opening state, and a gateway
+abbrev pub new_system : ℕ → (ℕ → Limits) → (ℕ → List ℕ) → Handlers → System
+new_system n limits states f = record { nodes = λ p. new_node (limits p) p n (states p); outside = opening n f; given = [] }
 
 -- a call of a node that isn't refused, and the node after it; or an act of the gateway
 pub data Call : Type 0 where
@@ -150,6 +149,6 @@ pub record IsRunOf (n : ℕ) (f : Handlers) (s : System) : Type 0 where
 
 -- calls of nodes in any order, durable or not, with packets that come late, twice or never, are a run of a cluster
 abbrev pub CallsRun : Type 0
-CallsRun = (f : Answering) (n : ℕ) (limits : ℕ → Limits) (len : ℕ → ℕ) (calls : List Call) → n ≤ PROCESSES
-    → Calls f (new_system n limits len (handlers_of f len)) calls
-    → IsRunOf n (handlers_of f len) (after_calls (new_system n limits len (handlers_of f len)) calls)
+CallsRun = (f : Answering) (n : ℕ) (limits : ℕ → Limits) (states : ℕ → List ℕ) (calls : List Call) → n ≤ PROCESSES
+    → Calls f (new_system n limits states (handlers_of f states)) calls
+    → IsRunOf n (handlers_of f states) (after_calls (new_system n limits states (handlers_of f states)) calls)

@@ -1,6 +1,6 @@
 -- When a node agrees with a cluster, and what a call owes
 use Rattle.std.specs.Prelude.{◌≡◌, ◌≢◌, ℕ, suc, ◌+◌, ◌<◌, ◌≤◌, max, List, [], ◌∷◌, ◌++◌, length, map, take, Option, Some, None, Bool}
-use Rattle.std.specs.Prelude.{true, false, slice_index_or, replicate, ◌==◌, if◌then◌else◌}
+use Rattle.std.specs.Prelude.{true, false, slice_index_or, ◌==◌, if◌then◌else◌}
 use Rattle.rsn.specs.Receipts.{Received}
 use Rattle.world.specs.declared.message.Message.{Message}
 use Rattle.world.specs.History.{Payload, count_of}
@@ -194,9 +194,9 @@ pub record Answers (c : Cluster) (p : ℕ) (m : Message) (state : List ℕ) (giv
 abbrev pub Handles : List ℕ → List Given → TheNode → Cluster → Type 0
 Handles state given n c = (j : OpenJob) → n.working ≡ Some j → Answers c n.me (job_of j) state given
 
--- handlers that begin with a state of zeros, and have sent nothing then
-pub record BeginsWith (f : Handlers) (p len : ℕ) : Type 0 where
-  pub state_is : f.state p [] ≡ replicate len 0
+-- handlers that begin with this opening state, and have sent nothing then
+pub record BeginsWith (f : Handlers) (p : ℕ) (state : List ℕ) : Type 0 where
+  pub state_is : f.state p [] ≡ state
   pub sends_are : (d : ℕ) → f.sends p [] d ≡ []
 
 -- what a call owes that is handed a packet, if that says what was sent

@@ -1,6 +1,5 @@
 -- A node that is suspended: when it may be, its bytes, and the node that is resumed from them
-use Rattle.std.specs.Prelude.{◌≡◌, ℕ, suc, ◌+◌, ◌-◌, ◌^◌, ◌≤◌, List, [], ◌∷◌, ◌++◌, length, map, Option, Some, None, is_some, Bool, true}
-use Rattle.std.specs.Prelude.{false}
+use Rattle.std.specs.Prelude.{◌≡◌, ℕ, ◌+◌, ◌-◌, ◌^◌, List, [], ◌∷◌, ◌++◌, length, map, Option, Some, None, is_some, Bool, true, false}
 use Rattle.std.specs.Prelude.{◌&&◌, ◌==◌, nat_lt, nat_le, if◌then◌else◌, ⊤}
 use Rattle.std.specs.List.{flat_map, list_all, AllByRecursion}
 use Rattle.packets.specs.Format.{long_bytes, sealed, IsLong}
@@ -10,7 +9,7 @@ use Rattle.node.specs.declared.limit.Limits.{Limits}
 use Rattle.node.specs.declared.suspension.Unsuspended.{Unsuspended}
 use Rattle.node.specs.declared.suspension.Unsuspended.TheVariants.{Memory, Frozen, Busy, Uncovered}
 use Rattle.node.specs.Queue.{TheQueue, IsQueue}
-use Rattle.node.specs.Node.{TheNode, log_at}
+use Rattle.node.specs.Node.{TheNode, Within, log_at}
 use Rattle.node.specs.Kept.{kept_of}
 use Rattle.node.specs.Stands.{Stands}
 
@@ -84,6 +83,7 @@ pub record CanSuspend (n : TheNode) : Type 0 where
 
 -- these are the bytes of this suspended node
 pub record IsSuspended (n : TheNode) (bytes : List ℕ) : Type 0 where
+  pub within : Within n
   pub can : CanSuspend n
   pub bytes_are : bytes ≡ suspended_bytes n
 
@@ -114,7 +114,6 @@ number_of_code code = if nat_lt 0 code && nat_le code (2 ^ 63) then Some (code -
 abbrev pub numbered_by : List ℕ → TheQueue → TheQueue
 numbered_by codes q = record q { numbers = joined_by (λ code _. number_of_code code) codes q.numbers }
 
--- a node that is resumed, durable or not as it was, agrees with each cluster with which it agreed
+-- a suspended node that is resumed, whatever its limits, agrees with each cluster with which it agreed
 abbrev pub WokenStands : Type 0
-WokenStands = (n : TheNode) (limits : Limits) (c : Cluster) (p : ℕ) → limits.durable ≡ n.limits.durable → Stands n c p
-    → Stands (woken limits n) c p
+WokenStands = (n : TheNode) (limits : Limits) (c : Cluster) (p : ℕ) → CanSuspend n → Stands n c p → Stands (woken limits n) c p

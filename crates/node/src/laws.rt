@@ -29,7 +29,7 @@ pub fn calls_run()
     ensures { CallsRun }
 {}
 
-/// A node that was suspended and is resumed, durable or not as it was, agrees with each cluster
+/// A node that was suspended and is resumed, whatever limits it is given, agrees with each cluster
 /// with which it agreed. So a resume is no act of the cluster, and needs no answer of a peer.
 pub fn woken_stands()
     ensures { WokenStands }

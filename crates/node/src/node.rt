@@ -81,11 +81,30 @@ impl Node {
         requires limits { AreAllowed limits }
         requires own { (1 ≤ me) × (me ≤ count) }
         requires few { count ≤ PROCESSES }
-        ensures value { IfOk result (λ n. n ≡ new_node limits me count state_len) }
-        ensures stands { IfOk result (λ n. (f : Handlers) → BeginsWith f me state_len → Stands n (opening count f) me) }
+        ensures value { IfOk result (λ n. n ≡ new_node limits me count (replicate state_len 0)) }
+        ensures stands { IfOk result (λ n. (f : Handlers) → BeginsWith f me (replicate state_len 0) → Stands n (opening count f) me) }
+    {
+        let state = zeros(alloc, state_len as usize)?;
+        Node::open_with(alloc, limits, me, count, &state)
+    }
+
+    /// The process `me` of `count`, which received nothing, with this opening state. It keeps these
+    /// limits for life.
+    pub fn open_with(
+        alloc: Global,
+        limits: Limits,
+        me: u8,
+        count: u8,
+        state: &[u8],
+    ) -> Result<Node, AllocError>
+        requires limits { AreAllowed limits }
+        requires own { (1 ≤ me) × (me ≤ count) }
+        requires few { count ≤ PROCESSES }
+        ensures value { IfOk result (λ n. n ≡ new_node limits me count state.now) }
+        ensures stands { IfOk result (λ n. (f : Handlers) → BeginsWith f me state.now → Stands n (opening count f) me) }
     {
         let wide = count as usize + 1;
-        let state = zeros(alloc, state_len as usize)?;
+        let state = Vec::from_slice(alloc, state)?;
         let covered = numbers(alloc, wide, 0)?;
         let heard = numbers(alloc, wide, 1)?;
         let resumed = flags(alloc, wide)?;

@@ -27,7 +27,7 @@ use Rattle.recovery.proofs.Fits.{pages-fit}
 use Rattle.gateway.specs.Gateway.{TheGateway}
 use Rattle.node_laws.specs.Together.{IsFirst}
 use Rattle.node_laws.specs.Process.{Process, Up, Covered, Collects, Replays, Replayed, Restores, Killed, StandsAs, IsKilled, IsStoredOf, ComesFrom, covered}
-use Rattle.node_laws.specs.System.{System, new_system, AreStoredOf, Call, Gave, Handed, Worked, Did, Stored, Saved, Died, Revived, GaveOut, HandedOut, DidOut, StoredOut, StoredBut, RevivedOut, DoesIt, after_call, Calls, AreExact, StayExact}
+use Rattle.node_laws.specs.System.{System, new_system, AreStoredOf, Call, Gave, Handed, Worked, Did, Stored, Saved, Resumed, Died, Revived, GaveOut, HandedOut, DidOut, StoredOut, StoredBut, RevivedOut, DoesIt, after_call, Calls, AreExact, StayExact}
 use Rattle.node_laws.specs.Alone.{is_up, FailsAlone, OneAtATime, LoneFailuresStayExact, LoneLivesRun, NothingIsLostAlone, RecoversExactlyAlone}
 use Rattle.node_laws.proofs.Lives.{WasPut, lives-run}
 use Rattle.node_laws.proofs.Lives as runs
@@ -37,7 +37,7 @@ use Rattle.node_laws.proofs.OwnSound.{IsAlone, of-other}
 use Rattle.node_laws.proofs.CollectingSound as collecting
 use Rattle.node_laws.proofs.GatewaySound as gateways
 use Rattle.node_laws.proofs.Lone.{Returns, IsOf, stands-of, Good, Goes, Back, Lone, IsLone, is-alone, process-goes, process-dies, only-comes, process-comes}
-use Rattle.node_laws.proofs.LoneCalls.{Fits, giving, hearing, working, acting, storing, telling}
+use Rattle.node_laws.proofs.LoneCalls.{Fits, giving, hearing, working, acting, storing, telling, waking}
 
 -- ---- no page tells of more than was sent
 
@@ -45,9 +45,9 @@ closed : (b : Bool) → not b ≡ true → b ≡ false
 closed true e = absurd (let z : false ≡ true = e in cc (z))
 closed false e = refl
 
-module _ (f : Answering) (len : ℕ → ℕ) (n : ℕ) (s : System) (acts : List Act) (r : Reached (handlers_of f len) n s acts) where
+module _ (f : Answering) (states : ℕ → List ℕ) (n : ℕ) (s : System) (acts : List Act) (r : Reached (handlers_of f states) n s acts) where
   abbrev g : Handlers
-  g = handlers_of f len
+  g = handlers_of f states
 
   abbrev c : Cluster
   c = after_run (opening n g) acts
@@ -70,7 +70,7 @@ module _ (f : Answering) (len : ℕ → ℕ) (n : ℕ) (s : System) (acts : List
       let R : ℕ → Type 0 = λ z. P (Restored z j k a flags pairs) in
       let said : R m.own.life = subst R now (subst P e (subst Q q.0 (was (ap is_loss e)).said)) in
       let S : ℕ → Type 0 = λ z. in_range (Restored z j k a flags pairs) ≡ true in
-      let fit = pages-fit n g acts m x.from j k a flags pairs h.few (grows f len) r.run here q.1.0 (closed (has_answered x.from m) v.1) (subst S now range) said in
+      let fit = pages-fit n g acts m x.from j k a flags pairs h.few (grows f states) r.run here q.1.0 (closed (has_answered x.from m) v.1) (subst S now range) said in
       let one : nat_le k (sent_to x.from m.own) ≡ true = (let l = fit.0 in grind (arith, nat_tests)) in
       let two : nat_le (last_ssn 0 pairs) (sent_to x.from m.own) ≡ true = (let l = fit.1 in grind (arith, nat_tests)) in
       rw (reply, one, two) refl
@@ -122,12 +122,12 @@ comes lives back n p life limits k new me count is now here only =
     let P : TheCollecting → Type 0 = λ z. Good lives back n p (Collects z) in
     subst P (sym is) (record { exact = t.own.exact refl; life = t.own.life ∙ now; knows = t.hears (collecting.begun lives back n limits k life count); out = t.own.out tt })
 
-module _ (f : Answering) (len : ℕ → ℕ) (n : ℕ) (s : System) (acts : List Act) (r : Reached (handlers_of f len) n s acts) (h : IsLone n s) where
+module _ (f : Answering) (states : ℕ → List ℕ) (n : ℕ) (s : System) (acts : List Act) (r : Reached (handlers_of f states) n s acts) (h : IsLone n s) where
   abbrev back : ℕ → Type 0
   back = Back n s.processes
 
   abbrev here : Cluster
-  here = after_run (opening n (handlers_of f len)) acts
+  here = after_run (opening n (handlers_of f states)) acts
 
   -- a packet that was given
   sound-given : (x : NodePacket) → IsOne x s.given → IsSound s.lives back x
@@ -159,12 +159,13 @@ module _ (f : Answering) (len : ℕ → ℕ) (n : ℕ) (s : System) (acts : List
       process-goes n s.processes s.lives (x ∷ s.given) s.gateway.out (with-given n s.processes s.lives s.given s.gateway.out x t.0 h) p m.0 new t.1
   call-alone (Handed p x new) m a =
       let holds = r.holds in
-      let fits : Fits x (s.processes p) = fits-here f len n s acts r x (s.processes p) p (one-was (WasPut here) x s.given holds.given m.1.0) (holds.processes p m.0) in
-      goes p new m.0 (hearing s.lives back n p x (s.processes p) new m.1.1 (sound-given x m.1.0) fits (is-of f len n s acts r p m.0) (only p m.0) (h.good p m.0))
+      let fits : Fits x (s.processes p) = fits-here f states n s acts r x (s.processes p) p (one-was (WasPut here) x s.given holds.given m.1.0) (holds.processes p m.0) in
+      goes p new m.0 (hearing s.lives back n p x (s.processes p) new m.1.1 (sound-given x m.1.0) fits (is-of f states n s acts r p m.0) (only p m.0) (h.good p m.0))
   call-alone (Worked p a new) m l = goes p new m.0 (working s.lives back n p f a (s.processes p) new m.1 (h.good p m.0))
-  call-alone (Did p new) m a = goes p new m.0 (acting s.lives back n p (s.processes p) new m.1 (is-of f len n s acts r p m.0) (only p m.0) (h.good p m.0))
+  call-alone (Did p new) m a = goes p new m.0 (acting s.lives back n p (s.processes p) new m.1 (is-of f states n s acts r p m.0) (only p m.0) (h.good p m.0))
   call-alone (Stored p bytes) m a = goes p (covered (s.processes p)) m.0 (storing s.lives back n p bytes (s.processes p) m.1 (h.good p m.0))
   call-alone (Saved p new) m a = goes p new m.0 (telling s.lives back n p (s.processes p) new m.1 (h.good p m.0))
+  call-alone (Resumed p limits new) m a = goes p new m.0 (waking s.lives back n p limits (s.processes p) new m.1 (h.good p m.0))
   call-alone (Died p) m a = process-dies n s.processes s.lives s.given s.gateway.out h p m Killed refl a
   call-alone (Revived p life new) m a = revives p life new m.0 m.1.0 m.1.1.0 m.1.1.1
   call-alone (GaveOut x new) m a =
@@ -184,29 +185,29 @@ module _ (f : Answering) (len : ℕ → ℕ) (n : ℕ) (s : System) (acts : List
 
 -- ---- lists of calls
 
-stays-alone : (f : Answering) (len : ℕ → ℕ) (n : ℕ) (s : System) (acts : List Act) (ks : List Call) → Reached (handlers_of f len) n s acts → IsLone n s → Calls f n s ks → OneAtATime n s ks → StayExact n s ks
-stays-alone f len n s acts [] r h m a = tt
-stays-alone f len n s acts (k ∷ ks) r h m a =
-    let after : IsLone n (after_call s k) = call-alone f len n s acts r h k m.0 a.0 in
+stays-alone : (f : Answering) (states : ℕ → List ℕ) (n : ℕ) (s : System) (acts : List Act) (ks : List Call) → Reached (handlers_of f states) n s acts → IsLone n s → Calls f n s ks → OneAtATime n s ks → StayExact n s ks
+stays-alone f states n s acts [] r h m a = tt
+stays-alone f states n s acts (k ∷ ks) r h m a =
+    let after : IsLone n (after_call s k) = call-alone f states n s acts r h k m.0 a.0 in
     let exact : AreExact n (after_call s k) = λ p first. (after.good p first).exact in
-    let on : GoesOn (handlers_of f len) n (after_call s k) acts = goes-on f len n s acts (k ∷ []) r (m.0, tt) (exact, tt) in
-    (exact, stays-alone f len n (after_call s k) (acts ++ on.more) ks on.reached after m.1 a.1)
+    let on : GoesOn (handlers_of f states) n (after_call s k) acts = goes-on f states n s acts (k ∷ []) r (m.0, tt) (exact, tt) in
+    (exact, stays-alone f states n (after_call s k) (acts ++ on.more) ks on.reached after m.1 a.1)
 
 -- at the opening all are up
-begins-alone : (n page tick : ℕ) (limits : ℕ → Limits) (len : ℕ → ℕ) (bytes : ℕ → List ℕ) → IsLone n (new_system n limits len bytes page tick)
-begins-alone n page tick limits len bytes = record { outside = refl; alone = λ p q a b apart e. refl; good = λ p first. record { exact = refl; life = refl; knows = tt; out = tt }; given = tt; out = tt }
+begins-alone : (n page tick : ℕ) (limits : ℕ → Limits) (states bytes : ℕ → List ℕ) → IsLone n (new_system n limits states bytes page tick)
+begins-alone n page tick limits states bytes = record { outside = refl; alone = λ p q a b apart e. refl; good = λ p first. record { exact = refl; life = refl; knows = tt; out = tt }; given = tt; out = tt }
 
 pub lone-failures-stay-exact : LoneFailuresStayExact
-lone-failures-stay-exact f n page tick limits len bytes calls few stored m a =
-    stays-alone f len n (new_system n limits len bytes page tick) [] calls (record { run = tt; holds = runs.begins f n page tick limits len bytes few stored }) (begins-alone n page tick limits len bytes) m a
+lone-failures-stay-exact f n page tick limits states bytes calls few stored m a =
+    stays-alone f states n (new_system n limits states bytes page tick) [] calls (record { run = tt; holds = runs.begins f n page tick limits states bytes few stored }) (begins-alone n page tick limits states bytes) m a
 
 pub lone-lives-run : LoneLivesRun
-lone-lives-run f n page tick limits len bytes calls few stored m a = lives-run f n page tick limits len bytes calls few stored m (lone-failures-stay-exact f n page tick limits len bytes calls few stored m a)
+lone-lives-run f n page tick limits states bytes calls few stored m a = lives-run f n page tick limits states bytes calls few stored m (lone-failures-stay-exact f n page tick limits states bytes calls few stored m a)
 
 pub nothing-is-lost-alone : NothingIsLostAlone
-nothing-is-lost-alone f n page tick limits len bytes calls more p a b few stored first m alone =
-    nothing-is-lost f n page tick limits len bytes calls more p a b few stored first m (lone-failures-stay-exact f n page tick limits len bytes (calls ++ more) few stored m alone)
+nothing-is-lost-alone f n page tick limits states bytes calls more p a b few stored first m alone =
+    nothing-is-lost f n page tick limits states bytes calls more p a b few stored first m (lone-failures-stay-exact f n page tick limits states bytes (calls ++ more) few stored m alone)
 
 pub recovers-exactly-alone : RecoversExactlyAlone
-recovers-exactly-alone f n page tick limits len bytes calls more p old new few stored m alone =
-    recovers-exactly f n page tick limits len bytes calls more p old new few stored m (lone-failures-stay-exact f n page tick limits len bytes (calls ++ Did p (Replays new) ∷ more) few stored m alone)
+recovers-exactly-alone f n page tick limits states bytes calls more p old new few stored m alone =
+    recovers-exactly f n page tick limits states bytes calls more p old new few stored m (lone-failures-stay-exact f n page tick limits states bytes (calls ++ Did p (Replays new) ∷ more) few stored m alone)

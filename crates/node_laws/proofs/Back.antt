@@ -57,10 +57,10 @@ exact-parts : (n : ℕ) (s : System) (ks ls : List Call) → StayExact n s (ks +
 exact-parts n s [] ls e = (tt, e)
 exact-parts n s (k ∷ ks) ls e = let t = exact-parts n (after_call s k) ks ls e.1 in ((e.0, t.0), t.1)
 
-pub goes-on : (f : Answering) (len : ℕ → ℕ) (n : ℕ) (s : System) (acts : List Act) (ks : List Call) → Reached (handlers_of f len) n s acts → Calls f n s ks → StayExact n s ks → GoesOn (handlers_of f len) n (after_calls s ks) acts
-goes-on f len n s acts ks r m exact =
-    let g : Handlers = handlers_of f len in
-    let all : Onward g n (after_run (opening n g) acts) (after_calls s ks) = calls-go f len n s (after_run (opening n g) acts) ks r.holds m exact in
+pub goes-on : (f : Answering) (states : ℕ → List ℕ) (n : ℕ) (s : System) (acts : List Act) (ks : List Call) → Reached (handlers_of f states) n s acts → Calls f n s ks → StayExact n s ks → GoesOn (handlers_of f states) n (after_calls s ks) acts
+goes-on f states n s acts ks r m exact =
+    let g : Handlers = handlers_of f states in
+    let all : Onward g n (after_run (opening n g) acts) (after_calls s ks) = calls-go f states n s (after_run (opening n g) acts) ks r.holds m exact in
     let both = run-on (opening n g) acts all.acts r.run all.run in
     record { more = all.acts; reached = record { run = both.0; holds = subst (Holds g n (after_calls s ks)) (sym both.1) all.holds } }
 
@@ -150,20 +150,20 @@ stands-known : (f : Handlers) (n : ℕ) (s : System) (c : Cluster) (p : ℕ) (pr
 stands-known f n s c p process h first e = subst (λ z. StandsAs z c p) e (h.processes p first)
 
 pub nothing-is-lost : NothingIsLost
-nothing-is-lost f n page tick limits len bytes calls more p a b few stored first m exact is_a is_b =
-    let g : Handlers = handlers_of f len in
-    let o : System = new_system n limits len bytes page tick in
+nothing-is-lost f n page tick limits states bytes calls more p a b few stored first m exact is_a is_b =
+    let g : Handlers = handlers_of f states in
+    let o : System = new_system n limits states bytes page tick in
     let parts = calls-parts f n o calls more m in
     let sure = exact-parts n o calls more exact in
-    let one = goes-on f len n o [] calls (record { run = tt; holds = begins f n page tick limits len bytes few stored }) parts.0 sure.0 in
-    let two = goes-on f len n (after_calls o calls) one.more more one.reached parts.1.0 sure.1 in
+    let one = goes-on f states n o [] calls (record { run = tt; holds = begins f n page tick limits states bytes few stored }) parts.0 sure.0 in
+    let two = goes-on f states n (after_calls o calls) one.more more one.reached parts.1.0 sure.1 in
     let c : Cluster = after_run (opening n g) one.more in
     let d : Cluster = after_run (opening n g) (one.more ++ two.more) in
     let s : Stands a c p = stands-known g n (after_calls o calls) c p (Up a) one.reached.holds first is_a in
     let t : Stands b d p = stands-known g n (after_calls (after_calls o calls) more) d p (Up b) two.reached.holds first (sym (ap (λ (z : System). z.processes p) parts.1.1) ∙ is_b) in
     has-back n g (after_calls o calls) (after_calls o (calls ++ more)) p a b one.more two.more two.reached.run (all-stand g n (after_calls o calls) c one.reached.holds)
     (subst (λ z. AllStand n z d) (sym parts.1.1) (all-stand g n (after_calls (after_calls o calls) more) d two.reached.holds)) s t one.reached.holds.handlers two.reached.holds.handlers
-    (acknowledged-stay n g one.more two.more p (run_at a) few (grows f len) two.reached.run (acknowledged-run a c p s))
+    (acknowledged-stay n g one.more two.more p (run_at a) few (grows f states) two.reached.run (acknowledged-run a c p s))
 
 -- ---- what recovers
 
@@ -219,32 +219,32 @@ recovery-is old new (inl g) = let e : Replays new ≡ Collects g.0 = g.1.0 in ab
 recovery-is old new (inr g) = let e : new ≡ g.0 = (let z : Replays new ≡ Replays g.0 = g.1.0 in cc (z)) in subst (Recovers old) (sym e) g.1.1
 
 pub recovers-exactly : RecoversExactly
-recovers-exactly f n page tick limits len bytes calls more p old new few stored m exact is_old =
-    let g : Handlers = handlers_of f len in
-    let o : System = new_system n limits len bytes page tick in
+recovers-exactly f n page tick limits states bytes calls more p old new few stored m exact is_old =
+    let g : Handlers = handlers_of f states in
+    let o : System = new_system n limits states bytes page tick in
     let k : Call = Did p (Replays new) in
     let s : System = after_calls o calls in
     let parts = calls-parts f n o calls (k ∷ more) m in
     let sure = exact-parts n o calls (k ∷ more) exact in
     let first : IsFirst n p = parts.1.0.0.0 in
-    let one = goes-on f len n o [] calls (record { run = tt; holds = begins f n page tick limits len bytes few stored }) parts.0 sure.0 in
-    let two = goes-on f len n s one.more (k ∷ []) one.reached (parts.1.0.0, tt) (sure.1.0, tt) in
-    let three = goes-on f len n (after_call s k) (one.more ++ two.more) more two.reached parts.1.0.1 sure.1.1 in
+    let one = goes-on f states n o [] calls (record { run = tt; holds = begins f n page tick limits states bytes few stored }) parts.0 sure.0 in
+    let two = goes-on f states n s one.more (k ∷ []) one.reached (parts.1.0.0, tt) (sure.1.0, tt) in
+    let three = goes-on f states n (after_call s k) (one.more ++ two.more) more two.reached parts.1.0.1 sure.1.1 in
     let c : Cluster = after_run (opening n g) one.more in
     let b : Cluster = after_run (opening n g) (one.more ++ two.more) in
     let collects : StandsCollecting old c p = stands-known g n s c p (Collects old) one.reached.holds first is_old in
     let replays_so : StandsReplaying new b p = stands-known g n (after_call s k) b p (Replays new) two.reached.holds first (at-itself p (λ t. (if t then Replays new else s.processes p) ≡ Replays new) refl) in
     let recovers : Recovers old new = recovery-is old new (subst (λ z. Acts z (Replays new)) is_old parts.1.0.0.1) in
     let P : ℕ → Type 0 = λ q. HadReceived c q old.own.base new.plan in
-    let had : HadReceived c p old.own.base new.plan = subst P collects.own.me (keeps-what-it-had n g one.more old new few (grows f len) one.reached.run (subst (StandsCollecting old c) (sym collects.own.me) collects) recovers.all recovers.is) in
-    let first_same : take old.own.base (b.history p) ≡ take old.own.base (c.history p) = acknowledged-stay n g one.more two.more p old.own.base few (grows f len) two.reached.run (acknowledged-covered g n s c p old one.reached.holds collects) in
+    let had : HadReceived c p old.own.base new.plan = subst P collects.own.me (keeps-what-it-had n g one.more old new few (grows f states) one.reached.run (subst (StandsCollecting old c) (sym collects.own.me) collects) recovers.all recovers.is) in
+    let first_same : take old.own.base (b.history p) ≡ take old.own.base (c.history p) = acknowledged-stay n g one.more two.more p old.own.base few (grows f states) two.reached.run (acknowledged-covered g n s c p old one.reached.holds collects) in
     let many : length (b.history p) ≡ kept_of old new = (let l = replays.long new b p replays_so in let e : new.own.base ≡ old.own.base = ap (λ z. z.base) recovers.is.own in omega (arith, l, e)) in
     let assoc : (one.more ++ two.more) ++ three.more ≡ one.more ++ (two.more ++ three.more) = append_assoc one.more two.more three.more in
     let last : Reached g n (after_calls (after_call s k) more) (one.more ++ (two.more ++ three.more)) = subst (λ xs. Reached g n (after_calls (after_call s k) more) xs) assoc three.reached in
     let d : Cluster = after_run (opening n g) (one.more ++ (two.more ++ three.more)) in
     let all_same : take (kept_of old new) (d.history p) ≡ take (kept_of old new) (b.history p) =
     subst (λ xs. take (kept_of old new) ((after_run (opening n g) xs).history p) ≡ take (kept_of old new) (b.history p)) assoc
-    (acknowledged-stay n g (one.more ++ two.more) three.more p (kept_of old new) few (grows f len) three.reached.run (acknowledged-kept new b p (kept_of old new) replays_so many)) in
+    (acknowledged-stay n g (one.more ++ two.more) three.more p (kept_of old new) few (grows f states) three.reached.run (acknowledged-kept new b p (kept_of old new) replays_so many)) in
     let end : after_calls o (calls ++ k ∷ more) ≡ after_calls (after_call s k) more = parts.1.1 in
     record {
       acts = one.more;

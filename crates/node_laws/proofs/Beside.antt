@@ -29,21 +29,21 @@ use Rattle.node_laws.specs.Worked.{sent}
 use Rattle.node_laws.specs.Beside.{ask, told, resume, restored, asked, resumed, without, other_asked, other_resumed, comes, asks, hears, has_all, replays, begins, resumes, enters, has_answers, ComesBackBeside}
 
 -- nothing was told, so nothing is planned
-none-planned : (len : ℕ) → Plans (has_all len) []
+none-planned : (initial : List ℕ) → Plans (has_all initial) []
 unfolding entries_in_range
-none-planned len h c = record { follows = tt; most = refl }
+none-planned initial h c = record { follows = tt; most = refl }
 
-recovers : (len : ℕ) → Recovers (has_all len) (replays len)
+recovers : (initial : List ℕ) → Recovers (has_all initial) (replays initial)
 unfolding entries_in_range
-recovers len = record { all = refl; is = record { own = refl; plans = none-planned len; none = refl }; acts = comes-back (has_all len) [] refl (none-planned len) }
+recovers initial = record { all = refl; is = record { own = refl; plans = none-planned initial; none = refl }; acts = comes-back (has_all initial) [] refl (none-planned initial) }
 
-is-restoring : (len : ℕ) → IsRestoring (resumes len []).own (resumes len []).above (resumes len []).answered
+is-restoring : (initial : List ℕ) → IsRestoring (resumes initial []).own (resumes initial []).above (resumes initial []).answered
 unfolding entries_in_range
-is-restoring len = record { wide = refl; answered_wide = refl; heard_wide = refl; logs_wide = refl; alone = refl }
+is-restoring initial = record { wide = refl; answered_wide = refl; heard_wide = refl; logs_wide = refl; alone = refl }
 
-enters-still : (len : ℕ) → IsRestoring (enters len).own (enters len).above (enters len).answered
+enters-still : (initial : List ℕ) → IsRestoring (enters initial).own (enters initial).above (enters initial).answered
 unfolding entries_in_range pairs_in_range
-enters-still len = record { wide = refl; answered_wide = refl; heard_wide = refl; logs_wide = refl; alone = refl }
+enters-still initial = record { wide = refl; answered_wide = refl; heard_wide = refl; logs_wide = refl; alone = refl }
 
 -- what the other keeps, which received and sent nothing
 zero-at : (q : ℕ) → slice_index_or (0 ∷ 0 ∷ 0 ∷ []) q 0 ≤ 0
@@ -100,16 +100,16 @@ early = omega arith
 
 pub comes-back-beside : ComesBackBeside
 unfolding entries_in_range pairs_in_range
-comes-back-beside f len page tick bytes stored =
+comes-back-beside f initial page tick bytes stored =
     record {
       calls = (
         first,
         (
-          (first, (tt, (early, (kept_of (new_node usual 1 2 len), (stored 1 first, ((usual, refl), revives usual (kept_of (new_node usual 1 2 len)) 2)))))),
+          (first, (tt, (early, (kept_of (new_node usual 1 2 initial), (stored 1 first, ((usual, refl), revives usual (kept_of (new_node usual 1 2 initial)) 2)))))),
           (
-            (first, (asks len (ask 2 ∷ []), (refl, collecting-takes (Some (ask 0)) (comes len) (ask 2 ∷ []) refl))),
+            (first, (asks initial (ask 2 ∷ []), (refl, collecting-takes (Some (ask 0)) (comes initial) (ask 2 ∷ []) refl))),
             (
-              (first, (asks len [], (refl, collecting-takes (Some (ask 2)) (asks len (ask 2 ∷ [])) [] refl))),
+              (first, (asks initial [], (refl, collecting-takes (Some (ask 2)) (asks initial (ask 2 ∷ [])) [] refl))),
               (
                 (inr (inl refl), (refl, handed-so (ask 0) (new_gateway 2 page tick))),
                 (
@@ -117,23 +117,23 @@ comes-back-beside f len page tick bytes stored =
                   (
                     (refl, gateways.takes-so (Some (told 0)) (asked page tick) [] refl),
                     (
-                      (second, (inr (inl refl), (other_asked len, (refl, (refl, nodes.handed-so (ask 2) (new_node usual 2 2 len) (within (1 ∷ 1 ∷ 1 ∷ []) (true ∷ true ∷ true ∷ []) refl refl)))))),
+                      (second, (inr (inl refl), (other_asked initial, (refl, (refl, nodes.handed-so (ask 2) (new_node usual 2 2 initial) (within (1 ∷ 1 ∷ 1 ∷ []) (true ∷ true ∷ true ∷ []) refl refl)))))),
                       (
-                        (second, (without (other_asked len), (refl, views.takes-so (Some (told 2)) (other_asked len) [] refl))),
+                        (second, (without (other_asked initial), (refl, views.takes-so (Some (told 2)) (other_asked initial) [] refl))),
                         (
-                          (first, (inr (inl refl), (hears len, (refl, (refl, collecting.handing (asks len []) (told 0) refl refl))))),
+                          (first, (inr (inl refl), (hears initial, (refl, (refl, collecting.handing (asks initial []) (told 0) refl refl))))),
                           (
-                            (first, (inl refl, (has_all len, (refl, (refl, collecting.handing (hears len) (told 2) refl refl))))),
+                            (first, (inl refl, (has_all initial, (refl, (refl, collecting.handing (hears initial) (told 2) refl refl))))),
                             (
-                              (first, inr (replays len, (refl, recovers len))),
+                              (first, inr (replays initial, (refl, recovers initial))),
                               (
-                                (first, (replayed_of (replays len), (refl, (refl, ends-so (replays len) refl (omega arith))))),
+                                (first, (replayed_of (replays initial), (refl, (refl, ends-so (replays initial) refl (omega arith))))),
                                 (
-                                  (first, (begins len, (refl, (refl, beginning (replayed_of (replays len)))))),
+                                  (first, (begins initial, (refl, (refl, beginning (replayed_of (replays initial)))))),
                                   (
-                                    (first, (resumes len (resume 2 ∷ []), (refl, returns.takes-so (Some (resume 0)) (begins len) (resume 2 ∷ []) refl))),
+                                    (first, (resumes initial (resume 2 ∷ []), (refl, returns.takes-so (Some (resume 0)) (begins initial) (resume 2 ∷ []) refl))),
                                     (
-                                      (first, (resumes len [], (refl, returns.takes-so (Some (resume 2)) (resumes len (resume 2 ∷ [])) [] refl))),
+                                      (first, (resumes initial [], (refl, returns.takes-so (Some (resume 2)) (resumes initial (resume 2 ∷ [])) [] refl))),
                                       (
                                         (inr (inl refl), (refl, handed-so (resume 0) (sent (asked page tick)))),
                                         (
@@ -141,14 +141,14 @@ comes-back-beside f len page tick bytes stored =
                                           (
                                             (refl, gateways.takes-so (Some (restored 0)) (resumed page tick) [] refl),
                                             (
-                                              (second, (inr (inl refl), (other_resumed len, (refl, (refl, nodes.handed-so (resume 2) (without (other_asked len)) (within (1 ∷ 2 ∷ 1 ∷ []) (true ∷ false ∷ true ∷ []) refl refl)))))),
+                                              (second, (inr (inl refl), (other_resumed initial, (refl, (refl, nodes.handed-so (resume 2) (without (other_asked initial)) (within (1 ∷ 2 ∷ 1 ∷ []) (true ∷ false ∷ true ∷ []) refl refl)))))),
                                               (
-                                                (second, (without (other_resumed len), (refl, views.takes-so (Some (restored 2)) (other_resumed len) [] refl))),
+                                                (second, (without (other_resumed initial), (refl, views.takes-so (Some (restored 2)) (other_resumed initial) [] refl))),
                                                 (
-                                                  (first, (inr (inl refl), (enters len, (refl, (refl, restoring.handing (resumes len []) (restored 0) (is-restoring len)))))),
+                                                  (first, (inr (inl refl), (enters initial, (refl, (refl, restoring.handing (resumes initial []) (restored 0) (is-restoring initial)))))),
                                                   (
-                                                    (first, (inl refl, (has_answers len, (refl, (refl, restoring.handing (enters len) (restored 2) (enters-still len)))))),
-                                                    ((first, inr (up (has_answers len), (refl, (refl, returns.is-up (has_answers len) refl)))), tt),
+                                                    (first, (inl refl, (has_answers initial, (refl, (refl, restoring.handing (enters initial) (restored 2) (enters-still initial)))))),
+                                                    ((first, inr (up (has_answers initial), (refl, (refl, returns.is-up (has_answers initial) refl)))), tt),
                                                   ),
                                                 ),
                                               ),
@@ -173,7 +173,7 @@ comes-back-beside f len page tick bytes stored =
         ),
       );
       alone = ((λ q inside other. refl), (tt, (tt, (tt, (tt, (tt, (tt, (tt, (tt, (tt, (tt, (tt, (tt, (tt, (tt, (tt, (tt, (tt, (tt, (tt, (tt, (tt, (tt, (tt, tt))))))))))))))))))))))));
-      node = up (has_answers len);
+      node = up (has_answers initial);
       is_up = refl;
       life = refl;
       exact = refl;

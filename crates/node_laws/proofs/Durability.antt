@@ -1,6 +1,6 @@
 -- What a process holds in each stage, and what its calls make of that
 use Rattle.std.proofs.Common.{◌≡◌, ◌≢◌, inl, inr, ℕ, zero, suc, ◌+◌, ◌≤◌, List, [], ◌∷◌, ◌++◌, length, map, take, Bool, true, refl, sym, ap, ◌∙◌, subst, arith, append_assoc, append-nil}
-use Rattle.std.specs.Prelude.{◌⊎◌, Option, Some, None, replicate, nat_le, ◌==◌}
+use Rattle.std.specs.Prelude.{◌⊎◌, Option, Some, None, nat_le, ◌==◌}
 use Rattle.std.proofs.lemmas.Bool.Decides.{nat_tests}
 use Rattle.std.proofs.lemmas.List.{length-append, length-map, take_all}
 use Rattle.theorems.specs.Growth.{Begins, Grows}
@@ -18,6 +18,7 @@ use Rattle.node.specs.Node.{TheNode}
 use Rattle.node.specs.Calls.{handed, did_work}
 use Rattle.node.specs.Transmission.{ticked}
 use Rattle.node.specs.Checkpoints.{froze}
+use Rattle.node.specs.Suspension.{woken}
 use Rattle.node.specs.Kept.{kept_of, with_own}
 use Rattle.node.specs.Stands.{Each, job_of, payloads_to}
 use Rattle.node.specs.Runs.{Answer, Answering, handlers_of, state_from, sends_from}
@@ -29,7 +30,7 @@ use Rattle.recovery.specs.Collection.{TheCollecting, begins, revived, asks, asks
 use Rattle.recovery.specs.Replays.{TheReplaying, next_job, next_number, did_replay, is_over, receipts_of}
 use Rattle.recovery.specs.StandsAtReplay.{replayed_of}
 use Rattle.recovery.specs.Restoration.{TheRestoring}
-use Rattle.node_laws.specs.Process.{Process, Up, Covered, Collects, Replays, Replayed, Restores, Killed, Gives, Hears, Works, Acts, WaitsFor, covered, IsTold, ComesFrom}
+use Rattle.node_laws.specs.Process.{Process, Up, Covered, Collects, Replays, Replayed, Restores, Killed, Gives, Hears, Works, Acts, WaitsFor, covered, IsTold, Wakes, ComesFrom}
 use Rattle.node_laws.specs.Durable.{IsAfter, ReplaysAll}
 use Rattle.recovery.specs.Plan.{IsCovered, Plans, told_under}
 use Rattle.node_laws.proofs.Taken.{IsFair, IsSent, IsIn, HasTaken, sender_of, taken-plan, told-good, taken-more}
@@ -55,15 +56,12 @@ job-senders : (plan : List OpenJob) → map sender_of (map job_of plan) ≡ map 
 job-senders [] = refl
 job-senders (j ∷ plan) = ap (λ z. j.sender ∷ z) (job-senders plan)
 
-module _ (f : Answering) (len : ℕ → ℕ) (top p : ℕ) (durable tells : Bool) (D : ℕ → Bool) (In : ℕ → List Payload) (low : p ≤ top) where
+module _ (f : Answering) (states : ℕ → List ℕ) (top p : ℕ) (durable tells : Bool) (D : ℕ → Bool) (In : ℕ → List Payload) (low : p ≤ top) where
   abbrev F : Handlers
-  F = handlers_of f len
+  F = handlers_of f states
 
   abbrev gr : Grows F
-  gr = grows f len
-
-  abbrev zeros : List ℕ
-  zeros = replicate (len p) 0
+  gr = grows f states
 
   abbrev Node : List Message → List Message → TheNode → Type 0
   Node h g n = OfNode top F p durable tells D In h g n
@@ -135,9 +133,9 @@ module _ (f : Answering) (len : ℕ → ℕ) (top p : ℕ) (durable tells : Bool
   -- what a handler answers in the state after some messages
   answered : (g : List Message) (state : List ℕ) (m : Message) (a : Answer) → F.state p g ≡ state → a ≡ f p state m → (F.state p (g ++ m ∷ []) ≡ a.state) × ((d : ℕ) → F.sends p (g ++ m ∷ []) d ≡ F.sends p g d ++ payloads_to d a.given)
   answered g state m a here is =
-      let answer : f p (state_from f p zeros g) m ≡ a = ap (λ z. f p z m) here ∙ sym is in (
-        state-more f p zeros g m ∙ ap (λ (z : Answer). z.state) answer,
-        λ d. sends-more f p zeros g m d ∙ ap (λ (z : Answer). sends_from f p zeros g d ++ payloads_to d z.given) answer,
+      let answer : f p (state_from f p (states p) g) m ≡ a = ap (λ z. f p z m) here ∙ sym is in (
+        state-more f p (states p) g m ∙ ap (λ (z : Answer). z.state) answer,
+        λ d. sends-more f p (states p) g m d ∙ ap (λ (z : Answer). sends_from f p (states p) g d ++ payloads_to d z.given) answer,
       )
 
   -- its handler ran
@@ -239,6 +237,35 @@ module _ (f : Answering) (len : ℕ → ℕ) (top p : ℕ) (durable tells : Bool
   telling h (Restores n) new g s = absurd g
   telling h Killed new g s = absurd g
 
+  -- it was suspended, and is resumed
+  woken-on : (h g : List Message) (limits : Limits) (n : TheNode) → (durable ≡ true → limits.durable ≡ true) → Node h g n → Node h g (woken limits n)
+  woken-on h g limits n lasting s =
+      record {
+        me = s.me;
+        count = s.count;
+        wide = s.wide;
+        base = s.base;
+        more = s.more;
+        begins = s.begins;
+        many = s.many;
+        taken = s.taken;
+        job = s.job;
+        state = s.state;
+        logs = s.logs;
+        out = tt;
+        rests = s.rests;
+        is_durable = lasting;
+      }
+
+  pub waking : (h : List Message) (limits : Limits) (old new : Process) → Wakes limits old new → (durable ≡ true → limits.durable ≡ true) → IsFor h old → IsFor h new
+  waking h limits (Up n) new g lasting s = subst (IsFor h) (sym (g.1.1.0 ∙ ap Up g.1.1.1)) (s.0, woken-on h s.0 limits n lasting s.1)
+  waking h limits (Covered n) new g lasting s = absurd g
+  waking h limits (Collects n) new g lasting s = absurd g
+  waking h limits (Replays n) new g lasting s = absurd g
+  waking h limits (Replayed n) new g lasting s = absurd g
+  waking h limits (Restores n) new g lasting s = absurd g
+  waking h limits Killed new g lasting s = absurd g
+
 -- the limits of one that comes back are those that it was given
 limits-below : (me d : ℕ) (n : TheCollecting) → (asks_below me d n).own.limits ≡ n.own.limits
 limits-below me zero n = refl
@@ -248,12 +275,12 @@ limits-below me (suc d) n =
     let P : TheCollecting → Type 0 = λ z. z.own.limits ≡ n.own.limits in
     by-if P (d == me) m (asks d m) (λ e. here) (λ e. by-if P _ m _ (λ g. here) (λ g. here))
 
-module _ (f : Answering) (len : ℕ → ℕ) (top p : ℕ) (durable tells : Bool) (D : ℕ → Bool) (In : ℕ → List Payload) (low : p ≤ top) where
+module _ (f : Answering) (states : ℕ → List ℕ) (top p : ℕ) (durable tells : Bool) (D : ℕ → Bool) (In : ℕ → List Payload) (low : p ≤ top) where
   -- it comes back
-  pub reviving : (h : List Message) (bytes : List ℕ) (life : ℕ) (n : TheCollecting) → ComesFrom bytes life n → (durable ≡ true → n.own.limits.durable ≡ true) → IsStored top (handlers_of f len) p D In h bytes
-      → IsFor f len top p durable tells D In low h (Collects n)
+  pub reviving : (h : List Message) (bytes : List ℕ) (life : ℕ) (n : TheCollecting) → ComesFrom bytes life n → (durable ≡ true → n.own.limits.durable ≡ true) → IsStored top (handlers_of f states) p D In h bytes
+      → IsFor f states top p durable tells D In low h (Collects n)
   reviving h bytes life n from lasting are =
-      let f2 : Handlers = handlers_of f len in
+      let f2 : Handlers = handlers_of f states in
       let limits : Limits = from.1.1.0.0 in
       let is : n ≡ revived limits from.0 life = from.1.1.0.1 in
       let one : are.0 ≡ from.0 = one_kept are.0 from.0 bytes are.1.0 from.1.0 in
@@ -267,14 +294,14 @@ module _ (f : Answering) (len : ℕ → ℕ) (top p : ℕ) (durable tells : Bool
 
   -- where more was sent to it
   module _ (In2 : ℕ → List Payload) (b : (q : ℕ) → Begins (In q) (In2 q)) where
-    pub for-more : (h : List Message) (process : Process) → IsFor f len top p durable tells D In low h process → IsFor f len top p durable tells D In2 low h process
-    for-more h (Up n) s = (s.0, node-more top (handlers_of f len) (grows f len) p durable tells D In In2 h s.0 n b s.1)
-    for-more h (Covered n) s = (s.0, (node-more top (handlers_of f len) (grows f len) p durable tells D In In2 s.0 h n b s.1.0, s.1.1))
-    for-more h (Collects n) s = (own-more top (handlers_of f len) p durable tells D In In2 h [] h h n.own b s.0, (told-later p D In In2 n.told b s.1.0, s.1.1))
-    for-more h (Replays n) s = own-more top (handlers_of f len) p durable tells D In In2 (h ++ map job_of n.plan) (receipts_of n.plan).senders h (h ++ map job_of (take n.done n.plan)) n.own b s
-    for-more h (Replayed n) s = (s.0, (own-more top (handlers_of f len) p durable tells D In In2 s.0 n.receipts.senders h s.0 n.own b s.1.0, s.1.1))
-    for-more h (Restores n) s = (s.0, (s.1.0, (own-more top (handlers_of f len) p durable tells D In In2 s.0 s.1.0 h s.0 n.own b s.1.1.0, s.1.1.1)))
+    pub for-more : (h : List Message) (process : Process) → IsFor f states top p durable tells D In low h process → IsFor f states top p durable tells D In2 low h process
+    for-more h (Up n) s = (s.0, node-more top (handlers_of f states) (grows f states) p durable tells D In In2 h s.0 n b s.1)
+    for-more h (Covered n) s = (s.0, (node-more top (handlers_of f states) (grows f states) p durable tells D In In2 s.0 h n b s.1.0, s.1.1))
+    for-more h (Collects n) s = (own-more top (handlers_of f states) p durable tells D In In2 h [] h h n.own b s.0, (told-later p D In In2 n.told b s.1.0, s.1.1))
+    for-more h (Replays n) s = own-more top (handlers_of f states) p durable tells D In In2 (h ++ map job_of n.plan) (receipts_of n.plan).senders h (h ++ map job_of (take n.done n.plan)) n.own b s
+    for-more h (Replayed n) s = (s.0, (own-more top (handlers_of f states) p durable tells D In In2 s.0 n.receipts.senders h s.0 n.own b s.1.0, s.1.1))
+    for-more h (Restores n) s = (s.0, (s.1.0, (own-more top (handlers_of f states) p durable tells D In In2 s.0 s.1.0 h s.0 n.own b s.1.1.0, s.1.1.1)))
     for-more h Killed s = tt
 
-    pub stored-more : (h : List Message) (bytes : List ℕ) → IsStored top (handlers_of f len) p D In h bytes → IsStored top (handlers_of f len) p D In2 h bytes
+    pub stored-more : (h : List Message) (bytes : List ℕ) → IsStored top (handlers_of f states) p D In h bytes → IsStored top (handlers_of f states) p D In2 h bytes
     stored-more h bytes s = (s.0, (s.1.0, (s.1.1.0, taken-more D In In2 top p h h (with_own 0 s.0.me s.0.counts) [] b s.1.1.1)))

@@ -21,7 +21,7 @@ use Rattle.node_laws.proofs.Back.{recovers-exactly}
 use Rattle.process.specs.declared.lifecycle.Lifecycle.{Lifecycle}
 use Rattle.node_laws.specs.HostReplies.{answering}
 use Rattle.node_laws.specs.HostSystem.{System, new_system, as_lives, after_call, after_calls}
-use Rattle.node_laws.specs.HostLives.{IsAs, len_of, handlers}
+use Rattle.node_laws.specs.HostLives.{IsAs, handlers}
 use Rattle.node_laws.specs.HostBack.{still, HasRecovered, HostedRecovers, HostedRecoversAlone}
 use Rattle.node_laws.proofs.Acts.{Beside}
 use Rattle.node_laws.proofs.Moments.{Moment}
@@ -66,13 +66,13 @@ parted : (xs qs rs ys : List Call) (k : Call) → xs ++ ((qs ++ k ∷ rs) ++ ys)
 parted xs qs rs ys k = ap (λ z. xs ++ z) (append_assoc qs (k ∷ rs) ys) ∙ sym (append_assoc xs qs (k ∷ (rs ++ ys)))
 
 pub hosted-recovers : HostedRecovers
-hosted-recovers images n page tick limits processes bytes calls more k p from now w few o l g e was is rec =
+hosted-recovers images n page tick limits processes states bytes calls more k p from now w few o l g e was is rec =
     let f : Answering = answering n images in
     let s : System = new_system n processes bytes page tick in
-    let t : Lived = called.new_system n limits (len_of images) bytes page tick in
+    let t : Lived = called.new_system n limits states bytes page tick in
     let made = calls-split images n s calls (k ∷ more) g in
     let exact = exact-split n s calls (k ∷ more) e in
-    let a : Are images n s t calls = are-go images n s t calls (opened images n page tick limits processes bytes o) made.0 in
+    let a : Are images n s t calls = are-go images n s t calls (opened images n page tick limits processes states bytes o) made.0 in
     let u : Lived = called.after_calls t a.calls in
     let s1 : System = after_calls s calls in
     let one : One images n s1 u k = one-goes images n s1 u k a.state made.1.0 in
@@ -91,10 +91,10 @@ hosted-recovers images n page tick limits processes bytes calls more k p from no
     let last : IsAs n (after_calls s (calls ++ k ∷ more)) (called.after_calls t ((a.calls ++ m.before) ++ did ∷ (m.behind ++ b.calls))) =
     subst (λ z. IsAs n z (called.after_calls t ((a.calls ++ m.before) ++ did ∷ (m.behind ++ b.calls)))) (sym (after-more s calls (k ∷ more))) (subst (IsAs n (after_calls s2 more)) (sym end) b.state.stand) in
     let before : called.after_calls t (a.calls ++ m.before) ≡ called.after_calls u m.before = after-append t a.calls m.before in
-    recovered n p l (handlers n images) s2 (after_calls s (calls ++ k ∷ more)) u (called.after_calls t ((a.calls ++ m.before) ++ did ∷ (m.behind ++ b.calls))) (called.after_calls t (a.calls ++ m.before)) one.steps.calls now.lifecycle m before last
-    (recovers-exactly f n page tick limits (len_of images) bytes (a.calls ++ m.before) (m.behind ++ b.calls) p m.collected m.replays few (are-stored images n limits processes bytes o) (subst (called.Calls f n t) same are)
+    recovered n p l (handlers n images states) s2 (after_calls s (calls ++ k ∷ more)) u (called.after_calls t ((a.calls ++ m.before) ++ did ∷ (m.behind ++ b.calls))) (called.after_calls t (a.calls ++ m.before)) one.steps.calls now.lifecycle m before last
+    (recovers-exactly f n page tick limits states bytes (a.calls ++ m.before) (m.behind ++ b.calls) p m.collected m.replays few (are-stored images n limits processes states bytes o) (subst (called.Calls f n t) same are)
     (subst (called.StayExact n t) same stay) (ap (λ (z : Lived). z.processes p) before ∙ m.here))
 
 pub hosted-recovers-alone : HostedRecoversAlone
-hosted-recovers-alone images n page tick limits processes bytes calls more k p from now w few o l g one was is rec =
-    hosted-recovers images n page tick limits processes bytes calls more k p from now w few o l g (hosted-alone images n page tick limits processes bytes (calls ++ k ∷ more) few o g one) was is rec
+hosted-recovers-alone images n page tick limits processes states bytes calls more k p from now w few o l g one was is rec =
+    hosted-recovers images n page tick limits processes states bytes calls more k p from now w few o l g (hosted-alone images n page tick limits processes states bytes (calls ++ k ∷ more) few o g one) was is rec

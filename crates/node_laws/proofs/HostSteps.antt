@@ -17,7 +17,7 @@ use Rattle.gateway.specs.Calls as outside
 use Rattle.gateway.specs.Stands as gateways
 use Rattle.gateway.specs.Since as since
 use Rattle.node_laws.specs.Together.{IsFirst}
-use Rattle.node_laws.specs.Process.{Process, Gives, Hears, Works, WaitsFor, covered, IsTold, IsKilled, ComesFrom}
+use Rattle.node_laws.specs.Process.{Process, Gives, Hears, Works, WaitsFor, covered, IsTold, Wakes, IsKilled, ComesFrom}
 use Rattle.node_laws.specs.Process as stages
 use Rattle.node_laws.specs.System.{System as Lived, Call, handed_out, untaken, Deals, AreExact, StayExact}
 use Rattle.node_laws.specs.System as called
@@ -35,21 +35,24 @@ use Rattle.process.specs.Calls.{Stays, IsHanded, Ticks, Takes, Freezes, Thaws}
 use Rattle.process.specs.Packets.{GivesBytes}
 use Rattle.process.specs.Job.{IsAnswered, WorksAs}
 use Rattle.process.specs.Checkpoints.{IsSavable, Keeps}
+use Rattle.process.specs.Suspension.{Suspends}
 use Rattle.process.specs.Work as working
-use Rattle.node_laws.specs.HostProcess.{Checkpoint, Absent, Pending, Durable, Hosted, Runs, Killed, Alive, Has, goes_on, keeps, stage_of, seen, as_process}
+use Rattle.node_laws.specs.HostProcess.{Checkpoint, Absent, Pending, Durable, Hosted, Runs, Sleeps, Killed, Alive, Has, Asleep, goes_on, sleeps, keeps, stage_of, seen, as_process}
 use Rattle.node_laws.specs.HostReplies.{answering}
-use Rattle.node_laws.specs.HostSystem.{System, HostCall, Gave, GaveBytes, Handed, HandedBytes, Worked, Answered, Ticked, Froze, Paused, Stored, Saved, Died, Revived, Outside, IsOutside, as_lives, AnswersSo, RevivesAs, DoesIt, after_call}
+use Rattle.node_laws.specs.HostSystem.{System, HostCall, Gave, GaveBytes, Handed, HandedBytes, Worked, Answered, Ticked, Froze, Paused, Stored, Saved, Suspended, Resumed, Died, Revived, Outside, IsOutside, as_lives, AnswersSo, RevivesAs, ResumesAs, DoesIt, after_call}
 use Rattle.node_laws.specs.HostLives.{IsAs, FailsAlone, KeepsDurable, LivesOn, gave_by, shown_by}
 use Rattle.node_laws.specs.HostBack.{has_recovered}
 use Rattle.node_laws.proofs.Chains.{Chain, chain-append, revived-limits}
 use Rattle.node_laws.proofs.Stages.{Fits, GoesOn, passes-on}
 use Rattle.node_laws.proofs.Calls.{Is, IsHere, answered, handed-is, taken-is, ticks-is, works-is, froze-is, paused-is, stored-is, saved-is}
 use Rattle.node_laws.proofs.Acts.{dids, dids-give, Ran, ran, Beside, ends}
+use Rattle.node_laws.proofs.Wakings.{still-seen, wakes-up}
 use Rattle.node_laws.proofs.Moments.{Moment, of-acts, behind-one, dead-end, not-collecting}
 
--- it has such an image, is in some stage, and waits for what is pending
+-- it has such an image, is in some stage, and waits for what is pending; or it was suspended as its bytes say
 abbrev pub IsGood : AnyImage → Hosted → Type 0
 IsGood image (Runs old w) = (as_image old.image ≡ as_image image) × ((is_settled old.lifecycle ≡ true) × Fits w old.lifecycle)
+IsGood image (Sleeps old bytes) = Suspends old.lifecycle bytes
 IsGood image Killed = Unit {0}
 
 abbrev pub AreGood : (ℕ → AnyImage) → ℕ → System → Type 0
@@ -285,6 +288,22 @@ module _ (images : ℕ → AnyImage) (n : ℕ) (s : System) (t : Lived) (st : Is
       by-call (Saved p new) p (Runs new Absent) (called.Saved p to) to [] l (l, subst (λ z. IsTold z to) (sym (here p old Durable l e)) a.1) tt (raised-here t.processes p to) refl (beside-one p (Runs new Absent) to) refl
       (ap as_image g.image ∙ good.0, (a.0, tt)) (λ z. tt) (λ q z. tt) refl refl (λ q. refl) tt (λ from at. absurd (subst (λ z. IsTold z to) (sym (here p old Durable l e) ∙ at) a.1))
 
+  -- ---- it is suspended, and resumed
+
+  suspends : (p : ℕ) (bytes : List ℕ) (old : TheProcess) (w : Checkpoint) → IsFirst n p → s.processes p ≡ Runs old w → Suspends old.lifecycle bytes → Steps images n s t (Suspended p bytes)
+  suspends p bytes old w l e g =
+      let good = good-of p old w l e in
+      by-acts (Suspended p bytes) p (Sleeps old bytes) [] l (still-seen w old.lifecycle bytes good.1.1 g ∙ sym (here p old w l e)) (ap (λ z. record s { processes = put s.processes p z }) (ap (sleeps bytes) e)) g refl (λ q. refl)
+
+  resumes : (p : ℕ) (limits : Limits) (old new : TheProcess) (bytes : List ℕ) → IsFirst n p → s.processes p ≡ Sleeps old bytes → ResumesAs (images p) limits bytes new → Steps images n s t (Resumed p limits new)
+  resumes p limits old new bytes l e g =
+      let r = g.1.1 in
+      let to : Process = stages.Up r.node in
+      let was : Suspends old.lifecycle bytes = subst (IsGood (images p)) e (goods p l) in
+      let wakes : Wakes limits (t.processes p) to = subst (λ z. Wakes limits z to) (sym (st.processes p l ∙ ap as_process e)) (wakes-up limits g.0 old.lifecycle bytes new was r) in
+      by-call (Resumed p limits new) p (Runs new Absent) (called.Resumed p limits to) to [] l (l, wakes) tt (raised-here t.processes p to) (ap stage_of r.lifecycle_is) (beside-one p (Runs new Absent) to) refl
+      (ap as_image r.image_is ∙ g.1.0, (ap is_settled r.lifecycle_is, tt)) (λ z. tt) (λ q d same. d same) refl refl (λ q. refl) tt (λ from at. absurd (subst (λ z. Wakes limits z to) at wakes))
+
   -- ---- it is killed, and comes back
 
   dies : (p : ℕ) → IsFirst n p → Steps images n s t (Died p)
@@ -447,6 +466,7 @@ module _ (images : ℕ → AnyImage) (n : ℕ) (s : System) (t : Lived) (st : Is
   outwards (called.Did p new) i g = absurd i
   outwards (called.Stored p bytes) i g = absurd i
   outwards (called.Saved p new) i g = absurd i
+  outwards (called.Resumed p limits new) i g = absurd i
   outwards (called.Died p) i g = absurd i
   outwards (called.Revived p life new) i g = absurd i
 
@@ -455,12 +475,20 @@ module _ (images : ℕ → AnyImage) (n : ℕ) (s : System) (t : Lived) (st : Is
   -- of a process that runs
   alive : (P : TheProcess → Type 0) (k : HostCall) (h : Hosted) (p : ℕ) → s.processes p ≡ h → Alive P h → ((old : TheProcess) (w : Checkpoint) → s.processes p ≡ Runs old w → P old → Steps images n s t k) → Steps images n s t k
   alive P k (Runs old w) p e g goes = goes old w e g
+  alive P k (Sleeps old bytes) p e g goes = absurd g
   alive P k Killed p e g goes = absurd g
 
   -- and whose checkpoint is so far
   has : (w : Checkpoint) (h : Hosted) (p : ℕ) → s.processes p ≡ h → Has (λ checkpoint. checkpoint ≡ w) h → (old : TheProcess) × (s.processes p ≡ Runs old w)
   has w (Runs old v) p e g = (old, e ∙ ap (Runs old) g)
+  has w (Sleeps old bytes) p e g = absurd g
   has w Killed p e g = absurd g
+
+  -- of one that was suspended
+  asleep : (P : List ℕ → Type 0) (h : Hosted) (p : ℕ) → s.processes p ≡ h → Asleep P h → (old : TheProcess) × (bytes : List ℕ) × (s.processes p ≡ Sleeps old bytes) × P bytes
+  asleep P (Sleeps old bytes) p e g = (old, bytes, e, g)
+  asleep P (Runs old w) p e g = absurd g
+  asleep P Killed p e g = absurd g
 
   pub steps : (k : HostCall) → DoesIt images n s k → Steps images n s t k
   steps (Gave p x new) g = alive (λ old. Stays (Takes (Some x)) old new) (Gave p x new) (s.processes p) p refl g.1
@@ -483,6 +511,10 @@ module _ (images : ℕ → AnyImage) (n : ℕ) (s : System) (t : Lived) (st : Is
       (λ old w e does. freezes p bytes old new w g.0 e does.0 does.1.0 does.1.1)
   steps (Stored p bytes) g = let h = has (Pending bytes) (s.processes p) p refl g.1 in stores p bytes h.0 g.0 h.1
   steps (Saved p new) g = let h = has Durable (s.processes p) p refl g.1.0 in saves p h.0 new g.0 h.1 (subst (Alive (λ old. Stays Thaws old new)) h.1 g.1.1)
+  steps (Suspended p bytes) g = alive (λ old. Suspends old.lifecycle bytes) (Suspended p bytes) (s.processes p) p refl g.1 (λ old w e does. suspends p bytes old w g.0 e does)
+  steps (Resumed p limits new) g =
+      let h = asleep (λ bytes. ResumesAs (images p) limits bytes new) (s.processes p) p refl g.1 in
+      resumes p limits h.0 new h.1 g.0 h.2 h.3
   steps (Died p) g = dies p g
   steps (Revived p limits life new) g = revives p limits life new g.0 g.1.0 g.1.1.0 g.1.1.1
   steps (Outside k) g = outwards k g.0 g.1

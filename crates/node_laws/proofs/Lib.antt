@@ -32,6 +32,7 @@ pub mod Outputs
 pub mod Messages
 pub mod Chains
 pub mod Stages
+pub mod Wakings
 pub mod Calls
 pub mod Acts
 pub mod Moments

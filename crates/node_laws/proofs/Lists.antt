@@ -6,7 +6,7 @@ use Rattle.world.specs.declared.message.Message.{Message}
 use Rattle.node.specs.Runs.{Answering}
 use Rattle.node_laws.specs.Together.{IsFirst}
 use Rattle.node_laws.specs.Process.{Process, Up, Covered, Collects, Replays, Replayed, Restores, Killed, is_exact}
-use Rattle.node_laws.specs.System.{System as Lived, Call, Gave, Handed, Worked, Did, Stored, Saved, Died, Revived, GaveOut, HandedOut, DidOut, StoredOut, StoredBut, RevivedOut, handed_out, Calls, after_call, after_calls, AreExact, StayExact}
+use Rattle.node_laws.specs.System.{System as Lived, Call, Gave, Handed, Worked, Did, Stored, Saved, Resumed, Died, Revived, GaveOut, HandedOut, DidOut, StoredOut, StoredBut, RevivedOut, handed_out, Calls, after_call, after_calls, AreExact, StayExact}
 use Rattle.node_laws.specs.Alone.{OneAtATime}
 use Rattle.node_laws.specs.Durable.{ReplayWhole, StaysDurable, given_by, outputs_of}
 use Rattle.node_laws.specs.Outputs.{OneLife}
@@ -16,7 +16,7 @@ use Rattle.node_laws.proofs.Durable.{Now, nothing, all-fair, step}
 use Rattle.node_laws.specs.HostSystem.{System, HostCall, as_lives, AreCalls, DoesIt}
 use Rattle.node_laws.specs.HostSystem as hosted
 use Rattle.node_laws.specs.HostReplies.{answering}
-use Rattle.node_laws.specs.HostLives.{IsAs, len_of}
+use Rattle.node_laws.specs.HostLives.{IsAs}
 use Rattle.node_laws.specs.HostLives as laws
 use Rattle.node_laws.proofs.Calls.{IsHere}
 use Rattle.node_laws.proofs.HostSteps.{AreGood, Steps, steps}
@@ -63,6 +63,7 @@ outputs-append t (Worked p a new ∷ xs) ys = outputs-append (after_call t (Work
 outputs-append t (Did p new ∷ xs) ys = outputs-append (after_call t (Did p new)) xs ys
 outputs-append t (Stored p bytes ∷ xs) ys = outputs-append (after_call t (Stored p bytes)) xs ys
 outputs-append t (Saved p new ∷ xs) ys = outputs-append (after_call t (Saved p new)) xs ys
+outputs-append t (Resumed p limits new ∷ xs) ys = outputs-append (after_call t (Resumed p limits new)) xs ys
 outputs-append t (Died p ∷ xs) ys = outputs-append (after_call t (Died p)) xs ys
 outputs-append t (Revived p life new ∷ xs) ys = outputs-append (after_call t (Revived p life new)) xs ys
 outputs-append t (GaveOut x new ∷ xs) ys = outputs-append (after_call t (GaveOut x new)) xs ys
@@ -87,6 +88,7 @@ given-append p (Worked q a new ∷ xs) ys = given-append p xs ys
 given-append p (Did q new ∷ xs) ys = given-append p xs ys
 given-append p (Stored q bytes ∷ xs) ys = given-append p xs ys
 given-append p (Saved q new ∷ xs) ys = given-append p xs ys
+given-append p (Resumed q limits new ∷ xs) ys = given-append p xs ys
 given-append p (Died q ∷ xs) ys = given-append p xs ys
 given-append p (Revived q life new ∷ xs) ys = given-append p xs ys
 given-append p (GaveOut x new ∷ xs) ys = given-append p xs ys
@@ -99,25 +101,26 @@ given-append p (DidOut new ∷ xs) ys = given-append p xs ys
 -- ---- what holds between two calls
 
 pub record State (images : ℕ → AnyImage) (n : ℕ) (s : System) (t : Lived) : Type 0 where
+  pub states : ℕ → List ℕ
   pub stand : IsAs n s t
   pub good : AreGood images n s
-  pub now : (p : ℕ) (l : IsFirst n p) → (h : List Message) × Now (answering n images) (len_of images) n p false false (λ q. false) nothing l.1 h t
+  pub now : (p : ℕ) (l : IsFirst n p) → (h : List Message) × Now (answering n images) states n p false false (λ q. false) nothing l.1 h t
 
-now-goes : (f : Answering) (len : ℕ → ℕ) (n p : ℕ) (low : p ≤ n) (h : List Message) (t : Lived) (ks : List Call) → Now f len n p false false (λ q. false) nothing low h t → Calls f n t ks → ReplayWhole t ks
-    → (g : List Message) × Now f len n p false false (λ q. false) nothing low g (after_calls t ks)
-now-goes f len n p low h t [] now c w = (h, now)
-now-goes f len n p low h t (k ∷ ks) now c w =
-    let one = step f len n p false false (λ q. false) nothing low h t k now c.0 w.0 (λ e. absurd (cc (e))) (all-fair f len n p false low h k) in
-    now-goes f len n p low one.to (after_call t k) ks one.now c.1 w.1
+now-goes : (f : Answering) (states : ℕ → List ℕ) (n p : ℕ) (low : p ≤ n) (h : List Message) (t : Lived) (ks : List Call) → Now f states n p false false (λ q. false) nothing low h t → Calls f n t ks → ReplayWhole t ks
+    → (g : List Message) × Now f states n p false false (λ q. false) nothing low g (after_calls t ks)
+now-goes f states n p low h t [] now c w = (h, now)
+now-goes f states n p low h t (k ∷ ks) now c w =
+    let one = step f states n p false false (λ q. false) nothing low h t k now c.0 w.0 (λ e. absurd (cc (e))) (all-fair f states n p false low h k) in
+    now-goes f states n p low one.to (after_call t k) ks one.now c.1 w.1
 
-here-of : (f : Answering) (len : ℕ → ℕ) (n p : ℕ) (low : p ≤ n) (h : List Message) (process : Process) → IsFor f len n p false false (λ q. false) nothing low h process → IsHere n p process
-here-of f len n p low h (Up m) s = (s.1.me, (s.1.count, s.1.rests))
-here-of f len n p low h (Covered m) s = (s.1.0.me, (s.1.0.count, s.1.0.rests))
-here-of f len n p low h (Replays m) s = (s.me, s.count)
-here-of f len n p low h (Collects m) s = tt
-here-of f len n p low h (Replayed m) s = tt
-here-of f len n p low h (Restores m) s = tt
-here-of f len n p low h Killed s = tt
+here-of : (f : Answering) (states : ℕ → List ℕ) (n p : ℕ) (low : p ≤ n) (h : List Message) (process : Process) → IsFor f states n p false false (λ q. false) nothing low h process → IsHere n p process
+here-of f states n p low h (Up m) s = (s.1.me, (s.1.count, s.1.rests))
+here-of f states n p low h (Covered m) s = (s.1.0.me, (s.1.0.count, s.1.0.rests))
+here-of f states n p low h (Replays m) s = (s.me, s.count)
+here-of f states n p low h (Collects m) s = tt
+here-of f states n p low h (Replayed m) s = tt
+here-of f states n p low h (Restores m) s = tt
+here-of f states n p low h Killed s = tt
 
 -- one is as exact as the other
 exact-here : (n : ℕ) (s : System) (t : Lived) → IsAs n s t → AreExact n t → AreExact n (as_lives s)
@@ -148,13 +151,14 @@ pub record One (images : ℕ → AnyImage) (n : ℕ) (s : System) (t : Lived) (k
 
 pub one-goes : (images : ℕ → AnyImage) (n : ℕ) (s : System) (t : Lived) (k : HostCall) → State images n s t → DoesIt images n s k → One images n s t k
 one-goes images n s t k st g =
-    let one : Steps images n s t k = steps images n s t st.stand st.good (λ p l. here-of (answering n images) (len_of images) n p l.1 (st.now p l).0 (t.processes p) (st.now p l).1.holds) k g in
+    let one : Steps images n s t k = steps images n s t st.stand st.good (λ p l. here-of (answering n images) st.states n p l.1 (st.now p l).0 (t.processes p) (st.now p l).1.holds) k g in
     record {
       steps = one;
       state = record {
+        states = st.states;
         stand = one.stand;
         good = one.good;
-        now = λ p l. now-goes (answering n images) (len_of images) n p l.1 (st.now p l).0 t one.calls (st.now p l).1 one.are one.whole;
+        now = λ p l. now-goes (answering n images) st.states n p l.1 (st.now p l).0 t one.calls (st.now p l).1 one.are one.whole;
       };
     }
 

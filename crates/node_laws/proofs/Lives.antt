@@ -38,9 +38,9 @@ use Rattle.gateway.proofs.Views.{takes-so}
 use Rattle.node_laws.specs.Together.{IsFirst}
 use Rattle.node_laws.proofs.JointGateways.{gateway-stands, all-by-gateway}
 use Rattle.node_laws.specs.Process.{Process, Collects, Killed, StandsAs, is_exact, covered}
-use Rattle.node_laws.specs.System.{System, new_system, AreStored, Call, Gave, Handed, Worked, Did, Stored, Saved, Died, Revived, GaveOut, HandedOut, DidOut, StoredOut, StoredBut, RevivedOut, handed_out, untaken, DoesIt, after_call, Calls, after_calls, AreStoredOf, AreExact, StayExact, AllStand, LivesRun}
+use Rattle.node_laws.specs.System.{System, new_system, AreStored, Call, Gave, Handed, Worked, Did, Stored, Saved, Resumed, Died, Revived, GaveOut, HandedOut, DidOut, StoredOut, StoredBut, RevivedOut, handed_out, untaken, DoesIt, after_call, Calls, after_calls, AreStoredOf, AreExact, StayExact, AllStand, LivesRun}
 use Rattle.node_laws.proofs.Moves.{Moves, stands-still, stored-still, lives-still}
-use Rattle.node_laws.proofs.Steps.{giving, hearing, working, acting, storing, telling, dying, reviving}
+use Rattle.node_laws.proofs.Steps.{giving, hearing, working, acting, storing, telling, waking, dying, reviving}
 use Rattle.node_laws.proofs.Losses.{loss-is-dropped}
 use Rattle.node_laws.proofs.Untaken.{goes-fewer, goes-taken-out, dealing, handing}
 use Rattle.node_laws.proofs.Gateways.{Ahead, PutsMore, ahead-none, ahead-still, ahead-acts, out-more, stands-as}
@@ -219,52 +219,54 @@ elsewhere : {X : Type 0} (f : ℕ → X) (p q : ℕ) (x : X) → q ≢ p → put
 elsewhere f p q x other = let e : (q == p) ≡ false = grind (arith, nat_tests) in rw e refl
 
 -- each call
-pub call-goes : (f : Answering) (len : ℕ → ℕ) (n : ℕ) (s : System) (c : Cluster) (k : Call) → Holds (handlers_of f len) n s c → DoesIt f n s k → AreExact n (after_call s k) → Onward (handlers_of f len) n c (after_call s k)
-call-goes f len n s c (Gave p x new) h m exact =
+pub call-goes : (f : Answering) (states : ℕ → List ℕ) (n : ℕ) (s : System) (c : Cluster) (k : Call) → Holds (handlers_of f states) n s c → DoesIt f n s k → AreExact n (after_call s k) → Onward (handlers_of f states) n c (after_call s k)
+call-goes f states n s c (Gave p x new) h m exact =
     let g = giving c p (s.stored p) (s.lives p) (h.lives p m.0) x (s.processes p) new m.1 (h.processes p m.0) (h.stored p m.0) in
-    given-more (handlers_of f len) n c (record s { processes = put s.processes p new }) x (from-own c p x g.0) (process-acts (handlers_of f len) n s c h p new m.0 g.1)
-call-goes f len n s c (Handed p x new) h m exact =
+    given-more (handlers_of f states) n c (record s { processes = put s.processes p new }) x (from-own c p x g.0) (process-acts (handlers_of f states) n s c h p new m.0 g.1)
+call-goes f states n s c (Handed p x new) h m exact =
     let o : WasPut c x = one-was (WasPut c) x s.given h.given m.1.0 in
-    process-acts (handlers_of f len) n s c h p new m.0 (hearing c p (s.stored p) (s.lives p) (h.lives p m.0) x (s.processes p) new m.1.1 (at-itself p (λ b. is_exact (if b then new else s.processes p) ≡ true → is_exact new ≡ true) (λ e. e) (exact p m.0)) (λ e. (o e).said) (h.processes p m.0) (h.stored p m.0))
-call-goes f len n s c (Worked p a new) h m exact =
-    process-acts (handlers_of f len) n s c h p new m.0 (working c p (s.stored p) (s.lives p) (h.lives p m.0) f len a (s.processes p) new m.1 h.handlers h.believed (h.processes p m.0) (h.stored p m.0))
-call-goes f len n s c (Did p new) h m exact =
-    process-acts (handlers_of f len) n s c h p new m.0 (acting c p (s.stored p) (s.lives p) (h.lives p m.0) (s.processes p) new m.1 h.believed (h.processes p m.0) (h.stored p m.0))
-call-goes f len n s c (Stored p bytes) h m exact =
+    process-acts (handlers_of f states) n s c h p new m.0 (hearing c p (s.stored p) (s.lives p) (h.lives p m.0) x (s.processes p) new m.1.1 (at-itself p (λ b. is_exact (if b then new else s.processes p) ≡ true → is_exact new ≡ true) (λ e. e) (exact p m.0)) (λ e. (o e).said) (h.processes p m.0) (h.stored p m.0))
+call-goes f states n s c (Worked p a new) h m exact =
+    process-acts (handlers_of f states) n s c h p new m.0 (working c p (s.stored p) (s.lives p) (h.lives p m.0) f states a (s.processes p) new m.1 h.handlers h.believed (h.processes p m.0) (h.stored p m.0))
+call-goes f states n s c (Did p new) h m exact =
+    process-acts (handlers_of f states) n s c h p new m.0 (acting c p (s.stored p) (s.lives p) (h.lives p m.0) (s.processes p) new m.1 h.believed (h.processes p m.0) (h.stored p m.0))
+call-goes f states n s c (Stored p bytes) h m exact =
     let P : List ℕ → Type 0 = λ b. Moves p (covered (s.processes p)) b (s.lives p) c in
-    process-goes (handlers_of f len) n s c h p (covered (s.processes p)) (put s.stored p bytes) s.lives (λ q o. elsewhere s.stored p q bytes o) (λ q o. refl) m.0
+    process-goes (handlers_of f states) n s c h p (covered (s.processes p)) (put s.stored p bytes) s.lives (λ q o. elsewhere s.stored p q bytes o) (λ q o. refl) m.0
     (at-itself p (λ b. P (if b then bytes else s.stored p)) (storing c p bytes (s.lives p) (h.lives p m.0) (s.stored p) (s.processes p) m.1 (h.processes p m.0) (h.stored p m.0)))
-call-goes f len n s c (Saved p new) h m exact =
-    process-acts (handlers_of f len) n s c h p new m.0 (telling c p (s.stored p) (s.lives p) (h.lives p m.0) (s.processes p) new m.1 (h.processes p m.0) (h.stored p m.0))
-call-goes f len n s c (Died p) h m exact = process-acts (handlers_of f len) n s c h p Killed m (dying c p (s.stored p) (s.lives p) (s.processes p) (h.lives p m) (h.processes p m) (h.stored p m))
-call-goes f len n s c (Revived p life new) h m exact =
+call-goes f states n s c (Saved p new) h m exact =
+    process-acts (handlers_of f states) n s c h p new m.0 (telling c p (s.stored p) (s.lives p) (h.lives p m.0) (s.processes p) new m.1 (h.processes p m.0) (h.stored p m.0))
+call-goes f states n s c (Resumed p limits new) h m exact =
+    process-acts (handlers_of f states) n s c h p new m.0 (waking c p (s.stored p) (s.lives p) (h.lives p m.0) limits (s.processes p) new m.1 (h.processes p m.0) (h.stored p m.0))
+call-goes f states n s c (Died p) h m exact = process-acts (handlers_of f states) n s c h p Killed m (dying c p (s.stored p) (s.lives p) (s.processes p) (h.lives p m) (h.processes p m) (h.stored p m))
+call-goes f states n s c (Revived p life new) h m exact =
     let P : ℕ → Type 0 = λ l. Moves p (Collects new) (s.stored p) l c in
-    process-goes (handlers_of f len) n s c h p (Collects new) s.stored (put s.lives p life) (λ q o. refl) (λ q o. elsewhere s.lives p q life o) m.0
+    process-goes (handlers_of f states) n s c h p (Collects new) s.stored (put s.lives p life) (λ q o. refl) (λ q o. elsewhere s.lives p q life o) m.0
     (at-itself p (λ b. P (if b then life else s.lives p)) (reviving c p (s.stored p) (s.processes p) (s.lives p) life new m.1.0 (h.lives p m.0) m.1.1.0 m.1.1.1 (h.processes p m.0) (h.stored p m.0)))
-call-goes f len n s c (GaveOut x new) h m exact = giving-out (handlers_of f len) n s c x new h m.0 m.1
-call-goes f len n s c (HandedOut x new) h m exact =
+call-goes f states n s c (GaveOut x new) h m exact = giving-out (handlers_of f states) n s c x new h m.0 m.1
+call-goes f states n s c (HandedOut x new) h m exact =
     let o : WasPut c x = one-was (WasPut c) x s.given h.given m.0 in
-    gateway-waits (handlers_of f len) n s c h new s.taken (handing-out s c x new (is_loss x.body) refl o m.1.0 h.ahead)
-call-goes f len n s c (DidOut new) h m exact =
+    gateway-waits (handlers_of f states) n s c h new s.taken (handing-out s c x new (is_loss x.body) refl o m.1.0 h.ahead)
+call-goes f states n s c (DidOut new) h m exact =
     let more : List Output = s.taken ++ handed_out s.gateway new in
-    gateway-waits (handlers_of f len) n s c h new more (ahead-acts (λ d. Unit {0}) s.durable (untaken s.taken s.gateway) (untaken more new) c (λ d more. tt) (dealing s.taken s.gateway new m.0) h.ahead)
-call-goes f len n s c StoredOut h m exact = gateway-goes (handlers_of f len) n s c h s.gateway [] (goes-taken-out s.taken s.gateway c (h.ahead c h.durable (λ x i. i)))
-call-goes f len n s c (StoredBut k) h m exact =
+    gateway-waits (handlers_of f states) n s c h new more (ahead-acts (λ d. Unit {0}) s.durable (untaken s.taken s.gateway) (untaken more new) c (λ d more. tt) (dealing s.taken s.gateway new m.0) h.ahead)
+call-goes f states n s c StoredOut h m exact = gateway-goes (handlers_of f states) n s c h s.gateway [] (goes-taken-out s.taken s.gateway c (h.ahead c h.durable (λ x i. i)))
+call-goes f states n s c (StoredBut k) h m exact =
     let all : gateways.Goes (untaken (take k s.taken ++ drop k s.taken) s.gateway) c = subst (λ z. gateways.Goes (untaken z s.gateway) c) (sym (take-append-drop k s.taken)) (h.ahead c h.durable (λ x i. i)) in
-    gateway-goes (handlers_of f len) n s c h s.gateway (drop k s.taken) (goes-fewer (take k s.taken) (drop k s.taken) s.gateway c all)
-call-goes f len n s c (RevivedOut new) h m exact =
-    gateway-goes (handlers_of f len) n s c h new [] (record { acts = []; run = tt; by = tt; stands = (m.1 s.durable refl).0 c h.durable })
+    gateway-goes (handlers_of f states) n s c h s.gateway (drop k s.taken) (goes-fewer (take k s.taken) (drop k s.taken) s.gateway c all)
+call-goes f states n s c (RevivedOut new) h m exact =
+    gateway-goes (handlers_of f states) n s c h new [] (record { acts = []; run = tt; by = tt; stands = (m.1 s.durable refl).0 c h.durable })
 
-pub calls-go : (f : Answering) (len : ℕ → ℕ) (n : ℕ) (s : System) (c : Cluster) (ks : List Call) → Holds (handlers_of f len) n s c → Calls f n s ks → StayExact n s ks → Onward (handlers_of f len) n c (after_calls s ks)
-calls-go f len n s c [] h m exact = record { acts = []; run = tt; holds = h }
-calls-go f len n s c (k ∷ ks) h m exact =
-    let one = call-goes f len n s c k h m.0 exact.0 in
-    let rest = calls-go f len n (after_call s k) (after_run c one.acts) ks one.holds m.1 exact.1 in
+pub calls-go : (f : Answering) (states : ℕ → List ℕ) (n : ℕ) (s : System) (c : Cluster) (ks : List Call) → Holds (handlers_of f states) n s c → Calls f n s ks → StayExact n s ks → Onward (handlers_of f states) n c (after_calls s ks)
+calls-go f states n s c [] h m exact = record { acts = []; run = tt; holds = h }
+calls-go f states n s c (k ∷ ks) h m exact =
+    let one = call-goes f states n s c k h m.0 exact.0 in
+    let rest = calls-go f states n (after_call s k) (after_run c one.acts) ks one.holds m.1 exact.1 in
     let both = run-on c one.acts rest.acts one.run rest.run in
     record {
       acts = one.acts ++ rest.acts;
       run = both.0;
-      holds = subst (Holds (handlers_of f len) n (after_calls (after_call s k) ks)) (sym both.1) rest.holds;
+      holds = subst (Holds (handlers_of f states) n (after_calls (after_call s k) ks)) (sym both.1) rest.holds;
     }
 
 -- the usual limits are in their ranges
@@ -272,16 +274,16 @@ pub usual-allowed : AreAllowed usual
 usual-allowed = record { page = (omega arith, omega arith); tick = omega arith; numbers = (omega arith, omega arith); receipts = (omega arith, omega arith) }
 
 -- at the opening all stand
-pub begins : (f : Answering) (n page tick : ℕ) (limits : ℕ → Limits) (len : ℕ → ℕ) (bytes : ℕ → List ℕ) → n ≤ 15 → AreStored n len bytes → Holds (handlers_of f len) n (new_system n limits len bytes page tick) (opening n (handlers_of f len))
-begins f n page tick limits len bytes few stored =
-    let g : Handlers = handlers_of f len in
-    let begin : (p : ℕ) → BeginsWith g p (len p) = λ p. record { state_is = refl; sends_are = λ d. refl } in
+pub begins : (f : Answering) (n page tick : ℕ) (limits : ℕ → Limits) (states bytes : ℕ → List ℕ) → n ≤ 15 → AreStored n states bytes → Holds (handlers_of f states) n (new_system n limits states bytes page tick) (opening n (handlers_of f states))
+begins f n page tick limits states bytes few stored =
+    let g : Handlers = handlers_of f states in
+    let begin : (p : ℕ) → BeginsWith g p (states p) = λ p. record { state_is = refl; sends_are = λ d. refl } in
     record {
       count = refl;
       few = few;
-      believed = worlds.opens-holds n g (grows f len);
-      processes = λ p l. stands-opened (limits p) p n (len p) g l.0 l.1 (begin p);
-      stored = λ p l. (kept_of (new_node usual p n (len p)), (stored p l, kept-opened usual p n (len p) usual-allowed l.0 l.1 few g (begin p)));
+      believed = worlds.opens-holds n g (grows f states);
+      processes = λ p l. stands-opened (limits p) p n (states p) g l.0 l.1 (begin p);
+      stored = λ p l. (kept_of (new_node usual p n (states p)), (stored p l, kept-opened usual p n (states p) usual-allowed l.0 l.1 few g (begin p)));
       lives = λ p l. (let e : 1 ≤ 1 = omega arith in e);
       durable = gateway_opening.stands-opened n page tick g;
       ahead = ahead-none (new_gateway n page tick) (opening n g);
@@ -302,14 +304,14 @@ all-stand f n s c h =
     }
 
 pub lives-run : LivesRun
-lives-run f n page tick limits len bytes calls few stored m exact =
-    let g : Handlers = handlers_of f len in
-    let all = calls-go f len n (new_system n limits len bytes page tick) (opening n g) calls (begins f n page tick limits len bytes few stored) m exact in
-    let keeps = nodes-keep n g all.acts few (grows f len) all.run in
+lives-run f n page tick limits states bytes calls few stored m exact =
+    let g : Handlers = handlers_of f states in
+    let all = calls-go f states n (new_system n limits states bytes page tick) (opening n g) calls (begins f n page tick limits states bytes few stored) m exact in
+    let keeps = nodes-keep n g all.acts few (grows f states) all.run in
     record {
       acts = all.acts;
       run = all.run;
-      stand = all-stand g n (after_calls (new_system n limits len bytes page tick) calls) (after_run (opening n g) all.acts) all.holds;
+      stand = all-stand g n (after_calls (new_system n limits states bytes page tick) calls) (after_run (opening n g) all.acts) all.holds;
       no_orphan = keeps.0;
       output_once = keeps.1;
       received_once = keeps.2;

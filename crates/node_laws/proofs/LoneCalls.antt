@@ -4,16 +4,18 @@ use Rattle.std.specs.Prelude.{Option, Some, None, ◌⊎◌}
 use Rattle.packets.specs.declared.packet.NodePacket.{NodePacket}
 use Rattle.node.specs.declared.job.OpenJob.{OpenJob}
 use Rattle.node.specs.declared.job.Given.{Given}
+use Rattle.node.specs.declared.limit.Limits.{Limits}
 use Rattle.node.specs.Node.{TheNode}
 use Rattle.node.specs.Transmission.{ticked}
 use Rattle.node.specs.Checkpoints.{froze}
+use Rattle.node.specs.Suspension.{woken}
 use Rattle.node.specs.Runs.{Answer, Answering}
 use Rattle.recovery.specs.Own.{TheOwn}
 use Rattle.recovery.specs.Collection.{TheCollecting}
 use Rattle.recovery.specs.Replays.{TheReplaying, next_job, did_replay}
 use Rattle.recovery.specs.Replayed.{TheReplayed}
 use Rattle.recovery.specs.Restoration.{TheRestoring}
-use Rattle.node_laws.specs.Process.{Process, Up, Covered, Collects, Replays, Replayed, Restores, Killed, Gives, Hears, Works, Acts, WaitsFor, covered, IsTold}
+use Rattle.node_laws.specs.Process.{Process, Up, Covered, Collects, Replays, Replayed, Restores, Killed, Gives, Hears, Works, Acts, WaitsFor, covered, IsTold, Wakes}
 use Rattle.node_laws.proofs.Sound.{IsSound, AreSound}
 use Rattle.node_laws.proofs.NodeSound as nodes
 use Rattle.node_laws.proofs.OwnSound.{IsAlone, HasHeard}
@@ -214,3 +216,15 @@ module _ (lives : ℕ → ℕ) (back : ℕ → Type 0) (top p : ℕ) where
   telling (Replayed n) new g h = absurd g
   telling (Restores n) new g h = absurd g
   telling Killed new g h = absurd g
+
+  -- it was suspended, and is resumed
+  pub waking : (limits : Limits) (old new : Process) → Wakes limits old new → IsGood old → On old new
+  waking limits (Up n) new g h =
+      let to : Process = Up (woken limits n) in
+      becomes (Up n) to new (g.1.1.0 ∙ ap Up g.1.1.1) (record { good = record { exact = h.exact; life = h.life; knows = tt; out = tt }; up = λ e. e; returns = λ r. r })
+  waking limits (Covered n) new g h = absurd g
+  waking limits (Collects n) new g h = absurd g
+  waking limits (Replays n) new g h = absurd g
+  waking limits (Replayed n) new g h = absurd g
+  waking limits (Restores n) new g h = absurd g
+  waking limits Killed new g h = absurd g

@@ -3,7 +3,8 @@ use Rattle.std.proofs.Common.{◌≡◌, inl, inr, ℕ, zero, suc, ◌+◌, ◌<
 use Rattle.std.specs.Prelude.{Option, Some, None, slice_index_or, ◌==◌, if◌then◌else◌}
 use Rattle.std.specs.List.{AllByRecursion}
 use Rattle.std.proofs.lemmas.Bool.Decides.{nat_tests}
-use Rattle.packets.specs.Kept.{IsKept}
+use Rattle.packets.specs.Format.{short_bytes, long_bytes, checksum_bytes, IsLong}
+use Rattle.packets.specs.Kept.{IsKept, KeptFits, word_bytes, kept_bytes}
 use Rattle.packets.specs.Packet.{entries_in_range, pairs_in_range}
 use Rattle.world.specs.declared.message.Message.{Message}
 use Rattle.world.specs.History.{count_of}
@@ -16,6 +17,7 @@ use Rattle.node.specs.Limit.{usual}
 use Rattle.node.specs.Queue.{TheQueue, no_queue}
 use Rattle.node.specs.Node.{TheNode, IsWithin, Within, IsPeer, MaySend, log_at}
 use Rattle.node.specs.Kept.{kept_of}
+use Rattle.node.specs.Suspension.{suspended_bytes, IsWhole, CanSuspend, IsSuspended}
 use Rattle.node.specs.Runs.{Answer}
 use Rattle.node.specs.Stands.{job_of}
 use Rattle.node.proofs.Freezes.{freezes, saves}
@@ -210,12 +212,47 @@ within-q9 : Within (quiet n9)
 unfolding entries_in_range
 within-q9 = rests 1 (false ∷ false ∷ []) 2 (0 ∷ 0 ∷ []) (omega arith) (omega arith) (omega arith) (of-gateway, (of-gateway, tt)) false
 
+-- ---- it may be suspended when its checkpoint is durable
+
+unused-whole : IsWhole no_queue
+unused-whole = record { as_many = refl; small = omega arith; sent = omega arith; numbered = tt }
+
+pub fits-5 : KeptFits (kept_of (quiet n5))
+unfolding entries_in_range
+fits-5 =
+    record {
+      few = omega arith;
+      some = omega arith;
+      own = omega arith;
+      state = omega arith;
+      room = record { length_is = omega arith; counts = (omega arith, tt); logs = ((omega arith, (omega arith, tt)), tt); counts_are = refl; logs_are = refl };
+      range = refl;
+    }
+
+small-5 : IsLong (length (kept_bytes (kept_of (quiet n5))))
+unfolding entries_in_range short_bytes long_bytes word_bytes checksum_bytes
+small-5 = let long : length (kept_bytes (kept_of (quiet n5))) ≡ 41 = refl in omega (arith, long)
+
+can-suspend : CanSuspend (quiet n5)
+unfolding entries_in_range
+can-suspend =
+    record {
+      live = refl;
+      idle = refl;
+      covered = refl;
+      fits = record { kept = fits-5; small = small-5; flags = refl; heard = (omega arith, (omega arith, tt)); logs = (unused-whole, (unused-whole, tt)) };
+    }
+
+-- these are its bytes
+pub suspended-5 : IsSuspended (quiet n5) (suspended_bytes (quiet n5))
+suspended-5 = record { within = within-q5; can = can-suspend; bytes_are = refl }
+
 gives-nothing : (o : TheOwn) → MayGive o []
 gives-nothing o = record { few = omega arith; others = λ i s e. absurd (cc) }
 
 calls-before : (stored : ℕ → List ℕ) (bytes : List ℕ) → IsKept (kept_of n4) bytes → Calls last 1 (opened stored) (before bytes)
 unfolding entries_in_range pairs_in_range
-calls-before stored bytes kept = ((inl (1, (input 1, (refl, first-of (new_gateway 1 PAGE TICK) refl))), putting-in (new_gateway 1 PAGE TICK) 1 (input 1) (first-of (new_gateway 1 PAGE TICK) refl)), (tt, ((refl, gateways.takes-so (Some (delivery 1)) g1 [] refl), ((first, (inl refl, (n1, (refl, (refl, nodes.handed-so (delivery 1) n0 within-n0))))), ((first, (λ j e. ap to-answer (same-job 1 n1.working j refl e), (n2, (refl, (refl, nodes.worked-so n1 (input 1) [] within-n1 (gives-none n1)))))), ((first, (quiet n2, (refl, views.takes-so (Some (number 1)) n2 [] refl))), ((inl refl, (refl, handed-so (number 1) (sent g1))), (tt, ((refl, gateways.takes-so (Some (acknowledgement 1)) g2 [] refl), ((first, (inl refl, (n3, (refl, (refl, nodes.handed-so (acknowledgement 1) (quiet n2) within-q2))))), ((first, (n4, (refl, (inr refl, freezes n3)))), ((first, (refl, (kept, kept-covers n4 within-n4))), ((first, (n5, (refl, (refl, saves n4 within-n4)))), ((first, (quiet n5, (refl, views.takes-so (Some covers) n5 [] refl))), ((inl (1, (input 2, (refl, first-of (sent g2) refl))), putting-in (sent g2) 1 (input 2) (first-of (sent g2) refl)), ((inl (1, (input 3, (refl, first-of g3 refl))), putting-in g3 1 (input 3) (first-of g3 refl)), (tt, ((refl, gateways.takes-so (Some (delivery 2)) g4 (delivery 3 ∷ []) refl), ((refl, gateways.takes-so (Some (delivery 3)) (gave (delivery 3 ∷ []) g4) [] refl), ((first, (inr (inl refl), (n6, (refl, (refl, nodes.handed-so (delivery 2) (quiet n5) within-q5))))), ((first, (λ j e. ap to-answer (same-job 2 n6.working j refl e), (n7, (refl, (refl, nodes.worked-so n6 (input 2) [] within-n6 (gives-none n6)))))), ((first, (quiet n7, (refl, views.takes-so (Some (number 2)) n7 [] refl))), ((first, (inr (inl refl), (n8, (refl, (refl, nodes.handed-so (delivery 3) (quiet n7) within-q7))))), ((first, (λ j e. ap to-answer (same-job 3 n8.working j refl e), (n9, (refl, (refl, nodes.worked-so n8 (input 3) [] within-n8 (gives-none n8)))))), ((first, (quiet n9, (refl, views.takes-so (Some (number 3)) n9 [] refl))), ((inr (inl refl), (refl, handed-so (number 2) (sent g4))), ((inl refl, (refl, handed-so (number 3) g5)), (tt, ((refl, gateways.takes-so (Some (acknowledgement 2)) g6 (acknowledgement 3 ∷ []) refl), ((refl, gateways.takes-so (Some (acknowledgement 3)) (gave (acknowledgement 3 ∷ []) g6) [] refl), ((first, (inr (inl refl), (n10, (refl, (refl, nodes.handed-so (acknowledgement 2) (quiet n9) within-q9))))), tt)))))))))))))))))))))))))))))))
+calls-before stored bytes kept = ((inl (1, (input 1, (refl, first-of (new_gateway 1 PAGE TICK) refl))), putting-in (new_gateway 1 PAGE TICK) 1 (input 1) (first-of (new_gateway 1 PAGE TICK) refl)), (tt, ((refl, gateways.takes-so (Some (delivery 1)) g1 [] refl), ((first, (inl refl, (n1, (refl, (refl, nodes.handed-so (delivery 1) n0 within-n0))))), ((first, (λ j e. ap to-answer (same-job 1 n1.working j refl e), (n2, (refl, (refl, nodes.worked-so n1 (input 1) [] within-n1 (gives-none n1)))))), ((first, (quiet n2, (refl, views.takes-so (Some (number 1)) n2 [] refl))), ((inl refl, (refl, handed-so (number 1) (sent g1))), (tt, ((refl, gateways.takes-so (Some (acknowledgement 1)) g2 [] refl), ((first, (inl refl, (n3, (refl, (refl, nodes.handed-so (acknowledgement 1) (quiet n2) within-q2))))), ((first, (n4, (refl, (inr refl, freezes n3)))), ((first, (refl, (kept, kept-covers n4 within-n4))), ((first, (n5, (refl, (refl, saves n4 within-n4)))), ((first, (quiet n5, (refl, views.takes-so (Some covers) n5 [] refl))), ((first, (can-suspend, (quiet n5, (refl, refl)))), ((inl (1, (input 2, (refl, first-of (sent g2) refl))), putting-in (sent g2) 1 (input 2) (first-of (sent g2) refl)), ((inl (1, (input 3, (refl, first-of g3 refl))), putting-in g3 1 (input 3) (first-of g3 refl)), (tt, ((refl, gateways.takes-so (Some (delivery 2)) g4 (delivery 3 ∷ []) refl), ((refl, gateways.takes-so (Some (delivery 3)) (gave (delivery 3 ∷ []) g4) [] refl), ((first, (inr (inl refl), (n6, (refl, (refl, nodes.handed-so (delivery 2) (quiet n5) within-q5))))), ((first, (λ j e. ap to-answer (same-job 2 n6.working j refl e), (n7, (refl, (refl, nodes.worked-so n6 (input 2) [] within-n6 (gives-none n6)))))), ((first, (quiet n7, (refl, views.takes-so (Some (number 2)) n7 [] refl))), ((first, (inr (inl refl), (n8, (refl, (refl, nodes.handed-so (delivery 3) (quiet n7) within-q7))))), ((first, (λ j e. ap to-answer (same-job 3 n8.working j refl e), (n9, (refl, (refl, nodes.worked-so n8 (input 3) [] within-n8 (gives-none n8)))))), ((first, (quiet n9, (refl, views.takes-so (Some (number 3)) n9 [] refl))), ((inr (inl refl), (refl, handed-so (number 2) (sent g4))), ((inl refl, (refl, handed-so (number 3) g5)), (tt, ((refl, gateways.takes-so (Some (acknowledgement 2)) g6 (acknowledgement 3 ∷ []) refl), ((refl, gateways.takes-so (Some (acknowledgement 3)) (gave (acknowledgement 3 ∷ []) g6) [] refl), ((first, (inr (inl refl), (n10, (refl, (refl, nodes.handed-so (acknowledgement 2) (quiet n9) within-q9))))), tt))))))))))))))))))))))))))))))))
 
 calls-behind : (stored : ℕ → List ℕ) (bytes : List ℕ) → IsKept (kept_of n4) bytes → Calls last 1 (after_calls (opened stored) (before bytes)) behind
 unfolding entries_in_range pairs_in_range
@@ -227,7 +264,7 @@ replays-two stored bytes at_opening kept =
     record {
       calls = calls-before stored bytes kept;
       more = calls-behind stored bytes kept;
-      exact = stays-exact (opened stored) (before bytes) (refl, (refl, (refl, (refl, (refl, (refl, (refl, (refl, (refl, (refl, (refl, (refl, (refl, (refl, (refl, (refl, (refl, (refl, (refl, (refl, (refl, (refl, (refl, (refl, (refl, (refl, (refl, (refl, (refl, (refl, (refl, tt)))))))))))))))))))))))))))))));
+      exact = stays-exact (opened stored) (before bytes) (refl, (refl, (refl, (refl, (refl, (refl, (refl, (refl, (refl, (refl, (refl, (refl, (refl, (refl, (refl, (refl, (refl, (refl, (refl, (refl, (refl, (refl, (refl, (refl, (refl, (refl, (refl, (refl, (refl, (refl, (refl, (refl, tt))))))))))))))))))))))))))))))));
       exact_more = stays-exact (after_calls (opened stored) (before bytes)) behind (refl, (refl, (refl, (refl, (refl, (refl, (refl, (refl, (refl, (refl, (refl, (refl, (refl, (refl, (refl, (refl, (refl, (refl, tt))))))))))))))))));
       alone = (λ q inside other. absurd (omega (arith, inside.0, inside.1, other)), (tt, (tt, (tt, (tt, (tt, (tt, (tt, (tt, (tt, (tt, (tt, (tt, (tt, (tt, (tt, (tt, (tt, tt))))))))))))))))));
       whole = (tt, (tt, (tt, (tt, (tt, (tt, (tt, (tt, (tt, (tt, (refl, (tt, (tt, (tt, (tt, (tt, (tt, (tt, tt))))))))))))))))));

@@ -24,7 +24,7 @@ use Rattle.node.specs.Stands.{Each, InOrderFrom}
 use Rattle.node.proofs.Lists.{all-more, count-append}
 use Rattle.node.proofs.Numbers.{InOrderFrom-push}
 use Rattle.recovery.proofs.Lists.{each-append}
-use Rattle.node_laws.specs.System.{System, new_system, Call, Gave, Handed, Worked, Did, Stored, Saved, Died, Revived, GaveOut, HandedOut, DidOut, StoredOut, StoredBut, RevivedOut, handed_out, untaken, DoesIt, after_call, Calls, after_calls}
+use Rattle.node_laws.specs.System.{System, new_system, Call, Gave, Handed, Worked, Did, Stored, Saved, Resumed, Died, Revived, GaveOut, HandedOut, DidOut, StoredOut, StoredBut, RevivedOut, handed_out, untaken, DoesIt, after_call, Calls, after_calls}
 use Rattle.node_laws.specs.Durable.{outputs_of, Keep}
 use Rattle.node_laws.specs.Outputs.{LivesOn, OneLife, IsOut, AllOut, LeavesNoGap, AreBehind, SayTheSame, OutputsInOrder, OutputsWithoutGap, OutputsStayOut, OutputsAgree}
 use Rattle.node_laws.proofs.Back.{after-append, calls-parts}
@@ -179,6 +179,7 @@ outputs-first s (Worked p a new) ks = refl
 outputs-first s (Did p new) ks = refl
 outputs-first s (Stored p bytes) ks = refl
 outputs-first s (Saved p new) ks = refl
+outputs-first s (Resumed p limits new) ks = refl
 outputs-first s (Died p) ks = refl
 outputs-first s (Revived p life new) ks = refl
 outputs-first s (GaveOut x new) ks = refl
@@ -319,6 +320,7 @@ module _ (c d : ℕ → ℕ) (s : System) (a : UpTo c d s) where
   turns f n (Did p new) m = rests (Did p new) (record { gateway = a.gateway; durable = a.durable; shadow = a.shadow; leads = a.leads }) refl
   turns f n (Stored p bytes) m = rests (Stored p bytes) (record { gateway = a.gateway; durable = a.durable; shadow = a.shadow; leads = a.leads }) refl
   turns f n (Saved p new) m = rests (Saved p new) (record { gateway = a.gateway; durable = a.durable; shadow = a.shadow; leads = a.leads }) refl
+  turns f n (Resumed p limits new) m = rests (Resumed p limits new) (record { gateway = a.gateway; durable = a.durable; shadow = a.shadow; leads = a.leads }) refl
   turns f n (Died p) m = rests (Died p) (record { gateway = a.gateway; durable = a.durable; shadow = a.shadow; leads = a.leads }) refl
   turns f n (Revived p life new) m = rests (Revived p life new) (record { gateway = a.gateway; durable = a.durable; shadow = a.shadow; leads = a.leads }) refl
   turns f n (GaveOut x new) m = gives-out x new m.1.0
@@ -486,16 +488,16 @@ opened n page tick = record { out = tt; store = record { shown = λ p l. shown-n
 within-none : Within none [] none
 within-none p = (omega arith, λ ssn some low. absurd (omega arith))
 
-from-opening : (f : Answering) (n page tick : ℕ) (limits : ℕ → Limits) (len : ℕ → ℕ) (bytes : ℕ → List ℕ) (ks : List Call) → Calls f n (new_system n limits len bytes page tick) ks → Ends none none [] (new_system n limits len bytes page tick) ks
-from-opening f n page tick limits len bytes ks m =
-    let begins : UpTo none none (new_system n limits len bytes page tick) = record { gateway = opened n page tick; durable = opened n page tick; shadow = opened n page tick; leads = λ p. refl } in
-    ends f n none none none [] (new_system n limits len bytes page tick) ks begins within-none within-none m
+from-opening : (f : Answering) (n page tick : ℕ) (limits : ℕ → Limits) (states bytes : ℕ → List ℕ) (ks : List Call) → Calls f n (new_system n limits states bytes page tick) ks → Ends none none [] (new_system n limits states bytes page tick) ks
+from-opening f n page tick limits states bytes ks m =
+    let begins : UpTo none none (new_system n limits states bytes page tick) = record { gateway = opened n page tick; durable = opened n page tick; shadow = opened n page tick; leads = λ p. refl } in
+    ends f n none none none [] (new_system n limits states bytes page tick) ks begins within-none within-none m
 
 pub outputs-in-order : OutputsInOrder
-outputs-in-order f n page tick limits len bytes calls life m one =
-    let s : System = new_system n limits len bytes page tick in
+outputs-in-order f n page tick limits states bytes calls life m one =
+    let s : System = new_system n limits states bytes page tick in
     let parts = calls-parts f n s calls life m in
-    let a : Ends none none [] s calls = from-opening f n page tick limits len bytes calls parts.0 in
+    let a : Ends none none [] s calls = from-opening f n page tick limits states bytes calls parts.0 in
     let b = ends f n none a.from a.kept (outputs_of s calls) (after_calls s calls) life a.up a.from_within a.kept_within parts.1.0 in
     record { from = a.from; out = λ p. (a.from_within p).1; ordered = (b.in_life one).ordered }
 
@@ -504,9 +506,9 @@ no-gap least first [] after o h = subst (λ z. LeavesNoGap z o) (sym (append-nil
 no-gap least first (x ∷ before) after o h = subst (λ z. LeavesNoGap z o) (append_assoc first (x ∷ []) before) (no-gap least (first ++ x ∷ []) before after o h.1.1)
 
 pub outputs-without-gap : OutputsWithoutGap
-outputs-without-gap f n page tick limits len bytes calls m before after o e =
-    let s : System = new_system n limits len bytes page tick in
-    let a : Ends none none [] s calls = from-opening f n page tick limits len bytes calls m in
+outputs-without-gap f n page tick limits states bytes calls m before after o e =
+    let s : System = new_system n limits states bytes page tick in
+    let a : Ends none none [] s calls = from-opening f n page tick limits states bytes calls m in
     no-gap none [] before after o (subst (Behind none []) (sym e) a.behind)
 
 -- those that are past the others
@@ -536,13 +538,13 @@ up-alike c d s a lasts p = split s.taken refl
         absurd (omega (arith, one, two, led, more, next))
 
 pub outputs-stay-out : OutputsStayOut
-outputs-stay-out f n page tick limits len bytes calls life more m one lasts =
-    let s : System = new_system n limits len bytes page tick in
+outputs-stay-out f n page tick limits states bytes calls life more m one lasts =
+    let s : System = new_system n limits states bytes page tick in
     let u : System = after_calls s calls in
     let v : System = after_calls u life in
     let parts = calls-parts f n s calls (life ++ more) m in
     let later = calls-parts f n u life more parts.1.0 in
-    let a : Ends none none [] s calls = from-opening f n page tick limits len bytes calls parts.0 in
+    let a : Ends none none [] s calls = from-opening f n page tick limits states bytes calls parts.0 in
     let seen : List Output = outputs_of s calls ++ outputs_of u life in
     let b : Ends none a.from (outputs_of s calls) u life = ends f n none a.from a.kept (outputs_of s calls) u life a.up a.from_within a.kept_within later.0 in
     let is : after_calls s (calls ++ life) ≡ v = after-append s calls life in
@@ -570,6 +572,6 @@ keep-same n f durable s outputs k =
     all-more Sent (λ a. Each (Same a) outputs) outputs (λ a x. all-more Sent (Same a) outputs (λ b y. said-same f durable k.messages a b x y) k.shown) k.shown
 
 pub outputs-agree : OutputsAgree
-outputs-agree f n page tick limits len bytes calls durable stored lasting m v w =
-    let s : System = new_system n limits len bytes page tick in
-    keep-same n (handlers_of f len) durable (after_calls s calls) (outputs_of s calls) (durable-keep f n page tick limits len bytes calls durable stored lasting m v w)
+outputs-agree f n page tick limits states bytes calls durable stored lasting m v w =
+    let s : System = new_system n limits states bytes page tick in
+    keep-same n (handlers_of f states) durable (after_calls s calls) (outputs_of s calls) (durable-keep f n page tick limits states bytes calls durable stored lasting m v w)

@@ -22,31 +22,31 @@ early = omega arith
 
 pub durable-meet : DurableMeet
 unfolding entries_in_range pairs_in_range
-durable-meet f len page tick bytes stored =
+durable-meet f initial page tick bytes stored =
     record {
       calls = (
         first,
         (
           second,
           (
-            (first, (tt, (early, (kept_of (new_node usual 1 2 len), (stored 1 first, ((lasting, refl), revives lasting (kept_of (new_node usual 1 2 len)) 2)))))),
+            (first, (tt, (early, (kept_of (new_node usual 1 2 initial), (stored 1 first, ((lasting, refl), revives lasting (kept_of (new_node usual 1 2 initial)) 2)))))),
             (
-              (second, (tt, (early, (kept_of (new_node usual 2 2 len), (stored 2 second, ((lasting, refl), revives lasting (kept_of (new_node usual 2 2 len)) 2)))))),
+              (second, (tt, (early, (kept_of (new_node usual 2 2 initial), (stored 2 second, ((lasting, refl), revives lasting (kept_of (new_node usual 2 2 initial)) 2)))))),
               (
-                (second, (gives (comes len 2) (ask 2 1 ∷ []), (refl, collecting-takes (Some (ask 2 0)) (comes len 2) (ask 2 1 ∷ []) refl))),
+                (second, (gives (comes initial 2) (ask 2 1 ∷ []), (refl, collecting-takes (Some (ask 2 0)) (comes initial 2) (ask 2 1 ∷ []) refl))),
                 (
-                  (second, (gives (comes len 2) [], (refl, collecting-takes (Some (ask 2 1)) (gives (comes len 2) (ask 2 1 ∷ [])) [] refl))),
+                  (second, (gives (comes initial 2) [], (refl, collecting-takes (Some (ask 2 1)) (gives (comes initial 2) (ask 2 1 ∷ [])) [] refl))),
                   (
-                    (first, (inl refl, (hears len, (refl, (refl, collecting.handing (comes len 1) (ask 2 1) refl refl))))),
+                    (first, (inl refl, (hears initial, (refl, (refl, collecting.handing (comes initial 1) (ask 2 1) refl refl))))),
                     (
-                      (first, (gives (hears len) (ask 1 2 ∷ ask 1 2 ∷ loss ∷ []), (refl, collecting-takes (Some (ask 1 0)) (hears len) (ask 1 2 ∷ ask 1 2 ∷ loss ∷ []) refl))),
+                      (first, (gives (hears initial) (ask 1 2 ∷ ask 1 2 ∷ loss ∷ []), (refl, collecting-takes (Some (ask 1 0)) (hears initial) (ask 1 2 ∷ ask 1 2 ∷ loss ∷ []) refl))),
                       (
-                        (first, (gives (hears len) (ask 1 2 ∷ loss ∷ []), (refl, collecting-takes (Some (ask 1 2)) (gives (hears len) (ask 1 2 ∷ ask 1 2 ∷ loss ∷ [])) (ask 1 2 ∷ loss ∷ []) refl))),
+                        (first, (gives (hears initial) (ask 1 2 ∷ loss ∷ []), (refl, collecting-takes (Some (ask 1 2)) (gives (hears initial) (ask 1 2 ∷ ask 1 2 ∷ loss ∷ [])) (ask 1 2 ∷ loss ∷ []) refl))),
                         (
-                          (first, (gives (hears len) (loss ∷ []), (refl, collecting-takes (Some (ask 1 2)) (gives (hears len) (ask 1 2 ∷ loss ∷ [])) (loss ∷ []) refl))),
+                          (first, (gives (hears initial) (loss ∷ []), (refl, collecting-takes (Some (ask 1 2)) (gives (hears initial) (ask 1 2 ∷ loss ∷ [])) (loss ∷ []) refl))),
                           (
-                            (first, (gives (hears len) [], (refl, collecting-takes (Some loss) (gives (hears len) (loss ∷ [])) [] refl))),
-                            ((second, (inl refl, (learns len, (refl, (refl, collecting.handing (gives (comes len 2) []) loss refl refl))))), tt),
+                            (first, (gives (hears initial) [], (refl, collecting-takes (Some loss) (gives (hears initial) (loss ∷ [])) [] refl))),
+                            ((second, (inl refl, (learns initial, (refl, (refl, collecting.handing (gives (comes initial 2) []) loss refl refl))))), tt),
                           ),
                         ),
                       ),

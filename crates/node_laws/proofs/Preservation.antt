@@ -24,7 +24,7 @@ use Rattle.recovery.proofs.Preservation.{each-drop}
 use Rattle.recovery.proofs.Lists.{each-append}
 use Rattle.node_laws.specs.Together.{IsFirst}
 use Rattle.node_laws.specs.Process.{Process, Up, Gives, WaitsFor, covered}
-use Rattle.node_laws.specs.System.{System, new_system, Call, Gave, Handed, Worked, Did, Stored, Saved, Died, Revived, GaveOut, HandedOut, DidOut, StoredOut, StoredBut, RevivedOut, handed_out, untaken, DoesIt, after_call, Calls, after_calls}
+use Rattle.node_laws.specs.System.{System, new_system, Call, Gave, Handed, Worked, Did, Stored, Saved, Resumed, Died, Revived, GaveOut, HandedOut, DidOut, StoredOut, StoredBut, RevivedOut, handed_out, untaken, DoesIt, after_call, Calls, after_calls}
 use Rattle.node_laws.specs.Durable.{ReplaysWhole, ReplayWhole, KeepsDurable, StaysDurable, HasAfter, IsSentBy, outputs_of, Knows, DurableKeep}
 use Rattle.node_laws.proofs.Taken.{IsFair, fair-more, fair-of}
 use Rattle.node_laws.proofs.HeldNode.{grown}
@@ -49,37 +49,37 @@ abbrev pub AreShown : Handlers → (ℕ → Bool) → (ℕ → List Message) →
 AreShown F D H s = EachOutput (IsShown F D H) s
 
 -- these messages are stored of the processes, and bear out all that was given
-pub record All (f : Answering) (len : ℕ → ℕ) (n : ℕ) (D : ℕ → Bool) (H : ℕ → List Message) (s : System) : Type 0 where
-  pub each : (p : ℕ) (l : IsFirst n p) → Now f len n p (D p) (D p) D (sent_to (handlers_of f len) H p) l.1 (H p) s
-  pub given : Each (IsTrue (handlers_of f len) D H) s.given
-  pub gateway : OfGateway (AreShown (handlers_of f len) D H) s.gateway
-  pub durable : OfGateway (AreShown (handlers_of f len) D H) s.durable
-  pub taken : Each (IsShown (handlers_of f len) D H) s.taken
+pub record All (f : Answering) (states : ℕ → List ℕ) (n : ℕ) (D : ℕ → Bool) (H : ℕ → List Message) (s : System) : Type 0 where
+  pub each : (p : ℕ) (l : IsFirst n p) → Now f states n p (D p) (D p) D (sent_to (handlers_of f states) H p) l.1 (H p) s
+  pub given : Each (IsTrue (handlers_of f states) D H) s.given
+  pub gateway : OfGateway (AreShown (handlers_of f states) D H) s.gateway
+  pub durable : OfGateway (AreShown (handlers_of f states) D H) s.durable
+  pub taken : Each (IsShown (handlers_of f states) D H) s.taken
 
 -- after a call these or more do; and what it handed out these make their processes show
-pub record Goes (f : Answering) (len : ℕ → ℕ) (n : ℕ) (D : ℕ → Bool) (H : ℕ → List Message) (s : System) (k : Call) : Type 0 where
+pub record Goes (f : Answering) (states : ℕ → List ℕ) (n : ℕ) (D : ℕ → Bool) (H : ℕ → List Message) (s : System) (k : Call) : Type 0 where
   pub messages : ℕ → List Message
   pub later : (q : ℕ) → Begins (H q) (messages q)
-  pub all : All f len n D messages (after_call s k)
-  pub shows : (ks : List Call) (G : ℕ → List Message) → ((q : ℕ) → Begins (messages q) (G q)) → Each (IsShown (handlers_of f len) D G) (outputs_of (after_call s k) ks) → Each (IsShown (handlers_of f len) D G) (outputs_of s (k ∷ ks))
+  pub all : All f states n D messages (after_call s k)
+  pub shows : (ks : List Call) (G : ℕ → List Message) → ((q : ℕ) → Begins (messages q) (G q)) → Each (IsShown (handlers_of f states) D G) (outputs_of (after_call s k) ks) → Each (IsShown (handlers_of f states) D G) (outputs_of s (k ∷ ks))
 
 -- after some
-pub record Ends (f : Answering) (len : ℕ → ℕ) (n : ℕ) (D : ℕ → Bool) (H : ℕ → List Message) (s : System) (ks : List Call) : Type 0 where
+pub record Ends (f : Answering) (states : ℕ → List ℕ) (n : ℕ) (D : ℕ → Bool) (H : ℕ → List Message) (s : System) (ks : List Call) : Type 0 where
   pub messages : ℕ → List Message
   pub later : (q : ℕ) → Begins (H q) (messages q)
-  pub all : All f len n D messages (after_calls s ks)
-  pub shown : Each (IsShown (handlers_of f len) D messages) (outputs_of s ks)
+  pub all : All f states n D messages (after_calls s ks)
+  pub shown : Each (IsShown (handlers_of f states) D messages) (outputs_of s ks)
 
-module _ (f : Answering) (len : ℕ → ℕ) (n : ℕ) (D : ℕ → Bool) (proper : (p : ℕ) → D p ≡ true → IsFirst n p) where
+module _ (f : Answering) (states : ℕ → List ℕ) (n : ℕ) (D : ℕ → Bool) (proper : (p : ℕ) → D p ≡ true → IsFirst n p) where
   abbrev F : Handlers
-  F = handlers_of f len
+  F = handlers_of f states
 
   abbrev In : (ℕ → List Message) → ℕ → ℕ → List Payload
   In H p q = sent_to F H p q
 
   -- where more is stored
   sent-more : (H G : ℕ → List Message) → ((q : ℕ) → Begins (H q) (G q)) → (p q : ℕ) → Begins (In H p q) (In G p q)
-  sent-more H G b p q = subst (λ z. Begins (F.sends q (H q) p) (F.sends q z p)) (b q).1 (grown F (grows f len) q p (H q) (b q).0)
+  sent-more H G b p q = subst (λ z. Begins (F.sends q (H q) p) (F.sends q z p)) (b q).1 (grown F (grows f states) q p (H q) (b q).0)
 
   true-more : (H G : ℕ → List Message) → ((q : ℕ) → Begins (H q) (G q)) → (x : NodePacket) → IsTrue F D H x → IsTrue F D G x
   true-more H G b x o =
@@ -92,9 +92,9 @@ module _ (f : Answering) (len : ℕ → ℕ) (n : ℕ) (D : ℕ → Bool) (prope
   gateway-more H G b g s = record { out = s.out; store = shown-more H G b g.store.outputs s.store }
 
   -- a packet of a process
-  gave-true : (H : ℕ → List Message) (s : System) (q : ℕ) (x : NodePacket) (new : Process) → All f len n D H s → IsFirst n q → Gives x (s.processes q) new → IsTrue F D H x
+  gave-true : (H : ℕ → List Message) (s : System) (q : ℕ) (x : NodePacket) (new : Process) → All f states n D H s → IsFirst n q → Gives x (s.processes q) new → IsTrue F D H x
   gave-true H s q x new a l g =
-      let t = giving f len n q (D q) (D q) D (In H q) l.1 (H q) x (s.processes q) new g (a.each q l).holds in
+      let t = giving f states n q (D q) (D q) D (In H q) l.1 (H q) x (s.processes q) new g (a.each q l).holds in
       let P : ℕ → Type 0 = λ z. IsFair (D z) (D z) (F.sends z (H z) x.to) (D x.to) (F.sends x.to (H x.to) z) x.body in
       subst P (sym t.0.0) t.0.1
 
@@ -136,12 +136,12 @@ module _ (f : Answering) (len : ℕ → ℕ) (n : ℕ) (D : ℕ → Bool) (prope
 
   -- ---- the checkpoint of q is durable
 
-  module _ (H : ℕ → List Message) (s : System) (q : ℕ) (bytes : List ℕ) (a : All f len n D H s) (l : IsFirst n q) (w : WaitsFor bytes (s.processes q)) where
+  module _ (H : ℕ → List Message) (s : System) (q : ℕ) (bytes : List ℕ) (a : All f states n D H s) (l : IsFirst n q) (w : WaitsFor bytes (s.processes q)) where
     abbrev next : Process
     next = covered (s.processes q)
 
-    found : (to : List Message) × (Begins (H q) to × (IsStored n F q D (In H q) to bytes × IsFor f len n q (D q) (D q) D (In H q) l.1 to next))
-    found = storing f len n q (D q) (D q) D (In H q) l.1 (H q) bytes (s.processes q) w (a.each q l).holds
+    found : (to : List Message) × (Begins (H q) to × (IsStored n F q D (In H q) to bytes × IsFor f states n q (D q) (D q) D (In H q) l.1 to next))
+    found = storing f states n q (D q) (D q) D (In H q) l.1 (H q) bytes (s.processes q) w (a.each q l).holds
 
     abbrev G : ℕ → List Message
     G = put H q found.0
@@ -153,38 +153,38 @@ module _ (f : Answering) (len : ℕ → ℕ) (n : ℕ) (D : ℕ → Bool) (prope
         split true e = let same : q ≡ p = grind (arith, nat_tests) in subst (λ z. Begins (H z) found.0) same found.1.0
         split false e = begins-self (H p)
 
-    stored-each : (p : ℕ) (k : IsFirst n p) → Now f len n p (D p) (D p) D (In G p) k.1 (G p) (after_call s (Stored q bytes))
+    stored-each : (p : ℕ) (k : IsFirst n p) → Now f states n p (D p) (D p) D (In G p) k.1 (G p) (after_call s (Stored q bytes))
     stored-each p k = split (p == q) refl
       where
         more : (r : ℕ) → Begins (In H p r) (In G p r)
         more r = sent-more H G later p r
 
         there : List Message → Type 0
-        there h = Now f len n p (D p) (D p) D (In G p) k.1 h (after_call s (Stored q bytes))
+        there h = Now f states n p (D p) (D p) D (In G p) k.1 h (after_call s (Stored q bytes))
 
-        here : (h : List Message) → IsFor f len n p (D p) (D p) D (In H p) k.1 h (put s.processes q next p) → IsStored n F p D (In H p) h (put s.stored q bytes p) → Now f len n p (D p) (D p) D (In G p) k.1 h (after_call s (Stored q bytes))
+        here : (h : List Message) → IsFor f states n p (D p) (D p) D (In H p) k.1 h (put s.processes q next p) → IsStored n F p D (In H p) h (put s.stored q bytes p) → Now f states n p (D p) (D p) D (In G p) k.1 h (after_call s (Stored q bytes))
         here h u v =
             record {
-              holds = for-more f len n p (D p) (D p) D (In H p) k.1 (In G p) more h (put s.processes q next p) u;
-              stored = stored-more f len n p (D p) (D p) D (In H p) k.1 (In G p) more h (put s.stored q bytes p) v;
+              holds = for-more f states n p (D p) (D p) D (In H p) k.1 (In G p) more h (put s.processes q next p) u;
+              stored = stored-more f states n p (D p) (D p) D (In H p) k.1 (In G p) more h (put s.stored q bytes p) v;
             }
 
-        split : (b : Bool) → (p == q) ≡ b → Now f len n p (D p) (D p) D (In G p) k.1 (if b then found.0 else H p) (after_call s (Stored q bytes))
+        split : (b : Bool) → (p == q) ≡ b → Now f states n p (D p) (D p) D (In G p) k.1 (if b then found.0 else H p) (after_call s (Stored q bytes))
         split true e =
             let same : q ≡ p = grind (arith, nat_tests) in
-            let one : IsFor f len n q (D q) (D q) D (In H q) l.1 found.0 (put s.processes q next q) × IsStored n F q D (In H q) found.0 (put s.stored q bytes q) = (
-              at-itself q (λ b. IsFor f len n q (D q) (D q) D (In H q) l.1 found.0 (if b then next else s.processes q)) found.1.1.1,
+            let one : IsFor f states n q (D q) (D q) D (In H q) l.1 found.0 (put s.processes q next q) × IsStored n F q D (In H q) found.0 (put s.stored q bytes q) = (
+              at-itself q (λ b. IsFor f states n q (D q) (D q) D (In H q) l.1 found.0 (if b then next else s.processes q)) found.1.1.1,
               at-itself q (λ b. IsStored n F q D (In H q) found.0 (if b then bytes else s.stored q)) found.1.1.0,
             ) in
-            let Q : ℕ → Type 0 = λ z. (y : IsFirst n z) → IsFor f len n z (D z) (D z) D (In H z) y.1 found.0 (put s.processes q next z) × IsStored n F z D (In H z) found.0 (put s.stored q bytes z) in
+            let Q : ℕ → Type 0 = λ z. (y : IsFirst n z) → IsFor f states n z (D z) (D z) D (In H z) y.1 found.0 (put s.processes q next z) × IsStored n F z D (In H z) found.0 (put s.stored q bytes z) in
             let both : Q p = subst Q same (λ y. one) in
             here found.0 (both k).0 (both k).1
         split false e =
             let apart : q ≢ p = grind (arith, nat_tests) in
-            here (H p) (at-place s.processes q p next (λ z. IsFor f len n p (D p) (D p) D (In H p) k.1 (H p) z) (λ o. (a.each p k).holds) (λ d. absurd (apart d)))
+            here (H p) (at-place s.processes q p next (λ z. IsFor f states n p (D p) (D p) D (In H p) k.1 (H p) z) (λ o. (a.each p k).holds) (λ d. absurd (apart d)))
             (at-place s.stored q p bytes (λ z. IsStored n F p D (In H p) (H p) z) (λ o. (a.each p k).stored) (λ d. absurd (apart d)))
 
-    stores : Goes f len n D H s (Stored q bytes)
+    stores : Goes f states n D H s (Stored q bytes)
     stores =
         record {
           messages = G;
@@ -202,16 +202,16 @@ module _ (f : Answering) (len : ℕ → ℕ) (n : ℕ) (D : ℕ → Bool) (prope
   -- ---- each call
 
   -- where nothing is stored, a process has what it had
-  each-still : (H : ℕ → List Message) (s : System) (k : Call) → is_store k ≡ false → All f len n D H s → DoesIt f n s k → ReplaysWhole s k → ((p : ℕ) → D p ≡ true → KeepsDurable p s k)
-      → ((p : ℕ) (l : IsFirst n p) → IsFairCall f len n p (D p) (D p) D (In H p) l.1 (H p) k) → (p : ℕ) (l : IsFirst n p) → Now f len n p (D p) (D p) D (In H p) l.1 (H p) (after_call s k)
+  each-still : (H : ℕ → List Message) (s : System) (k : Call) → is_store k ≡ false → All f states n D H s → DoesIt f n s k → ReplaysWhole s k → ((p : ℕ) → D p ≡ true → KeepsDurable p s k)
+      → ((p : ℕ) (l : IsFirst n p) → IsFairCall f states n p (D p) (D p) D (In H p) l.1 (H p) k) → (p : ℕ) (l : IsFirst n p) → Now f states n p (D p) (D p) D (In H p) l.1 (H p) (after_call s k)
   each-still H s k e a m v w fair p l =
-      let t = step f len n p (D p) (D p) D (In H p) l.1 (H p) s k (a.each p l) m v (w p) (fair p l) in
-      subst (λ z. Now f len n p (D p) (D p) D (In H p) l.1 z (after_call s k)) (t.still e) t.now
+      let t = step f states n p (D p) (D p) D (In H p) l.1 (H p) s k (a.each p l) m v (w p) (fair p l) in
+      subst (λ z. Now f states n p (D p) (D p) D (In H p) l.1 z (after_call s k)) (t.still e) t.now
 
   -- where what was given, and the gateway, are these
-  stays : (H : ℕ → List Message) (s : System) (k : Call) → is_store k ≡ false → All f len n D H s → DoesIt f n s k → ReplaysWhole s k → ((p : ℕ) → D p ≡ true → KeepsDurable p s k)
-      → ((p : ℕ) (l : IsFirst n p) → IsFairCall f len n p (D p) (D p) D (In H p) l.1 (H p) k) → Each (IsTrue F D H) (after_call s k).given → OfGateway (AreShown F D H) (after_call s k).gateway → OfGateway (AreShown F D H) (after_call s k).durable
-      → Each (IsShown F D H) (after_call s k).taken → ((ks : List Call) (G : ℕ → List Message) → ((q : ℕ) → Begins (H q) (G q)) → Each (IsShown F D G) (outputs_of (after_call s k) ks) → Each (IsShown F D G) (outputs_of s (k ∷ ks))) → Goes f len n D H s k
+  stays : (H : ℕ → List Message) (s : System) (k : Call) → is_store k ≡ false → All f states n D H s → DoesIt f n s k → ReplaysWhole s k → ((p : ℕ) → D p ≡ true → KeepsDurable p s k)
+      → ((p : ℕ) (l : IsFirst n p) → IsFairCall f states n p (D p) (D p) D (In H p) l.1 (H p) k) → Each (IsTrue F D H) (after_call s k).given → OfGateway (AreShown F D H) (after_call s k).gateway → OfGateway (AreShown F D H) (after_call s k).durable
+      → Each (IsShown F D H) (after_call s k).taken → ((ks : List Call) (G : ℕ → List Message) → ((q : ℕ) → Begins (H q) (G q)) → Each (IsShown F D G) (outputs_of (after_call s k) ks) → Each (IsShown F D G) (outputs_of s (k ∷ ks))) → Goes f states n D H s k
   stays H s k e a m v w fair given gateway durable taken shows =
       record {
         messages = H;
@@ -220,7 +220,7 @@ module _ (f : Answering) (len : ℕ → ℕ) (n : ℕ) (D : ℕ → Bool) (prope
         shows = shows;
       }
 
-  pub goes : (H : ℕ → List Message) (s : System) (k : Call) → All f len n D H s → DoesIt f n s k → ReplaysWhole s k → ((p : ℕ) → D p ≡ true → KeepsDurable p s k) → Goes f len n D H s k
+  pub goes : (H : ℕ → List Message) (s : System) (k : Call) → All f states n D H s → DoesIt f n s k → ReplaysWhole s k → ((p : ℕ) → D p ≡ true → KeepsDurable p s k) → Goes f states n D H s k
   goes H s (Gave q x new) a m v w = stays H s (Gave q x new) refl a m v w (λ p l. tt) (gave-true H s q x new a m.0 m.1, a.given) a.gateway a.durable a.taken (λ ks G b o. o)
   goes H s (Handed q x new) a m v w =
       let t : IsTrue F D H x = one-was (IsTrue F D H) x s.given a.given m.1.0 in
@@ -229,6 +229,7 @@ module _ (f : Answering) (len : ℕ → ℕ) (n : ℕ) (D : ℕ → Bool) (prope
   goes H s (Did q new) a m v w = stays H s (Did q new) refl a m v w (λ p l. tt) a.given a.gateway a.durable a.taken (λ ks G b o. o)
   goes H s (Stored q bytes) a m v w = stores H s q bytes a m.0 m.1
   goes H s (Saved q new) a m v w = stays H s (Saved q new) refl a m v w (λ p l. tt) a.given a.gateway a.durable a.taken (λ ks G b o. o)
+  goes H s (Resumed q limits new) a m v w = stays H s (Resumed q limits new) refl a m v w (λ p l. tt) a.given a.gateway a.durable a.taken (λ ks G b o. o)
   goes H s (Died q) a m v w = stays H s (Died q) refl a m v w (λ p l. tt) a.given a.gateway a.durable a.taken (λ ks G b o. o)
   goes H s (Revived q life new) a m v w = stays H s (Revived q life new) refl a m v w (λ p l. tt) a.given a.gateway a.durable a.taken (λ ks G b o. o)
   goes H s (GaveOut x new) a m v w =
@@ -249,7 +250,7 @@ module _ (f : Answering) (len : ℕ → ℕ) (n : ℕ) (D : ℕ → Bool) (prope
       let t : OfGateway (AreShown F D H) new = subst (OfGateway (AreShown F D H)) (sym m.0) (record { out = tt; store = a.durable.store }) in
       stays H s (RevivedOut new) refl a m v w (λ p l. tt) a.given t t tt (λ ks G b o. o)
 
-  pub goes-on : (H : ℕ → List Message) (s : System) (ks : List Call) → All f len n D H s → Calls f n s ks → ReplayWhole s ks → ((p : ℕ) → D p ≡ true → StaysDurable p s ks) → Ends f len n D H s ks
+  pub goes-on : (H : ℕ → List Message) (s : System) (ks : List Call) → All f states n D H s → Calls f n s ks → ReplayWhole s ks → ((p : ℕ) → D p ≡ true → StaysDurable p s ks) → Ends f states n D H s ks
   goes-on H s [] a m v w = record { messages = H; later = λ q. begins-self (H q); all = a; shown = tt }
   goes-on H s (k ∷ ks) a m v w =
       let one = goes H s k a m.0 v.0 (λ p d. (w p d).0) in
@@ -262,33 +263,33 @@ module _ (f : Answering) (len : ℕ → ℕ) (n : ℕ) (D : ℕ → Bool) (prope
       }
 
   -- what a node that is up received
-  up-knows : (H : ℕ → List Message) (p : ℕ) (l : IsFirst n p) (process : Process) (m : TheNode) → IsFor f len n p (D p) (D p) D (In H p) l.1 (H p) process → process ≡ Up m → (has : HasAfter F p (H p) m) × Knows F D H p (H p ++ has.rest)
+  up-knows : (H : ℕ → List Message) (p : ℕ) (l : IsFirst n p) (process : Process) (m : TheNode) → IsFor f states n p (D p) (D p) D (In H p) l.1 (H p) process → process ≡ Up m → (has : HasAfter F p (H p) m) × Knows F D H p (H p ++ has.rest)
   up-knows H p l process m s e =
-      let up : IsFor f len n p (D p) (D p) D (In H p) l.1 (H p) (Up m) = subst (IsFor f len n p (D p) (D p) D (In H p) l.1 (H p)) e s in (
+      let up : IsFor f states n p (D p) (D p) D (In H p) l.1 (H p) (Up m) = subst (IsFor f states n p (D p) (D p) D (In H p) l.1 (H p)) e s in (
         record { rest = up.1.more; many = ap length up.1.begins ∙ up.1.many; state = ap (F.state p) up.1.begins ∙ up.1.state },
         subst (Knows F D H p) (sym up.1.begins) (record { ordered = up.1.taken.ordered; known = up.1.taken.known }),
       )
 
 pub durable-keep : DurableKeep
-durable-keep f n page tick limits len bytes calls durable stored lasting m v w =
-    let s : System = new_system n limits len bytes page tick in
+durable-keep f n page tick limits states bytes calls durable stored lasting m v w =
+    let s : System = new_system n limits states bytes page tick in
     let proper : (p : ℕ) → durable p ≡ true → IsFirst n p = λ p d. (lasting p d).0 in
-    let none : OfGateway (AreShown (handlers_of f len) durable (λ q. [])) (new_gateway n page tick) = record { out = tt; store = tt } in
-    let all : All f len n durable (λ p. []) s = record {
-      each = λ p l. begins-now f len n p page tick (durable p) (durable p) durable (sent_to (handlers_of f len) (λ q. []) p) l.1 limits bytes stored l (λ d. (lasting p d).1);
+    let none : OfGateway (AreShown (handlers_of f states) durable (λ q. [])) (new_gateway n page tick) = record { out = tt; store = tt } in
+    let all : All f states n durable (λ p. []) s = record {
+      each = λ p l. begins-now f states n p page tick (durable p) (durable p) durable (sent_to (handlers_of f states) (λ q. []) p) l.1 limits bytes stored l (λ d. (lasting p d).1);
       given = tt;
       gateway = none;
       durable = none;
       taken = tt;
     } in
-    let t = goes-on f len n durable proper (λ p. []) s calls all m v w in
+    let t = goes-on f states n durable proper (λ p. []) s calls all m v w in
     let end : System = after_calls s calls in
     record {
       messages = t.messages;
-      stored = λ p l. after-of n (handlers_of f len) p durable (sent_to (handlers_of f len) t.messages p) (t.messages p) (end.stored p) (t.all.each p l).stored;
+      stored = λ p l. after-of n (handlers_of f states) p durable (sent_to (handlers_of f states) t.messages p) (t.messages p) (end.stored p) (t.all.each p l).stored;
       received = λ p l. record { ordered = (t.all.each p l).stored.1.1.1.ordered; known = (t.all.each p l).stored.1.1.1.known };
-      up = λ p l node e. up-knows f len n durable proper t.messages p l (end.processes p) node (t.all.each p l).holds e;
-      given = all-more (IsTrue (handlers_of f len) durable t.messages) (λ (x : NodePacket). durable x.from ≡ true → IsSentBy (handlers_of f len) x.from (t.messages x.from) x) end.given (λ x o d. said (durable x.from) d (handlers_of f len) x (durable x.to) t.messages o) t.all.given;
+      up = λ p l node e. up-knows f states n durable proper t.messages p l (end.processes p) node (t.all.each p l).holds e;
+      given = all-more (IsTrue (handlers_of f states) durable t.messages) (λ (x : NodePacket). durable x.from ≡ true → IsSentBy (handlers_of f states) x.from (t.messages x.from) x) end.given (λ x o d. said (durable x.from) d (handlers_of f states) x (durable x.to) t.messages o) t.all.given;
       shown = t.shown;
     }
   where

@@ -31,18 +31,19 @@ use Rattle.process.specs.Checkpoints.{Keeps}
 use Rattle.node_laws.specs.HostProcess.{stage_of, as_process}
 use Rattle.node_laws.specs.HostReplies.{answering}
 use Rattle.node_laws.specs.HostSystem.{System, Opens, new_system, HostCall, as_lives, AreCalls, after_call, after_calls}
-use Rattle.node_laws.specs.HostLives.{IsAs, len_of, handlers, StayExact, HostedLive, HostedRun, HostedAlone, HostedBack, HostedStays, HostedLast, HostedKeep, StaysDurable, gave_by, given_by, outputs_of}
+use Rattle.node_laws.specs.HostLives.{IsAs, handlers, StayExact, HostedLive, HostedRun, HostedAlone, HostedBack, HostedStays, HostedLast, HostedKeep, StaysDurable, gave_by, given_by, outputs_of}
 use Rattle.node_laws.proofs.Lists.{State, Are, are-go, calls-append, whole-append, exact-append, durable-append, given-append, after-append}
 
 -- ---- the opening
 
-pub are-stored : (images : ℕ → AnyImage) (n : ℕ) (limits : ℕ → Limits) (processes : ℕ → TheProcess) (bytes : ℕ → List ℕ) → Opens n images limits processes bytes → AreStored n (len_of images) bytes
-are-stored images n limits processes bytes o p l = (subst (λ z. Keeps z (bytes p)) (o.opened p l).lifecycle_is (o.stored p l)).0
+pub are-stored : (images : ℕ → AnyImage) (n : ℕ) (limits : ℕ → Limits) (processes : ℕ → TheProcess) (states bytes : ℕ → List ℕ) → Opens n images limits processes states bytes → AreStored n states bytes
+are-stored images n limits processes states bytes o p l = (subst (λ z. Keeps z (bytes p)) (o.opened p l).lifecycle_is (o.stored p l)).0
 
-pub opened : (images : ℕ → AnyImage) (n page tick : ℕ) (limits : ℕ → Limits) (processes : ℕ → TheProcess) (bytes : ℕ → List ℕ) → Opens n images limits processes bytes
-    → State images n (new_system n processes bytes page tick) (called.new_system n limits (len_of images) bytes page tick)
-opened images n page tick limits processes bytes o =
+pub opened : (images : ℕ → AnyImage) (n page tick : ℕ) (limits : ℕ → Limits) (processes : ℕ → TheProcess) (states bytes : ℕ → List ℕ) → Opens n images limits processes states bytes
+    → State images n (new_system n processes bytes page tick) (called.new_system n limits states bytes page tick)
+opened images n page tick limits processes states bytes o =
     record {
+      states = states;
       stand = record {
         processes = λ p l. sym (ap stage_of (o.opened p l).lifecycle_is);
         stored = λ p l. refl;
@@ -53,7 +54,7 @@ opened images n page tick limits processes bytes o =
         given = refl;
       };
       good = λ p l. (ap as_image (o.opened p l).image_is, (ap is_settled (o.opened p l).lifecycle_is, tt));
-      now = λ p l. ([], begins-now (answering n images) (len_of images) n p page tick false false (λ q. false) nothing l.1 limits bytes (are-stored images n limits processes bytes o) l (λ e. absurd (cc (e))));
+      now = λ p l. ([], begins-now (answering n images) states n p page tick false false (λ q. false) nothing l.1 limits bytes (are-stored images n limits processes states bytes o) l (λ e. absurd (cc (e))));
     }
 
 -- ---- what holds of a system in all lives holds of that of hosts
@@ -155,81 +156,81 @@ durable-split p (k ∷ ks) more d = let r = durable-split p ks more d.1 in ((d.0
 -- ---- the laws
 
 pub hosted-live : HostedLive
-hosted-live images n page tick limits processes bytes calls o g =
-    let a = are-go images n (new_system n processes bytes page tick) (called.new_system n limits (len_of images) bytes page tick) calls (opened images n page tick limits processes bytes o) g in
+hosted-live images n page tick limits processes states bytes calls o g =
+    let a = are-go images n (new_system n processes bytes page tick) (called.new_system n limits states bytes page tick) calls (opened images n page tick limits processes states bytes o) g in
     record { calls = a.calls; are = a.are; whole = a.whole; stand = a.state.stand }
 
 pub hosted-run : HostedRun
-hosted-run images n page tick limits processes bytes calls few o g e =
+hosted-run images n page tick limits processes states bytes calls few o g e =
     let s : System = new_system n processes bytes page tick in
-    let t : Lived = called.new_system n limits (len_of images) bytes page tick in
-    let a : Are images n s t calls = are-go images n s t calls (opened images n page tick limits processes bytes o) g in
-    run-of n (handlers n images) (after_calls s calls) (called.after_calls t a.calls) a.state.stand
-    (lives-run (answering n images) n page tick limits (len_of images) bytes a.calls few (are-stored images n limits processes bytes o) a.are (a.exact e))
+    let t : Lived = called.new_system n limits states bytes page tick in
+    let a : Are images n s t calls = are-go images n s t calls (opened images n page tick limits processes states bytes o) g in
+    run-of n (handlers n images states) (after_calls s calls) (called.after_calls t a.calls) a.state.stand
+    (lives-run (answering n images) n page tick limits states bytes a.calls few (are-stored images n limits processes states bytes o) a.are (a.exact e))
 
 pub hosted-alone : HostedAlone
-hosted-alone images n page tick limits processes bytes calls few o g one =
+hosted-alone images n page tick limits processes states bytes calls few o g one =
     let s : System = new_system n processes bytes page tick in
-    let t : Lived = called.new_system n limits (len_of images) bytes page tick in
-    let a : Are images n s t calls = are-go images n s t calls (opened images n page tick limits processes bytes o) g in
-    a.stays (λ p l. refl) (lone-failures-stay-exact (answering n images) n page tick limits (len_of images) bytes a.calls few (are-stored images n limits processes bytes o) a.are (a.alone one))
+    let t : Lived = called.new_system n limits states bytes page tick in
+    let a : Are images n s t calls = are-go images n s t calls (opened images n page tick limits processes states bytes o) g in
+    a.stays (λ p l. refl) (lone-failures-stay-exact (answering n images) n page tick limits states bytes a.calls few (are-stored images n limits processes states bytes o) a.are (a.alone one))
 
 pub hosted-back : HostedBack
-hosted-back images n page tick limits processes bytes calls more p was is few o l g e old new =
+hosted-back images n page tick limits processes states bytes calls more p was is few o l g e old new =
     let f : Answering = answering n images in
     let s : System = new_system n processes bytes page tick in
-    let t : Lived = called.new_system n limits (len_of images) bytes page tick in
+    let t : Lived = called.new_system n limits states bytes page tick in
     let made = calls-split images n s calls more g in
     let exact = exact-split n s calls more e in
-    let a : Are images n s t calls = are-go images n s t calls (opened images n page tick limits processes bytes o) made.0 in
+    let a : Are images n s t calls = are-go images n s t calls (opened images n page tick limits processes states bytes o) made.0 in
     let u : Lived = called.after_calls t a.calls in
     let b : Are images n (after_calls s calls) u more = are-go images n (after_calls s calls) u more a.state made.1 in
     let last : IsAs n (after_calls s (calls ++ more)) (called.after_calls t (a.calls ++ b.calls)) =
     subst (λ z. IsAs n z (called.after_calls t (a.calls ++ b.calls))) (sym (after-more s calls more)) (subst (IsAs n (after_calls (after_calls s calls) more)) (sym (after-append t a.calls b.calls)) b.state.stand) in
-    back-of n (handlers n images) p was is (after_calls s calls) (after_calls s (calls ++ more)) u (called.after_calls t (a.calls ++ b.calls)) a.state.stand last
-    (nothing-is-lost f n page tick limits (len_of images) bytes a.calls b.calls p was is few (are-stored images n limits processes bytes o) l (calls-append f n t a.calls b.calls a.are b.are)
+    back-of n (handlers n images states) p was is (after_calls s calls) (after_calls s (calls ++ more)) u (called.after_calls t (a.calls ++ b.calls)) a.state.stand last
+    (nothing-is-lost f n page tick limits states bytes a.calls b.calls p was is few (are-stored images n limits processes states bytes o) l (calls-append f n t a.calls b.calls a.are b.are)
     (exact-append n t a.calls b.calls (a.exact exact.0) (b.exact exact.1)) (a.state.stand.processes p l ∙ old) (last.processes p l ∙ new))
 
 pub hosted-stays : HostedStays
-hosted-stays images n page tick limits processes bytes calls more p o l g =
+hosted-stays images n page tick limits processes states bytes calls more p o l g =
     let f : Answering = answering n images in
     let s : System = new_system n processes bytes page tick in
-    let t : Lived = called.new_system n limits (len_of images) bytes page tick in
+    let t : Lived = called.new_system n limits states bytes page tick in
     let made = calls-split images n s calls more g in
-    let a : Are images n s t calls = are-go images n s t calls (opened images n page tick limits processes bytes o) made.0 in
+    let a : Are images n s t calls = are-go images n s t calls (opened images n page tick limits processes states bytes o) made.0 in
     let u : Lived = called.after_calls t a.calls in
     let b : Are images n (after_calls s calls) u more = are-go images n (after_calls s calls) u more a.state made.1 in
     let last : IsAs n (after_calls s (calls ++ more)) (called.after_calls t (a.calls ++ b.calls)) =
     subst (λ z. IsAs n z (called.after_calls t (a.calls ++ b.calls))) (sym (after-more s calls more)) (subst (IsAs n (after_calls (after_calls s calls) more)) (sym (after-append t a.calls b.calls)) b.state.stand) in
-    stays-of n (handlers n images) p (after_calls s calls) (after_calls s (calls ++ more)) u (called.after_calls t (a.calls ++ b.calls)) l a.state.stand last
-    (stored-stays f n page tick limits (len_of images) bytes a.calls b.calls p (are-stored images n limits processes bytes o) l (calls-append f n t a.calls b.calls a.are b.are) (whole-append t a.calls b.calls a.whole b.whole))
+    stays-of n (handlers n images states) p (after_calls s calls) (after_calls s (calls ++ more)) u (called.after_calls t (a.calls ++ b.calls)) l a.state.stand last
+    (stored-stays f n page tick limits states bytes a.calls b.calls p (are-stored images n limits processes states bytes o) l (calls-append f n t a.calls b.calls a.are b.are) (whole-append t a.calls b.calls a.whole b.whole))
 
 given-more : (p : ℕ) (ks more : List HostCall) → given_by p (ks ++ more) ≡ given_by p ks ++ given_by p more
 given-more p [] more = refl
 given-more p (k ∷ ks) more = ap (λ z. gave_by p k ++ z) (given-more p ks more) ∙ sym (append_assoc (gave_by p k) (given_by p ks) (given_by p more))
 
 pub hosted-last : HostedLast
-hosted-last images n page tick limits processes bytes calls more p o l durable g d =
+hosted-last images n page tick limits processes states bytes calls more p o l durable g d =
     let f : Answering = answering n images in
     let s : System = new_system n processes bytes page tick in
-    let t : Lived = called.new_system n limits (len_of images) bytes page tick in
+    let t : Lived = called.new_system n limits states bytes page tick in
     let made = calls-split images n s calls more g in
     let lasting = durable-split p calls more d in
-    let a : Are images n s t calls = are-go images n s t calls (opened images n page tick limits processes bytes o) made.0 in
+    let a : Are images n s t calls = are-go images n s t calls (opened images n page tick limits processes states bytes o) made.0 in
     let u : Lived = called.after_calls t a.calls in
     let b : Are images n (after_calls s calls) u more = are-go images n (after_calls s calls) u more a.state made.1 in
     let last : IsAs n (after_calls s (calls ++ more)) (called.after_calls t (a.calls ++ b.calls)) =
     subst (λ z. IsAs n z (called.after_calls t (a.calls ++ b.calls))) (sym (after-more s calls more)) (subst (IsAs n (after_calls (after_calls s calls) more)) (sym (after-append t a.calls b.calls)) b.state.stand) in
     let gave : lives_given p (a.calls ++ b.calls) ≡ given_by p (calls ++ more) =
     given-append p a.calls b.calls ∙ ap (λ z. z ++ lives_given p b.calls) (a.gave p) ∙ ap (λ z. given_by p calls ++ z) (b.gave p) ∙ sym (given-more p calls more) in
-    lasts-of n (handlers n images) p (after_calls s calls) (after_calls s (calls ++ more)) u (called.after_calls t (a.calls ++ b.calls)) (lives_given p a.calls) (lives_given p (a.calls ++ b.calls)) (given_by p calls) (given_by p (calls ++ more)) l a.state.stand last (a.gave p) gave
-    (durable-last f n page tick limits (len_of images) bytes a.calls b.calls p (are-stored images n limits processes bytes o) l durable (calls-append f n t a.calls b.calls a.are b.are) (whole-append t a.calls b.calls a.whole b.whole)
+    lasts-of n (handlers n images states) p (after_calls s calls) (after_calls s (calls ++ more)) u (called.after_calls t (a.calls ++ b.calls)) (lives_given p a.calls) (lives_given p (a.calls ++ b.calls)) (given_by p calls) (given_by p (calls ++ more)) l a.state.stand last (a.gave p) gave
+    (durable-last f n page tick limits states bytes a.calls b.calls p (are-stored images n limits processes states bytes o) l durable (calls-append f n t a.calls b.calls a.are b.are) (whole-append t a.calls b.calls a.whole b.whole)
     (durable-append p t a.calls b.calls (a.durable p lasting.0) (b.durable p lasting.1)))
 
 pub hosted-keep : HostedKeep
-hosted-keep images n page tick limits processes bytes calls durable o lasting g d =
+hosted-keep images n page tick limits processes states bytes calls durable o lasting g d =
     let s : System = new_system n processes bytes page tick in
-    let t : Lived = called.new_system n limits (len_of images) bytes page tick in
-    let a : Are images n s t calls = are-go images n s t calls (opened images n page tick limits processes bytes o) g in
-    keep-of n (handlers n images) durable (after_calls s calls) (called.after_calls t a.calls) (lives_outputs t a.calls) (outputs_of s calls) a.state.stand a.outputs
-    (durable-keep (answering n images) n page tick limits (len_of images) bytes a.calls durable (are-stored images n limits processes bytes o) lasting a.are a.whole (λ p e. a.durable p (d p e)))
+    let t : Lived = called.new_system n limits states bytes page tick in
+    let a : Are images n s t calls = are-go images n s t calls (opened images n page tick limits processes states bytes o) g in
+    keep-of n (handlers n images states) durable (after_calls s calls) (called.after_calls t a.calls) (lives_outputs t a.calls) (outputs_of s calls) a.state.stand a.outputs
+    (durable-keep (answering n images) n page tick limits states bytes a.calls durable (are-stored images n limits processes states bytes o) lasting a.are a.whole (λ p e. a.durable p (d p e)))

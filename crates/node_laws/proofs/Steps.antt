@@ -1,6 +1,6 @@
 -- What each call of a process makes of the cluster
 use Rattle.std.proofs.Common.{◌≡◌, ◌≢◌, inl, inr, ℕ, suc, ◌+◌, ◌≤◌, ◌<◌, List, [], ◌∷◌, ◌++◌, take, refl, sym, ap, ◌∙◌, subst, arith, Bool, true, false}
-use Rattle.std.specs.Prelude.{Some, Option, None, replicate, ◌⊎◌, if◌then◌else◌}
+use Rattle.std.specs.Prelude.{Some, Option, None, ◌⊎◌, if◌then◌else◌}
 use Rattle.theorems.proofs.Changes.{at-itself}
 use Rattle.world.specs.declared.message.Message.{Message}
 use Rattle.world.specs.Handlers.{Handlers}
@@ -15,16 +15,19 @@ use Rattle.packets.specs.Kept.{IsKept}
 use Rattle.packets.proofs.KeptLemmas.{one_kept}
 use Rattle.packets.specs.Says.{WasSaid}
 use Rattle.node.specs.declared.job.OpenJob.{OpenJob}
+use Rattle.node.specs.declared.limit.Limits.{Limits}
 use Rattle.node.specs.Node.{TheNode}
 use Rattle.node.specs.Calls.{handed, did_work}
 use Rattle.node.specs.Transmission.{ticked}
 use Rattle.node.specs.Checkpoints.{froze}
 use Rattle.node.specs.Kept.{kept_of, Covers, IsKeptOf}
+use Rattle.node.specs.Suspension.{woken}
 use Rattle.node.specs.Stands.{Each, Stands, GoesTo, PutOut, IsHanded, Handles, actor, phase_of, stage_of, job_of, payloads_to}
 use Rattle.node.specs.Runs.{Answer, Answering, handlers_of, state_from, sends_from}
 use Rattle.node.proofs.Steps.{owes-at, saves-at}
 use Rattle.node.proofs.Preservation.{kept-stays, resting-stands}
 use Rattle.node.proofs.Runs.{answers, state-more, sends-more}
+use Rattle.node.proofs.Suspensions.{woken-stands}
 use Rattle.recovery.specs.Collection.{TheCollecting}
 use Rattle.recovery.specs.Overlap.{is_loss}
 use Rattle.recovery.specs.Stands.{StandsCollecting, IsSaid, IsSent, Reopens}
@@ -35,7 +38,7 @@ use Rattle.recovery.specs.StandsAtReplay as replaying
 use Rattle.recovery.proofs.Acts.{goes-self, goes-one}
 use Rattle.recovery.proofs.Posts.{replayed-out}
 use Rattle.recovery.specs.RestorationStands.{StandsRestoring}
-use Rattle.node_laws.specs.Process.{Process, Up, Covered, Collects, Replays, Replayed, Restores, Killed, StandsAs, is_exact, Gives, Hears, Works, Acts, WaitsFor, covered, IsTold, IsKilled, ComesFrom, IsAnswerAgain}
+use Rattle.node_laws.specs.Process.{Process, Up, Covered, Collects, Replays, Replayed, Restores, Killed, StandsAs, is_exact, Gives, Hears, Works, Acts, WaitsFor, covered, IsTold, Wakes, IsKilled, ComesFrom, IsAnswerAgain}
 use Rattle.node_laws.specs.System.{AreStoredOf}
 use Rattle.node_laws.proofs.Moves.{Moves, IsPlain, moves-own, moves-none}
 use Rattle.node_laws.proofs.Losses.{loss-is-dropped}
@@ -64,15 +67,15 @@ work-rests c p n a h e s =
 
 -- ---- the handler's answer to a message that is replayed
 
-answers-again : (f : Answering) (len : ℕ → ℕ) (n : TheReplaying) (c : Cluster) (p : ℕ) (a : Answer) → c.handlers ≡ handlers_of f len → StandsReplaying n c p → IsAnswerAgain f p n a → replaying.Handles a.state a.given n c
-answers-again f len n c p a handlers s is j next =
+answers-again : (f : Answering) (states : ℕ → List ℕ) (n : TheReplaying) (c : Cluster) (p : ℕ) (a : Answer) → c.handlers ≡ handlers_of f states → StandsReplaying n c p → IsAnswerAgain f p n a → replaying.Handles a.state a.given n c
+answers-again f states n c p a handlers s is j next =
     let h : List Message = take (n.own.base + n.done) (c.history p) in
-    let here : state_from f p (replicate (len p) 0) h ≡ n.own.state = ap (λ (g : Handlers). g.state p h) (sym handlers) ∙ s.own.state in
-    let answer : f p (state_from f p (replicate (len p) 0) h) (job_of j) ≡ a = ap (λ z. f p z (job_of j)) here ∙ sym (is j next) in
+    let here : state_from f p (states p) h ≡ n.own.state = ap (λ (g : Handlers). g.state p h) (sym handlers) ∙ s.own.state in
+    let answer : f p (state_from f p (states p) h) (job_of j) ≡ a = ap (λ z. f p z (job_of j)) here ∙ sym (is j next) in
     subst (λ k. AnswersAfter c.handlers k (take (n.own.base + n.done) (c.history k)) (job_of j) a.state a.given) (sym s.own.me) (record {
-      state_is = ap (λ (g : Handlers). g.state p (h ++ job_of j ∷ [])) handlers ∙ state-more f p (replicate (len p) 0) h (job_of j) ∙ ap (λ (z : Answer). z.state) answer;
-      sends_are = λ d. ap (λ (g : Handlers). g.sends p (h ++ job_of j ∷ []) d) handlers ∙ sends-more f p (replicate (len p) 0) h (job_of j) d
-          ∙ ap (λ (z : Answer). sends_from f p (replicate (len p) 0) h d ++ payloads_to d z.given) answer ∙ ap (λ (g : Handlers). g.sends p h d ++ payloads_to d a.given) (sym handlers);
+      state_is = ap (λ (g : Handlers). g.state p (h ++ job_of j ∷ [])) handlers ∙ state-more f p (states p) h (job_of j) ∙ ap (λ (z : Answer). z.state) answer;
+      sends_are = λ d. ap (λ (g : Handlers). g.sends p (h ++ job_of j ∷ []) d) handlers ∙ sends-more f p (states p) h (job_of j) d
+          ∙ ap (λ (z : Answer). sends_from f p (states p) h d ++ payloads_to d z.given) answer ∙ ap (λ (g : Handlers). g.sends p h d ++ payloads_to d a.given) (sym handlers);
     })
 
 -- ---- acts before others
@@ -149,19 +152,19 @@ module _ (c : Cluster) (p : ℕ) (bytes : List ℕ) (life : ℕ) (low : c.stored
   hearing x Killed new g exact said s are = absurd g
 
   -- its handler answered
-  pub working : (f : Answering) (len : ℕ → ℕ) (a : Answer) (old new : Process) → Works f p a old new → c.handlers ≡ handlers_of f len → worlds.Holds c → StandsAs old c p → AreStoredOf bytes old c p → Goes new
-  working f len a (Up n) new g handlers h s are =
-      becomes p (Up g.1.0) new bytes life c g.1.1.0 (own (Up g.1.0) are.0 (λ k d z. z) are.1 (owes-at (Handles a.state a.given n) n g.1.0 c p g.1.1.1.1 s (answers f len n c p a handlers s g.0)))
-  working f len a (Covered n) new g handlers h s are =
+  pub working : (f : Answering) (states : ℕ → List ℕ) (a : Answer) (old new : Process) → Works f p a old new → c.handlers ≡ handlers_of f states → worlds.Holds c → StandsAs old c p → AreStoredOf bytes old c p → Goes new
+  working f states a (Up n) new g handlers h s are =
+      becomes p (Up g.1.0) new bytes life c g.1.1.0 (own (Up g.1.0) are.0 (λ k d z. z) are.1 (owes-at (Handles a.state a.given n) n g.1.0 c p g.1.1.1.1 s (answers f states n c p a handlers s g.0)))
+  working f states a (Covered n) new g handlers h s are =
       becomes p (Covered n) new bytes life c (g.1.0 ∙ ap Covered (g.1.1 ∙ work-rests c p n a h s.0 s.1)) (moves-none p (Covered n) bytes life c s are low)
-  working f len a (Replays n) new g handlers h s are =
+  working f states a (Replays n) new g handlers h s are =
       let P : ℕ → Type 0 = λ q. GoesTo q (λ d. StandsReplaying g.1.0 d q) c in
       becomes p (Replays g.1.0) new bytes life c g.1.1.0
-      (own (Replays g.1.0) are.0 (λ k d z. z) are.1 (subst P s.own.me (g.1.1.1.1 c (subst (StandsReplaying n c) (sym s.own.me) s) (answers-again f len n c p a handlers s g.0))))
-  working f len a (Collects n) new g handlers h s are = absurd g
-  working f len a (Replayed n) new g handlers h s are = absurd g
-  working f len a (Restores n) new g handlers h s are = absurd g
-  working f len a Killed new g handlers h s are = absurd g
+      (own (Replays g.1.0) are.0 (λ k d z. z) are.1 (subst P s.own.me (g.1.1.1.1 c (subst (StandsReplaying n c) (sym s.own.me) s) (answers-again f states n c p a handlers s g.0))))
+  working f states a (Collects n) new g handlers h s are = absurd g
+  working f states a (Replayed n) new g handlers h s are = absurd g
+  working f states a (Restores n) new g handlers h s are = absurd g
+  working f states a Killed new g handlers h s are = absurd g
 
   -- it acts, or goes on to its next stage
   pub acting : (old new : Process) → Acts old new → worlds.Holds c → StandsAs old c p → AreStoredOf bytes old c p → Goes new
@@ -218,6 +221,18 @@ module _ (c : Cluster) (p : ℕ) (bytes : List ℕ) (life : ℕ) (low : c.stored
   telling (Replayed n) new g s are = absurd g
   telling (Restores n) new g s are = absurd g
   telling Killed new g s are = absurd g
+
+  -- it was suspended, and is resumed
+  pub waking : (limits : Limits) (old new : Process) → Wakes limits old new → StandsAs old c p → AreStoredOf bytes old c p → Goes new
+  waking limits (Up n) new g s are =
+      let to : Process = Up (woken limits n) in
+      becomes p to new bytes life c (g.1.1.0 ∙ ap Up g.1.1.1) (moves-none p to bytes life c (woken-stands n limits c p g.0 s) are low)
+  waking limits (Covered n) new g s are = absurd g
+  waking limits (Collects n) new g s are = absurd g
+  waking limits (Replays n) new g s are = absurd g
+  waking limits (Replayed n) new g s are = absurd g
+  waking limits (Restores n) new g s are = absurd g
+  waking limits Killed new g s are = absurd g
 
 -- it is killed
 killed : (c : Cluster) (p : ℕ) (bytes : List ℕ) (life : ℕ) (k : Kept) → c.stored p ≤ life → IsNode c p → c.stage p ≢ Dead → IsKept k bytes → IsKeptOf k c p → Moves p Killed bytes life c

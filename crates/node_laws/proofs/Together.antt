@@ -94,9 +94,9 @@ to-gateway : (c : Cluster) (x : NodePacket) → WasPut c x → gateways.WasSaid 
 to-gateway c x o = record { body = o.said.0; says = o.said.1; among = o.said.2 }
 
 -- each call
-call-goes : (f : Answering) (len : ℕ → ℕ) (n : ℕ) (s : System) (c : Cluster) (k : Call) → Holds (handlers_of f len) n s c → DoesIt f n s k → Onward (handlers_of f len) n c (after_call s k)
-call-goes f len n s c (Gave p x new) h m =
-    let at : Stands (s.nodes p) c p = stands-at (handlers_of f len) n s c p m.0 h in
+call-goes : (f : Answering) (states : ℕ → List ℕ) (n : ℕ) (s : System) (c : Cluster) (k : Call) → Holds (handlers_of f states) n s c → DoesIt f n s k → Onward (handlers_of f states) n c (after_call s k)
+call-goes f states n s c (Gave p x new) h m =
+    let at : Stands (s.nodes p) c p = stands-at (handlers_of f states) n s c p m.0 h in
     let me : (s.nodes p).me ≡ p = at.me in
     let took : PutOut c.count c.parcels p x × Stands new c p = subst (λ k. PutOut c.count c.parcels k x × Stands new c k) me (m.1.1 c (subst (Stands (s.nodes p) c) (sym me) at)) in
     record {
@@ -110,18 +110,18 @@ call-goes f len n s c (Gave p x new) h m =
         handlers = h.handlers;
       };
     }
-call-goes f len n s c (Handed p x new) h m =
-    let at : Stands (s.nodes p) c p = stands-at (handlers_of f len) n s c p m.0 h in
-    node-goes (handlers_of f len) n s c p new m.0.0 h
+call-goes f states n s c (Handed p x new) h m =
+    let at : Stands (s.nodes p) c p = stands-at (handlers_of f states) n s c p m.0 h in
+    node-goes (handlers_of f states) n s c p new m.0.0 h
     (on-goes p new c (owes-at (λ d. WasSaid d.parcels x.from x.to x.body) (s.nodes p) new c p m.1.1 at (let o : WasPut c x = one-was (WasPut c) x s.given h.given m.1.0 in o.said)))
-call-goes f len n s c (Worked p a new) h m =
-    let at : Stands (s.nodes p) c p = stands-at (handlers_of f len) n s c p m.0 h in
-    node-goes (handlers_of f len) n s c p new m.0.0 h (on-goes p new c (owes-at (Handles a.state a.given (s.nodes p)) (s.nodes p) new c p m.1.1 at (answers f len (s.nodes p) c p a h.handlers at m.1.0)))
-call-goes f len n s c (Did p new) h m =
-    let at : Stands (s.nodes p) c p = stands-at (handlers_of f len) n s c p m.0 h in
-    node-goes (handlers_of f len) n s c p new m.0.0 h (on-goes p new c (owes-at (λ d. Unit {0}) (s.nodes p) new c p m.1 at tt))
-call-goes f len n s c (Saved p new) h m = node-goes (handlers_of f len) n s c p new m.0.0 h (saves-goes (s.nodes p) new c p m.1 (stands-at (handlers_of f len) n s c p m.0 h))
-call-goes f len n s c (GaveOut x new) h m =
+call-goes f states n s c (Worked p a new) h m =
+    let at : Stands (s.nodes p) c p = stands-at (handlers_of f states) n s c p m.0 h in
+    node-goes (handlers_of f states) n s c p new m.0.0 h (on-goes p new c (owes-at (Handles a.state a.given (s.nodes p)) (s.nodes p) new c p m.1.1 at (answers f states (s.nodes p) c p a h.handlers at m.1.0)))
+call-goes f states n s c (Did p new) h m =
+    let at : Stands (s.nodes p) c p = stands-at (handlers_of f states) n s c p m.0 h in
+    node-goes (handlers_of f states) n s c p new m.0.0 h (on-goes p new c (owes-at (λ d. Unit {0}) (s.nodes p) new c p m.1 at tt))
+call-goes f states n s c (Saved p new) h m = node-goes (handlers_of f states) n s c p new m.0.0 h (saves-goes (s.nodes p) new c p m.1 (stands-at (handlers_of f states) n s c p m.0 h))
+call-goes f states n s c (GaveOut x new) h m =
     let took = m.1 c h.gateway in
     record {
       acts = [];
@@ -134,36 +134,36 @@ call-goes f len n s c (GaveOut x new) h m =
         handlers = h.handlers;
       };
     }
-call-goes f len n s c (HandedOut x new) h m =
+call-goes f states n s c (HandedOut x new) h m =
     let o : WasPut c x = one-was (WasPut c) x s.given h.given m.0 in
-    gateway-goes (handlers_of f len) n s c new h (m.1 c h.gateway (to-gateway c x o))
-call-goes f len n s c (DidOut new) h m = gateway-goes (handlers_of f len) n s c new h (m c h.gateway tt)
+    gateway-goes (handlers_of f states) n s c new h (m.1 c h.gateway (to-gateway c x o))
+call-goes f states n s c (DidOut new) h m = gateway-goes (handlers_of f states) n s c new h (m c h.gateway tt)
 
-calls-go : (f : Answering) (len : ℕ → ℕ) (n : ℕ) (s : System) (c : Cluster) (ks : List Call) → Holds (handlers_of f len) n s c → Calls f n s ks → Onward (handlers_of f len) n c (after_calls s ks)
-calls-go f len n s c [] h m = record { acts = []; run = tt; holds = h }
-calls-go f len n s c (k ∷ ks) h m =
-    let one = call-goes f len n s c k h m.0 in
-    let rest = calls-go f len n (after_call s k) (after_run c one.acts) ks one.holds m.1 in
+calls-go : (f : Answering) (states : ℕ → List ℕ) (n : ℕ) (s : System) (c : Cluster) (ks : List Call) → Holds (handlers_of f states) n s c → Calls f n s ks → Onward (handlers_of f states) n c (after_calls s ks)
+calls-go f states n s c [] h m = record { acts = []; run = tt; holds = h }
+calls-go f states n s c (k ∷ ks) h m =
+    let one = call-goes f states n s c k h m.0 in
+    let rest = calls-go f states n (after_call s k) (after_run c one.acts) ks one.holds m.1 in
     let both = run-on c one.acts rest.acts one.run rest.run in
     record {
       acts = one.acts ++ rest.acts;
       run = both.0;
-      holds = subst (Holds (handlers_of f len) n (after_calls (after_call s k) ks)) (sym both.1) rest.holds;
+      holds = subst (Holds (handlers_of f states) n (after_calls (after_call s k) ks)) (sym both.1) rest.holds;
     }
 
 pub calls-run : CallsRun
-calls-run f n page tick limits len calls few m =
-    let g : Handlers = handlers_of f len in
-    let s : System = new_system n limits len page tick in
+calls-run f n page tick limits states calls few m =
+    let g : Handlers = handlers_of f states in
+    let s : System = new_system n limits states page tick in
     let begins : Holds g n s (opening n g) = record {
       count = refl;
-      stand = λ p some low. stands-opened (limits p) p n (len p) g some low (record { state_is = refl; sends_are = λ d. refl });
+      stand = λ p some low. stands-opened (limits p) p n (states p) g some low (record { state_is = refl; sends_are = λ d. refl });
       gateway = gateway_opening.stands-opened n page tick g;
       given = tt;
       handlers = refl;
     } in
-    let all = calls-go f len n s (opening n g) calls begins m in
-    let keeps = nodes-keep n g all.acts few (grows f len) all.run in
+    let all = calls-go f states n s (opening n g) calls begins m in
+    let keeps = nodes-keep n g all.acts few (grows f states) all.run in
     record {
       acts = all.acts;
       run = all.run;

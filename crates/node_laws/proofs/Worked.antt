@@ -34,17 +34,17 @@ stays-exact s (k ∷ ks) e =
     ((λ p first. let one : 1 ≡ p = omega (arith, first.0, first.1) in let P : ℕ → Type 0 = λ q. is_exact ((after_call s k).processes q) ≡ true in subst P one e.0), stays-exact (after_call s k) ks e.1)
 
 -- nothing was told, so nothing is planned
-none-planned : (len : ℕ) → Plans (has_all len) []
+none-planned : (initial : List ℕ) → Plans (has_all initial) []
 unfolding entries_in_range
-none-planned len h c = record { follows = tt; most = refl }
+none-planned initial h c = record { follows = tt; most = refl }
 
-recovers : (len : ℕ) → Recovers (has_all len) (replays len)
+recovers : (initial : List ℕ) → Recovers (has_all initial) (replays initial)
 unfolding entries_in_range
-recovers len = record { all = refl; is = record { own = refl; plans = none-planned len; none = refl }; acts = comes-back (has_all len) [] refl (none-planned len) }
+recovers initial = record { all = refl; is = record { own = refl; plans = none-planned initial; none = refl }; acts = comes-back (has_all initial) [] refl (none-planned initial) }
 
-is-restoring : (len : ℕ) → IsRestoring (resumes len).own (resumes len).above (resumes len).answered
+is-restoring : (initial : List ℕ) → IsRestoring (resumes initial).own (resumes initial).above (resumes initial).answered
 unfolding entries_in_range
-is-restoring len = record { wide = refl; answered_wide = refl; heard_wide = refl; logs_wide = refl; alone = refl }
+is-restoring initial = record { wide = refl; answered_wide = refl; heard_wide = refl; logs_wide = refl; alone = refl }
 
 -- the process is the first
 pub first : IsFirst 1 1
@@ -52,14 +52,14 @@ first = (omega arith, omega arith)
 
 pub comes-back-up : ComesBackUp
 unfolding entries_in_range pairs_in_range
-comes-back-up f len page tick bytes stored =
+comes-back-up f initial page tick bytes stored =
     let early : 1 < 2 = omega arith in
     record {
-      calls = (first, ((first, (tt, (early, (kept_of (new_node usual 1 1 len), (stored 1 first, ((usual, refl), revives usual (kept_of (new_node usual 1 1 len)) 2)))))), ((first, (asks len, (refl, collecting-takes (Some ask) (comes len) [] refl))), ((inl refl, (refl, handed-so ask (new_gateway 1 page tick))), (tt, ((refl, gateways.takes-so (Some told) (asked page tick) [] refl), ((first, (inl refl, (has_all len, (refl, (refl, collecting.handing (asks len) told refl refl))))), ((first, inr (replays len, (refl, recovers len))), ((first, (replayed_of (replays len), (refl, (refl, ends-so (replays len) refl (omega arith))))), ((first, (begins len, (refl, (refl, beginning (replayed_of (replays len)))))), ((first, (resumes len, (refl, returns.takes-so (Some resume) (begins len) [] refl))), ((inl refl, (refl, handed-so resume (sent (asked page tick)))), (tt, ((refl, gateways.takes-so (Some restored) (resumed page tick) [] refl), ((first, (inl refl, (has_answer len, (refl, (refl, restoring.handing (resumes len) restored (is-restoring len)))))), ((first, inr (up (has_answer len), (refl, (refl, returns.is-up (has_answer len) refl)))), tt))))))))))))))));
+      calls = (first, ((first, (tt, (early, (kept_of (new_node usual 1 1 initial), (stored 1 first, ((usual, refl), revives usual (kept_of (new_node usual 1 1 initial)) 2)))))), ((first, (asks initial, (refl, collecting-takes (Some ask) (comes initial) [] refl))), ((inl refl, (refl, handed-so ask (new_gateway 1 page tick))), (tt, ((refl, gateways.takes-so (Some told) (asked page tick) [] refl), ((first, (inl refl, (has_all initial, (refl, (refl, collecting.handing (asks initial) told refl refl))))), ((first, inr (replays initial, (refl, recovers initial))), ((first, (replayed_of (replays initial), (refl, (refl, ends-so (replays initial) refl (omega arith))))), ((first, (begins initial, (refl, (refl, beginning (replayed_of (replays initial)))))), ((first, (resumes initial, (refl, returns.takes-so (Some resume) (begins initial) [] refl))), ((inl refl, (refl, handed-so resume (sent (asked page tick)))), (tt, ((refl, gateways.takes-so (Some restored) (resumed page tick) [] refl), ((first, (inl refl, (has_answer initial, (refl, (refl, restoring.handing (resumes initial) restored (is-restoring initial)))))), ((first, inr (up (has_answer initial), (refl, (refl, returns.is-up (has_answer initial) refl)))), tt))))))))))))))));
       whole = (tt, (tt, (tt, (tt, (tt, (tt, (tt, (tt, (refl, (tt, (tt, (tt, (tt, (tt, (tt, (tt, tt))))))))))))))));
-      exact = stays-exact (new_system 1 (λ _. usual) (λ _. len) bytes page tick) (worked len page tick) (refl, (refl, (refl, (refl, (refl, (refl, (refl, (refl, (refl, (refl, (refl, (refl, (refl, (refl, (refl, (refl, tt))))))))))))))));
+      exact = stays-exact (new_system 1 (λ _. usual) (λ _. initial) bytes page tick) (worked initial page tick) (refl, (refl, (refl, (refl, (refl, (refl, (refl, (refl, (refl, (refl, (refl, (refl, (refl, (refl, (refl, (refl, tt))))))))))))))));
       alone = (λ q inside other. absurd (omega (arith, inside.0, inside.1, other)), (tt, (tt, (tt, (tt, (tt, (tt, (tt, (tt, (tt, (tt, (tt, (tt, (tt, (tt, (tt, tt))))))))))))))));
-      node = up (has_answer len);
+      node = up (has_answer initial);
       is_up = refl;
       life = refl;
       state = refl;

@@ -8,7 +8,7 @@ use Rattle.helpers.specs.declared.effects.Who.{Who}
 use Rattle.images.specs.declared.any_image.AnyImage.{AnyImage}
 use Rattle.images.specs.declared.file_form.FileForm.{FileForm}
 use Rattle.images.specs.declared.file_form.FileForm.TheVariants.{Sbi1}
-use Rattle.images.specs.AnyImage.{state_of, code_of}
+use Rattle.images.specs.AnyImage.{code_of}
 use Rattle.interp.specs.HandlerCall.{Handled, handled_by}
 use Rattle.interp.specs.Configuration.{entry}
 use Rattle.handlers.specs.Answer.{answer_by, run_of, shown}
@@ -20,6 +20,7 @@ use Rattle.node.specs.Limit.{usual}
 use Rattle.node.specs.Node.{TheNode, new_node}
 use Rattle.node.specs.Transmission.{ticked}
 use Rattle.node.specs.Kept.{kept_of}
+use Rattle.node.specs.Suspension.{suspended_bytes}
 use Rattle.node.specs.Runs.{Answering}
 use Rattle.node.proofs.Begun.{within-begun}
 use Rattle.node.proofs.Freezes.{freezes}
@@ -41,7 +42,7 @@ use Rattle.node_laws.specs.Messages as lived
 use Rattle.node_laws.specs.Messages.{last, input, delivery, number, acknowledgement, covers, ask, told, resume, restored, quiet, n0, n1, n2, n3, n4, n5, n6, n7, n8, n9, n10, job, comes, asks, has_all, replays, replays_more, replayed, begins, resumes, has_answer}
 use Rattle.node_laws.proofs.Lives.{usual-allowed}
 use Rattle.node_laws.proofs.Worked.{first}
-use Rattle.node_laws.proofs.Messages.{replays-two}
+use Rattle.node_laws.proofs.Messages.{suspended-5, replays-two}
 use Rattle.rsn.specs.declared.receipts.TheConstants.{LIMIT}
 use Rattle.process.specs.declared.lifecycle.Lifecycle.{Lifecycle}
 use Rattle.process.specs.declared.lifecycle.Lifecycle.TheVariants.{Up, Collecting, Replaying, Replayed, Restoring}
@@ -49,6 +50,7 @@ use Rattle.process.specs.Process.{state_of as state_at}
 use Rattle.process.specs.Calls as calls
 use Rattle.process.specs.Transitions.{Passes}
 use Rattle.process.specs.Revival.{IsOpened}
+use Rattle.process.specs.Suspension.{IsResumed}
 use Rattle.process.specs.Work.{Works, TakesIn, job_at, answer_to}
 use Rattle.node_laws.specs.HostSystem.{System, Opens, HostCall, Died, DoesIt, AreCalls, after_call, after_calls}
 use Rattle.node_laws.specs.HostLives.{FailsAlone, OneAtATime}
@@ -165,32 +167,38 @@ works image c d e k next is takes passes =
 -- ---- all of it
 
 module _ (image : AnyImage) (is : IsCopying image) (stored bytes : List ℕ) (kept-0 : IsKept (kept_of n0) stored) (kept-4 : IsKept (kept_of n4) bytes) where
-  one-process : IsOpened image usual 1 1 (process image (Up n0))
+  one-process : IsOpened image usual 1 1 (0 ∷ []) (process image (Up n0))
   one-process =
       record {
+        long = sym is.is_image.len_is;
         image_is = refl;
-        lifecycle_is = ap (λ (l : ℕ). Up (new_node usual 1 1 l)) (sym is.is_image.len_is);
-        stands = λ f b. stands-opened usual 1 1 (state_of image) f (omega arith) (omega arith) b;
+        lifecycle_is = refl;
+        stands = λ f b. stands-opened usual 1 1 (0 ∷ []) f (omega arith) (omega arith) b;
       }
 
-  opens : Opens 1 (λ _. image) (λ _. usual) (λ _. process image (Up n0)) (λ _. stored)
+  opens : Opens 1 (λ _. image) (λ _. usual) (λ _. process image (Up n0)) (λ _. 0 ∷ []) (λ _. stored)
   opens =
       record {
-        opened = λ p inside. let one : 1 ≡ p = omega (arith, inside.0, inside.1) in let P : ℕ → Type 0 = λ q. IsOpened image usual q 1 (process image (Up n0)) in subst P one one-process;
-        stored = λ p inside. (kept-0, kept-covers n0 (within-begun usual 1 1 1 usual-allowed (omega arith) (omega arith) (omega arith)));
+        opened = λ p inside. let one : 1 ≡ p = omega (arith, inside.0, inside.1) in let P : ℕ → Type 0 = λ q. IsOpened image usual q 1 (0 ∷ []) (process image (Up n0)) in subst P one one-process;
+        stored = λ p inside. (kept-0, kept-covers n0 (within-begun usual 1 1 (0 ∷ []) usual-allowed (omega arith) (omega arith) (omega arith)));
       }
 
   lives : lived.IsWorked (λ _. stored) bytes
   lives =
-      let at-opening : called.AreStored 1 (λ _. 1) (λ _. stored) =
-      λ p inside. let one : 1 ≡ p = omega (arith, inside.0, inside.1) in let P : ℕ → Type 0 = λ q. IsKept (kept_of (new_node usual q 1 1)) stored in subst P one kept-0 in
+      let at-opening : called.AreStored 1 (λ _. 0 ∷ []) (λ _. stored) =
+      λ p inside. let one : 1 ≡ p = omega (arith, inside.0, inside.1) in let P : ℕ → Type 0 = λ q. IsKept (kept_of (new_node usual q 1 (0 ∷ []))) stored in subst P one kept-0 in
       replays-two (λ _. stored) bytes at-opening kept-4
+
+  resumed-5 : IsResumed image usual (suspended_bytes (quiet n5)) (process image (Up (quiet n5)))
+  unfolding entries_in_range
+  resumed-5 =
+      record { node = quiet n5; image_is = refl; lifecycle_is = refl; suspended = suspended-5; limits_are = refl; none_waits = refl; long = sym is.is_image.len_is }
 
   calls-before : AreCalls (λ _. image) 1 (opened image stored) (before image bytes)
   unfolding entries_in_range pairs_in_range
   calls-before =
       let d = at last 1 (lived.opened (λ _. stored)) (lived.before bytes) lives.calls in
-      ((tt, d 0), ((tt, tt), ((tt, d 2), ((first, ((d 3).1.0, hears-up image (delivery 1) n0 n1 (as-up n1 (d 3).1.1))), ((first, works image (Up n1) (Up n2) (Up n2) 1 refl (answers image is me 0 1 (runs-1 me 0)) (as-up n2 (d 4).1.1) (stays-up n2)), ((first, record { image = refl; does = as-up (quiet n2) (d 5).1 }), ((tt, d 6), ((tt, tt), ((tt, d 8), ((first, ((d 9).1.0, hears-up image (acknowledgement 1) (quiet n2) n3 (as-up n3 (d 9).1.1))), ((first, (record { may = refl; state = omega arith; entries = omega arith }, ((d 11).1.1, record { image = refl; does = (refl, freezes n3) }))), ((first, refl), ((first, (refl, record { image = refl; does = as-up n5 (d 12).1 })), ((first, record { image = refl; does = as-up (quiet n5) (d 13).1 }), ((tt, d 14), ((tt, d 15), ((tt, tt), ((tt, d 17), ((tt, d 18), ((first, ((d 19).1.0, hears-up image (delivery 2) (quiet n5) n6 (as-up n6 (d 19).1.1))), ((first, works image (Up n6) (Up n7) (Up n7) 2 refl (answers image is me 1 2 (runs-2 me 1)) (as-up n7 (d 20).1.1) (stays-up n7)), ((first, record { image = refl; does = as-up (quiet n7) (d 21).1 }), ((first, ((d 22).1.0, hears-up image (delivery 3) (quiet n7) n8 (as-up n8 (d 22).1.1))), ((first, works image (Up n8) (Up n9) (Up n9) 3 refl (answers image is me 2 3 (runs-3 me 2)) (as-up n9 (d 23).1.1) (stays-up n9)), ((first, record { image = refl; does = as-up (quiet n9) (d 24).1 }), ((tt, d 25), ((tt, d 26), ((tt, tt), ((tt, d 28), ((tt, d 29), ((first, ((d 30).1.0, hears-up image (acknowledgement 2) (quiet n9) n10 (as-up n10 (d 30).1.1))), tt)))))))))))))))))))))))))))))))
+      ((tt, d 0), ((tt, tt), ((tt, d 2), ((first, ((d 3).1.0, hears-up image (delivery 1) n0 n1 (as-up n1 (d 3).1.1))), ((first, works image (Up n1) (Up n2) (Up n2) 1 refl (answers image is me 0 1 (runs-1 me 0)) (as-up n2 (d 4).1.1) (stays-up n2)), ((first, record { image = refl; does = as-up (quiet n2) (d 5).1 }), ((tt, d 6), ((tt, tt), ((tt, d 8), ((first, ((d 9).1.0, hears-up image (acknowledgement 1) (quiet n2) n3 (as-up n3 (d 9).1.1))), ((first, (record { may = refl; state = omega arith; entries = omega arith }, ((d 11).1.1, record { image = refl; does = (refl, freezes n3) }))), ((first, refl), ((first, (refl, record { image = refl; does = as-up n5 (d 12).1 })), ((first, record { image = refl; does = as-up (quiet n5) (d 13).1 }), ((first, suspended-5), ((first, (image, (refl, resumed-5))), ((tt, d 15), ((tt, d 16), ((tt, tt), ((tt, d 18), ((tt, d 19), ((first, ((d 20).1.0, hears-up image (delivery 2) (quiet n5) n6 (as-up n6 (d 20).1.1))), ((first, works image (Up n6) (Up n7) (Up n7) 2 refl (answers image is me 1 2 (runs-2 me 1)) (as-up n7 (d 21).1.1) (stays-up n7)), ((first, record { image = refl; does = as-up (quiet n7) (d 22).1 }), ((first, ((d 23).1.0, hears-up image (delivery 3) (quiet n7) n8 (as-up n8 (d 23).1.1))), ((first, works image (Up n8) (Up n9) (Up n9) 3 refl (answers image is me 2 3 (runs-3 me 2)) (as-up n9 (d 24).1.1) (stays-up n9)), ((first, record { image = refl; does = as-up (quiet n9) (d 25).1 }), ((tt, d 26), ((tt, d 27), ((tt, tt), ((tt, d 29), ((tt, d 30), ((first, ((d 31).1.0, hears-up image (acknowledgement 2) (quiet n9) n10 (as-up n10 (d 31).1.1))), tt)))))))))))))))))))))))))))))))))
 
   calls-behind : AreCalls (λ _. image) 1 (after_calls (opened image stored) (before image bytes)) (behind image)
   unfolding entries_in_range pairs_in_range
@@ -233,7 +241,9 @@ worked image is stored bytes kept-0 kept-4 =
       opens = begins;
       calls = all;
       alone = lone;
-      exact = hosted-alone (λ _. image) 1 PAGE TICK (λ _. usual) (λ _. process image (Up n0)) (λ _. stored) ks (omega arith) begins all lone;
+      exact = hosted-alone (λ _. image) 1 PAGE TICK (λ _. usual) (λ _. process image (Up n0)) (λ _. 0 ∷ []) (λ _. stored) ks (omega arith) begins all lone;
+      sleeps = refl;
+      wakes = refl;
       was_up = refl;
       had = refl;
       acknowledged = refl;

@@ -29,36 +29,36 @@ OneAtATime n s (k ∷ ks) = FailsAlone n s k × OneAtATime n (after_call s k) ks
 
 -- then each process that is alive stays exact, whatever packets come late or twice
 abbrev pub LoneFailuresStayExact : Type 0
-LoneFailuresStayExact = (f : Answering) (n page tick : ℕ) (limits : ℕ → Limits) (len : ℕ → ℕ) (bytes : ℕ → List ℕ) (calls : List Call)
-    → n ≤ 15 → AreStored n len bytes → Calls f n (new_system n limits len bytes page tick) calls
-    → OneAtATime n (new_system n limits len bytes page tick) calls → StayExact n (new_system n limits len bytes page tick) calls
+LoneFailuresStayExact = (f : Answering) (n page tick : ℕ) (limits : ℕ → Limits) (states bytes : ℕ → List ℕ) (calls : List Call)
+    → n ≤ 15 → AreStored n states bytes → Calls f n (new_system n limits states bytes page tick) calls
+    → OneAtATime n (new_system n limits states bytes page tick) calls → StayExact n (new_system n limits states bytes page tick) calls
 
 -- so such calls are a run of a cluster
 abbrev pub LoneLivesRun : Type 0
-LoneLivesRun = (f : Answering) (n page tick : ℕ) (limits : ℕ → Limits) (len : ℕ → ℕ) (bytes : ℕ → List ℕ) (calls : List Call) → n ≤ 15
-    → AreStored n len bytes → Calls f n (new_system n limits len bytes page tick) calls
-    → OneAtATime n (new_system n limits len bytes page tick) calls
-    → IsRunOf n (handlers_of f len) (after_calls (new_system n limits len bytes page tick) calls)
+LoneLivesRun = (f : Answering) (n page tick : ℕ) (limits : ℕ → Limits) (states bytes : ℕ → List ℕ) (calls : List Call) → n ≤ 15
+    → AreStored n states bytes → Calls f n (new_system n limits states bytes page tick) calls
+    → OneAtATime n (new_system n limits states bytes page tick) calls
+    → IsRunOf n (handlers_of f states) (after_calls (new_system n limits states bytes page tick) calls)
 
 -- nothing that was acknowledged is lost
 abbrev pub NothingIsLostAlone : Type 0
-NothingIsLostAlone = (f : Answering) (n page tick : ℕ) (limits : ℕ → Limits) (len : ℕ → ℕ) (bytes : ℕ
-    → List ℕ) (calls more : List Call) (p : ℕ) (a b : TheNode) → n ≤ 15 → AreStored n len bytes → IsFirst n p
-    → Calls f n (new_system n limits len bytes page tick) (calls ++ more)
-    → OneAtATime n (new_system n limits len bytes page tick) (calls ++ more)
-    → (after_calls (new_system n limits len bytes page tick) calls).processes p ≡ Up a
-    → (after_calls (new_system n limits len bytes page tick) (calls ++ more)).processes p ≡ Up b
-    → HasBack n (handlers_of f len)
-    (after_calls (new_system n limits len bytes page tick) calls)
-    (after_calls (new_system n limits len bytes page tick) (calls ++ more)) p a b
+NothingIsLostAlone = (f : Answering) (n page tick : ℕ) (limits : ℕ → Limits) (states bytes : ℕ → List ℕ) (calls more : List Call) (p : ℕ)
+    (a b : TheNode) → n ≤ 15 → AreStored n states bytes → IsFirst n p
+    → Calls f n (new_system n limits states bytes page tick) (calls ++ more)
+    → OneAtATime n (new_system n limits states bytes page tick) (calls ++ more)
+    → (after_calls (new_system n limits states bytes page tick) calls).processes p ≡ Up a
+    → (after_calls (new_system n limits states bytes page tick) (calls ++ more)).processes p ≡ Up b
+    → HasBack n (handlers_of f states)
+    (after_calls (new_system n limits states bytes page tick) calls)
+    (after_calls (new_system n limits states bytes page tick) (calls ++ more)) p a b
 
 -- a process that recovers keeps what it had
 abbrev pub RecoversExactlyAlone : Type 0
-RecoversExactlyAlone = (f : Answering) (n page tick : ℕ) (limits : ℕ → Limits) (len : ℕ → ℕ) (bytes : ℕ
-    → List ℕ) (calls more : List Call) (p : ℕ) (old : TheCollecting) (new : TheReplaying) → n ≤ 15 → AreStored n len bytes
-    → Calls f n (new_system n limits len bytes page tick) (calls ++ Did p (Replays new) ∷ more)
-    → OneAtATime n (new_system n limits len bytes page tick) (calls ++ Did p (Replays new) ∷ more)
-    → (after_calls (new_system n limits len bytes page tick) calls).processes p ≡ Collects old
-    → IsBack n (handlers_of f len)
-    (after_calls (new_system n limits len bytes page tick) calls)
-    (after_calls (new_system n limits len bytes page tick) (calls ++ Did p (Replays new) ∷ more)) p old new
+RecoversExactlyAlone = (f : Answering) (n page tick : ℕ) (limits : ℕ → Limits) (states bytes : ℕ → List ℕ) (calls more : List Call) (p : ℕ)
+    (old : TheCollecting) (new : TheReplaying) → n ≤ 15 → AreStored n states bytes
+    → Calls f n (new_system n limits states bytes page tick) (calls ++ Did p (Replays new) ∷ more)
+    → OneAtATime n (new_system n limits states bytes page tick) (calls ++ Did p (Replays new) ∷ more)
+    → (after_calls (new_system n limits states bytes page tick) calls).processes p ≡ Collects old
+    → IsBack n (handlers_of f states)
+    (after_calls (new_system n limits states bytes page tick) calls)
+    (after_calls (new_system n limits states bytes page tick) (calls ++ Did p (Replays new) ∷ more)) p old new

@@ -44,15 +44,15 @@ pub record HasBack (n : ℕ) (f : Handlers) (s t : System) (p : ℕ) (a b : TheN
 
 -- whatever happens between the two moments, if each process that is alive stays exact
 abbrev pub NothingIsLost : Type 0
-NothingIsLost = (f : Answering) (n page tick : ℕ) (limits : ℕ → Limits) (len : ℕ → ℕ) (bytes : ℕ
-    → List ℕ) (calls more : List Call) (p : ℕ) (a b : TheNode) → n ≤ 15 → AreStored n len bytes → IsFirst n p
-    → Calls f n (new_system n limits len bytes page tick) (calls ++ more)
-    → StayExact n (new_system n limits len bytes page tick) (calls ++ more)
-    → (after_calls (new_system n limits len bytes page tick) calls).processes p ≡ Up a
-    → (after_calls (new_system n limits len bytes page tick) (calls ++ more)).processes p ≡ Up b
-    → HasBack n (handlers_of f len)
-    (after_calls (new_system n limits len bytes page tick) calls)
-    (after_calls (new_system n limits len bytes page tick) (calls ++ more)) p a b
+NothingIsLost = (f : Answering) (n page tick : ℕ) (limits : ℕ → Limits) (states bytes : ℕ → List ℕ) (calls more : List Call) (p : ℕ)
+    (a b : TheNode) → n ≤ 15 → AreStored n states bytes → IsFirst n p
+    → Calls f n (new_system n limits states bytes page tick) (calls ++ more)
+    → StayExact n (new_system n limits states bytes page tick) (calls ++ more)
+    → (after_calls (new_system n limits states bytes page tick) calls).processes p ≡ Up a
+    → (after_calls (new_system n limits states bytes page tick) (calls ++ more)).processes p ≡ Up b
+    → HasBack n (handlers_of f states)
+    (after_calls (new_system n limits states bytes page tick) calls)
+    (after_calls (new_system n limits states bytes page tick) (calls ++ more)) p a b
 
 -- how many messages a process keeps that recovers
 abbrev pub kept_of : TheCollecting → TheReplaying → ℕ
@@ -74,11 +74,11 @@ pub record IsBack (n : ℕ) (f : Handlers) (s t : System) (p : ℕ) (old : TheCo
 
 -- a process that recovers comes back with what it keeps, if all stay exact
 abbrev pub RecoversExactly : Type 0
-RecoversExactly = (f : Answering) (n page tick : ℕ) (limits : ℕ → Limits) (len : ℕ → ℕ) (bytes : ℕ
-    → List ℕ) (calls more : List Call) (p : ℕ) (old : TheCollecting) (new : TheReplaying) → n ≤ 15 → AreStored n len bytes
-    → Calls f n (new_system n limits len bytes page tick) (calls ++ Did p (Replays new) ∷ more)
-    → StayExact n (new_system n limits len bytes page tick) (calls ++ Did p (Replays new) ∷ more)
-    → (after_calls (new_system n limits len bytes page tick) calls).processes p ≡ Collects old
-    → IsBack n (handlers_of f len)
-    (after_calls (new_system n limits len bytes page tick) calls)
-    (after_calls (new_system n limits len bytes page tick) (calls ++ Did p (Replays new) ∷ more)) p old new
+RecoversExactly = (f : Answering) (n page tick : ℕ) (limits : ℕ → Limits) (states bytes : ℕ → List ℕ) (calls more : List Call) (p : ℕ)
+    (old : TheCollecting) (new : TheReplaying) → n ≤ 15 → AreStored n states bytes
+    → Calls f n (new_system n limits states bytes page tick) (calls ++ Did p (Replays new) ∷ more)
+    → StayExact n (new_system n limits states bytes page tick) (calls ++ Did p (Replays new) ∷ more)
+    → (after_calls (new_system n limits states bytes page tick) calls).processes p ≡ Collects old
+    → IsBack n (handlers_of f states)
+    (after_calls (new_system n limits states bytes page tick) calls)
+    (after_calls (new_system n limits states bytes page tick) (calls ++ Did p (Replays new) ∷ more)) p old new

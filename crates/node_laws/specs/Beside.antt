@@ -56,100 +56,101 @@ asked page tick = gateways.handed (ask 0) (new_gateway 2 page tick)
 abbrev pub resumed : ℕ → ℕ → TheGateway
 resumed page tick = gateways.handed (resume 0) (sent (asked page tick))
 
--- ---- the second process, with a state of zeros
+-- ---- the second process, with its opening state
 
 -- it gave its packets
 abbrev pub without : TheNode → TheNode
 without n = record n { out = [] }
 
 -- it took the question
-abbrev pub other_asked : ℕ → TheNode
-other_asked len = nodes.handed (ask 2) (new_node usual 2 2 len)
+abbrev pub other_asked : List ℕ → TheNode
+other_asked initial = nodes.handed (ask 2) (new_node usual 2 2 initial)
 
 -- and then the request for RSNs
-abbrev pub other_resumed : ℕ → TheNode
-other_resumed len = nodes.handed (resume 2) (without (other_asked len))
+abbrev pub other_resumed : List ℕ → TheNode
+other_resumed initial = nodes.handed (resume 2) (without (other_asked initial))
 
 -- ---- the first process
 
 -- it comes back, and its questions are taken
-abbrev pub comes : ℕ → TheCollecting
-comes len = revived usual (kept_of (new_node usual 1 2 len)) 2
+abbrev pub comes : List ℕ → TheCollecting
+comes initial = revived usual (kept_of (new_node usual 1 2 initial)) 2
 
 -- it asks, and still has to give these packets
-abbrev pub asks : ℕ → List NodePacket → TheCollecting
-asks len out = record (comes len) { own = record (comes len).own { out = out } }
+abbrev pub asks : List ℕ → List NodePacket → TheCollecting
+asks initial out = record (comes initial) { own = record (comes initial).own { out = out } }
 
 -- the gateway has answered it
-abbrev pub hears : ℕ → TheCollecting
-hears len = collecting.handed (told 0) (asks len [])
+abbrev pub hears : List ℕ → TheCollecting
+hears initial = collecting.handed (told 0) (asks initial [])
 
 -- the other process has answered too, so it has all answers
-abbrev pub has_all : ℕ → TheCollecting
-has_all len = collecting.handed (told 2) (hears len)
+abbrev pub has_all : List ℕ → TheCollecting
+has_all initial = collecting.handed (told 2) (hears initial)
 
 -- it replays an empty plan
-abbrev pub replays : ℕ → TheReplaying
-replays len = record { own = (has_all len).own; plan = []; done = 0 }
+abbrev pub replays : List ℕ → TheReplaying
+replays initial = record { own = (has_all initial).own; plan = []; done = 0 }
 
 -- it begins to ask for RSNs
-abbrev pub begins : ℕ → TheRestoring
-begins len = begun (replayed_of (replays len))
+abbrev pub begins : List ℕ → TheRestoring
+begins initial = begun (replayed_of (replays initial))
 
 -- it asks for RSNs, and still has to give these packets
-abbrev pub resumes : ℕ → List NodePacket → TheRestoring
-resumes len out = record (begins len) { own = record (begins len).own { out = out } }
+abbrev pub resumes : List ℕ → List NodePacket → TheRestoring
+resumes initial out = record (begins initial) { own = record (begins initial).own { out = out } }
 
 -- the gateway has told it the RSNs
-abbrev pub enters : ℕ → TheRestoring
-enters len = restoring.handed (restored 0) (resumes len [])
+abbrev pub enters : List ℕ → TheRestoring
+enters initial = restoring.handed (restored 0) (resumes initial [])
 
 -- the other process has told it the RSNs too
-abbrev pub has_answers : ℕ → TheRestoring
-has_answers len = restoring.handed (restored 2) (enters len)
+abbrev pub has_answers : List ℕ → TheRestoring
+has_answers initial = restoring.handed (restored 2) (enters initial)
 
 -- ---- the calls
 
 -- from its death until it is up again
-abbrev pub worked : ℕ → ℕ → ℕ → List Call
-worked len page tick =
+abbrev pub worked : List ℕ → ℕ → ℕ → List Call
+worked initial page tick =
     Died 1
-    ∷ Revived 1 2 (comes len)
-    ∷ Gave 1 (ask 0) (Collects (asks len (ask 2 ∷ [])))
-    ∷ Gave 1 (ask 2) (Collects (asks len []))
+    ∷ Revived 1 2 (comes initial)
+    ∷ Gave 1 (ask 0) (Collects (asks initial (ask 2 ∷ [])))
+    ∷ Gave 1 (ask 2) (Collects (asks initial []))
     ∷ HandedOut (ask 0) (asked page tick)
     ∷ StoredOut
     ∷ GaveOut (told 0) (sent (asked page tick))
-    ∷ Handed 2 (ask 2) (Up (other_asked len))
-    ∷ Gave 2 (told 2) (Up (without (other_asked len)))
-    ∷ Handed 1 (told 0) (Collects (hears len))
-    ∷ Handed 1 (told 2) (Collects (has_all len))
-    ∷ Did 1 (Replays (replays len))
-    ∷ Did 1 (Replayed (replayed_of (replays len)))
-    ∷ Did 1 (Restores (begins len))
-    ∷ Gave 1 (resume 0) (Restores (resumes len (resume 2 ∷ [])))
-    ∷ Gave 1 (resume 2) (Restores (resumes len []))
+    ∷ Handed 2 (ask 2) (Up (other_asked initial))
+    ∷ Gave 2 (told 2) (Up (without (other_asked initial)))
+    ∷ Handed 1 (told 0) (Collects (hears initial))
+    ∷ Handed 1 (told 2) (Collects (has_all initial))
+    ∷ Did 1 (Replays (replays initial))
+    ∷ Did 1 (Replayed (replayed_of (replays initial)))
+    ∷ Did 1 (Restores (begins initial))
+    ∷ Gave 1 (resume 0) (Restores (resumes initial (resume 2 ∷ [])))
+    ∷ Gave 1 (resume 2) (Restores (resumes initial []))
     ∷ HandedOut (resume 0) (resumed page tick)
     ∷ StoredOut
     ∷ GaveOut (restored 0) (sent (resumed page tick))
-    ∷ Handed 2 (resume 2) (Up (other_resumed len))
-    ∷ Gave 2 (restored 2) (Up (without (other_resumed len)))
-    ∷ Handed 1 (restored 0) (Restores (enters len))
-    ∷ Handed 1 (restored 2) (Restores (has_answers len))
-    ∷ Did 1 (Up (up (has_answers len)))
+    ∷ Handed 2 (resume 2) (Up (other_resumed initial))
+    ∷ Gave 2 (restored 2) (Up (without (other_resumed initial)))
+    ∷ Handed 1 (restored 0) (Restores (enters initial))
+    ∷ Handed 1 (restored 2) (Restores (has_answers initial))
+    ∷ Did 1 (Up (up (has_answers initial)))
     ∷ []
 
 -- they are such calls, and the first process dies alone; then it is up in its second incarnation, and the other in its first
-pub record IsWorked (f : Answering) (len page tick : ℕ) (bytes : ℕ → List ℕ) : Type 0 where
-  pub calls : Calls f 2 (new_system 2 (λ _. usual) (λ _. len) bytes page tick) (worked len page tick)
-  pub alone : OneAtATime 2 (new_system 2 (λ _. usual) (λ _. len) bytes page tick) (worked len page tick)
+pub record IsWorked (f : Answering) (initial : List ℕ) (page tick : ℕ) (bytes : ℕ → List ℕ) : Type 0 where
+  pub calls : Calls f 2 (new_system 2 (λ _. usual) (λ _. initial) bytes page tick) (worked initial page tick)
+  pub alone : OneAtATime 2 (new_system 2 (λ _. usual) (λ _. initial) bytes page tick) (worked initial page tick)
   pub node : TheNode
-  pub is_up : (after_calls (new_system 2 (λ _. usual) (λ _. len) bytes page tick) (worked len page tick)).processes 1 ≡ Up node
+  pub is_up : (after_calls (new_system 2 (λ _. usual) (λ _. initial) bytes page tick) (worked initial page tick)).processes 1 ≡ Up node
   pub life : node.life ≡ 2
   pub exact : node.exact ≡ true
-  pub other : (after_calls (new_system 2 (λ _. usual) (λ _. len) bytes page tick)
-      (worked len page tick)).processes 2 ≡ Up (without (other_resumed len))
+  pub other : (after_calls (new_system 2 (λ _. usual) (λ _. initial) bytes page tick)
+      (worked initial page tick)).processes 2 ≡ Up (without (other_resumed initial))
 
--- so it goes for every handler, length of the state and size of a page and of a tick
+-- so it goes for every handler, opening state and size of a page and of a tick
 abbrev pub ComesBackBeside : Type 0
-ComesBackBeside = (f : Answering) (len page tick : ℕ) (bytes : ℕ → List ℕ) → AreStored 2 (λ _. len) bytes → IsWorked f len page tick bytes
+ComesBackBeside = (f : Answering) (initial : List ℕ) (page tick : ℕ) (bytes : ℕ → List ℕ) → AreStored 2 (λ _. initial) bytes
+    → IsWorked f initial page tick bytes

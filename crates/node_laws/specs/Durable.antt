@@ -19,7 +19,7 @@ use Rattle.stores.specs.declared.change.Output.{Output}
 use Rattle.node_laws.specs.Together.{IsFirst}
 use Rattle.node_laws.specs.Back.{length_of}
 use Rattle.node_laws.specs.Process.{Process, Up, Replays, Replayed}
-use Rattle.node_laws.specs.System.{System, new_system, AreStored, Call, Gave, Did, Revived, DidOut, handed_out, Calls, after_call}
+use Rattle.node_laws.specs.System.{System, new_system, AreStored, Call, Gave, Did, Resumed, Revived, DidOut, handed_out, Calls, after_call}
 use Rattle.node_laws.specs.System.{after_calls}
 
 -- ---- what is stored
@@ -82,9 +82,10 @@ abbrev pub ReplayWhole : System → List Call → Type 0
 ReplayWhole s [] = Unit {0}
 ReplayWhole s (k ∷ ks) = ReplaysWhole s k × ReplayWhole (after_call s k) ks
 
--- if p comes back by this call, it comes back as durable
+-- if p comes back or is resumed by this call, it is durable then
 abbrev pub KeepsDurable : ℕ → System → Call → Type 0
 KeepsDurable p s (Revived q life new) = p ≡ q → new.own.limits.durable ≡ true
+KeepsDurable p s (Resumed q limits new) = p ≡ q → limits.durable ≡ true
 KeepsDurable p s call = Unit {0}
 
 -- so by each of these calls
@@ -111,12 +112,12 @@ pub record Stays (n : ℕ) (f : Handlers) (p : ℕ) (s t : System) : Type 0 wher
 
 -- whatever happens between the two moments: processes may be killed at any moment, all at once too, and recoveries may meet
 abbrev pub StoredStays : Type 0
-StoredStays = (f : Answering) (n page tick : ℕ) (limits : ℕ → Limits) (len : ℕ → ℕ) (bytes : ℕ → List ℕ) (calls more : List Call) (p : ℕ)
-    → AreStored n len bytes → IsFirst n p
-    → Calls f n (new_system n limits len bytes page tick) (calls ++ more)
-    → ReplayWhole (new_system n limits len bytes page tick) (calls ++ more)
-    → Stays n (handlers_of f len) p (after_calls (new_system n limits len bytes page tick) calls)
-    (after_calls (new_system n limits len bytes page tick) (calls ++ more))
+StoredStays = (f : Answering) (n page tick : ℕ) (limits : ℕ → Limits) (states bytes : ℕ → List ℕ) (calls more : List Call) (p : ℕ)
+    → AreStored n states bytes → IsFirst n p
+    → Calls f n (new_system n limits states bytes page tick) (calls ++ more)
+    → ReplayWhole (new_system n limits states bytes page tick) (calls ++ more)
+    → Stays n (handlers_of f states) p (after_calls (new_system n limits states bytes page tick) calls)
+    (after_calls (new_system n limits states bytes page tick) (calls ++ more))
 
 -- at each of two moments the messages that are stored of a durable process send all that it gave by then, each in its place
 pub record Lasts (n : ℕ) (f : Handlers) (p : ℕ) (s t : System) (before after : List NodePacket) : Type 0 where
@@ -129,13 +130,13 @@ pub record Lasts (n : ℕ) (f : Handlers) (p : ℕ) (s t : System) (before after
 
 -- whatever happens between the two moments
 abbrev pub DurableLast : Type 0
-DurableLast = (f : Answering) (n page tick : ℕ) (limits : ℕ → Limits) (len : ℕ → ℕ) (bytes : ℕ → List ℕ) (calls more : List Call) (p : ℕ)
-    → AreStored n len bytes → IsFirst n p → (limits p).durable ≡ true
-    → Calls f n (new_system n limits len bytes page tick) (calls ++ more)
-    → ReplayWhole (new_system n limits len bytes page tick) (calls ++ more)
-    → StaysDurable p (new_system n limits len bytes page tick) (calls ++ more)
-    → Lasts n (handlers_of f len) p (after_calls (new_system n limits len bytes page tick) calls)
-    (after_calls (new_system n limits len bytes page tick) (calls ++ more)) (given_by p calls) (given_by p (calls ++ more))
+DurableLast = (f : Answering) (n page tick : ℕ) (limits : ℕ → Limits) (states bytes : ℕ → List ℕ) (calls more : List Call) (p : ℕ)
+    → AreStored n states bytes → IsFirst n p → (limits p).durable ≡ true
+    → Calls f n (new_system n limits states bytes page tick) (calls ++ more)
+    → ReplayWhole (new_system n limits states bytes page tick) (calls ++ more)
+    → StaysDurable p (new_system n limits states bytes page tick) (calls ++ more)
+    → Lasts n (handlers_of f states) p (after_calls (new_system n limits states bytes page tick) calls)
+    (after_calls (new_system n limits states bytes page tick) (calls ++ more)) (given_by p calls) (given_by p (calls ++ more))
 
 -- ---- what is received
 
@@ -159,9 +160,9 @@ pub record Keep (n : ℕ) (f : Handlers) (durable : ℕ → Bool) (s : System) (
 
 -- whichever processes are durable
 abbrev pub DurableKeep : Type 0
-DurableKeep = (f : Answering) (n page tick : ℕ) (limits : ℕ → Limits) (len : ℕ → ℕ) (bytes : ℕ → List ℕ) (calls : List Call) (durable : ℕ
-    → Bool) → AreStored n len bytes → ((p : ℕ) → durable p ≡ true → IsFirst n p × ((limits p).durable ≡ true))
-    → Calls f n (new_system n limits len bytes page tick) calls → ReplayWhole (new_system n limits len bytes page tick) calls
-    → ((p : ℕ) → durable p ≡ true → StaysDurable p (new_system n limits len bytes page tick) calls)
-    → Keep n (handlers_of f len) durable (after_calls (new_system n limits len bytes page tick) calls)
-    (outputs_of (new_system n limits len bytes page tick) calls)
+DurableKeep = (f : Answering) (n page tick : ℕ) (limits : ℕ → Limits) (states bytes : ℕ → List ℕ) (calls : List Call) (durable : ℕ
+    → Bool) → AreStored n states bytes → ((p : ℕ) → durable p ≡ true → IsFirst n p × ((limits p).durable ≡ true))
+    → Calls f n (new_system n limits states bytes page tick) calls → ReplayWhole (new_system n limits states bytes page tick) calls
+    → ((p : ℕ) → durable p ≡ true → StaysDurable p (new_system n limits states bytes page tick) calls)
+    → Keep n (handlers_of f states) durable (after_calls (new_system n limits states bytes page tick) calls)
+    (outputs_of (new_system n limits states bytes page tick) calls)

@@ -63,26 +63,27 @@ pub record HasRecovered (n : ℕ) (f : Handlers) (s t : System) (p : ℕ) (now :
 
 -- a call before which p collects, and after which it doesn't
 abbrev pub HostedRecovers : Type 0
-HostedRecovers = (images : ℕ → AnyImage) (n page tick : ℕ) (limits : ℕ → Limits) (processes : ℕ → TheProcess) (bytes : ℕ
-    → List ℕ) (calls more : List HostCall) (k : HostCall) (p : ℕ) (from : TheCollecting) (now : TheProcess) (w : Checkpoint)
-    → n ≤ 15 → Opens n images limits processes bytes → IsFirst n p
+HostedRecovers = (images : ℕ → AnyImage) (n page tick : ℕ) (limits : ℕ → Limits) (processes : ℕ → TheProcess) (states bytes : ℕ → List ℕ)
+    (calls more : List HostCall) (k : HostCall) (p : ℕ) (from : TheCollecting) (now : TheProcess) (w : Checkpoint)
+    → n ≤ 15 → Opens n images limits processes states bytes → IsFirst n p
     → AreCalls images n (new_system n processes bytes page tick) (calls ++ k ∷ more)
     → StayExact n (new_system n processes bytes page tick) (calls ++ k ∷ more)
     → as_process ((after_calls (new_system n processes bytes page tick) calls).processes p) ≡ stages.Collects from
     → (after_call (after_calls (new_system n processes bytes page tick) calls) k).processes p ≡ Runs now w
-    → has_recovered now.lifecycle ≡ true → HasRecovered n (handlers n images)
+    → has_recovered now.lifecycle ≡ true → HasRecovered n (handlers n images states)
     (after_call (after_calls (new_system n processes bytes page tick) calls) k)
     (after_calls (new_system n processes bytes page tick) (calls ++ k ∷ more)) p now.lifecycle
 
 -- the same if processes fail one at a time
 abbrev pub HostedRecoversAlone : Type 0
-HostedRecoversAlone = (images : ℕ → AnyImage) (n page tick : ℕ) (limits : ℕ → Limits) (processes : ℕ → TheProcess) (bytes : ℕ
-    → List ℕ) (calls more : List HostCall) (k : HostCall) (p : ℕ) (from : TheCollecting) (now : TheProcess) (w : Checkpoint)
-    → n ≤ 15 → Opens n images limits processes bytes → IsFirst n p
+HostedRecoversAlone = (images : ℕ → AnyImage) (n page tick : ℕ) (limits : ℕ → Limits) (processes : ℕ → TheProcess)
+    (states bytes : ℕ → List ℕ) (calls more : List HostCall) (k : HostCall) (p : ℕ) (from : TheCollecting) (now : TheProcess)
+    (w : Checkpoint)
+    → n ≤ 15 → Opens n images limits processes states bytes → IsFirst n p
     → AreCalls images n (new_system n processes bytes page tick) (calls ++ k ∷ more)
     → OneAtATime n (new_system n processes bytes page tick) (calls ++ k ∷ more)
     → as_process ((after_calls (new_system n processes bytes page tick) calls).processes p) ≡ stages.Collects from
     → (after_call (after_calls (new_system n processes bytes page tick) calls) k).processes p ≡ Runs now w
-    → has_recovered now.lifecycle ≡ true → HasRecovered n (handlers n images)
+    → has_recovered now.lifecycle ≡ true → HasRecovered n (handlers n images states)
     (after_call (after_calls (new_system n processes bytes page tick) calls) k)
     (after_calls (new_system n processes bytes page tick) (calls ++ k ∷ more)) p now.lifecycle

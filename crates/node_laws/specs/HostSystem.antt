@@ -23,8 +23,9 @@ use Rattle.process.specs.Calls.{Calls, Stays, IsHanded, Ticks, Takes, Freezes, T
 use Rattle.process.specs.Packets.{GivesBytes}
 use Rattle.process.specs.Revival.{IsOpened, IsRevived}
 use Rattle.process.specs.Checkpoints.{IsSavable, Keeps}
+use Rattle.process.specs.Suspension.{Suspends, IsResumed}
 use Rattle.process.specs.Work.{job_at, answer_to, Works}
-use Rattle.node_laws.specs.HostProcess.{Absent, Pending, Durable, Hosted, Runs, Killed, Alive, Has, goes_on, keeps, as_process}
+use Rattle.node_laws.specs.HostProcess.{Absent, Pending, Durable, Hosted, Runs, Killed, Alive, Has, Asleep, goes_on, sleeps, keeps, as_process}
 use Rattle.node_laws.specs.HostReplies.{answering}
 
 -- the processes by number; for each the bytes that its host has stored, and the greatest incarnation; the gateway, and the gateway that its
@@ -38,9 +39,10 @@ pub record System : Type 0 where
   pub taken : List Output
   pub given : List NodePacket
 
--- the system at the start: each process is opened, and its kept state stored; and the gateway
-pub record Opens (n : ℕ) (images : ℕ → AnyImage) (limits : ℕ → Limits) (processes : ℕ → TheProcess) (bytes : ℕ → List ℕ) : Type 0 where
-  pub opened : (p : ℕ) → IsFirst n p → IsOpened (images p) (limits p) p n (processes p)
+-- the system at the start: each process is opened with its opening state, and its kept state stored; and the gateway
+pub record Opens (n : ℕ) (images : ℕ → AnyImage) (limits : ℕ → Limits) (processes : ℕ → TheProcess)
+    (states bytes : ℕ → List ℕ) : Type 0 where
+  pub opened : (p : ℕ) → IsFirst n p → IsOpened (images p) (limits p) p n (states p) (processes p)
   pub stored : (p : ℕ) → IsFirst n p → Keeps (processes p).lifecycle (bytes p)
 
 -- n processes and the gateway, before their first call
@@ -80,7 +82,11 @@ pub data HostCall : Type 0 where
   Stored : ℕ → List ℕ → HostCall
   -- `saved`
   Saved : ℕ → TheProcess → HostCall
-  -- the process was killed
+  -- `suspend` gave these bytes, and the process ended
+  Suspended : ℕ → List ℕ → HostCall
+  -- `resume`, with these limits from those bytes
+  Resumed : ℕ → Limits → TheProcess → HostCall
+  -- the process was killed, or the bytes of one that was suspended were given up
   Died : ℕ → HostCall
   -- `revive`, with these limits in this incarnation
   Revived : ℕ → Limits → ℕ → TheProcess → HostCall
@@ -119,9 +125,14 @@ AnswersSo state e p =
 abbrev pub RevivesAs : AnyImage → Limits → List ℕ → ℕ → TheProcess → Type 0
 RevivesAs image limits bytes life new = (same : AnyImage) × ((as_image same ≡ as_image image) × IsRevived same limits bytes life new)
 
+-- it is resumed with such an image
+abbrev pub ResumesAs : AnyImage → Limits → List ℕ → TheProcess → Type 0
+ResumesAs image limits bytes new = (same : AnyImage) × ((as_image same ≡ as_image image) × IsResumed same limits bytes new)
+
 -- each call does what the contract of its function says. A packet that is handed over was given, at any time, and may be handed over again.
 -- A host stores the bytes of the checkpoint for which the process waits, and tells it once they are stored. A process comes back from its
--- stored bytes, with the same handler, in an incarnation above all that were stored
+-- stored bytes, with the same handler, in an incarnation above all that were stored. One that was suspended isn't called until it is resumed
+-- or killed. So it is resumed at most once, and not if it came back from its stored bytes
 abbrev pub DoesIt : (ℕ → AnyImage) → ℕ → System → HostCall → Type 0
 DoesIt images n s (Gave p x new) = IsFirst n p × Alive (λ old. Stays (Takes (Some x)) old new) (s.processes p)
 DoesIt images n s (GaveBytes p x bytes new) = IsFirst n p × (IsPacket x bytes × Alive (λ old. GivesBytes bytes old new) (s.processes p))
@@ -139,6 +150,8 @@ DoesIt images n s (Paused p new) = IsFirst n p × Alive (λ old. Stays Freezes o
 DoesIt images n s (Stored p bytes) = IsFirst n p × Has (λ checkpoint. checkpoint ≡ Pending bytes) (s.processes p)
 DoesIt images n s (Saved p new) = IsFirst n p
     × (Has (λ checkpoint. checkpoint ≡ Durable) (s.processes p) × Alive (λ old. Stays Thaws old new) (s.processes p))
+DoesIt images n s (Suspended p bytes) = IsFirst n p × Alive (λ old. Suspends old.lifecycle bytes) (s.processes p)
+DoesIt images n s (Resumed p limits new) = IsFirst n p × Asleep (λ bytes. ResumesAs (images p) limits bytes new) (s.processes p)
 DoesIt images n s (Died p) = IsFirst n p
 DoesIt images n s (Revived p limits life new) = IsFirst n p
     × ((s.processes p ≡ Killed) × ((s.lives p < life) × RevivesAs (images p) limits (s.stored p) life new))
@@ -161,6 +174,8 @@ after_call s (Froze p bytes new) = record s { processes = put s.processes p (Run
 after_call s (Paused p new) = record s { processes = put s.processes p (goes_on new (s.processes p)) }
 after_call s (Stored p bytes) = record s { processes = put s.processes p (keeps (s.processes p)); stored = put s.stored p bytes }
 after_call s (Saved p new) = record s { processes = put s.processes p (Runs new Absent) }
+after_call s (Suspended p bytes) = record s { processes = put s.processes p (sleeps bytes (s.processes p)) }
+after_call s (Resumed p limits new) = record s { processes = put s.processes p (Runs new Absent) }
 after_call s (Died p) = record s { processes = put s.processes p Killed }
 after_call s (Revived p limits life new) = record s { processes = put s.processes p (Runs new Absent); lives = put s.lives p life }
 after_call s (Outside call) = after_outside s (called.after_call (as_lives s) call)

@@ -1,5 +1,5 @@
--- A worked list of calls with messages: the only process of a cluster receives three, keeps a checkpoint after the first, is killed when
--- two are acknowledged, and comes back with all, of which it replays two
+-- A worked list of calls with messages: the only process of a cluster receives three. After the first it keeps a checkpoint, and is suspended
+-- and resumed. It is killed when two are acknowledged, and comes back with all, of which it replays two
 use Rattle.std.specs.Prelude.{◌≡◌, ℕ, List, [], ◌∷◌, Some, true, false}
 use Rattle.packets.specs.declared.packet.Body.TheVariants.{Delivery, Number, Acknowledgement, Saved, Ask, Told, Resume, Restored}
 use Rattle.packets.specs.declared.packet.NodePacket.{NodePacket}
@@ -24,7 +24,7 @@ use Rattle.recovery.specs.Restoration as restoring
 use Rattle.gateway.specs.Gateway.{TheGateway, new_gateway, puts_in}
 use Rattle.gateway.specs.Calls as gateways
 use Rattle.node_laws.specs.Process.{Up, Collects, Replays, Replayed, Restores}
-use Rattle.node_laws.specs.System.{System, new_system, AreStored, Call, Gave, Handed, Worked, Did, Stored, Saved as WasSaved, Died}
+use Rattle.node_laws.specs.System.{System, new_system, AreStored, Call, Gave, Handed, Worked, Did, Stored, Saved as WasSaved, Resumed, Died}
 use Rattle.node_laws.specs.System.{Revived, GaveOut, HandedOut, DidOut, StoredOut, Calls, after_calls, StayExact}
 use Rattle.node_laws.specs.Alone.{OneAtATime}
 use Rattle.node_laws.specs.Back.{length_of}
@@ -131,7 +131,7 @@ works k n = nodes.did_work (input k) [] n.working n
 
 -- the process at its opening
 abbrev pub n0 : TheNode
-n0 = new_node usual 1 1 1
+n0 = new_node usual 1 1 (0 ∷ [])
 
 -- the first message comes
 abbrev pub n1 : TheNode
@@ -234,6 +234,7 @@ before bytes =
     ∷ Stored 1 bytes
     ∷ WasSaved 1 (Up n5)
     ∷ Gave 1 covers (Up (quiet n5))
+    ∷ Resumed 1 usual (Up (quiet n5))
     ∷ DidOut g3
     ∷ DidOut g4
     ∷ StoredOut
@@ -278,7 +279,7 @@ behind =
 
 -- the process is opened, with these bytes of its opening
 abbrev pub opened : (ℕ → List ℕ) → System
-opened stored = new_system 1 (λ _. usual) (λ _. 1) stored PAGE TICK
+opened stored = new_system 1 (λ _. usual) (λ _. 0 ∷ []) stored PAGE TICK
 
 -- they are such calls, and it stays exact. When it is killed it has three messages, of which two are acknowledged without a gap; in the end
 -- it is up in its second incarnation, with these three and the state that it had
@@ -300,4 +301,4 @@ pub record IsWorked (stored : ℕ → List ℕ) (bytes : List ℕ) : Type 0 wher
 
 -- so it goes for all bytes of its opening and of its checkpoint
 abbrev pub ReplaysTwo : Type 0
-ReplaysTwo = (stored : ℕ → List ℕ) (bytes : List ℕ) → AreStored 1 (λ _. 1) stored → IsKept (kept_of n4) bytes → IsWorked stored bytes
+ReplaysTwo = (stored : ℕ → List ℕ) (bytes : List ℕ) → AreStored 1 (λ _. 0 ∷ []) stored → IsKept (kept_of n4) bytes → IsWorked stored bytes

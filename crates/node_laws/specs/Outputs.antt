@@ -60,29 +60,29 @@ SayTheSame durable outputs = Each (λ (a : Output). Each (λ (b : Output). durab
 -- the gateway in one life goes on after what it gave before: in its first life it begins with SSN 1; in a later one it may give outputs
 -- again, and leaves none out
 abbrev pub OutputsInOrder : Type 0
-OutputsInOrder = (f : Answering) (n page tick : ℕ) (limits : ℕ → Limits) (len : ℕ → ℕ) (bytes : ℕ → List ℕ) (calls life : List Call)
-    → Calls f n (new_system n limits len bytes page tick) (calls ++ life) → OneLife life
-    → GoOn (outputs_of (new_system n limits len bytes page tick) calls)
-    (outputs_of (after_calls (new_system n limits len bytes page tick) calls) life)
+OutputsInOrder = (f : Answering) (n page tick : ℕ) (limits : ℕ → Limits) (states bytes : ℕ → List ℕ) (calls life : List Call)
+    → Calls f n (new_system n limits states bytes page tick) (calls ++ life) → OneLife life
+    → GoOn (outputs_of (new_system n limits states bytes page tick) calls)
+    (outputs_of (after_calls (new_system n limits states bytes page tick) calls) life)
 
 -- it leaves none out of all that it ever gives
 abbrev pub OutputsWithoutGap : Type 0
-OutputsWithoutGap = (f : Answering) (n page tick : ℕ) (limits : ℕ → Limits) (len : ℕ → ℕ) (bytes : ℕ → List ℕ) (calls : List Call)
-    → Calls f n (new_system n limits len bytes page tick) calls → NoGap (outputs_of (new_system n limits len bytes page tick) calls)
+OutputsWithoutGap = (f : Answering) (n page tick : ℕ) (limits : ℕ → Limits) (states bytes : ℕ → List ℕ) (calls : List Call)
+    → Calls f n (new_system n limits states bytes page tick) calls → NoGap (outputs_of (new_system n limits states bytes page tick) calls)
 
 -- it never gives an output again once it has stored that it gave it
 abbrev pub OutputsStayOut : Type 0
-OutputsStayOut = (f : Answering) (n page tick : ℕ) (limits : ℕ → Limits) (len : ℕ → ℕ) (bytes : ℕ → List ℕ) (calls life more : List Call)
-    → Calls f n (new_system n limits len bytes page tick) (calls ++ (life ++ more)) → OneLife life
-    → (after_calls (new_system n limits len bytes page tick) (calls
-    ++ life)).durable.store ≡ (after_calls (new_system n limits len bytes page tick) (calls ++ life)).gateway.store
-    → AreBehind (outputs_of (after_calls (new_system n limits len bytes page tick) calls) life)
-    (outputs_of (after_calls (new_system n limits len bytes page tick) (calls ++ life)) more)
+OutputsStayOut = (f : Answering) (n page tick : ℕ) (limits : ℕ → Limits) (states bytes : ℕ → List ℕ) (calls life more : List Call)
+    → Calls f n (new_system n limits states bytes page tick) (calls ++ (life ++ more)) → OneLife life
+    → (after_calls (new_system n limits states bytes page tick) (calls
+    ++ life)).durable.store ≡ (after_calls (new_system n limits states bytes page tick) (calls ++ life)).gateway.store
+    → AreBehind (outputs_of (after_calls (new_system n limits states bytes page tick) calls) life)
+    (outputs_of (after_calls (new_system n limits states bytes page tick) (calls ++ life)) more)
 
 -- the outputs of durable processes that it gives again are the same as before
 abbrev pub OutputsAgree : Type 0
-OutputsAgree = (f : Answering) (n page tick : ℕ) (limits : ℕ → Limits) (len : ℕ → ℕ) (bytes : ℕ → List ℕ) (calls : List Call) (durable : ℕ
-    → Bool) → AreStored n len bytes → ((p : ℕ) → durable p ≡ true → IsFirst n p × ((limits p).durable ≡ true))
-    → Calls f n (new_system n limits len bytes page tick) calls → ReplayWhole (new_system n limits len bytes page tick) calls
-    → ((p : ℕ) → durable p ≡ true → StaysDurable p (new_system n limits len bytes page tick) calls)
-    → SayTheSame durable (outputs_of (new_system n limits len bytes page tick) calls)
+OutputsAgree = (f : Answering) (n page tick : ℕ) (limits : ℕ → Limits) (states bytes : ℕ → List ℕ) (calls : List Call) (durable : ℕ
+    → Bool) → AreStored n states bytes → ((p : ℕ) → durable p ≡ true → IsFirst n p × ((limits p).durable ≡ true))
+    → Calls f n (new_system n limits states bytes page tick) calls → ReplayWhole (new_system n limits states bytes page tick) calls
+    → ((p : ℕ) → durable p ≡ true → StaysDurable p (new_system n limits states bytes page tick) calls)
+    → SayTheSame durable (outputs_of (new_system n limits states bytes page tick) calls)

@@ -27,49 +27,50 @@ abbrev pub loss : NodePacket
 loss = packet 1 2 (Told 2 2 0 (flags_of true true false) [])
 
 -- it comes back
-abbrev pub comes : ℕ → ℕ → TheCollecting
-comes len p = revived lasting (kept_of (new_node usual p 2 len)) 2
+abbrev pub comes : List ℕ → ℕ → TheCollecting
+comes initial p = revived lasting (kept_of (new_node usual p 2 initial)) 2
 
 -- it still has to give these packets
 abbrev pub gives : TheCollecting → List NodePacket → TheCollecting
 gives n out = record n { own = record n.own { out = out } }
 
 -- the first process hears that the other is recovering too
-abbrev pub hears : ℕ → TheCollecting
-hears len = handed (ask 2 1) (comes len 1)
+abbrev pub hears : List ℕ → TheCollecting
+hears initial = handed (ask 2 1) (comes initial 1)
 
 -- the second process hears that all is lost
-abbrev pub learns : ℕ → TheCollecting
-learns len = handed loss (gives (comes len 2) [])
+abbrev pub learns : List ℕ → TheCollecting
+learns initial = handed loss (gives (comes initial 2) [])
 
 -- both die, come back, and hear of each other
-abbrev pub met : ℕ → List Call
-met len =
+abbrev pub met : List ℕ → List Call
+met initial =
     Died 1
     ∷ Died 2
-    ∷ Revived 1 2 (comes len 1)
-    ∷ Revived 2 2 (comes len 2)
-    ∷ Gave 2 (ask 2 0) (Collects (gives (comes len 2) (ask 2 1 ∷ [])))
-    ∷ Gave 2 (ask 2 1) (Collects (gives (comes len 2) []))
-    ∷ Handed 1 (ask 2 1) (Collects (hears len))
-    ∷ Gave 1 (ask 1 0) (Collects (gives (hears len) (ask 1 2 ∷ ask 1 2 ∷ loss ∷ [])))
-    ∷ Gave 1 (ask 1 2) (Collects (gives (hears len) (ask 1 2 ∷ loss ∷ [])))
-    ∷ Gave 1 (ask 1 2) (Collects (gives (hears len) (loss ∷ [])))
-    ∷ Gave 1 loss (Collects (gives (hears len) []))
-    ∷ Handed 2 loss (Collects (learns len))
+    ∷ Revived 1 2 (comes initial 1)
+    ∷ Revived 2 2 (comes initial 2)
+    ∷ Gave 2 (ask 2 0) (Collects (gives (comes initial 2) (ask 2 1 ∷ [])))
+    ∷ Gave 2 (ask 2 1) (Collects (gives (comes initial 2) []))
+    ∷ Handed 1 (ask 2 1) (Collects (hears initial))
+    ∷ Gave 1 (ask 1 0) (Collects (gives (hears initial) (ask 1 2 ∷ ask 1 2 ∷ loss ∷ [])))
+    ∷ Gave 1 (ask 1 2) (Collects (gives (hears initial) (ask 1 2 ∷ loss ∷ [])))
+    ∷ Gave 1 (ask 1 2) (Collects (gives (hears initial) (loss ∷ [])))
+    ∷ Gave 1 loss (Collects (gives (hears initial) []))
+    ∷ Handed 2 loss (Collects (learns initial))
     ∷ []
 
 -- two durable processes and the gateway, before their first call
-abbrev pub opening : ℕ → ℕ → ℕ → (ℕ → List ℕ) → System
-opening len page tick bytes = new_system 2 (λ _. lasting) (λ _. len) bytes page tick
+abbrev pub opening : List ℕ → ℕ → ℕ → (ℕ → List ℕ) → System
+opening initial page tick bytes = new_system 2 (λ _. lasting) (λ _. initial) bytes page tick
 
 -- they are such calls, and both stay durable; in the end one of them isn't exact
-pub record IsMet (f : Answering) (len page tick : ℕ) (bytes : ℕ → List ℕ) : Type 0 where
-  pub calls : Calls f 2 (opening len page tick bytes) (met len)
-  pub whole : ReplayWhole (opening len page tick bytes) (met len)
-  pub durable : (p : ℕ) → StaysDurable p (opening len page tick bytes) (met len)
-  pub inexact : is_exact ((after_calls (opening len page tick bytes) (met len)).processes 2) ≡ false
+pub record IsMet (f : Answering) (initial : List ℕ) (page tick : ℕ) (bytes : ℕ → List ℕ) : Type 0 where
+  pub calls : Calls f 2 (opening initial page tick bytes) (met initial)
+  pub whole : ReplayWhole (opening initial page tick bytes) (met initial)
+  pub durable : (p : ℕ) → StaysDurable p (opening initial page tick bytes) (met initial)
+  pub inexact : is_exact ((after_calls (opening initial page tick bytes) (met initial)).processes 2) ≡ false
 
--- so it goes for every handler, length of the state and size of a page and of a tick
+-- so it goes for every handler, opening state and size of a page and of a tick
 abbrev pub DurableMeet : Type 0
-DurableMeet = (f : Answering) (len page tick : ℕ) (bytes : ℕ → List ℕ) → AreStored 2 (λ _. len) bytes → IsMet f len page tick bytes
+DurableMeet = (f : Answering) (initial : List ℕ) (page tick : ℕ) (bytes : ℕ → List ℕ) → AreStored 2 (λ _. initial) bytes
+    → IsMet f initial page tick bytes

@@ -13,6 +13,7 @@ use Rattle.node.specs.Calls.{handed, did_work}
 use Rattle.node.specs.Transmission.{ticked}
 use Rattle.node.specs.Checkpoints.{froze, saved}
 use Rattle.node.specs.Kept.{kept_of, Covers, IsKeptOf}
+use Rattle.node.specs.Suspension.{CanSuspend, woken}
 use Rattle.node.specs.Stands as nodes
 use Rattle.node.specs.Runs.{Answer, Answering, IsAnswer}
 use Rattle.recovery.specs.Collection.{TheCollecting}
@@ -146,6 +147,11 @@ abbrev pub IsTold : Process → Process → Type 0
 IsTold (Up n) new = (n.frozen ≡ false) × Becomes Up new (λ m. nodes.Saves n m)
 IsTold (Covered n) new = Becomes Up new (λ m. (m ≡ saved n) × nodes.Saves n m)
 IsTold process new = ⊥
+
+-- it was suspended, and goes on with these limits: the same node, in the same incarnation, without the packets that waited
+abbrev pub Wakes : Limits → Process → Process → Type 0
+Wakes limits (Up n) new = CanSuspend n × Becomes Up new (λ m. m ≡ woken limits n)
+Wakes limits process new = ⊥
 
 -- the process was killed
 abbrev pub IsKilled : Process → Type 0

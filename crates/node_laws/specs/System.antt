@@ -25,7 +25,7 @@ use Rattle.gateway.specs.Stands as gateways
 use Rattle.gateway.specs.Since.{revived, StandsFor}
 use Rattle.node_laws.specs.Together.{IsFirst}
 use Rattle.node_laws.specs.Process.{Process, Up, Collects, Killed, StandsAs, IsStoredOf, is_exact, Gives, Hears, Works, Acts, WaitsFor}
-use Rattle.node_laws.specs.Process.{covered, IsTold, IsKilled, ComesFrom}
+use Rattle.node_laws.specs.Process.{covered, IsTold, Wakes, IsKilled, ComesFrom}
 
 -- the processes by number; for each the bytes that are stored, and the greatest incarnation; the gateway, and the gateway that its store
 -- gives; the outputs that it gave without having stored so; and the packets that were given
@@ -38,11 +38,11 @@ pub record System : Type 0 where
   pub taken : List Output
   pub given : List NodePacket
 
--- n new processes, each with its limits, and their gateway
-abbrev pub new_system : ℕ → (ℕ → Limits) → (ℕ → ℕ) → (ℕ → List ℕ) → ℕ → ℕ → System
-new_system n limits len bytes page tick =
+-- n new processes, each with its limits and its opening state, and their gateway
+abbrev pub new_system : ℕ → (ℕ → Limits) → (ℕ → List ℕ) → (ℕ → List ℕ) → ℕ → ℕ → System
+new_system n limits states bytes page tick =
     record {
-      processes = λ p. Up (new_node (limits p) p n (len p));
+      processes = λ p. Up (new_node (limits p) p n (states p));
       stored = bytes;
       lives = λ _. 1;
       gateway = new_gateway n page tick;
@@ -52,8 +52,8 @@ new_system n limits len bytes page tick =
     }
 
 -- before a process opens, its bytes are stored. They don't hold its limits
-abbrev pub AreStored : ℕ → (ℕ → ℕ) → (ℕ → List ℕ) → Type 0
-AreStored n len bytes = (p : ℕ) → IsFirst n p → IsKept (kept_of (new_node usual p n (len p))) (bytes p)
+abbrev pub AreStored : ℕ → (ℕ → List ℕ) → (ℕ → List ℕ) → Type 0
+AreStored n states bytes = (p : ℕ) → IsFirst n p → IsKept (kept_of (new_node usual p n (states p))) (bytes p)
 
 -- a call that isn't refused, and the process or the gateway after it; or something that happens to one of them
 pub data Call : Type 0 where
@@ -69,6 +69,8 @@ pub data Call : Type 0 where
   Stored : ℕ → List ℕ → Call
   -- a process was told that its checkpoint is durable
   Saved : ℕ → Process → Call
+  -- a process that was suspended is resumed, with these limits. It makes no call between the two, so both are one call
+  Resumed : ℕ → Limits → Process → Call
   -- a process was killed
   Died : ℕ → Call
   -- a process came back in this incarnation
@@ -112,6 +114,7 @@ DoesIt f n s (Worked p a new) = IsFirst n p × Works f p a (s.processes p) new
 DoesIt f n s (Did p new) = IsFirst n p × Acts (s.processes p) new
 DoesIt f n s (Stored p bytes) = IsFirst n p × WaitsFor bytes (s.processes p)
 DoesIt f n s (Saved p new) = IsFirst n p × IsTold (s.processes p) new
+DoesIt f n s (Resumed p limits new) = IsFirst n p × Wakes limits (s.processes p) new
 DoesIt f n s (Died p) = IsFirst n p
 DoesIt f n s (Revived p life new) = IsFirst n p × (IsKilled (s.processes p) × ((s.lives p < life) × ComesFrom (s.stored p) life new))
 DoesIt f n s (GaveOut x new) = (s.durable.store ≡ (untaken s.taken s.gateway).store) × gateways.Takes (Some x) s.gateway new
@@ -129,6 +132,7 @@ after_call s (Worked p a new) = record s { processes = put s.processes p new }
 after_call s (Did p new) = record s { processes = put s.processes p new }
 after_call s (Stored p bytes) = record s { processes = put s.processes p (covered (s.processes p)); stored = put s.stored p bytes }
 after_call s (Saved p new) = record s { processes = put s.processes p new }
+after_call s (Resumed p limits new) = record s { processes = put s.processes p new }
 after_call s (Died p) = record s { processes = put s.processes p Killed }
 after_call s (Revived p life new) = record s { processes = put s.processes p (Collects new); lives = put s.lives p life }
 after_call s (GaveOut x new) = record s { gateway = new; given = x ∷ s.given }
@@ -189,7 +193,7 @@ pub record IsRunOf (n : ℕ) (f : Handlers) (s : System) : Type 0 where
 -- calls of processes and the gateway in any order, with packets that come late, twice or never, and processes killed and brought back at
 -- any moment, are a run of a cluster, if each that is alive stays exact
 abbrev pub LivesRun : Type 0
-LivesRun = (f : Answering) (n page tick : ℕ) (limits : ℕ → Limits) (len : ℕ → ℕ) (bytes : ℕ → List ℕ) (calls : List Call) → n ≤ 15
-    → AreStored n len bytes → Calls f n (new_system n limits len bytes page tick) calls
-    → StayExact n (new_system n limits len bytes page tick) calls
-    → IsRunOf n (handlers_of f len) (after_calls (new_system n limits len bytes page tick) calls)
+LivesRun = (f : Answering) (n page tick : ℕ) (limits : ℕ → Limits) (states bytes : ℕ → List ℕ) (calls : List Call) → n ≤ 15
+    → AreStored n states bytes → Calls f n (new_system n limits states bytes page tick) calls
+    → StayExact n (new_system n limits states bytes page tick) calls
+    → IsRunOf n (handlers_of f states) (after_calls (new_system n limits states bytes page tick) calls)

@@ -22,8 +22,9 @@ pub record System : Type 0 where
   pub given : List NodePacket
 
 -- n new nodes, each with its limits, and their gateway
-abbrev pub new_system : ℕ → (ℕ → Limits) → (ℕ → ℕ) → ℕ → ℕ → System
-new_system n limits len page tick = record { nodes = λ p. new_node (limits p) p n (len p); gateway = new_gateway n page tick; given = [] }
+abbrev pub new_system : ℕ → (ℕ → Limits) → (ℕ → List ℕ) → ℕ → ℕ → System
+new_system n limits states page tick =
+    record { nodes = λ p. new_node (limits p) p n (states p); gateway = new_gateway n page tick; given = [] }
 
 -- a call that isn't refused, and the node or the gateway after it
 pub data Call : Type 0 where
@@ -95,6 +96,6 @@ pub record IsRunOf (n : ℕ) (f : Handlers) (s : System) : Type 0 where
 
 -- calls of nodes and the gateway in any order, durable or not, with packets that come late, twice or never, are a run of a cluster
 abbrev pub CallsRun : Type 0
-CallsRun = (f : Answering) (n page tick : ℕ) (limits : ℕ → Limits) (len : ℕ → ℕ) (calls : List Call) → n ≤ 15
-    → Calls f n (new_system n limits len page tick) calls
-    → IsRunOf n (handlers_of f len) (after_calls (new_system n limits len page tick) calls)
+CallsRun = (f : Answering) (n page tick : ℕ) (limits : ℕ → Limits) (states : ℕ → List ℕ) (calls : List Call) → n ≤ 15
+    → Calls f n (new_system n limits states page tick) calls
+    → IsRunOf n (handlers_of f states) (after_calls (new_system n limits states page tick) calls)

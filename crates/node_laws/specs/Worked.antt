@@ -62,71 +62,72 @@ asked page tick = gateways.handed ask (new_gateway 1 page tick)
 abbrev pub resumed : ℕ → ℕ → TheGateway
 resumed page tick = gateways.handed resume (sent (asked page tick))
 
--- ---- the process, with a state of zeros
+-- ---- the process, with its opening state
 
 -- it comes back, and its question is taken
-abbrev pub comes : ℕ → TheCollecting
-comes len = revived usual (kept_of (new_node usual 1 1 len)) 2
+abbrev pub comes : List ℕ → TheCollecting
+comes initial = revived usual (kept_of (new_node usual 1 1 initial)) 2
 
 -- its question is taken
-abbrev pub asks : ℕ → TheCollecting
-asks len = record (comes len) { own = record (comes len).own { out = [] } }
+abbrev pub asks : List ℕ → TheCollecting
+asks initial = record (comes initial) { own = record (comes initial).own { out = [] } }
 
 -- the gateway has told it that its log is empty
-abbrev pub has_all : ℕ → TheCollecting
-has_all len = collecting.handed told (asks len)
+abbrev pub has_all : List ℕ → TheCollecting
+has_all initial = collecting.handed told (asks initial)
 
 -- it replays an empty plan
-abbrev pub replays : ℕ → TheReplaying
-replays len = record { own = (has_all len).own; plan = []; done = 0 }
+abbrev pub replays : List ℕ → TheReplaying
+replays initial = record { own = (has_all initial).own; plan = []; done = 0 }
 
 -- it begins to ask for RSNs
-abbrev pub begins : ℕ → TheRestoring
-begins len = begun (replayed_of (replays len))
+abbrev pub begins : List ℕ → TheRestoring
+begins initial = begun (replayed_of (replays initial))
 
 -- its request is taken
-abbrev pub resumes : ℕ → TheRestoring
-resumes len = record (begins len) { own = record (begins len).own { out = [] } }
+abbrev pub resumes : List ℕ → TheRestoring
+resumes initial = record (begins initial) { own = record (begins initial).own { out = [] } }
 
 -- the gateway has answered that it has nothing
-abbrev pub has_answer : ℕ → TheRestoring
-has_answer len = restoring.handed restored (resumes len)
+abbrev pub has_answer : List ℕ → TheRestoring
+has_answer initial = restoring.handed restored (resumes initial)
 
 -- ---- the calls
 
 -- from its death until it is up again
-abbrev pub worked : ℕ → ℕ → ℕ → List Call
-worked len page tick =
+abbrev pub worked : List ℕ → ℕ → ℕ → List Call
+worked initial page tick =
     Died 1
-    ∷ Revived 1 2 (comes len)
-    ∷ Gave 1 ask (Collects (asks len))
+    ∷ Revived 1 2 (comes initial)
+    ∷ Gave 1 ask (Collects (asks initial))
     ∷ HandedOut ask (asked page tick)
     ∷ StoredOut
     ∷ GaveOut told (sent (asked page tick))
-    ∷ Handed 1 told (Collects (has_all len))
-    ∷ Did 1 (Replays (replays len))
-    ∷ Did 1 (Replayed (replayed_of (replays len)))
-    ∷ Did 1 (Restores (begins len))
-    ∷ Gave 1 resume (Restores (resumes len))
+    ∷ Handed 1 told (Collects (has_all initial))
+    ∷ Did 1 (Replays (replays initial))
+    ∷ Did 1 (Replayed (replayed_of (replays initial)))
+    ∷ Did 1 (Restores (begins initial))
+    ∷ Gave 1 resume (Restores (resumes initial))
     ∷ HandedOut resume (resumed page tick)
     ∷ StoredOut
     ∷ GaveOut restored (sent (resumed page tick))
-    ∷ Handed 1 restored (Restores (has_answer len))
-    ∷ Did 1 (Up (up (has_answer len)))
+    ∷ Handed 1 restored (Restores (has_answer initial))
+    ∷ Did 1 (Up (up (has_answer initial)))
     ∷ []
 
 -- they are such calls, in which it fails alone, goes on once all is replayed, and stays exact; in the end it is up in its second
--- incarnation, with the state of zeros
-pub record IsWorked (f : Answering) (len page tick : ℕ) (bytes : ℕ → List ℕ) : Type 0 where
-  pub calls : Calls f 1 (new_system 1 (λ _. usual) (λ _. len) bytes page tick) (worked len page tick)
-  pub alone : OneAtATime 1 (new_system 1 (λ _. usual) (λ _. len) bytes page tick) (worked len page tick)
-  pub whole : ReplayWhole (new_system 1 (λ _. usual) (λ _. len) bytes page tick) (worked len page tick)
-  pub exact : StayExact 1 (new_system 1 (λ _. usual) (λ _. len) bytes page tick) (worked len page tick)
+-- incarnation, with its opening state
+pub record IsWorked (f : Answering) (initial : List ℕ) (page tick : ℕ) (bytes : ℕ → List ℕ) : Type 0 where
+  pub calls : Calls f 1 (new_system 1 (λ _. usual) (λ _. initial) bytes page tick) (worked initial page tick)
+  pub alone : OneAtATime 1 (new_system 1 (λ _. usual) (λ _. initial) bytes page tick) (worked initial page tick)
+  pub whole : ReplayWhole (new_system 1 (λ _. usual) (λ _. initial) bytes page tick) (worked initial page tick)
+  pub exact : StayExact 1 (new_system 1 (λ _. usual) (λ _. initial) bytes page tick) (worked initial page tick)
   pub node : TheNode
-  pub is_up : (after_calls (new_system 1 (λ _. usual) (λ _. len) bytes page tick) (worked len page tick)).processes 1 ≡ Up node
+  pub is_up : (after_calls (new_system 1 (λ _. usual) (λ _. initial) bytes page tick) (worked initial page tick)).processes 1 ≡ Up node
   pub life : node.life ≡ 2
-  pub state : node.state ≡ (new_node usual 1 1 len).state
+  pub state : node.state ≡ initial
 
--- so it goes for every handler, length of the state and size of a page and of a tick
+-- so it goes for every handler, opening state and size of a page and of a tick
 abbrev pub ComesBackUp : Type 0
-ComesBackUp = (f : Answering) (len page tick : ℕ) (bytes : ℕ → List ℕ) → AreStored 1 (λ _. len) bytes → IsWorked f len page tick bytes
+ComesBackUp = (f : Answering) (initial : List ℕ) (page tick : ℕ) (bytes : ℕ → List ℕ) → AreStored 1 (λ _. initial) bytes
+    → IsWorked f initial page tick bytes

@@ -5,9 +5,9 @@ ghost use Rattle.node_laws.specs.HostBack.{HostedRecovers, HostedRecoversAlone};
 ghost use Rattle.node_laws.specs.HostWorked.{HostsCanCall};
 
 /// Calls of hosts on their processes, as the contracts of the functions say, and of the gateway,
-/// from their opening on, are calls in all lives. The calls may be in any order, packets may come
-/// late, twice or never, and each process may be killed at any moment and revived from its stored
-/// bytes. After the calls in all lives each process is the one of its stage, and what is stored, the
+/// from their opening on, are calls in all lives. The calls may be in any order, and packets may come
+/// late, twice or never. Each process may be killed at any moment and revived from its stored bytes.
+/// One that is suspended may be resumed once, if it isn't revived. After the calls in all lives each process is the one of its stage, and what is stored, the
 /// gateway and the packets are the same.
 pub fn hosted_live()
     ensures { HostedLive }
@@ -85,8 +85,8 @@ pub fn hosted_agree()
 {}
 
 /// A worked list: the only process of a cluster has a handler whose state is the first byte of the
-/// last message. It receives three messages, its checkpoint is stored after the first, and it is
-/// killed when two are acknowledged. It is revived from its checkpoint, replays two that the
+/// last message. It receives three messages, its checkpoint is stored after the first, it is
+/// suspended then and resumed, and it is killed when two are acknowledged. It is revived from its checkpoint, replays two that the
 /// gateway tells it, and is up with all three and the state that it had. It fails alone, and stays
 /// exact. This holds for each image of that handler, and there is one whose code is typable.
 pub fn hosts_can_call()

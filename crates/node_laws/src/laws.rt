@@ -12,8 +12,9 @@ ghost use Rattle.node_laws.specs.Worked.{ComesBackUp};
 
 /// Calls of processes in any stage and of the gateway, from their opening on, are a run of a
 /// cluster, if at the end of each call all processes that are alive are exact. The calls may be in
-/// any order, packets may come late, twice or never, and each process may be killed at any moment
-/// and come back from its stored bytes, and the gateway from its store. So no message of it is an
+/// any order, and packets may come late, twice or never. Each process may be killed at any moment
+/// and come back from its stored bytes, and the gateway from its store. A process whose checkpoint
+/// covers all may be suspended and resumed. So no message of it is an
 /// orphan, each output is shown once, each message is received once, and what is stored of a
 /// process is what its checkpoint covers.
 pub fn lives_run()
@@ -74,7 +75,7 @@ pub fn comes_back_beside()
 {}
 
 /// A worked list: the only process of a cluster receives three messages, its checkpoint covers the
-/// first, and two are acknowledged when it is killed. It comes back from its checkpoint, replays
+/// first, it is suspended then and resumed, and two are acknowledged when it is killed. It comes back from its checkpoint, replays
 /// two that the gateway tells it, and is up with all three and the state that it had. It fails
 /// alone, and stays exact.
 pub fn replays_two()

@@ -462,8 +462,8 @@ none-kept : (k : ℕ) → kept (replicate k no_queue) ≡ 0
 none-kept zero = refl
 none-kept (suc k) = let rest = none-kept k in omega arith
 
-pub opened : (limits : Limits) (me count len : ℕ) → AreAllowed limits → NodeHolds (new_node limits me count len)
-opened limits me count len allowed =
+pub opened : (limits : Limits) (me count : ℕ) (state : List ℕ) → AreAllowed limits → NodeHolds (new_node limits me count state)
+opened limits me count state allowed =
     let e = entries (replicate (count + 1) no_queue) in
     let none = none-kept (count + 1) in
     record {

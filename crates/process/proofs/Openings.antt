@@ -1,5 +1,7 @@
 -- A node that received nothing is a process that did, and what comes back is one that does
 use Rattle.std.proofs.Common.{◌≡◌, ◌∙◌, ap, refl, subst, ℕ, List, length, true}
+use Rattle.std.specs.Prelude.{replicate}
+use Rattle.std.proofs.lemmas.List.{length-replicate}
 use Rattle.images.specs.declared.any_image.AnyImage.{AnyImage}
 use Rattle.images.specs.AnyImage.{state_of}
 use Rattle.world.specs.Handlers.{Handlers}
@@ -13,17 +15,24 @@ use Rattle.recovery.specs.Own.{comes_back}
 use Rattle.recovery.specs.Collection.{TheCollecting, revived}
 use Rattle.recovery.specs.Stands.{Revives}
 use Rattle.process.specs.declared.lifecycle.Lifecycle.TheVariants.{Up, Collecting}
-use Rattle.process.specs.Revival.{IsOpened, IsRevived}
+use Rattle.process.specs.Revival.{IsOpened, IsRevived, zero_state}
 
-pub opened : (image : AnyImage) (limits : Limits) (me count len : ℕ) (n : TheNode) → n ≡ new_node limits me count len → len ≡ state_of image → ((f : Handlers) → BeginsWith f me len → Stands n (opening count f) me)
-    → IsOpened image limits me count (record { image = image; lifecycle = Up n })
-opened image limits me count len n is e s =
-    let P : ℕ → Type 0 = λ k. (f : Handlers) → BeginsWith f me k → Stands (new_node limits me count k) (opening count f) me in
+pub opened : (image : AnyImage) (limits : Limits) (me count : ℕ) (state : List ℕ) (n : TheNode) → n ≡ new_node limits me count state → length state ≡ state_of image → ((f : Handlers) → BeginsWith f me state → Stands n (opening count f) me)
+    → IsOpened image limits me count state (record { image = image; lifecycle = Up n })
+opened image limits me count state n is long s =
     record {
+      long = long;
       image_is = refl;
-      lifecycle_is = ap Up (is ∙ ap (λ (k : ℕ). new_node limits me count k) e);
-      stands = subst P e (λ f b. let Q : TheNode → Type 0 = λ v. Stands v (opening count f) me in subst Q is (s f b));
+      lifecycle_is = ap Up is;
+      stands = λ f b. let Q : TheNode → Type 0 = λ v. Stands v (opening count f) me in subst Q is (s f b);
     }
+
+-- the same with zeros
+pub opened-zeros : (image : AnyImage) (limits : Limits) (me count len : ℕ) (n : TheNode) → n ≡ new_node limits me count (replicate len 0) → len ≡ state_of image
+    → ((f : Handlers) → BeginsWith f me (replicate len 0) → Stands n (opening count f) me) → IsOpened image limits me count (zero_state image) (record { image = image; lifecycle = Up n })
+opened-zeros image limits me count len n is e s =
+    let P : ℕ → Type 0 = λ k. IsOpened image limits me count (replicate k 0) (record { image = image; lifecycle = Up n }) in
+    subst P e (opened image limits me count (replicate len 0) n is (length-replicate {A = ℕ} len 0 ∙ e) s)
 
 -- what bytes keep is a process that came back
 pub came-back : (image : AnyImage) (limits : Limits) (bytes : List ℕ) (life : ℕ) (k : Kept) (n : TheCollecting) → IsKept k bytes → comes_back k ≡ true → length k.state ≡ state_of image → n ≡ revived limits k life → Revives k life n

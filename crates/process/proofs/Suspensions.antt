@@ -52,7 +52,7 @@ pub resumed : (n : TheNode) → Within n → CanSuspend n → n.out ≡ [] → I
 resumed n w c none = record { settled = refl; holds = resumed-holds n w c none; writes = tt }
 
 -- why none is resumed
-pub unresumed-why : (image : AnyImage) (limits : Limits) (bytes : List ℕ) (e : Unresumed) → ((n : TheNode) → Within n → IsSuspended n bytes → Finds {X = TheNode} (λ m. m ≡ woken limits n) (Err e))
+pub unresumed-why : (image : AnyImage) (limits : Limits) (bytes : List ℕ) (e : Unresumed) → ((n : TheNode) → IsSuspended n bytes → Finds {X = TheNode} (λ m. m ≡ woken limits n) (Err e))
     → IsUnresumed image bytes (error_of e)
 unresumed-why image limits bytes node.Memory h = tt
 unresumed-why image limits bytes node.Bytes h = h

@@ -128,8 +128,8 @@ passes old new p w =
       writes = writing.returns p.asks new p.returns (writing.begins p.ran p.asks p.begins ran writes);
     }
 
-pub opened : (limits : Limits) (me count len : ℕ) (n : TheNode) → n ≡ new_node limits me count len → AreAllowed limits → IsWithin (Up n)
-opened limits me count len n e allowed = subst (λ (m : TheNode). IsWithin (Up m)) (sym e) (record { settled = refl; holds = bounded.opened limits me count len allowed; writes = tt })
+pub opened : (limits : Limits) (me count : ℕ) (state : List ℕ) (n : TheNode) → n ≡ new_node limits me count state → AreAllowed limits → IsWithin (Up n)
+opened limits me count state n e allowed = subst (λ (m : TheNode). IsWithin (Up m)) (sym e) (record { settled = refl; holds = bounded.opened limits me count state allowed; writes = tt })
 
 pub came-back : (limits : Limits) (k : Kept) (life : ℕ) (bytes : List ℕ) (n : TheCollecting) → n ≡ revived limits k life → AreAllowed limits → IsKept k bytes → comes_back k ≡ true → IsPositive life → IsWithin (Collecting n)
 came-back limits k life bytes n e allowed is comes positive =

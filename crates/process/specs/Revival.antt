@@ -1,5 +1,5 @@
 -- Processes that are opened or come back
-use Rattle.std.specs.Prelude.{◌≡◌, ◌≢◌, ◌⊎◌, ℕ, List, length, true, false, ⊤}
+use Rattle.std.specs.Prelude.{◌≡◌, ◌≢◌, ◌⊎◌, ℕ, List, length, replicate, true, false, ⊤}
 use Rattle.images.specs.declared.any_image.AnyImage.{AnyImage}
 use Rattle.images.specs.AnyImage.{state_of}
 use Rattle.packets.specs.declared.kept.Kept.{Kept}
@@ -20,11 +20,23 @@ use Rattle.process.specs.declared.fault.Unrevived.{Unrevived}
 use Rattle.process.specs.declared.fault.Unrevived.TheVariants as why
 use Rattle.process.specs.Process.{TheProcess}
 
--- a process that received nothing: it agrees with the opening, in which its handler has a state of zeros
-pub record IsOpened (image : AnyImage) (limits : Limits) (me count : ℕ) (p : TheProcess) : Type 0 where
+-- the opening state of a process to which none is given
+abbrev pub zero_state : AnyImage → List ℕ
+zero_state image = replicate (state_of image) 0
+
+-- a process that received nothing, with an opening state as long as the image's: it agrees with the opening, in which its handler has that
+-- state
+pub record IsOpened (image : AnyImage) (limits : Limits) (me count : ℕ) (state : List ℕ) (p : TheProcess) : Type 0 where
+  pub long : length state ≡ state_of image
   pub image_is : p.image ≡ image
-  pub lifecycle_is : p.lifecycle ≡ Up (new_node limits me count (state_of image))
-  pub stands : (f : Handlers) → BeginsWith f me (state_of image) → Stands (new_node limits me count (state_of image)) (opening count f) me
+  pub lifecycle_is : p.lifecycle ≡ Up (new_node limits me count state)
+  pub stands : (f : Handlers) → BeginsWith f me state → Stands (new_node limits me count state) (opening count f) me
+
+-- why no process opens with this state: it isn't as long as the image's, or memory ran out
+abbrev pub IsUnopened : AnyImage → List ℕ → Unrevived → Type 0
+IsUnopened image state why.Memory = ⊤
+IsUnopened image state why.State = length state ≢ state_of image
+IsUnopened image state other = ⊥
 
 -- a process may come back from these bytes, with a state as long as the image's
 pub record IsKeptFor (image : AnyImage) (k : Kept) (bytes : List ℕ) : Type 0 where

@@ -3,7 +3,7 @@ use Rattle.std.specs.Prelude.{◌≡◌, ◌≢◌, List, ℕ, [], length, ⊤}
 use Rattle.images.specs.declared.any_image.AnyImage.{AnyImage}
 use Rattle.images.specs.AnyImage.{state_of}
 use Rattle.node.specs.declared.limit.Limits.{Limits}
-use Rattle.node.specs.Node.{TheNode, Within}
+use Rattle.node.specs.Node.{TheNode}
 use Rattle.node.specs.Suspension.{CanSuspend, IsSuspended}
 use Rattle.recovery.specs.declared.resumption.Unresumed.{Unresumed}
 use Rattle.recovery.specs.declared.resumption.Unresumed.TheVariants as node
@@ -41,5 +41,5 @@ error_of node.Bytes = Bytes
 -- why none is resumed: the bytes are those of no suspended node, or its state isn't as long as the image's
 abbrev pub IsUnresumed : AnyImage → List ℕ → ResumeError → Type 0
 IsUnresumed image bytes Memory = ⊤
-IsUnresumed image bytes Bytes = (n : TheNode) → Within n → ¬ IsSuspended n bytes
+IsUnresumed image bytes Bytes = (n : TheNode) → ¬ IsSuspended n bytes
 IsUnresumed image bytes State = (n : TheNode) × IsSuspended n bytes × (length n.state ≢ state_of image)

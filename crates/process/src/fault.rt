@@ -1,4 +1,4 @@
-//! Why a process doesn't come back, and why an answer isn't taken.
+//! Why a process doesn't open or come back, and why an answer isn't taken.
 
 ghost use Rattle.std.specs.Prelude.{◌≡◌};
 ghost use Rattle.process.specs.declared.fault.Undone.TheVariants.{Memory};
@@ -7,7 +7,7 @@ use packets::KeptFault;
 use std::alloc::AllocError;
 use thiserror::Error;
 
-/// Why no process comes back from bytes.
+/// Why no process comes back from bytes, or opens with a state.
 #[derive(Debug, Drop, PartialEq, Eq, Error)]
 pub enum Unrevived {
     /// Memory ran out.

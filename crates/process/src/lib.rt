@@ -1,14 +1,15 @@
 //! One process of a cluster, as one value through all its stages, from its opening through crashes
 //! and recoveries.
 //!
-//! A [`Member`] holds the image of its handler. It is a node that is up, or it is recovering: it
-//! collects what its peers' logs hold, replays that, and restores its RSNs. Its host makes the same
-//! calls in each stage: it hands it the packets that arrive ([`Member::receive_bytes`]), sends
-//! those that it gives ([`Member::take_bytes`]), has its handler run ([`Member::work`]), now and
-//! then has it send again what isn't answered ([`Member::tick`]), and keeps its checkpoints
-//! ([`Member::checkpoint`], [`Member::saved`]). It comes back from its kept state by
-//! [`Member::revive`]. In place of [`Member::work`] a host may call the handler itself:
-//! [`Member::job`] gives it the next call, and [`Member::done`] takes the answer.
+//! A [`Member`] holds the image of its handler. It opens with a state of zeros ([`Member::open`]),
+//! or with one that its host gives ([`Member::open_with`]). It is a node that is up, or it is
+//! recovering: it collects what its peers' logs hold, replays that, and restores its RSNs. Its host
+//! makes the same calls in each stage: it hands it the packets that arrive
+//! ([`Member::receive_bytes`]), sends those that it gives ([`Member::take_bytes`]), has its handler
+//! run ([`Member::work`]), now and then has it send again what isn't answered ([`Member::tick`]),
+//! and keeps its checkpoints ([`Member::checkpoint`], [`Member::saved`]). It comes back from its
+//! kept state by [`Member::revive`]. In place of [`Member::work`] a host may call the handler
+//! itself: [`Member::job`] gives it the next call, and [`Member::done`] takes the answer.
 //!
 //! Each call does exactly what the call of its stage does. Then the process goes on to the next
 //! stage if that one is over: when all peers have told all it recovers, when nothing is left to

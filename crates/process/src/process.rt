@@ -6,7 +6,7 @@ ghost use Rattle.handlers.specs.Handler.{image_of};
 ghost use Rattle.node.specs.Limit.{AreAllowed};
 ghost use Rattle.packets.specs.Kept.{IsKept};
 ghost use Rattle.recovery.specs.Own.{comes_back};
-ghost use Rattle.process.specs.Revival.{IsOpened, IsRevived, IsUnrevived, IsUnread};
+ghost use Rattle.process.specs.Revival.{IsOpened, IsRevived, IsUnopened, IsUnrevived, IsUnread, zero_state};
 
 use crate::fault::Unrevived;
 use crate::lifecycle::Lifecycle;
@@ -45,7 +45,8 @@ impl Model for Member {
 }
 
 impl Member {
-    /// The process `me` of `count`, which received nothing. It keeps these limits for life.
+    /// The process `me` of `count`, which received nothing, with a state of zeros. It keeps these
+    /// limits for life.
     pub fn open(
         alloc: Global,
         image: Arc<Handler>,
@@ -56,9 +57,39 @@ impl Member {
         requires limits { AreAllowed limits }
         requires own { (1 ≤ me) × (me ≤ count) }
         requires few { count ≤ 15 }
-        ensures { IfOk result (IsOpened (image_of (arc_value image)) limits me count) }
+        ensures { IfOk result (IsOpened (image_of (arc_value image)) limits me count (zero_state (image_of (arc_value image)))) }
     {
         let node = Node::open(alloc, limits, me, count, image.state_len())?;
+        Ok(Member {
+            image,
+            lifecycle: Lifecycle::Up(node),
+            effects: Effects::new(),
+            refused: Refused::default(),
+        })
+    }
+
+    /// The process `me` of `count`, which received nothing, with this opening state. It keeps these
+    /// limits for life.
+    pub fn open_with(
+        alloc: Global,
+        image: Arc<Handler>,
+        limits: Limits,
+        me: u8,
+        count: u8,
+        state: &[u8],
+    ) -> Result<Member, Unrevived>
+        requires limits { AreAllowed limits }
+        requires own { (1 ≤ me) × (me ≤ count) }
+        requires few { count ≤ 15 }
+        ensures opened { IfOk result (IsOpened (image_of (arc_value image)) limits me count state.now) }
+        ensures refused { IfErr result (IsUnopened (image_of (arc_value image)) state.now) }
+    {
+        if state.len() != image.state_len() as usize {
+            return Err(Unrevived::State);
+        }
+        let Ok(node) = Node::open_with(alloc, limits, me, count, state) else {
+            return Err(Unrevived::Memory);
+        };
         Ok(Member {
             image,
             lifecycle: Lifecycle::Up(node),

@@ -142,14 +142,14 @@ text-found n bytes fields text after is cut read =
 pub kept-is : (n : TheNode) (bytes text : List ℕ) → IsSuspended n bytes → text ≡ kept_bytes (kept_of n) → IsKept (kept_of n) text
 kept-is n bytes text is e = record { fits = is.can.fits.kept; bytes_are = e }
 
-pub rest-reads : (n : TheNode) (bytes after : List ℕ) (k : Kept) → Within n → IsSuspended n bytes → k ≡ kept_of n → after ≡ rest_bytes n ++ sum_of n → rest_at (k.count + 1) after ≡ Ok (rest_of n, sum_of n)
-rest-reads n bytes after k w is e a =
+pub rest-reads : (n : TheNode) (bytes after : List ℕ) (k : Kept) → IsSuspended n bytes → k ≡ kept_of n → after ≡ rest_bytes n ++ sum_of n → rest_at (k.count + 1) after ≡ Ok (rest_of n, sum_of n)
+rest-reads n bytes after k is e a =
     let wide : k.count + 1 ≡ suc n.count = omega (arith, ap (λ (l : Kept). l.count) e) in
-    ap (λ z. rest_at z after) wide ∙ ap (λ (x : List ℕ). rest_at (suc n.count) x) a ∙ rest-again n (sum_of n) w is.can
+    ap (λ z. rest_at z after) wide ∙ ap (λ (x : List ℕ). rest_at (suc n.count) x) a ∙ rest-again n (sum_of n) is.within is.can
 
-pub rest-found : (n : TheNode) (bytes after : List ℕ) (k : Kept) (x : Rest × List ℕ) → Within n → IsSuspended n bytes → k ≡ kept_of n → after ≡ rest_bytes n ++ sum_of n → rest_at (k.count + 1) after ≡ Ok x
+pub rest-found : (n : TheNode) (bytes after : List ℕ) (k : Kept) (x : Rest × List ℕ) → IsSuspended n bytes → k ≡ kept_of n → after ≡ rest_bytes n ++ sum_of n → rest_at (k.count + 1) after ≡ Ok x
     → x.0 ≡ rest_of n
-rest-found n bytes after k x w is e a read = ap (λ (y : Rest × List ℕ). y.0) (ok_is x (rest_of n, sum_of n) (sym read ∙ rest-reads n bytes after k w is e a))
+rest-found n bytes after k x is e a read = ap (λ (y : Rest × List ℕ). y.0) (ok_is x (rest_of n, sum_of n) (sym read ∙ rest-reads n bytes after k is e a))
 
 -- a step that can't fail fails by memory
 pub fails-finds : {A X : Type 0} (P : X → Type 0) (e : PacketError) (read : Result A PacketFault) (x : A) → Fails e read → read ≡ Ok x → Finds P (Err (unread e))
@@ -272,8 +272,8 @@ made-again limits n w c =
     (joined_by numbered_by (map codes_of n.logs) (with_own no_queue n.me (map queue_of (without_own n.me (map log_of n.logs))))) 0 (map is_set (map flag_byte n.resumed)) (is_set (flag_byte n.exact)) None false
     (omega (arith, few)) covered received logs (omega (arith, w.waits, few)) (flags-again n.resumed) (flag-again n.exact) (sym (none-is n.working c.idle)) (sym c.live)
 
-pub made-is : (limits : Limits) (k : Kept) (r : Rest) (n : TheNode) → (k ≡ kept_of n) × (r ≡ rest_of n) → Within n → CanSuspend n → made limits k r ≡ woken limits n
-made-is limits k r n e w c = ap (λ (l : Kept). made limits l r) e.0 ∙ ap (λ (z : Rest). made limits (kept_of n) z) e.1 ∙ made-again limits n w c
+pub made-is : (limits : Limits) (k : Kept) (r : Rest) (n : TheNode) (bytes : List ℕ) → (k ≡ kept_of n) × (r ≡ rest_of n) → IsSuspended n bytes → made limits k r ≡ woken limits n
+made-is limits k r n bytes e is = ap (λ (l : Kept). made limits l r) e.0 ∙ ap (λ (z : Rest). made limits (kept_of n) z) e.1 ∙ made-again limits n is.within is.can
 
 -- ---- all that was sent is released
 
@@ -313,7 +313,7 @@ joined-long (c ∷ codes) (q ∷ qs) (suc d) = joined-long codes qs d
 -- ---- one node
 
 pub one-node : IsOneNode
-one-node limits m n bytes wm wn a b =
+one-node limits m n bytes a b =
     let one : List ℕ × List ℕ = (kept_bytes (kept_of m), rest_bytes m ++ sum_of m) in
     let other : List ℕ × List ℕ = (kept_bytes (kept_of n), rest_bytes n ++ sum_of n) in
     let same : one ≡ other =
@@ -323,9 +323,9 @@ one-node limits m n bytes wm wn a b =
     let kept : kept_of m ≡ kept_of n = one_kept (kept_of m) (kept_of n) (kept_bytes (kept_of m)) (record { fits = a.can.fits.kept; bytes_are = refl }) (record { fits = b.can.fits.kept; bytes_are = texts }) in
     let count : m.count ≡ n.count = ap (λ (k : Kept). k.count) kept in
     let read : rest_at (suc m.count) (rest_bytes m ++ sum_of m) ≡ Ok (rest_of n, sum_of n) =
-    ap (λ z. rest_at (suc z) (rest_bytes m ++ sum_of m)) count ∙ ap (λ (x : List ℕ). rest_at (suc n.count) x) rests ∙ rest-again n (sum_of n) wn b.can in
-    let rest : rest_of m ≡ rest_of n = ap (λ (x : Rest × List ℕ). x.0) (ok_is (rest_of m, sum_of m) (rest_of n, sum_of n) (sym (rest-again m (sum_of m) wm a.can) ∙ read)) in
-    sym (made-again limits m wm a.can) ∙ ap (λ (k : Kept). made limits k (rest_of m)) kept ∙ ap (λ (r : Rest). made limits (kept_of n) r) rest ∙ made-again limits n wn b.can
+    ap (λ z. rest_at (suc z) (rest_bytes m ++ sum_of m)) count ∙ ap (λ (x : List ℕ). rest_at (suc n.count) x) rests ∙ rest-again n (sum_of n) b.within b.can in
+    let rest : rest_of m ≡ rest_of n = ap (λ (x : Rest × List ℕ). x.0) (ok_is (rest_of m, sum_of m) (rest_of n, sum_of n) (sym (rest-again m (sum_of m) a.within a.can) ∙ read)) in
+    sym (made-again limits m a.within a.can) ∙ ap (λ (k : Kept). made limits k (rest_of m)) kept ∙ ap (λ (r : Rest). made limits (kept_of n) r) rest ∙ made-again limits n b.within b.can
 
 -- ---- its numbers are in range
 

@@ -9,7 +9,7 @@ use Rattle.node.specs.declared.limit.Limits.{Limits}
 use Rattle.node.specs.declared.suspension.Unsuspended.{Unsuspended}
 use Rattle.node.specs.declared.suspension.Unsuspended.TheVariants as kept
 use Rattle.node.specs.Queue.{no_queue}
-use Rattle.node.specs.Node.{TheNode, Within, IsPositive}
+use Rattle.node.specs.Node.{TheNode, IsPositive}
 use Rattle.node.specs.Suspension.{flag_byte, codes_of, joined_by, numbered_by, IsSuspended, woken}
 use Rattle.recovery.specs.declared.resumption.Unresumed.{Unresumed}
 use Rattle.recovery.specs.declared.resumption.Unresumed.TheVariants.{Memory, Bytes}
@@ -94,5 +94,5 @@ made limits k r =
 
 -- bytes are those of one suspended node at most, but for its limits and the packets that waited
 abbrev pub IsOneNode : Type 0
-IsOneNode = (limits : Limits) (m n : TheNode) (bytes : List ℕ) → Within m → Within n → IsSuspended m bytes → IsSuspended n bytes
+IsOneNode = (limits : Limits) (m n : TheNode) (bytes : List ℕ) → IsSuspended m bytes → IsSuspended n bytes
     → woken limits m ≡ woken limits n

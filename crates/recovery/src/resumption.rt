@@ -5,7 +5,7 @@ ghost use Rattle.limits.specs.declared.TheConstants.{PROCESSES, STATE_BYTES};
 ghost use Rattle.packets.specs.declared.kept.Kept.{Kept};
 ghost use Rattle.packets.specs.Kept.{IsKept};
 ghost use Rattle.node.specs.Limit.{AreAllowed};
-ghost use Rattle.node.specs.Node.{TheNode, Within};
+ghost use Rattle.node.specs.Node.{TheNode};
 ghost use Rattle.node.specs.Kept.{kept_of};
 ghost use Rattle.node.specs.Suspension.{IsSuspended, woken, joined_by, numbered_by};
 ghost use Rattle.recovery.specs.Own.{comes_back};
@@ -69,9 +69,8 @@ pub fn resume(alloc: Global, limits: Limits, bytes: &[u8]) -> Result<Node, Unres
     // `suspend` writes what is resumed as these bytes.
     ensures found { IfOk result (λ n. IsSuspended n bytes.now) }
     ensures fresh { IfOk result (λ n. (n.limits ≡ limits) × (n.out ≡ [])) }
-    ensures within { IfOk result (λ n. Within n) }
     // Whatever `suspend` writes is resumed, unless memory runs out.
-    ensures only { (n : TheNode) → Within n → IsSuspended n bytes.now → Finds (λ m. m ≡ woken limits n) result }
+    ensures only { (n : TheNode) → IsSuspended n bytes.now → Finds (λ m. m ≡ woken limits n) result }
 {
     let (kept, rest) = parts_of(alloc, bytes)?;
     let node = node_of(alloc, limits, &kept, &rest)?;
@@ -86,7 +85,7 @@ pub fn resume(alloc: Global, limits: Limits, bytes: &[u8]) -> Result<Node, Unres
 /// The kept state in these bytes, and the rest.
 fn parts_of(alloc: Global, bytes: &[u8]) -> Result<(Kept, Rest), Unresumed>
     ensures makes { IfOk result (λ x. MakesNode x.0 x.1) }
-    ensures only { (n : TheNode) → Within n → IsSuspended n bytes.now → Finds (λ x. (x.0 ≡ kept_of n) × (x.1 ≡ rest_of n)) result }
+    ensures only { (n : TheNode) → IsSuspended n bytes.now → Finds (λ x. (x.0 ≡ kept_of n) × (x.1 ≡ rest_of n)) result }
 {
     if bytes.len() < 4 {
         return Err(Unresumed::Bytes);

@@ -31,6 +31,8 @@ SHOWN = b"hello".ljust(64, b"\0")
 
 NODE = {
     "NEW": kept(1, 1, bytes(8), 0, [0], [(1, [])]),
+    # the same if it opens with this word as its state
+    "OPENED": kept(1, 1, WORD, 0, [0], [(1, [])]),
     "DELIVERY": packet(1, 1, 0, 1, numbers(1, 1) + payload(b"hello")),
     "NUMBER": packet(2, 1, 1, 0, numbers(1, 1, 1)),
     "ACKNOWLEDGEMENT": packet(3, 1, 0, 1, numbers(1, 1)),

@@ -32,8 +32,11 @@ class Cluster:
 
     # ---- the hosts of nodes
 
+    def opening_state(self, _me):
+        """None, for zeros."""
+
     def open(self, me):
-        *_, node = self.maker.opened_node(self.names[me - 1], me, self.n, self.limits[me - 1])
+        *_, node = self.maker.opened_node(self.names[me - 1], me, self.n, self.limits[me - 1], self.opening_state(me))
         self.kept[me], self.incarnation[me], self.durable[me] = node.whole("checkpoint")[2], 1, None
         node.make("saved")
         self.nodes[me] = node

@@ -16,6 +16,7 @@ LIMITS = [c_uint32] * 5
 
 CALLS = {
     "node_open": [*BYTES, c_uint8, c_uint8, *LIMITS, c_void_p],
+    "node_open_with": [*BYTES, c_uint8, c_uint8, *LIMITS, *BYTES, c_void_p],
     "node_revive": [*BYTES, *BYTES, c_uint64, *LIMITS, c_void_p, POINTER(c_uint32)],
     "node_close": [c_void_p],
     "node_receive": [c_void_p, *BYTES, POINTER(c_uint32)],
@@ -178,9 +179,10 @@ class Gateway(Held):
         return self.writes("changes", room)
 
 
-def opened_node(library, image, me, n, limits):
+def opened_node(library, image, me, n, limits, state=None):
     node = Node(library, "node")
-    code = node.call("open", image, len(image), me, n, *limits, node.handle)
+    name, given = ("open", []) if state is None else ("open_with", [state, len(state)])
+    code = node.call(name, image, len(image), me, n, *limits, *given, node.handle)
     return code, node if code == 0 else None
 
 
@@ -208,8 +210,8 @@ class Alone:
     def __init__(self, lib, images):
         self.lib, self.images = lib, images
 
-    def opened_node(self, name, me, n, limits):
-        return opened_node(self.lib, self.images[name], me, n, limits)
+    def opened_node(self, name, me, n, limits, state=None):
+        return opened_node(self.lib, self.images[name], me, n, limits, state)
 
     def revived_node(self, name, _me, kept, incarnation, limits):
         return revived_node(self.lib, self.images[name], kept, incarnation, limits)

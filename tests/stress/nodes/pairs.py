@@ -90,10 +90,11 @@ class Pairs:
         made.look(words)
         return *codes, made
 
-    def opened_node(self, name, me, n, limits):
+    def opened_node(self, name, me, n, limits, state=None):
         return self.made(
-            NodePair, f"node {me}", f"open {name} {n} {tuple(limits)}", library.opened_node(self.lib, ALL[name], me, n, limits),
-            slow_node.opened(self.node, handlers.load(ALL[name]), me, n, limits))
+            NodePair, f"node {me}", f"open {name} {n} {tuple(limits)} {state and state.hex()}",
+            library.opened_node(self.lib, ALL[name], me, n, limits, state),
+            slow_node.opened(self.node, handlers.load(ALL[name]), me, n, limits, state))
 
     def revived_node(self, name, me, kept, incarnation, limits):
         return self.made(

@@ -1,5 +1,5 @@
 -- Nodes that are opened
-use Rattle.std.specs.Prelude.{◌≡◌, ◌≢◌, ◌⊎◌, ℕ, ◌≤◌, ◌==◌, List, Option, Some, None}
+use Rattle.std.specs.Prelude.{◌≡◌, ◌≢◌, ◌⊎◌, ℕ, ◌≤◌, ◌==◌, List, length, Option, Some, None}
 use Rattle.limits.specs.declared.TheConstants.{PROCESSES}
 use Rattle.rsn.specs.declared.receipts.TheConstants.{LIMIT}
 use Rattle.verifier.specs.declared.fault.ImageError.{ImageError}
@@ -16,7 +16,7 @@ use Rattle.node.specs.Node.{IsPositive}
 use Rattle.node.specs.declared.limit.Limits as node
 use Rattle.node.specs.declared.node.TheConstants.{WINDOW}
 use Rattle.process.specs.Process.{TheProcess}
-use Rattle.process.specs.Revival.{IsOpened, IsRevived, IsUnrevived}
+use Rattle.process.specs.Revival.{IsOpened, IsRevived, IsUnrevived, zero_state}
 use Rattle.process.specs.declared.fault.Unrevived.{Unrevived}
 use Rattle.process.specs.declared.fault.Unrevived.TheVariants as why
 use Rattle.c_cluster.specs.declared.nodes.lifetime.NodeLimits.{NodeLimits}
@@ -72,8 +72,8 @@ pub record IsSeat (me n : ℕ) : Type 0 where
   pub within : me ≤ n
   pub few : n ≤ PROCESSES
 
--- a handle that was closed holds the process of an image, which received nothing
-pub record Opens (file : List ℕ) (me n : ℕ) (l : NodeLimits) (old new : Option TheProcess) : Type 0 where
+-- a handle that was closed holds the process of an image, which received nothing, with the opening state for that image
+pub record Opens (file : List ℕ) (me n : ℕ) (l : NodeLimits) (state : AnyImage → List ℕ) (old new : Option TheProcess) : Type 0 where
   pub was : old ≡ None
   pub seat : IsSeat me n
   pub limits : AreLimits l
@@ -81,7 +81,7 @@ pub record Opens (file : List ℕ) (me n : ℕ) (l : NodeLimits) (old new : Opti
   pub image_is : IsImageIn file image
   pub process : TheProcess
   pub is : new ≡ Some process
-  pub opened : IsOpened image (limits_of l) me n process
+  pub opened : IsOpened image (limits_of l) me n (state image) process
 
 -- why it doesn't: the first of these: the handle is open, a limit is out of range, the file is not that of an image, or memory ran out. The
 -- handle stays as it was
@@ -91,6 +91,12 @@ DoesNotOpen file me n l old new Limit = (old ≡ None) × (new ≡ None) × ¬ (
 DoesNotOpen file me n l old new Image = (old ≡ None) × (new ≡ None) × (IsSeat me n × AreLimits l) × IsNoImage file
 DoesNotOpen file me n l old new Memory = (old ≡ None) × (new ≡ None) × (IsSeat me n × AreLimits l)
 DoesNotOpen file me n l old new other = ⊥
+
+-- the same of a process with this opening state; after the file and before memory comes that the state isn't as long as the image's
+abbrev pub DoesNotOpenWith : List ℕ → ℕ → ℕ → NodeLimits → List ℕ → Option TheProcess → Option TheProcess → NodeFault → Type 0
+DoesNotOpenWith file me n l state old new (Bytes f) = (old ≡ None) × (new ≡ None) × (IsSeat me n × AreLimits l)
+    × ((f ≡ 9) × ((image : AnyImage) × IsImageIn file image × (length state ≢ state_of image)))
+DoesNotOpenWith file me n l state old new other = DoesNotOpen file me n l old new other
 
 -- a handle that was closed holds the process of an image that comes back from these bytes in this incarnation
 pub record Revives (file kept : List ℕ) (life : ℕ) (l : NodeLimits) (old new : Option TheProcess) : Type 0 where
@@ -123,7 +129,12 @@ DoesNotRevive file kept life l old new other = ⊥
 
 -- the meaning of a code when a process is opened, by its image file, its number, the number of processes and its limits
 abbrev pub AnswersOpening : List ℕ → ℕ → ℕ → NodeLimits → ℕ → Option TheProcess → Option TheProcess → Type 0
-AnswersOpening file me n l code old new = Answers code old new (Opens file me n l) (DoesNotOpen file me n l)
+AnswersOpening file me n l code old new = Answers code old new (Opens file me n l zero_state) (DoesNotOpen file me n l)
+
+-- the same with an opening state
+abbrev pub AnswersOpeningWith : List ℕ → ℕ → ℕ → NodeLimits → List ℕ → ℕ → Option TheProcess → Option TheProcess → Type 0
+AnswersOpeningWith file me n l state code old new =
+    Answers code old new (Opens file me n l (λ _. state)) (DoesNotOpenWith file me n l state)
 
 -- the meaning of a code when a process comes back, by its image file, its kept state, its incarnation and its limits, with the number of
 -- the fault before and after

@@ -2,7 +2,8 @@
 
 ghost use Rattle.std.specs.Prelude.{◌≡◌, OnErr};
 ghost use Rattle.c_cluster.specs.Gateways.Answers.{Does, Results};
-ghost use Rattle.c_cluster.specs.Gateways.Bundles.{AreReceived, AreUnreceived, HearsFront};
+ghost use Rattle.c_cluster.specs.Bundle.{IsFrontReceived};
+ghost use Rattle.c_cluster.specs.Gateways.Bundles.{Hears, AreReceived, AreUnreceived};
 ghost use Rattle.c_cluster.specs.Gateways.Calls.{IsLogged, IsReceived, IsTicked, IsUnlogged, IsUnreceived, Logs, LogsNot, Receives, ReceivesNot};
 ghost use Rattle.c_cluster.specs.Gateways.Lifetime.{WasClosed};
 
@@ -111,7 +112,7 @@ pub(crate) fn receive_all(
 
 /// Does so with the packets at the front of some bytes, and counts them.
 fn hear_front(alloc: Global, handle: &mut GatewayHandle, bytes: &[u8]) -> BundleTally
-    ensures { HearsFront bytes.now handle.old.gateway.value handle.new.gateway.value result }
+    ensures { IsFrontReceived Hears bytes.now handle.old.gateway.value handle.new.gateway.value result }
 {
     let mut tally = BundleTally {
         taken: 0,

@@ -3,8 +3,8 @@
 ghost use Rattle.std.specs.Prelude.{◌≡◌, ◌+◌, ℕ, length, MatchResult, OnErr};
 ghost use Rattle.operations.specs.Bytes.{overwritten};
 ghost use Rattle.gateway.specs.Written.{Waits};
-ghost use Rattle.c_cluster.specs.Bundle.{part_bytes, FitsFrom};
-ghost use Rattle.c_cluster.specs.Gateways.Bundles.{AreTaken, AreUntaken, GivesAll, GivesNone, GivesTo};
+ghost use Rattle.c_cluster.specs.Bundle.{part_bytes, FitsFrom, GivesTo, GivesAll};
+ghost use Rattle.c_cluster.specs.Gateways.Bundles.{AreTaken, AreUntaken, GivesNone, Leaves};
 ghost use Rattle.c_cluster.specs.Gateways.Answers.{Does, Results};
 ghost use Rattle.c_cluster.specs.Gateways.Results.{Gives, GivesNot, IsShown, IsStored, IsTaken, IsTold, IsUnshown, IsUnstored, IsUntaken, IsUntold, Shows, ShowsNot, Spells, Tells, WritesNot};
 ghost use Rattle.stores.specs.Format.{IsStoreBytes};
@@ -66,7 +66,7 @@ fn give_all(
     to: &mut u8,
     count: &mut u64,
 ) -> Result<(), GatewayFault>
-    ensures given { Does result gateway.old gateway.new (GivesAll out.old out.new size.new to.new count.new) (GivesNone out.old out.new size.old size.new) }
+    ensures given { Does result gateway.old gateway.new (GivesAll Leaves out.old out.new size.new to.new count.new) (GivesNone out.old out.new size.old size.new) }
     ensures kept { OnErr result ((to.new ≡ to.old) × (count.new ≡ count.old)) }
 {
     let Some((receiver, first)) = gateway.first_bytes(alloc)? else {
@@ -95,7 +95,7 @@ fn give_all(
 /// it.
 fn give_first(gateway: &mut Gateway, out: &mut [u8], at: usize, packet: &[u8]) -> usize
     requires { FitsFrom at (length out.old) packet.now }
-    ensures given { (to : ℕ) → Waits to packet.now gateway.old → GivesTo to packet.now gateway.old gateway.new }
+    ensures given { (to : ℕ) → Waits to packet.now gateway.old → GivesTo Leaves to packet.now gateway.old gateway.new }
     ensures written { out.new ≡ overwritten out.old at (part_bytes packet.now) }
     ensures end { result ≡ at + length (part_bytes packet.now) }
 {

@@ -2,7 +2,8 @@
 
 ghost use Rattle.std.specs.Prelude.{◌≡◌, OnErr};
 ghost use Rattle.c_cluster.specs.Nodes.Answers.{Results};
-ghost use Rattle.c_cluster.specs.Nodes.Bundles.{AreReceived, AreUnreceived, ServesFront};
+ghost use Rattle.c_cluster.specs.Bundle.{IsFrontReceived};
+ghost use Rattle.c_cluster.specs.Nodes.Bundles.{Serves, AreReceived, AreUnreceived};
 ghost use Rattle.c_cluster.specs.Nodes.Calls.{IsClosed, WasClosed, IsReceived, IsUnreceived, HasWorked, HasNotWorked, HasTicked, IsHeldBack, HasSaved, HasNotSaved};
 
 use crate::bundle::{BundleTally, NOT_BUNDLE, first_of, is_bundle};
@@ -64,7 +65,7 @@ pub(crate) fn receive_all(
 
 /// Does so with the packets at the front of some bytes, and counts them.
 fn serve(alloc: Global, handle: &mut NodeHandle, bytes: &[u8]) -> BundleTally
-    ensures { ServesFront bytes.now handle.old.process.value handle.new.process.value result }
+    ensures { IsFrontReceived Serves bytes.now handle.old.process.value handle.new.process.value result }
 {
     let mut tally = BundleTally {
         taken: 0,

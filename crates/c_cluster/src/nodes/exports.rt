@@ -8,7 +8,7 @@ ghost use Rattle.c_cluster.specs.Nodes.Bundles.{AreReceived, AreUnreceived, AreT
 ghost use Rattle.c_cluster.specs.Nodes.Calls.{IsClosed, WasClosed, IsReceived, IsUnreceived, HasWorked, HasNotWorked, HasTicked, IsHeldBack, HasSaved, HasNotSaved};
 ghost use Rattle.c_cluster.specs.Nodes.Results.{IsTaken, IsUntaken, IsMade, IsUnmade, IsRead, IsUnread};
 ghost use Rattle.c_cluster.specs.Nodes.NodeJob.{ticket_from, IsGiven, IsNotGiven, IsDone, IsNotDone};
-ghost use Rattle.c_cluster.specs.Nodes.Lifetime.{limits_from, AnswersOpening, AnswersRevival};
+ghost use Rattle.c_cluster.specs.Nodes.Lifetime.{limits_from, AnswersOpening, AnswersOpeningWith, AnswersRevival};
 ghost use Rattle.c_cluster.specs.Nodes.Status.{IsStanding};
 ghost use Rattle.c_cluster.specs.Nodes.Label.{AnswersLabel};
 
@@ -48,6 +48,33 @@ pub extern "C" fn sblog_node_open(
         durable,
     };
     code(lifetime::open(alloc, image, me, n, limits, node))
+}
+
+/// The same with this opening state in place of zeros. It has to be as long as the image's state.
+#[unsafe(no_mangle)]
+pub extern "C" fn sblog_node_open_with(
+    alloc: Global,
+    image: &[u8],
+    me: u8,
+    n: u8,
+    page: u32,
+    tick: u32,
+    numbers: u32,
+    receipts: u32,
+    durable: u32,
+    state: &[u8],
+    node: &mut NodeHandle,
+) -> u32
+    ensures { AnswersOpeningWith image.now me n (limits_from page tick numbers receipts durable) state.now result node.old.process.value node.new.process.value }
+{
+    let limits = NodeLimits {
+        page,
+        tick,
+        numbers,
+        receipts,
+        durable,
+    };
+    code(lifetime::open_with(alloc, image, me, n, limits, state, node))
 }
 
 /// Opens a process with the image file of its handler, from its kept state, in this incarnation. If

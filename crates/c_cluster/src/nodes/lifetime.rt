@@ -4,9 +4,10 @@ ghost use Rattle.std.specs.Prelude.{◌≡◌, ◌↔◌, Some, None, IsTrue, Ma
 ghost use Rattle.std.specs.Arc.{arc_value};
 ghost use Rattle.handlers.specs.Handler.{image_of};
 ghost use Rattle.node.specs.Node.{IsPositive};
+ghost use Rattle.process.specs.Revival.{zero_state};
 ghost use Rattle.c_cluster.specs.declared.nodes.fault.NodeFault.TheVariants.{Memory};
 ghost use Rattle.c_cluster.specs.Nodes.Answers.{Results};
-ghost use Rattle.c_cluster.specs.Nodes.Lifetime.{AreLimits, limits_of, IsSeat, IsImageIn, IsNotLoaded, Opens, DoesNotOpen, Revives, DoesNotRevive, IsTold};
+ghost use Rattle.c_cluster.specs.Nodes.Lifetime.{AreLimits, limits_of, IsSeat, IsImageIn, IsNotLoaded, Opens, DoesNotOpen, DoesNotOpenWith, Revives, DoesNotRevive, IsTold};
 
 use crate::nodes::fault::NodeFault;
 use crate::nodes::handle::NodeHandle;
@@ -89,7 +90,7 @@ pub(crate) fn open(
     limits: NodeLimits,
     handle: &mut NodeHandle,
 ) -> Result<(), NodeFault>
-    ensures { Results result handle.old.process.value handle.new.process.value (Opens image.now me n limits) (DoesNotOpen image.now me n limits) }
+    ensures { Results result handle.old.process.value handle.new.process.value (Opens image.now me n limits zero_state) (DoesNotOpen image.now me n limits) }
 {
     if handle.is_open() {
         return Err(NodeFault::Handle);
@@ -105,6 +106,34 @@ pub(crate) fn open(
         return Err(NodeFault::Memory);
     };
     put(alloc, process, handle)
+}
+
+/// Opens a node that received nothing, with this opening state.
+pub(crate) fn open_with(
+    alloc: Global,
+    image: &[u8],
+    me: u8,
+    n: u8,
+    limits: NodeLimits,
+    state: &[u8],
+    handle: &mut NodeHandle,
+) -> Result<(), NodeFault>
+    ensures { Results result handle.old.process.value handle.new.process.value (Opens image.now me n limits (λ _. state.now)) (DoesNotOpenWith image.now me n limits state.now) }
+{
+    if handle.is_open() {
+        return Err(NodeFault::Handle);
+    }
+    if !is_seat(me, n) {
+        return Err(NodeFault::Limit);
+    }
+    let Some(limits) = limits.of_node() else {
+        return Err(NodeFault::Limit);
+    };
+    let image = handler_of(alloc, image)?;
+    match Member::open_with(alloc, image, limits, me, n, state) {
+        Ok(process) => put(alloc, process, handle),
+        Err(why) => Err(refused(why)),
+    }
 }
 
 /// Opens a node from its kept state, in this incarnation.
@@ -148,7 +177,7 @@ fn is_incarnation(incarnation: u64) -> bool
     1 <= incarnation && incarnation < NUMBER_LIMIT
 }
 
-/// The fault that tells why no process came back.
+/// The fault that tells why no process opened or came back.
 fn refused(why: Unrevived) -> NodeFault
     ensures { IsTold why result }
 {

@@ -4,8 +4,8 @@ ghost use Rattle.std.specs.Prelude.{◌≡◌, ◌⊎◌, ◌+◌, ℕ, [], leng
 ghost use Rattle.operations.specs.Bytes.{overwritten};
 ghost use Rattle.process.specs.Process.{out_of};
 ghost use Rattle.c_cluster.specs.declared.nodes.fault.NodeFault.TheVariants.{Memory, Absent};
-ghost use Rattle.c_cluster.specs.Bundle.{part_bytes, FitsFrom};
-ghost use Rattle.c_cluster.specs.Nodes.Bundles.{Waits, GivesTo, TakesAll, AreTaken, LeavesAllIn, AreUntaken};
+ghost use Rattle.c_cluster.specs.Bundle.{part_bytes, FitsFrom, GivesTo, GivesAll};
+ghost use Rattle.c_cluster.specs.Nodes.Bundles.{Waits, Leaves, AreTaken, LeavesAllIn, AreUntaken};
 ghost use Rattle.c_cluster.specs.Nodes.Answers.{Results};
 ghost use Rattle.c_cluster.specs.Nodes.Results.{IsTaken, IsUntaken, IsMade, IsUnmade, IsRead, IsUnread, TakesOut, LeavesIn, Makes, DoesNotMake};
 
@@ -87,7 +87,7 @@ fn take_all_of(
     to: &mut u8,
     count: &mut u64,
 ) -> Result<(), NodeFault>
-    ensures taken { MatchResult result (λ _. TakesAll out.old out.new size.new to.new count.new process.old process.new) (LeavesAllIn out.old out.new size.old size.new process.old process.new) }
+    ensures taken { MatchResult result (λ _. GivesAll Leaves out.old out.new size.new to.new count.new process.old process.new) (LeavesAllIn out.old out.new size.old size.new process.old process.new) }
     ensures kept { OnErr result ((to.new ≡ to.old) × (count.new ≡ count.old)) }
 {
     let (receiver, first) = waiting(alloc, process)?;
@@ -129,7 +129,7 @@ fn waiting(alloc: Global, process: &Member) -> Result<(u8, Vec<u8>), NodeFault>
 /// it.
 fn give(process: &mut Member, out: &mut [u8], at: usize, packet: &[u8]) -> usize
     requires { FitsFrom at (length out.old) packet.now }
-    ensures given { (to : ℕ) → Waits to packet.now process.old → GivesTo to packet.now process.old process.new }
+    ensures given { (to : ℕ) → Waits to packet.now process.old → GivesTo Leaves to packet.now process.old process.new }
     ensures written { out.new ≡ overwritten out.old at (part_bytes packet.now) }
     ensures end { result ≡ at + length (part_bytes packet.now) }
 {

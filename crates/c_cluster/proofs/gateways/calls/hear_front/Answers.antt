@@ -2,8 +2,9 @@ use Rattle.std.proofs.Common.{◌≡◌, ◌+◌, inl, inr, refl, arith}
 use Rattle.c_cluster.specs.declared.bundle.BundleTally.{BundleTally}
 use Rattle.c_cluster.specs.declared.gateways.fault.GatewayFault.{GatewayFault}
 use Rattle.c_cluster.specs.declared.gateways.fault.GatewayFault.TheVariants.{Memory, Handle, Payload, Room, Absent, Bytes, Early, Range}
-use Rattle.c_cluster.specs.Bundle.{none_counted, one_taken, one_refused, one_lost}
-use Rattle.c_cluster.specs.Gateways.Bundles.{Counting, Hears, one_untaken}
+use Rattle.gateway.specs.Gateway.{TheGateway}
+use Rattle.c_cluster.specs.Bundle.{none_counted, one_taken, one_refused, one_lost, Counting}
+use Rattle.c_cluster.specs.Gateways.Bundles.{Hears, one_untaken}
 use Rattle.c_cluster.specs.Gateways.Calls.{IsUnreceived}
 use Rattle.c_cluster.proofs.Bundles.{goes_on}
 use Rattle.c_cluster.proofs.gateways.calls.hear_front.Goals as goal
@@ -26,9 +27,9 @@ loop-packet-preserved-in-Ok c =
     let i = c.loop-packet.invariant in
     let t = c.loop-packet.tally in
     let part = c.in-Some.ensures in
-    let begun : Counting = (c.args.handle.now.gateway.value, none_counted) in
-    let old : Counting = (c.loop-packet.handle.gateway.value, t) in
-    let new : Counting = (c.receive.new.handle.gateway.value, one_taken t) in
+    let begun : Counting TheGateway = (c.args.handle.now.gateway.value, none_counted) in
+    let old : Counting TheGateway = (c.loop-packet.handle.gateway.value, t) in
+    let new : Counting TheGateway = (c.receive.new.handle.gateway.value, one_taken t) in
     let heard : Hears c.in-Some.packet.now old new = inl (0, c.receive.new.fault, c.in-Ok.ensures, refl) in
     goes_on Hears i.0 c.in-Some.packet.now c.args.bytes.now c.loop-packet.rest.now c.in-Some.after.now begun old new (t.taken + t.refused + t.lost) (t.taken + 1 + t.refused + t.lost) i.1 i.2 i.3 part.0 part.1 heard (omega arith)
 
@@ -37,9 +38,9 @@ loop-packet-preserved-in-Memory c =
     let i = c.loop-packet.invariant in
     let t = c.loop-packet.tally in
     let part = c.in-Some.ensures in
-    let begun : Counting = (c.args.handle.now.gateway.value, none_counted) in
-    let old : Counting = (c.loop-packet.handle.gateway.value, t) in
-    let new : Counting = (c.receive.new.handle.gateway.value, one_lost t) in
+    let begun : Counting TheGateway = (c.args.handle.now.gateway.value, none_counted) in
+    let old : Counting TheGateway = (c.loop-packet.handle.gateway.value, t) in
+    let new : Counting TheGateway = (c.receive.new.handle.gateway.value, one_lost t) in
     let unheard : IsUnreceived c.in-Some.packet.now 0 c.receive.new.fault old.0 c.in-Err.why × (new.0 ≡ old.0) = c.in-Err.ensures in
     let heard : Hears c.in-Some.packet.now old new = inr (c.in-Err.why, 0, c.receive.new.fault, unheard.0, unheard.1, lost c.in-Err.why t c.in-Memory.is) in
     goes_on Hears i.0 c.in-Some.packet.now c.args.bytes.now c.loop-packet.rest.now c.in-Some.after.now begun old new (t.taken + t.refused + t.lost) (t.taken + t.refused + (t.lost + 1)) i.1 i.2 i.3 part.0 part.1 heard (omega arith)
@@ -49,9 +50,9 @@ loop-packet-preserved c =
     let i = c.loop-packet.invariant in
     let t = c.loop-packet.tally in
     let part = c.in-Some.ensures in
-    let begun : Counting = (c.args.handle.now.gateway.value, none_counted) in
-    let old : Counting = (c.loop-packet.handle.gateway.value, t) in
-    let new : Counting = (c.receive.new.handle.gateway.value, one_refused t) in
+    let begun : Counting TheGateway = (c.args.handle.now.gateway.value, none_counted) in
+    let old : Counting TheGateway = (c.loop-packet.handle.gateway.value, t) in
+    let new : Counting TheGateway = (c.receive.new.handle.gateway.value, one_refused t) in
     let unheard : IsUnreceived c.in-Some.packet.now 0 c.receive.new.fault old.0 c.in-Err.why × (new.0 ≡ old.0) = c.in-Err.ensures in
     let heard : Hears c.in-Some.packet.now old new = inr (c.in-Err.why, 0, c.receive.new.fault, unheard.0, unheard.1, refused c.in-Err.why t c.in_default-why.not-Memory) in
     goes_on Hears i.0 c.in-Some.packet.now c.args.bytes.now c.loop-packet.rest.now c.in-Some.after.now begun old new (t.taken + t.refused + t.lost) (t.taken + (t.refused + 1) + t.lost) i.1 i.2 i.3 part.0 part.1 heard (omega arith)

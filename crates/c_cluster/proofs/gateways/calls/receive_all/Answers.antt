@@ -10,4 +10,4 @@ returns-clause-received c =
     let yes : IsTrue c.is_bundle.result = first_of (search rules, grind (arith, common_steps)) in
     let is = c.is_bundle.ensures.0 yes in
     let front : Fronts s.packets bytes s.rest = record { each = s.each; joined = s.joined } in
-    (s.packets, is_all s.packets bytes s.rest front (none_left s.packets is.0 bytes s.rest front s.none is.1), search (rules, s.heard))
+    (s.packets, is_all s.packets bytes s.rest front (none_left s.packets is.0 bytes s.rest front s.none is.1), search (rules, s.done))

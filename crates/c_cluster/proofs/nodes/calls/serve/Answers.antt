@@ -4,9 +4,9 @@ use Rattle.process.specs.Process.{TheProcess}
 use Rattle.c_cluster.specs.declared.bundle.BundleTally.{BundleTally}
 use Rattle.c_cluster.specs.declared.nodes.fault.NodeFault.{NodeFault}
 use Rattle.c_cluster.specs.declared.nodes.fault.NodeFault.TheVariants.{Memory, Handle, Image, Room, Absent, Bytes, Unready, Limit, Left}
-use Rattle.c_cluster.specs.Bundle.{none_counted, one_taken, one_refused, one_lost}
+use Rattle.c_cluster.specs.Bundle.{none_counted, one_taken, one_refused, one_lost, Counting}
 use Rattle.c_cluster.specs.Nodes.Answers.{Results}
-use Rattle.c_cluster.specs.Nodes.Bundles.{IsToWork, Counting, Serves, one_untaken}
+use Rattle.c_cluster.specs.Nodes.Bundles.{IsToWork, Serves, one_untaken}
 use Rattle.c_cluster.specs.Nodes.Calls.{HasWorked, HasNotWorked}
 use Rattle.c_cluster.proofs.Bundles.{goes_on}
 use Rattle.c_cluster.proofs.nodes.calls.serve.Goals as goal
@@ -34,9 +34,9 @@ loop-packet-preserved-in-Ok c =
     let i = c.loop-packet.invariant in
     let t = c.loop-packet.tally in
     let part = c.in-Some.ensures in
-    let begun : Counting = (c.args.handle.now.process.value, none_counted) in
-    let old : Counting = (c.loop-packet.handle.process.value, t) in
-    let new : Counting = (c.work-worked.new.handle.process.value, one_taken t) in
+    let begun : Counting TheProcess = (c.args.handle.now.process.value, none_counted) in
+    let old : Counting TheProcess = (c.loop-packet.handle.process.value, t) in
+    let new : Counting TheProcess = (c.work-worked.new.handle.process.value, one_taken t) in
     let mid = c.receive.new.handle.process.value in
     let served : Serves c.in-Some.packet.now old new = inl (mid, c.in-Ok.ensures, worked c.work-worked.result mid new.0 c.work-worked.ensures, refl) in
     goes_on Serves i.0 c.in-Some.packet.now c.args.bytes.now c.loop-packet.rest.now c.in-Some.after.now begun old new (t.taken + t.refused + t.lost) (t.taken + 1 + t.refused + t.lost) i.1 i.2 i.3 part.0 part.1 served (omega arith)
@@ -46,9 +46,9 @@ loop-packet-preserved-in-Memory c =
     let i = c.loop-packet.invariant in
     let t = c.loop-packet.tally in
     let part = c.in-Some.ensures in
-    let begun : Counting = (c.args.handle.now.process.value, none_counted) in
-    let old : Counting = (c.loop-packet.handle.process.value, t) in
-    let new : Counting = (c.receive.new.handle.process.value, one_lost t) in
+    let begun : Counting TheProcess = (c.args.handle.now.process.value, none_counted) in
+    let old : Counting TheProcess = (c.loop-packet.handle.process.value, t) in
+    let new : Counting TheProcess = (c.receive.new.handle.process.value, one_lost t) in
     let served : Serves c.in-Some.packet.now old new = inr (c.in-Err.why, c.in-Err.ensures, lost c.in-Err.why t c.in-Memory.is) in
     goes_on Serves i.0 c.in-Some.packet.now c.args.bytes.now c.loop-packet.rest.now c.in-Some.after.now begun old new (t.taken + t.refused + t.lost) (t.taken + t.refused + (t.lost + 1)) i.1 i.2 i.3 part.0 part.1 served (omega arith)
 
@@ -57,8 +57,8 @@ loop-packet-preserved c =
     let i = c.loop-packet.invariant in
     let t = c.loop-packet.tally in
     let part = c.in-Some.ensures in
-    let begun : Counting = (c.args.handle.now.process.value, none_counted) in
-    let old : Counting = (c.loop-packet.handle.process.value, t) in
-    let new : Counting = (c.receive.new.handle.process.value, one_refused t) in
+    let begun : Counting TheProcess = (c.args.handle.now.process.value, none_counted) in
+    let old : Counting TheProcess = (c.loop-packet.handle.process.value, t) in
+    let new : Counting TheProcess = (c.receive.new.handle.process.value, one_refused t) in
     let served : Serves c.in-Some.packet.now old new = inr (c.in-Err.why, c.in-Err.ensures, refused c.in-Err.why t c.in_default-why.not-Memory) in
     goes_on Serves i.0 c.in-Some.packet.now c.args.bytes.now c.loop-packet.rest.now c.in-Some.after.now begun old new (t.taken + t.refused + t.lost) (t.taken + (t.refused + 1) + t.lost) i.1 i.2 i.3 part.0 part.1 served (omega arith)

@@ -1,18 +1,9 @@
-use Rattle.std.proofs.Common.{rules, ◌≡◌, ◌+◌, ◌<◌, ◌∷◌, ◌++◌, [], ℕ, List, length, refl, sym, subst, arith}
-use Rattle.std.specs.Prelude.{drop}
+use Rattle.std.proofs.Common.{rules, ◌≡◌, ◌+◌, ◌∷◌, ◌++◌, [], ℕ, List, length, refl, sym, subst, arith}
 use Rattle.std.proofs.lemmas.Grind.{common_steps}
-use Rattle.packets.specs.declared.packet.NodePacket.{NodePacket}
-use Rattle.c_cluster.specs.Bundle.{FitsFrom}
-use Rattle.c_cluster.specs.Nodes.Bundles.{Waits, GivesTo}
-use Rattle.packets.specs.Format.{IsPacket, packet_bytes}
-use Rattle.c_cluster.proofs.Bundles.{none_laid, more_laid, one_more}
+use Rattle.c_cluster.specs.Bundle.{FitsFrom, GivesTo}
+use Rattle.c_cluster.specs.Nodes.Bundles.{Waits, Leaves}
+use Rattle.c_cluster.proofs.Bundles.{none_laid, more_laid, one_more, packet_some}
 use Rattle.c_cluster.proofs.nodes.results.take_all_of.Goals as goal
-
-more : (b : ℕ) (bytes : List ℕ) → 0 < length (b ∷ bytes)
-more b bytes = omega arith
-
-some : (x : NodePacket) (bytes : List ℕ) → IsPacket x bytes → 0 < length bytes
-some x bytes p = subst (λ (b : List ℕ). 0 < length b) (sym p.bytes_are) (more 83 (drop 1 (packet_bytes x)))
 
 pub loop-next-init : goal.loop-next-init
 loop-next-init c =
@@ -23,8 +14,8 @@ loop-next-init c =
     let first : Waits to c.in_ok-receiver.first.items process = c.in_ok-receiver.ensures in
     let waits : Waits to bytes process = subst (λ (b : List ℕ). Waits to b process) (sym c.deref-2.ensures.value) first in
     let fits : FitsFrom 0 (length out) bytes = first_of (search rules, grind (arith, common_steps)) in
-    let given : GivesTo to bytes process c.give-end.new.process = c.give-end.ensures.given to waits in
-    let laid = more_laid out out c.give-end.new.out 0 c.give-end.result 0 1 [] bytes (none_laid out) (some waits.0 bytes waits.1) fits c.give-end.ensures.written c.give-end.ensures.end refl refl in
+    let given : GivesTo Leaves to bytes process c.give-end.new.process = c.give-end.ensures.given to waits in
+    let laid = more_laid out out c.give-end.new.out 0 c.give-end.result 0 1 [] bytes (none_laid out) (packet_some waits.0 bytes waits.1) fits c.give-end.ensures.written c.give-end.ensures.end refl refl in
     (bytes ∷ [], laid, (c.give-end.new.process, given, refl), omega arith)
 
 pub loop-next-preserved : goal.loop-next-preserved
@@ -39,7 +30,7 @@ loop-next-preserved c =
     let same : c.in-Ok.next ≡ to = first_of (search rules, grind (arith, common_steps)) in
     let waits : Waits to bytes process = subst (λ (b : List ℕ). Waits to b process) (sym c.deref-in-Ok.ensures.value) (subst (λ (n : ℕ). Waits n c.in-Ok.bytes.items process) same next) in
     let fits : FitsFrom c.loop-next.end (length mid) bytes = first_of (search rules, grind (arith, common_steps)) in
-    let given : GivesTo to bytes process c.give-end-in-Ok.new.process = c.give-end-in-Ok.ensures.given to waits in
+    let given : GivesTo Leaves to bytes process c.give-end-in-Ok.new.process = c.give-end-in-Ok.ensures.given to waits in
     let long : length mid ≡ length out = first_of (search rules, grind (arith, common_steps)) in
-    let laid = more_laid out mid c.give-end-in-Ok.new.out c.loop-next.end c.give-end-in-Ok.result c.loop-next.taken (c.loop-next.taken + 1) i.0 bytes i.1 (some waits.0 bytes waits.1) fits c.give-end-in-Ok.ensures.written c.give-end-in-Ok.ensures.end long refl in
-    (i.0 ++ bytes ∷ [], laid, one_more (GivesTo to) i.0 bytes c.args.process.now process c.give-end-in-Ok.new.process i.2 given, omega arith)
+    let laid = more_laid out mid c.give-end-in-Ok.new.out c.loop-next.end c.give-end-in-Ok.result c.loop-next.taken (c.loop-next.taken + 1) i.0 bytes i.1 (packet_some waits.0 bytes waits.1) fits c.give-end-in-Ok.ensures.written c.give-end-in-Ok.ensures.end long refl in
+    (i.0 ++ bytes ∷ [], laid, one_more (GivesTo Leaves to) i.0 bytes c.args.process.now process c.give-end-in-Ok.new.process i.2 given, omega arith)

@@ -1,20 +1,17 @@
-use Rattle.std.proofs.Common.{subst, sym}
-use Rattle.node.specs.Node.{TheNode, Within}
+use Rattle.std.proofs.Common.{◌≡◌, ◌∙◌, ℕ, List, subst}
+use Rattle.std.specs.Prelude.{IfOk}
+use Rattle.world.specs.Handlers.{Handlers}
 use Rattle.cluster.specs.Cluster.{opening}
-use Rattle.node.specs.Stands.{Stands}
-use Rattle.node.proofs.Openings.{stands-opened}
-use Rattle.node.proofs.Begun.{within-begun, same-begun}
+use Rattle.node.specs.Node.{new_node}
+use Rattle.node.specs.Stands.{Stands, BeginsWith}
 use Rattle.node.proofs.node.Node.open.Goals as goal
 
-pub invariant_of-result : goal.invariant_of-result
-invariant_of-result c =
-    let all = same-begun c.args.limits c.args.me c.args.count c.args.state_len c.in_ok-state.state.items c.in_ok-covered.covered.items c.in_ok-heard.heard.items c.in_ok-resumed.resumed.items c.in_ok-logs.logs.items c.in_ok-receipts.receipts c.in_ok-out.out c.in_ok-state.ensures c.in_ok-covered.ensures c.in_ok-heard.ensures c.in_ok-resumed.ensures c.in_ok-logs.ensures c.in_ok-receipts.ensures c.in_ok-out.ensures in
-    subst Within (sym all) (within-begun c.args.limits c.args.me c.args.count c.args.state_len c.requires.limits c.requires.own.0 c.requires.own.1 c.requires.few)
-
 pub returns-clause-value : goal.returns-clause-value
-returns-clause-value c = same-begun c.args.limits c.args.me c.args.count c.args.state_len c.in_ok-state.state.items c.in_ok-covered.covered.items c.in_ok-heard.heard.items c.in_ok-resumed.resumed.items c.in_ok-logs.logs.items c.in_ok-receipts.receipts c.in_ok-out.out c.in_ok-state.ensures c.in_ok-covered.ensures c.in_ok-heard.ensures c.in_ok-resumed.ensures c.in_ok-logs.ensures c.in_ok-receipts.ensures c.in_ok-out.ensures
+returns-clause-value c =
+    let P : List ℕ → Type 0 = λ state. IfOk c.open_with.result (λ n. n ≡ new_node c.args.limits c.args.me c.args.count state) in
+    subst P (c.deref.ensures.value ∙ c.in_ok-state.ensures) c.open_with.ensures.value
 
 pub returns-clause-stands : goal.returns-clause-stands
-returns-clause-stands c f begins =
-    let all = same-begun c.args.limits c.args.me c.args.count c.args.state_len c.in_ok-state.state.items c.in_ok-covered.covered.items c.in_ok-heard.heard.items c.in_ok-resumed.resumed.items c.in_ok-logs.logs.items c.in_ok-receipts.receipts c.in_ok-out.out c.in_ok-state.ensures c.in_ok-covered.ensures c.in_ok-heard.ensures c.in_ok-resumed.ensures c.in_ok-logs.ensures c.in_ok-receipts.ensures c.in_ok-out.ensures in
-    subst (λ (n : TheNode). Stands n (opening c.args.count f) c.args.me) (sym all) (stands-opened c.args.limits c.args.me c.args.count c.args.state_len f c.requires.own.0 c.requires.own.1 begins)
+returns-clause-stands c =
+    let P : List ℕ → Type 0 = λ state. IfOk c.open_with.result (λ n. (f : Handlers) → BeginsWith f c.args.me state → Stands n (opening c.args.count f) c.args.me) in
+    subst P (c.deref.ensures.value ∙ c.in_ok-state.ensures) c.open_with.ensures.stands

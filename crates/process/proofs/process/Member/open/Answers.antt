@@ -1,16 +1,16 @@
-use Rattle.std.proofs.Common.{rules, ◌≡◌, arith}
+use Rattle.std.proofs.Common.{rules, ◌≡◌, replicate, arith}
 use Rattle.std.proofs.lemmas.Grind.{common_steps}
 use Rattle.std.specs.Arc.{arc_value}
 use Rattle.images.specs.AnyImage.{state_of}
 use Rattle.handlers.specs.Handler.{image_of}
-use Rattle.process.proofs.Openings.{opened}
+use Rattle.process.proofs.Openings.{opened-zeros}
 use Rattle.process.proofs.Within as within
 use Rattle.process.proofs.process.Member.open.Goals as goal
 
 pub returns : goal.returns
 returns c =
     let len : c.state_len.result ≡ state_of (image_of (arc_value c.args.image)) = first_of (search rules, grind (arith, common_steps)) in
-    opened (image_of (arc_value c.args.image)) c.args.limits c.args.me c.args.count c.state_len.result c.in_ok-node.node c.in_ok-node.ensures.value len c.in_ok-node.ensures.stands
+    opened-zeros (image_of (arc_value c.args.image)) c.args.limits c.args.me c.args.count c.state_len.result c.in_ok-node.node c.in_ok-node.ensures.value len c.in_ok-node.ensures.stands
 
 pub invariant_of-result : goal.invariant_of-result
-invariant_of-result c = within.opened c.args.limits c.args.me c.args.count c.state_len.result c.in_ok-node.node c.in_ok-node.ensures.value c.requires.limits
+invariant_of-result c = within.opened c.args.limits c.args.me c.args.count (replicate c.state_len.result 0) c.in_ok-node.node c.in_ok-node.ensures.value c.requires.limits

@@ -26,4 +26,4 @@ returns-clause-resumed c =
     }
 
 pub invariant_of-result : goal.invariant_of-result
-invariant_of-result c = resumed c.in_ok-node.node c.in_ok-node.ensures.within c.in_ok-node.ensures.found.can c.in_ok-node.ensures.fresh.1
+invariant_of-result c = resumed c.in_ok-node.node c.in_ok-node.ensures.found.within c.in_ok-node.ensures.found.can c.in_ok-node.ensures.fresh.1
