@@ -10,6 +10,7 @@ import lives
 from lives import Cluster, Wrong
 from listening import PROCESSES, connect, payload, works
 from looks import told
+from stopped import prints_once
 from storage import Bucket, Table, lets_through
 
 PORT = 17790
@@ -126,3 +127,4 @@ def elsewhere(folder):
             os.makedirs(place)
             with kind(place, "127.0.0.1", PORT) as storage:
                 lives_on(os.path.join(place, "cluster"), storage)
+                prints_once(os.path.join(place, "printing"), storage)

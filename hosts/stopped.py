@@ -156,9 +156,11 @@ def joining(folder):
     cluster.stop()
 
 
-def prints_once(folder):
-    """A gateway that is stopped while outputs flow prints each once, over its lives."""
+def prints_once(folder, storage=None):
+    """A gateway that is stopped while outputs flow prints each once, over its lives; also if stores are elsewhere."""
     cluster, count = Cluster(folder, "programs", PROCESSES), 0
+    for program in cluster.programs if storage else ():
+        storage.takes(program)
     cluster.start()
     for _ in range(5):
         for _ in range(200):

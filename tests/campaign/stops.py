@@ -3,12 +3,15 @@ SIGKILL, at some place of its stop or of the next start; or what it left is torn
 same incarnation, and is as exact as before. Between two stops one node is stopped while another one comes back."""
 import itertools
 import os
+import re
 import shutil
+import subprocess
 
 import lives
 from disk import preload, read
 from lives import Wrong
 from server import Server
+from storage import Bucket, Table
 
 VOLATILE = ["--volatile", "--checkpoint-every", "64"]
 FLOW = 100  # transfers that are through before the next stop
@@ -18,17 +21,27 @@ AT_STOP = {"unwritten": ("openat", 4), "unsynced": ("fsync", 3), "unnamed": ("re
 AT_START = {"untaken": ("rename", 1), "taken": ("fsync", 2)}
 BY_HAND = ("torn", "flipped", "foreign", "old")
 CALLS = {"openat": 1, "fsync": 2, "rename": 1}  # of a file that is replaced, as a start does that refuses what was left
+AT_RANDOM = ("killed", "begun")  # at some moment of the stop, or of the start
 GOES_ON = ("named", "untaken")  # here the bytes are used all the same
-FAULTS = ("unwritten", "torn", "unsynced", "untaken", "foreign", "unnamed", "taken", "named", "old", "killed", "flipped")
+FAULTS = ("unwritten", "torn", "unsynced", "untaken", "foreign", "unnamed", "taken", "named", "old", "killed", "flipped", "begun")
 
 
 def path_of(node):
     return os.path.join(node.store, "suspended")
 
 
+def holds(node):
+    """What its store holds, in words, wherever it is."""
+    words = ["--cluster", node.cluster.file_of(node.number), "--me", str(node.number), "--inspect", node.store]
+    return subprocess.run([node.cluster.program, *words], check=True, capture_output=True, text=True).stdout
+
+
 def life_of(node):
-    with open(os.path.join(node.store, "incarnation")) as file:
-        return int(file.read())
+    return int(re.search(r"(?m)^incarnation (\d+)$", holds(node))[1])
+
+
+def is_left(node):
+    return "suspended: " in holds(node)
 
 
 class Stops:
@@ -36,7 +49,7 @@ class Stops:
 
     def __init__(self, campaign, library, plan):
         self.campaign, self.library, self.plan = campaign, library, plan
-        self.cluster, self.chance, self.old = campaign.cluster, campaign.chance, {}
+        self.cluster, self.chance, self.old, self.has_left = campaign.cluster, campaign.chance, {}, {}
 
     def environment(self, call, number):
         return {"LD_PRELOAD": self.library, "DIE_ON": call, "DIE_AT": str(number)}
@@ -64,7 +77,7 @@ class Stops:
 
     def prepare(self, node, fault):
         """What the node left is as this fault leaves it."""
-        path, left = path_of(node), path_of(node) + ".new" if fault == "unsynced" else path_of(node)
+        left = path_of(node) + ".new" if fault == "unsynced" else path_of(node)
         text = read(left) if os.path.exists(left) else b""
         if fault in ("unsynced", "torn"):
             text = text[:self.chance.randrange(1, len(text))]
@@ -78,7 +91,7 @@ class Stops:
         if fault == "unsynced" or fault in BY_HAND:
             with open(left, "wb") as file:
                 file.write(text)
-        return os.path.exists(path) and os.path.getsize(path) > 0
+        self.has_left[node] = is_left(node)
 
     def begin(self, program, fault, following):
         """A start that dies first, if that is the fault; then one that may die when it is stopped the next time."""
@@ -88,6 +101,11 @@ class Stops:
             self.campaign.kills += 1
             if program.ends() != -9:
                 raise Wrong(f"{program.name} begins, {fault}, and doesn't die: {program.said[-3:]}")
+        elif fault == "begun":
+            program.start()
+            self.campaign.pause(0.1)
+            self.campaign.kill(program)
+            self.has_left[program] = is_left(program)
         call, number = AT_STOP.get(following, (None, 0))
         more = CALLS[call] if call and fault in BY_HAND else 0
         program.environment = self.environment(call, number + more) if call else None
@@ -97,29 +115,31 @@ class Stops:
         nodes = self.cluster.nodes
         exact, lives_before = {node: node.exact for node in nodes}, {node: life_of(node) for node in nodes}
         self.stop(faults)
-        kept = {node: read(path_of(node)) for node in nodes if node not in faults}
-        has_bytes = {node: self.prepare(node, faults.get(node)) for node in nodes}
+        kept = {node: read(path_of(node)) for node in nodes if node not in faults and os.path.isdir(node.store)}
+        for node in nodes:
+            self.prepare(node, faults.get(node))
         said = {node: len(node.said) for node in nodes}
         for program in self.shuffled():
             self.begin(program, faults.get(program), following.get(program))
         for node in nodes:
             node.wait_up()
-            self.judge(node, faults.get(node), lives_before[node], exact[node], node.said[said[node]:], has_bytes[node])
+            self.judge(node, faults.get(node), lives_before[node], exact[node], node.said[said[node]:])
         self.old.update(kept)
         self.roll([node for node in nodes if node not in following])
         outputs = self.cluster.outputs["notifier"]
         until = len(outputs) + FLOW
         self.cluster.wait_for(lambda: len(outputs) >= until)
 
-    def judge(self, node, fault, life, was_exact, said, has_bytes):
+    def judge(self, node, fault, life, was_exact, said):
         """It goes on as it was, unless a fault took what it left. Bytes that aren't used are named."""
-        goes_on = fault in (None, *GOES_ON) or (fault == "killed" and has_bytes)
+        goes_on = fault in (None, *GOES_ON) or (fault in AT_RANDOM and self.has_left[node])
         is_refused = any("the node isn't resumed" in line for line in said)
-        if life_of(node) != (life if goes_on else life + 1) or any(f"resumed in incarnation {life}," in line for line in said) != goes_on:
+        is_resumed = any(f"resumed in incarnation {life}," in line for line in said)
+        if life_of(node) != (life if goes_on else life + 1) or (is_resumed != goes_on and fault != "begun"):
             raise Wrong(f"{node.name} is in incarnation {life_of(node)} after {life}, {fault}: {said}")
         if is_refused != (fault in BY_HAND):
             raise Wrong(f"{node.name}, {fault}, says {said}")
-        if os.path.getsize(path_of(node)) > 0:
+        if is_left(node):
             raise Wrong(f"{node.name}, {fault}, hasn't taken what it left")
         if goes_on and node.exact != was_exact:
             raise Wrong(f"{node.name}, {fault}, isn't as exact as it was: {said}")
@@ -160,6 +180,21 @@ KINDS = {
     "unix": ("unix", VOLATILE, alone), "tcp": ("tcp", VOLATILE, alone), "nats": ("nats", VOLATILE, alone),
     "durable": ("unix", ["--durable"], several),
 }
+
+
+def elsewhere(folder, rounds, seed, port, begin):
+    """Half of the rounds with each kind of storage, and one kill at a time, at random."""
+    rows, right = {}, True
+    for kind in (kind for kind in (Bucket, Table) if kind.is_here()):
+        name, faults = kind.__name__.lower(), itertools.cycle(AT_RANDOM)
+        os.makedirs(os.path.join(folder, name))
+        with kind(os.path.join(folder, name), "127.0.0.1", port) as storage:
+            campaign = begin(os.path.join(folder, name, "cluster"), seed, words=VOLATILE, storage=storage)
+            Stops(campaign, None, [alone(campaign.cluster.nodes, campaign.chance, faults) for _ in range(rounds // 2)]).run()
+            row, is_right = campaign.finish()
+        rows.update({f"{name} {key}": value for key, value in row.items()})
+        right = right and is_right
+    return rows, right
 
 
 def part(folder, rounds, seed, port, begin):
