@@ -207,7 +207,8 @@ static int give_out(struct gateway_host *host) {
 
 static int turn(struct gateway_host *host, bool *is_more) {
     const struct owner owner = gateway_owner(host);
-    int status = STATUS_DONE;
+    int status = go_on(host); /* what is durable goes before more is taken in */
+    transport_serve(&host->transport);
     transport_reload(&host->transport);
     clients_welcome(&host->clients);
     for (int i = 0; i < CLIENTS_LIMIT && !signal_stop; i++) read_requests(host, &host->clients.all[i]);
