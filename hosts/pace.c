@@ -79,19 +79,30 @@ static void opens(struct flow *flow, uint64_t now) {
     if (!is_open(flow)) flow->since = now;
 }
 
-/* A message goes. If nothing is timed, its answer is. */
+static void timer_begins(struct timer *timer, uint64_t number, uint64_t now) {
+    if (timer->number == 0) *timer = (struct timer){number, now};
+}
+
+/* Whether the answer is there; then nothing is timed any more. */
+static bool timer_ends(struct timer *timer, uint64_t number) {
+    bool is_over = timer->number > 0 && number >= timer->number;
+    if (is_over) timer->number = 0;
+    return is_over;
+}
+
 static void is_sent(struct flow *flow, uint64_t ssn, uint64_t now) {
     opens(flow, now);
     if (ssn <= flow->sent) return;
     flow->sent = ssn;
-    if (flow->timed == 0) {
-        flow->timed = ssn;
-        flow->timed_at = now;
-    }
-    if (flow->measured == 0) {
-        flow->measured = ssn;
-        flow->measured_at = now;
-    }
+    timer_begins(&flow->message, ssn, now);
+    timer_begins(&flow->shown, ssn, now);
+}
+
+static void is_told(struct flow *flow, uint64_t number, uint64_t now) {
+    opens(flow, now);
+    if (number <= flow->told) return;
+    flow->told = number;
+    timer_begins(&flow->number, number, now);
 }
 
 /* The first message of a tick is the first one that has no number: so if the peer seemed to have it, an answer was lost. */
@@ -101,17 +112,18 @@ static void learn_from_tick(struct flow *flow, uint64_t ssn, uint64_t now) {
         flow->is_late |= ssn <= flow->answered;
         flow->answered = ssn - 1;
     }
-    if (++flow->again == TICK) flow->refill = ssn;
+    if (++flow->again == TICK && ssn > flow->newest) flow->refill = ssn;
 }
 
-/* Whether a message goes now. One beyond the window is held, unless it may wait already. One of a tick that was sent goes again if its
+/* Whether a message goes now. One beyond the window is held, unless it waits already. One of a tick that was sent goes again if its
    answer is late; one within the window goes on, since it may have been lost when too many waited. */
 static bool message_goes(struct flow *flow, uint64_t ssn, struct packets message, bool is_of_tick, uint64_t now) {
     if (is_of_tick) learn_from_tick(flow, ssn, now);
     else if (!flow->is_known) flow->answered = ssn - 1;
     flow->is_known = true;
     bool is_again = is_of_tick && ssn <= flow->sent, is_beyond = !is_again && ssn > flow->answered + flow->window;
-    if (is_beyond && !(is_of_tick && flow->has_held)) hold(&flow->held, ssn, message);
+    if (is_beyond && !(is_of_tick && ssn <= flow->newest)) hold(&flow->held, ssn, message);
+    if (ssn > flow->newest) flow->newest = ssn;
     if (is_beyond || (is_again && !flow->is_late)) return false;
     is_sent(flow, ssn, now);
     return true;
@@ -122,9 +134,8 @@ static bool goes(struct flow *flow, const sblog_label *label, struct packets pac
     case SBLOG_PACKET_DELIVERY: return message_goes(flow, label->ssn, packet, is_of_tick, now);
     case SBLOG_PACKET_RESTORED: flow->is_back = true; return true; /* the answer of its Resume */
     case SBLOG_PACKET_NUMBER:
-        opens(flow, now);
+        is_told(flow, label->number, now);
         if (is_of_tick && label->number <= flow->acknowledged) flow->acknowledged = label->number - 1;
-        if (label->number > flow->told) flow->told = label->number;
         return true;
     default: return true;
     }
@@ -199,20 +210,26 @@ static void grow(const struct pace *pace, struct flow *flow, uint64_t answers) {
     flow->window++;
 }
 
-/* How long an answer took goes into what is usual by an eighth. */
+/* How long an answer took goes into what is usual by an eighth, and how far off that was by a quarter. */
+static void learn(struct flow *flow, uint64_t took) {
+    uint64_t off = took > flow->usual ? took - flow->usual : flow->usual - took;
+    bool is_first = flow->usual == 0;
+    flow->spare = is_first ? took / 2 : flow->spare - flow->spare / 4 + off / 4;
+    flow->usual = is_first ? took : flow->usual - flow->usual / 8 + took / 8;
+}
+
 static void is_answered(struct pace *pace, struct flow *flow, uint64_t ssn, uint64_t now) {
     if (ssn > flow->answered) {
         grow(pace, flow, ssn - flow->answered);
         flow->answered = ssn;
     }
-    if (flow->measured > 0 && ssn >= flow->measured) {
-        histogram_add(&pace->took, now - flow->measured_at);
-        flow->measured = 0;
-    }
-    if (flow->timed == 0 || ssn < flow->timed) return;
-    uint64_t took = now - flow->timed_at;
-    flow->usual = flow->usual == 0 ? took : flow->usual - flow->usual / 8 + took / 8;
-    flow->timed = 0;
+    if (timer_ends(&flow->shown, ssn)) histogram_add(&pace->took, now - flow->shown.since);
+    if (timer_ends(&flow->message, ssn)) learn(flow, now - flow->message.since);
+}
+
+static void is_acknowledged(struct flow *flow, uint64_t number, uint64_t now) {
+    if (number > flow->acknowledged) flow->acknowledged = number;
+    if (timer_ends(&flow->number, number)) learn(flow, now - flow->number.since);
 }
 
 static void send_held(struct pace *pace, int to, uint64_t now) {
@@ -253,15 +270,15 @@ bool pace_reads(const struct pace *pace, int from, struct packets packets, struc
 void pace_hear(struct pace *pace, const struct news *news, uint64_t now) {
     struct flow *flow = &pace->flows[news->from];
     is_answered(pace, flow, news->answered, now);
-    if (news->acknowledged > flow->acknowledged) flow->acknowledged = news->acknowledged;
+    is_acknowledged(flow, news->acknowledged, now);
     flow->since = now;
     flow->tries = 0;
     send_held(pace, news->from, now);
 }
 
-/* What is open goes again when its answer takes twice as long as usual, then four times, and so on. */
+/* What is open goes again when its answer takes far longer than usual (RFC 6298), then twice as long, and so on. */
 static uint64_t pause_of(const struct pace *pace, const struct flow *flow) {
-    uint64_t pause = 2 * flow->usual;
+    uint64_t pause = flow->usual + 4 * flow->spare;
     if (pause < pace->shortest) pause = pace->shortest;
     pause <<= flow->tries;
     return pause < pace->longest ? pause : pace->longest;
@@ -273,7 +290,7 @@ static void expire(struct pace *pace, struct flow *flow, uint64_t now) {
     if (flow->sent > flow->answered) flow->window = pace->least; /* the peer may have too much to do */
     flow->answered = flow->sent;
     flow->acknowledged = flow->told;
-    flow->timed = 0; /* an answer may be to either of two packets now */
+    flow->message.number = flow->number.number = 0; /* an answer may be to either of two packets now */
     flow->since = now;
     flow->spread = draw(pace) % QUARTER;
     flow->is_back = false;
@@ -287,7 +304,6 @@ void pace_tick_begins(struct pace *pace, uint64_t now) {
         if (flow->is_late) expire(pace, flow, now);
         flow->refill = 0;
         flow->again = 0;
-        flow->has_held = flow->held.count > 0;
     }
 }
 

@@ -17,13 +17,18 @@ struct held {
     size_t from, count; /* where the first one begins, and how many they are */
 };
 
+/* One number at a time, and since when its answer is waited for; 0 for none. */
+struct timer {
+    uint64_t number, since;
+};
+
 /* The messages to one peer, and the numbers that it was told. */
 struct flow {
-    uint64_t sent, answered;     /* the last SSN that was sent, and that the peer has */
+    uint64_t newest, sent, answered; /* the last SSN that was put out, that was sent, and that the peer has */
     uint64_t told, acknowledged; /* the last number that it was told, and acknowledged */
-    uint64_t timed, timed_at;    /* an SSN whose answer is timed, and since when; 0 for none */
-    uint64_t measured, measured_at; /* the same for those who look at how long answers take: also of one that was sent again */
-    uint64_t usual;              /* microseconds that an answer takes */
+    struct timer message, number; /* an SSN, and a number that it was told */
+    struct timer shown;          /* an SSN for those who look at how long answers take: also of one that was sent again */
+    uint64_t usual, spare;       /* microseconds that an answer takes, and that it is off by */
     uint64_t window, grown;      /* messages without an answer; answers since it grew */
     uint64_t since;              /* when it answered last, or what is open was sent */
     uint64_t spread;             /* by how many 1,024ths its next pause is longer */
@@ -33,7 +38,6 @@ struct flow {
     bool is_known;               /* whether answered is */
     bool is_back;                /* it came back: it may have forgotten what it had, and takes it again */
     bool is_late;                /* whether its answer was when it ticked */
-    bool has_held;               /* whether some waited then */
     struct held held;
 };
 
