@@ -36,13 +36,23 @@ static bool is_ready(int file, short events) {
     return file >= 0 && poll(&state, 1, 0) == 1;
 }
 
-void client_read(struct client *client) {
+/* Whether more can be read: what was taken gives its bytes back once it is half of them. */
+static bool has_text_room(const struct client *client) {
+    return client->have < sizeof client->text || client->from > sizeof client->text / 2;
+}
+
+static void make_text_room(struct client *client) {
+    if (client->from < client->have && client->from <= sizeof client->text / 2) return;
     client->have -= client->from;
-    if (client->from > 0) memmove(client->text, client->text + client->from, client->have);
+    memmove(client->text, client->text + client->from, client->have);
     client->from = 0;
+}
+
+void client_read(struct client *client) {
+    make_text_room(client);
     size_t room = sizeof client->text - client->have;
     char *at = client->text + client->have;
-    if (room == 0 || client->in < 0 || (!client->tls && !is_ready(client->in, POLLIN))) return;
+    if (room == 0 || client->in < 0 || (!client->is_connection && !is_ready(client->in, POLLIN))) return;
     ssize_t size = client->tls ? tls_receive(client->tls, at, room) : read(client->in, at, room);
     if (size > 0) client->have += (size_t)size;
     if (size > 0 || (size < 0 && (errno == EINTR || errno == EAGAIN))) return;
@@ -168,6 +178,6 @@ bool client_is_done(const struct client *client) {
 bool client_is_free(struct client *client) { return client->answers == 0 && is_ready(client->out, POLLOUT); }
 
 void client_watch(const struct client *client, bool reads, bool writes, struct watch *watch) {
-    if (reads && client->have - client->from < sizeof client->text) watch_file(watch, client->in, POLLIN);
+    if (reads && has_text_room(client)) watch_file(watch, client->in, POLLIN);
     if (writes || client->answers > 0) watch_file(watch, client->out, POLLOUT);
 }

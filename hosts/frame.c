@@ -2,15 +2,13 @@
 
 #include "bytes.h"
 #include "checksum.h"
+#include "limits.h"
 
 #include <stdlib.h>
 #include <string.h>
 
-/* Bytes of a bundle that several packets share. */
-enum { BUNDLE_ROOM = 60000 };
-
-/* The places of the fields in a bundle's head, and bytes of a packet's length. */
-enum { FROM = 4, TO = 5, COUNT = 6, CLUSTER = 8, PACKETS = 24, LENGTH = 2 };
+/* The places of the fields in a bundle's head, and the greatest count. */
+enum { FROM = 4, TO = 5, COUNT = 6, CLUSTER = 8, PACKETS = 24, COUNT_SIZE = 2, MOST = 0xffff };
 
 /* The places of those of a greeting. */
 enum { WORD = 4, PROCESS = 5, ZEROS = 6, OF_CLUSTER = 8, OF_STORE = 24, CHECKSUM = 40 };
@@ -28,9 +26,8 @@ static struct frame *frame_new(const char *magic, size_t size, size_t room) {
     return frame;
 }
 
-struct frame *bundle_new(const struct id *cluster, int from, int to, size_t size) {
-    size_t least = PACKETS + LENGTH + size;
-    struct frame *bundle = frame_new(BUNDLE, PACKETS, least > BUNDLE_ROOM ? least : BUNDLE_ROOM);
+struct frame *bundle_new(const struct id *cluster, int from, int to) {
+    struct frame *bundle = frame_new(BUNDLE, PACKETS, PACKETS + PACKETS_LENGTH + PAGE);
     if (!bundle) return NULL;
     uint8_t *head = bundle->bytes + FRAME_LENGTH;
     head[FROM] = (uint8_t)from;
@@ -39,44 +36,39 @@ struct frame *bundle_new(const struct id *cluster, int from, int to, size_t size
     return bundle;
 }
 
-bool bundle_add(struct frame *bundle, const uint8_t *packet, size_t size) {
-    uint8_t *at = bundle->bytes + bundle->size;
-    if (bundle->count == 0xffff || LENGTH + size > bundle->room - bundle->size) return false;
-    number_put(at, size, LENGTH);
-    memcpy(at + LENGTH, packet, size);
-    bundle->size += LENGTH + size;
-    bundle->count++;
+size_t bundle_fill(struct frame *bundle, struct packets *packets) {
+    const uint8_t *from = packets->at, *packet;
+    size_t room = bundle->room - bundle->size, count = 0;
+    for (struct packets rest = *packets; bundle->count < MOST && packets_next(&rest, &packet) > 0; *packets = rest) {
+        if ((size_t)(rest.at - from) > room) break;
+        bundle->count++;
+        count++;
+    }
+    size_t size = (size_t)(packets->at - from);
+    memcpy(bundle->bytes + bundle->size, from, size);
+    bundle->size += size;
     number_put(bundle->bytes, bundle->size - FRAME_LENGTH, FRAME_LENGTH);
-    number_put(bundle->bytes + FRAME_LENGTH + COUNT, (uint64_t)bundle->count, LENGTH);
-    return true;
+    number_put(bundle->bytes + FRAME_LENGTH + COUNT, (uint64_t)bundle->count, COUNT_SIZE);
+    return count;
 }
 
 /* Whether so many packets take just these bytes. */
-static bool is_whole(struct unread unread, uint64_t count) {
+static bool is_whole(struct packets packets, uint64_t count) {
     const uint8_t *packet;
-    while (count > 0 && bundle_next(&unread, &packet) > 0) count--;
-    return count == 0 && unread.size == 0;
+    while (count > 0 && packets_next(&packets, &packet) > 0) count--;
+    return count == 0 && packets.size == 0;
 }
 
 enum kind bundle_judge(const uint8_t *frame, size_t size, const struct id *cluster, const struct cluster *processes, int me,
-                       struct unread *unread, int *from) {
+                       struct packets *packets, int *from) {
     if (size <= PACKETS || memcmp(frame, BUNDLE, MAGIC) != 0) return KIND_BROKEN;
     if (memcmp(frame + CLUSTER, cluster->bytes, ID_BYTES) != 0) return KIND_FOREIGN;
-    const struct unread packets = {frame + PACKETS, size - PACKETS};
+    const struct packets all = {frame + PACKETS, size - PACKETS};
     bool is_ours = frame[FROM] <= processes->count && frame[FROM] != me && frame[TO] == me;
-    if (!is_ours || !is_whole(packets, number_at(frame + COUNT, LENGTH))) return KIND_BROKEN;
+    if (!is_ours || !is_whole(all, number_at(frame + COUNT, COUNT_SIZE))) return KIND_BROKEN;
     *from = frame[FROM];
-    *unread = packets;
+    *packets = all;
     return KIND_BUNDLE;
-}
-
-size_t bundle_next(struct unread *unread, const uint8_t **packet) {
-    size_t size = unread->size < LENGTH ? 0 : number_at(unread->at, LENGTH);
-    if (size == 0 || size > unread->size - LENGTH) return 0;
-    *packet = unread->at + LENGTH;
-    unread->at += LENGTH + size;
-    unread->size -= LENGTH + size;
-    return size;
 }
 
 struct frame *greeting_new(const struct greeting *greeting) {

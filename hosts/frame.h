@@ -4,6 +4,7 @@
 #define FRAME_H
 
 #include "id.h"
+#include "packets.h"
 
 #include <stdbool.h>
 #include <stddef.h>
@@ -19,26 +20,17 @@ struct frame {
     uint8_t bytes[];
 };
 
-/* An empty bundle with room for a packet of this size and others; null without memory. */
-struct frame *bundle_new(const struct id *cluster, int from, int to, size_t size);
+/* An empty bundle, which has room for any packet; null without memory. */
+struct frame *bundle_new(const struct id *cluster, int from, int to);
 
-/* Puts a packet at its end; false if it doesn't fit. */
-bool bundle_add(struct frame *bundle, const uint8_t *packet, size_t size);
+/* Puts the first of these packets at its end, as many as fit; how many that are. */
+size_t bundle_fill(struct frame *bundle, struct packets *packets);
 
 enum kind { KIND_BROKEN, KIND_FOREIGN, KIND_BUNDLE };
 
-/* What is left of a bundle that came. */
-struct unread {
-    const uint8_t *at;
-    size_t size;
-};
-
 /* Judges a bundle whole before its first packet is taken; from is who sent it. Of what isn't one nothing is told. */
 enum kind bundle_judge(const uint8_t *frame, size_t size, const struct id *cluster, const struct cluster *processes, int me,
-                       struct unread *unread, int *from);
-
-/* The next packet; 0 if there is none. */
-size_t bundle_next(struct unread *unread, const uint8_t **packet);
+                       struct packets *packets, int *from);
 
 /* A process without a cluster says hello to the gateway, which offers its own; the process joins it, and is welcomed, or refused. */
 enum word { WORD_HELLO = 1, WORD_OFFER, WORD_JOIN, WORD_WELCOME, WORD_REFUSAL };

@@ -22,7 +22,7 @@ static size_t figures(const struct gateway_host *host, struct figure out[FIGURES
         {"untaken", host->waiting.count, NULL, "outputs that were handed out, and that nobody has taken", false},
         {"programs", clients, NULL, "programs that hand in inputs or take outputs", false},
         {"behind", host->store.behind, NULL, "bytes of records after the store", false},
-        {"refused", host->refused, NULL, "times that bytes came that are no packet", true},
+        {"refused", host->transport.refused, NULL, "times that bytes came that are no packet", true},
         {"faulty", host->faulty, NULL, "times that a program sent what is no frame", true},
         {"broken", host->transport.broken, NULL, "times that something came that is no bundle", true},
         {"foreign", host->transport.foreign, NULL, "times that a bundle of another cluster came", true},

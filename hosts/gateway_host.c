@@ -74,16 +74,17 @@ static void read_requests(struct gateway_host *host, struct client *client) {
     }
 }
 
+/* What bundles tell the pace counts once it is durable. Without memory for that, it is lost. */
 static int receive(struct gateway_host *host) {
-    int count = 0, most = host->turns.count < TURNS_LIMIT ? TURN : 0;
-    size_t size;
-    const uint8_t *packet;
-    while (count < most && (size = transport_receive(&host->transport, &packet)) > 0) {
-        uint32_t fault = 0, code = sblog_gateway_receive(&host->gateway, packet, size, &fault);
-        if (code == SBLOG_GATEWAY_DONE) turn_hears(&host->heard, packet, size);
-        if (code == SBLOG_GATEWAY_BYTES && host->refused++ == 0)
-            report_event(LEVEL_WARNING, "refused", "bytes came that are no packet: fault %u; more are counted", fault);
-        count++;
+    int count = 0, from, most = host->turns.count < TURNS_LIMIT ? TURN : 0;
+    struct packets packets;
+    struct news news;
+    while (count < most && transport_receive(&host->transport, &packets, &from)) {
+        sblog_tally tally = {0};
+        sblog_gateway_receive_all(&host->gateway, packets.at, packets.size, &tally);
+        transport_refuses(&host->transport, packets, tally.refused);
+        if (pace_reads(&host->pace, from, packets, &news)) bytes_add(&host->heard, &news, sizeof news);
+        count += (int)(tally.taken + tally.refused + tally.lost);
     }
     return count;
 }
@@ -103,12 +104,13 @@ static bool hand_out(struct gateway_host *host) {
     return false;
 }
 
-/* Packets that may go when the turn is durable. One that has no memory is lost. */
+/* Packets that may go when the turn is durable. Those for which there is no memory are lost. */
 static void take_packets(struct gateway_host *host, struct turn *turn) {
     size_t size;
     uint8_t to;
-    while (sblog_gateway_take(&host->gateway, host->packet, sizeof host->packet, &size, &to) == SBLOG_GATEWAY_DONE)
-        if (!turn_sends(turn, to, host->packet, size)) host->transport.lost++;
+    uint64_t count;
+    while (sblog_gateway_take_all(&host->gateway, host->packets, sizeof host->packets, &size, &to, &count) == SBLOG_GATEWAY_DONE)
+        if (!turn_sends(turn, to, (struct packets){host->packets, size})) host->transport.lost += count;
 }
 
 /* What depends on this turn waits until that is durable. */
@@ -205,18 +207,20 @@ static int give_out(struct gateway_host *host) {
 
 static int turn(struct gateway_host *host, bool *is_more) {
     const struct owner owner = gateway_owner(host);
+    int status = go_on(host); /* what is durable goes before more is taken in */
+    transport_serve(&host->transport);
     transport_reload(&host->transport);
     clients_welcome(&host->clients);
     for (int i = 0; i < CLIENTS_LIMIT && !signal_stop; i++) read_requests(host, &host->clients.all[i]);
     int received = receive(host);
-    int status = membership_welcome(&owner, &host->folder, &host->ids, &host->transport);
+    if (status == STATUS_DONE) status = membership_welcome(&owner, &host->folder, &host->ids, &host->transport);
     bool is_cut = hand_out(host);
     if (status == STATUS_DONE) status = commit(host);
     if (status != STATUS_DONE) return status;
     tick(host, clock_now());
     status = give_out(host);
     gateway_show(host);
-    *is_more = received == TURN || (may_read(host) && clients_have_requests(&host->clients)) || (is_cut && !outputs_are_full(&host->waiting));
+    *is_more = received >= TURN || (may_read(host) && clients_have_requests(&host->clients)) || (is_cut && !outputs_are_full(&host->waiting));
     return status;
 }
 

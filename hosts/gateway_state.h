@@ -30,14 +30,14 @@ struct gateway_host {
     struct clients clients;
     struct answers answers;
     struct outputs waiting;
-    struct bytes heard; /* labels of packets of this turn, of which the pace learns something */
+    struct bytes heard; /* what bundles of this turn tell the pace */
     struct turns turns;
     bool has_tick; /* whether the packets of one wait */
     uint8_t *bytes;
     size_t room;
     uint64_t last[PROCESS_LIMIT + 1]; /* the SSN of each process's last input */
-    uint64_t refused, faulty, outputs;
-    uint8_t packet[PACKET_LIMIT];
+    uint64_t faulty, outputs;
+    uint8_t packets[PACKET_LIMIT];
 };
 
 struct owner gateway_owner(const struct gateway_host *host);

@@ -27,7 +27,8 @@ static int hear(const struct owner *owner, const struct store *store, struct ids
 /* Bundles that come meanwhile are dropped: this process isn't of their cluster yet. */
 static void wait(struct transport *transport, struct metrics *metrics, const char *name, uint64_t until) {
     struct watch watch;
-    const uint8_t *packet;
+    struct packets packets;
+    int from;
     transport_reload(transport);
     transport_serve(transport);
     watch_begin(&watch, until);
@@ -35,7 +36,7 @@ static void wait(struct transport *transport, struct metrics *metrics, const cha
     metrics_watch(metrics, &watch);
     watch_wait(&watch);
     metrics_serve(metrics, &(struct view){.process = name, .stage = "joining"});
-    while (transport_receive(transport, &packet) > 0) continue;
+    while (transport_receive(transport, &packets, &from)) continue;
 }
 
 int membership_join(const struct options *options, const struct owner *owner, const struct store *store, struct ids *ids,

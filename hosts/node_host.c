@@ -51,33 +51,40 @@ static uint32_t work(struct node_host *host, int most) {
     return code;
 }
 
-/* Packets that came together: each is received, and worked on before the next. */
+/* Bundles that came together: each packet is received, and worked on before the next. */
 static int receive(struct node_host *host) {
-    int count = 0;
-    size_t size;
+    int count = 0, from;
     uint64_t now = clock_now();
-    const uint8_t *packet;
-    while (count < TURN && (size = transport_receive(&host->transport, &packet)) > 0) {
-        uint32_t fault = 0, code = sblog_node_receive(&host->node, packet, size, &fault);
-        lacks(host, code);
-        if (code == SBLOG_NODE_BYTES && host->refused++ == 0)
-            report_event(LEVEL_WARNING, "refused", "bytes came that are no packet: fault %u; more are counted", fault);
-        if (code == SBLOG_NODE_DONE) {
-            const sblog_label label = pace_label(packet, size);
-            pace_hear(&host->pace, &label, now);
-            work(host, 1);
-        }
-        count++;
+    struct packets packets;
+    struct news news;
+    while (count < TURN && transport_receive(&host->transport, &packets, &from)) {
+        sblog_tally tally = {0};
+        sblog_node_receive_all(&host->node, packets.at, packets.size, &tally);
+        if (tally.lost > 0) lacks(host, SBLOG_NODE_MEMORY);
+        transport_refuses(&host->transport, packets, tally.refused);
+        if (pace_reads(&host->pace, from, packets, &news)) pace_hear(&host->pace, &news, now);
+        count += (int)(tally.taken + tally.refused + tally.lost);
     }
     return count;
 }
 
-static void put_out(struct node_host *host) {
+/* Whether packets waited, and whom the next ones go to. */
+static bool take_packets(struct node_host *host, int *to, struct packets *packets) {
     size_t size;
-    uint8_t to;
+    uint8_t receiver;
+    uint64_t count;
+    uint32_t code = sblog_node_take_all(&host->node, host->packets, sizeof host->packets, &size, &receiver, &count);
+    if (code != SBLOG_NODE_DONE) return false;
+    *to = receiver;
+    *packets = (struct packets){host->packets, size};
+    return true;
+}
+
+static void put_out(struct node_host *host) {
+    int to;
     uint64_t now = clock_now();
-    while (sblog_node_take(&host->node, host->packet, sizeof host->packet, &size, &to) == SBLOG_NODE_DONE)
-        pace_send(&host->pace, to, host->packet, size, now);
+    struct packets packets;
+    while (take_packets(host, &to, &packets)) pace_send(&host->pace, to, packets, now);
 }
 
 /* What anybody has of a durable process stays; of another one, what its checkpoint covers. */
@@ -147,7 +154,7 @@ static size_t figures(struct node_host *host, struct figure out[FIGURES]) {
         {"effects_no_peer", sblog_node_refused(&host->node, NO_PEER), NULL, "sends of the handler that were refused: to no other process", true},
         {"effects_full", sblog_node_refused(&host->node, FULL), NULL, "its sends and outputs that were refused: more than 8 of a call", true},
         {"effects_long", sblog_node_refused(&host->node, LONG), NULL, "its sends and outputs that were refused: above 256 bytes", true},
-        {"refused", host->refused, NULL, "times that bytes came that are no packet", true},
+        {"refused", host->transport.refused, NULL, "times that bytes came that are no packet", true},
         {"broken", host->transport.broken, NULL, "times that something came that is no bundle", true},
         {"foreign", host->transport.foreign, NULL, "times that a bundle of another cluster came", true},
         {"strangers", tls_refused(), NULL, "connections by tls that were refused", true},
@@ -166,13 +173,11 @@ static void show(struct node_host *host) {
 
 /* What isn't answered goes again. */
 static void send_again(struct node_host *host, uint64_t now) {
-    size_t size;
-    uint8_t to;
-    int places[PROCESS_LIMIT + 1] = {0};
+    int to;
+    struct packets packets;
     pace_tick_begins(&host->pace, now);
     lacks(host, sblog_node_tick(&host->node));
-    while (sblog_node_take(&host->node, host->packet, sizeof host->packet, &size, &to) == SBLOG_NODE_DONE)
-        pace_tick_sends(&host->pace, to, host->packet, size, places[to]++, now);
+    while (take_packets(host, &to, &packets)) pace_tick_sends(&host->pace, to, packets, now);
 }
 
 /* One that comes back asks again and again, less and less often while nothing comes; one that is up keeps a pace. */
@@ -204,7 +209,7 @@ static int confirm(struct node_host *host) {
 /* One turn; whether there is more to do at once. */
 static int turn(struct node_host *host, bool *is_more) {
     int received = receive(host), status = STATUS_DONE;
-    *is_more = work(host, REPLAYS) == SBLOG_NODE_DONE || received == TURN;
+    *is_more = work(host, REPLAYS) == SBLOG_NODE_DONE || received >= TURN;
     sblog_node_standing(&host->node, &host->standing);
     if (is_time_to_keep(host)) {
         put_out(host); /* what doesn't wait for it */

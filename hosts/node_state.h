@@ -26,11 +26,11 @@ struct node_host {
     uint8_t *image, *bytes;
     size_t image_size, room;
     uint64_t started, next_tick, pause;
-    uint64_t refused, checkpoints;
+    uint64_t checkpoints;
     uint64_t confirmed; /* packets that were queued while the store was this life's */
     bool has_written;   /* in this turn */
     bool was_up, was_exact, store_is_inexact, wants_memory, has_told_waits;
-    uint8_t packet[PACKET_LIMIT];
+    uint8_t packets[PACKET_LIMIT];
 };
 
 /* Takes all that a life needs, and begins it; a status. */

@@ -4,7 +4,12 @@
 
 bool outputs_are_full(const struct outputs *outputs) { return outputs->count == OUTPUTS_LIMIT; }
 
-struct output *outputs_place(struct outputs *outputs) { return &outputs->all[outputs->count]; }
+struct output *outputs_place(struct outputs *outputs) {
+    struct output *end = outputs->places + 2 * OUTPUTS_LIMIT;
+    if (outputs->all && outputs->all + outputs->count == end) memcpy(outputs->places, outputs->all, outputs->count * sizeof *end);
+    if (!outputs->all || outputs->all + outputs->count == end) outputs->all = outputs->places;
+    return &outputs->all[outputs->count];
+}
 
 void outputs_add(struct outputs *outputs) { outputs->count++; }
 
@@ -42,18 +47,24 @@ bool outputs_have_taken(const struct outputs *outputs) {
     return false;
 }
 
+static bool is_taken(const struct outputs *outputs, const struct output *output) {
+    return output->ssn <= outputs->taken[output->process];
+}
+
 void outputs_forget(struct outputs *outputs) {
-    size_t left = 0, written = 0, stored = 0, printed = 0;
+    size_t first = 0, left = 0, written = 0, stored = 0, printed = 0;
     if (!outputs_have_taken(outputs)) return;
-    for (size_t i = 0; i < outputs->count; i++) {
+    while (first < outputs->count && is_taken(outputs, &outputs->all[first])) first++;
+    for (size_t i = first; i < outputs->count; i++) {
         const struct output *output = &outputs->all[i];
-        if (output->ssn <= outputs->taken[output->process]) continue;
+        if (is_taken(outputs, output)) continue;
         written += i < outputs->written;
         stored += i < outputs->stored;
         printed += i < outputs->printed;
-        if (left < i) outputs->all[left] = *output;
+        if (first + left < i) outputs->all[first + left] = *output;
         left++;
     }
+    if (first > 0) outputs->all += first;
     outputs->count = left;
     outputs->written = written;
     outputs->stored = stored;

@@ -18,7 +18,7 @@ struct output {
 };
 
 struct outputs {
-    struct output all[OUTPUTS_LIMIT];
+    struct output places[2 * OUTPUTS_LIMIT], *all; /* from which of these on they are; null before the first one */
     size_t count, written, stored, printed; /* of these are in the log, are durable, and were printed for the program that takes them */
     uint64_t given[PROCESS_LIMIT + 1]; /* SSN of the last output of each process that is durable in this life, 0 for none */
     uint64_t taken[PROCESS_LIMIT + 1]; /* up to which SSN those of each process are taken, and still to be forgotten; 0 for none */

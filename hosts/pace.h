@@ -3,6 +3,7 @@
 #ifndef PACE_H
 #define PACE_H
 
+#include "bytes.h"
 #include "histogram.h"
 #include "transport.h"
 
@@ -10,28 +11,34 @@
 
 enum { LONGEST_PAUSE = 32 }; /* in shortest ones */
 
-/* Packets that wait, each once. */
-struct queue {
-    struct waiting *first, **end;
-    size_t count;
+/* Messages that wait, in their order. */
+struct held {
+    struct bytes bytes; /* of each its SSN, how many bytes follow, and the message as a bundle has it */
+    size_t from, count; /* where the first one begins, and how many they are */
+};
+
+/* One number at a time, and since when its answer is waited for; 0 for none. */
+struct timer {
+    uint64_t number, since;
 };
 
 /* The messages to one peer, and the numbers that it was told. */
 struct flow {
-    uint64_t sent, answered;     /* the last SSN that was sent, and that the peer has */
+    uint64_t newest, sent, answered; /* the last SSN that was put out, that was sent, and that the peer has */
     uint64_t told, acknowledged; /* the last number that it was told, and acknowledged */
-    uint64_t timed, timed_at;    /* an SSN whose answer is timed, and since when; 0 for none */
-    uint64_t measured, measured_at; /* the same for those who look at how long answers take: also of one that was sent again */
-    uint64_t usual;              /* microseconds that an answer takes */
+    struct timer message, number; /* an SSN, and a number that it was told */
+    struct timer shown;          /* an SSN for those who look at how long answers take: also of one that was sent again */
+    uint64_t usual, spare;       /* microseconds that an answer takes, and that it is off by */
     uint64_t window, grown;      /* messages without an answer; answers since it grew */
     uint64_t since;              /* when it answered last, or what is open was sent */
     uint64_t spread;             /* by how many 1,024ths its next pause is longer */
     uint64_t refill;             /* the SSN behind which a tick has more to send; 0 for none */
     int tries;                   /* ticks since it answered */
+    int again;                   /* messages of the last tick */
     bool is_known;               /* whether answered is */
     bool is_back;                /* it came back: it may have forgotten what it had, and takes it again */
-    bool has_held;               /* whether some waited when it ticked */
-    struct queue held;
+    bool is_late;                /* whether its answer was when it ticked */
+    struct held held;
 };
 
 struct pace {
@@ -44,23 +51,22 @@ struct pace {
     struct flow flows[PROCESS_LIMIT + 1];
 };
 
+/* What packets of a peer tell of its flow: the last SSN that it has, and the last number that it acknowledges; 0 for none. */
+struct news {
+    int from;
+    uint64_t answered, acknowledged;
+};
+
 void pace_begin(struct pace *pace, struct transport *transport, uint64_t shortest);
 
-/* What a packet is. One for whose label there is no memory is of no kind: it is sent at once, and nothing is learned from it. */
-sblog_label pace_label(const uint8_t *packet, size_t size);
-
-/* Sends a packet that the library put out, or keeps it until its time has come. */
-void pace_send(struct pace *pace, int to, const uint8_t *packet, size_t size, uint64_t now);
-
-/* Whether it learns something from such a packet. */
-bool pace_learns(const sblog_label *label);
-
-/* Learns from a packet that the library took, and sends what may go now. */
-void pace_hear(struct pace *pace, const sblog_label *label, uint64_t now);
-
-/* A tick is made; and sends its packets, of which place counts those for one peer. */
+/* Sends packets that the library put out, or keeps some until their time has come; and those of a tick, after it began. */
+void pace_send(struct pace *pace, int to, struct packets packets, uint64_t now);
 void pace_tick_begins(struct pace *pace, uint64_t now);
-void pace_tick_sends(struct pace *pace, int to, const uint8_t *packet, size_t size, int place, uint64_t now);
+void pace_tick_sends(struct pace *pace, int to, struct packets packets, uint64_t now);
+
+/* Whether packets of a peer tell something; and learns that, once they count, and sends what may go then. */
+bool pace_reads(const struct pace *pace, int from, struct packets packets, struct news *news);
+void pace_hear(struct pace *pace, const struct news *news, uint64_t now);
 
 /* A pause that is up to a quarter longer, by chance: programs that lost something together don't send it again together. */
 uint64_t pace_spread(struct pace *pace, uint64_t pause);

@@ -97,27 +97,33 @@ static void way_put(struct way *way, struct frame *frame) {
     way->last = frame;
 }
 
-/* Puts a packet into the last bundle that waits, if that is one, has room and isn't under way. */
-static bool joins_last(struct way *way, const uint8_t *packet, size_t size) {
-    struct frame *last = way->last;
-    return last && last->count > 0 && !(last == way->first && (way->sent > 0 || way->is_begun)) && bundle_add(last, packet, size);
+/* Whether packets may join the frame that waits last: a bundle that isn't under way. */
+static bool is_open(const struct way *way) {
+    bool is_under_way = way->last == way->first && (way->sent > 0 || way->is_begun);
+    return way->last && way->last->count > 0 && !is_under_way;
 }
 
-void transport_send(struct transport *transport, int to, const uint8_t *packet, size_t size) {
+/* Puts the first of these packets into the last bundle, or into a new one; how many that are. */
+static size_t put_some(const struct transport *transport, struct way *way, struct packets *packets) {
+    size_t count = is_open(way) ? bundle_fill(way->last, packets) : 0;
+    if (count > 0) return count;
+    struct frame *bundle = bundle_new(&transport->id, transport->me, (int)(way - transport->ways));
+    if (!bundle) return 0;
+    count = bundle_fill(bundle, packets);
+    way_put(way, bundle);
+    return count;
+}
+
+void transport_send(struct transport *transport, int to, struct packets packets) {
     struct way *way = way_to(transport, to);
-    if (!way || size > PACKET_LIMIT) return;
-    bool is_full = way->count >= WAITING_LIMIT || id_is_none(&transport->id);
-    if (!is_full && !joins_last(way, packet, size)) {
-        struct frame *bundle = bundle_new(&transport->id, transport->me, to, size);
-        is_full = !bundle;
-        if (bundle && bundle_add(bundle, packet, size)) way_put(way, bundle);
+    if (!way) return;
+    bool has_room = way->count < WAITING_LIMIT && !id_is_none(&transport->id);
+    for (size_t count; has_room && packets.size > 0 && (count = put_some(transport, way, &packets)) > 0;) {
+        way->count += count;
+        transport->queued += count;
     }
-    if (is_full) {
-        transport->lost++;
-        return;
-    }
-    way->count++;
-    transport->queued++;
+    const uint8_t *packet;
+    while (packets_next(&packets, &packet) > 0) transport->lost++;
 }
 
 void transport_greet(struct transport *transport, int to, const struct greeting *greeting) {
@@ -139,37 +145,46 @@ static void take_greeting(struct transport *transport, const struct greeting *gr
     if (is_ours && transport->speakers >> from & 1) transport->greetings[process] = *greeting;
 }
 
-static void take_frame(struct transport *transport, const uint8_t *frame, size_t size) {
+/* Whether it is a bundle for this process, and who sent which packets. */
+static bool take_frame(struct transport *transport, const uint8_t *frame, size_t size, struct packets *packets, int *from) {
     struct greeting greeting;
-    int from;
     if (greeting_read(frame, size, &greeting)) {
         take_greeting(transport, &greeting);
-        return;
+        return false;
     }
-    if (id_is_none(&transport->id)) return;
-    switch (bundle_judge(frame, size, &transport->id, transport->cluster, transport->me, &transport->unread, &from)) {
+    if (id_is_none(&transport->id)) return false;
+    switch (bundle_judge(frame, size, &transport->id, transport->cluster, transport->me, packets, from)) {
     case KIND_BUNDLE:
-        if (!(transport->speakers >> from & 1)) {
-            transport->unread = (struct unread){0};
+        if (!(transport->speakers >> *from & 1)) {
             drop(&transport->broken, "broken", "a bundle of another process than its certificate names");
-            return;
+            return false;
         }
-        if (transport->inlet->settle) transport->inlet->settle(transport, from);
-        return;
-    case KIND_FOREIGN: drop(&transport->foreign, "foreign", "a bundle of another cluster"); break;
-    default: drop(&transport->broken, "broken", "what is no bundle"); break;
+        if (transport->inlet->settle) transport->inlet->settle(transport, *from);
+        return true;
+    case KIND_FOREIGN: drop(&transport->foreign, "foreign", "a bundle of another cluster"); return false;
+    default: drop(&transport->broken, "broken", "what is no bundle"); return false;
     }
 }
 
-size_t transport_receive(struct transport *transport, const uint8_t **packet) {
+bool transport_receive(struct transport *transport, struct packets *packets, int *from) {
+    const uint8_t *frame;
     size_t size;
-    while ((size = bundle_next(&transport->unread, packet)) == 0) {
-        const uint8_t *frame;
-        transport->unread = (struct unread){0};
-        if ((size = transport->inlet->receive(transport, &frame)) == 0) return 0;
-        take_frame(transport, frame, size);
-    }
-    return size;
+    while ((size = transport->inlet->receive(transport, &frame)) > 0)
+        if (take_frame(transport, frame, size, packets, from)) return true;
+    return false;
+}
+
+void transport_refuses(struct transport *transport, struct packets packets, uint64_t count) {
+    bool is_told = transport->refused > 0 || count == 0;
+    const uint8_t *packet;
+    sblog_label label;
+    uint32_t fault = 0, code = SBLOG_NODE_DONE;
+    size_t size;
+    transport->refused += count;
+    if (is_told) return;
+    while (code != SBLOG_NODE_BYTES && (size = packets_next(&packets, &packet)) > 0)
+        code = sblog_packet_label(packet, size, &label, &fault);
+    report_event(LEVEL_WARNING, "refused", "bytes came that are no packet: fault %u; more are counted", fault);
 }
 
 bool transport_greeted(struct transport *transport, struct greeting *greeting) {
@@ -197,7 +212,6 @@ void transport_reload(struct transport *transport) {
     signal_reload = 0;
     if (!tls_read_again()) return;
     report_event(LEVEL_INFO, "reload", "certificates were read again");
-    transport->unread = (struct unread){0};
     for (int p = 0; p <= transport->cluster->count; p++)
         if (transport->ways[p].tls) way_ends(transport, &transport->ways[p], 0);
     tcp_renew(transport);

@@ -62,10 +62,9 @@ struct transport {
     int guest;         /* whose turn it is */
     uint32_t speakers; /* who may have sent the last frame: bit p is process p's; by a carrier that doesn't tell anybody */
     struct nats_link *links;
-    struct unread unread;
     struct greeting greetings[PROCESS_LIMIT + 1]; /* the last one that came of each process, without a word where none did */
     uint64_t queued, lost;                        /* packets that were put to others, and that weren't sent */
-    uint64_t broken, foreign;                     /* frames that aren't whole, and those of another cluster */
+    uint64_t broken, foreign, refused;            /* frames that aren't whole, those of another cluster, and what is no packet */
     uint8_t bytes[FRAME_LIMIT];
 };
 
@@ -79,11 +78,14 @@ int transport_look(const struct cluster *cluster, int me);
 void transport_belongs(struct transport *transport, const struct id *cluster);
 
 /* Each goes when the transport is served. */
-void transport_send(struct transport *transport, int to, const uint8_t *packet, size_t size);
+void transport_send(struct transport *transport, int to, struct packets packets);
 void transport_greet(struct transport *transport, int to, const struct greeting *greeting);
 
-/* The next packet that came, which is there until this is asked again; 0 for none. */
-size_t transport_receive(struct transport *transport, const uint8_t **packet);
+/* The packets of the next bundle that came, which are there until this is asked again, and who sent them; false if there is none. */
+bool transport_receive(struct transport *transport, struct packets *packets, int *from);
+
+/* So many of these are no packets: they are counted, and the first time it is said by which fault. */
+void transport_refuses(struct transport *transport, struct packets packets, uint64_t count);
 
 /* Takes a greeting that came while packets were received; false if there is none. */
 bool transport_greeted(struct transport *transport, struct greeting *greeting);

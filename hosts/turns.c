@@ -1,9 +1,13 @@
 #include "turns.h"
 
 #include <stdlib.h>
+#include <string.h>
 
-/* In front of a packet: whom it goes to, and its length. */
-enum { TO = 1, LENGTH = 2 };
+/* What comes before packets: whom they go to, and how many bytes they are. */
+struct batch {
+    int to;
+    size_t size;
+};
 
 struct turn *turn_new(uint64_t until) {
     struct turn *turn = malloc(sizeof *turn);
@@ -22,30 +26,24 @@ bool turn_is_empty(const struct turn *turn) {
     return !turn->is_tick && turn->outputs == 0 && turn->answers.size + turn->packets.size + turn->heard.size == 0;
 }
 
-bool turn_sends(struct turn *turn, int to, const uint8_t *packet, size_t size) {
-    uint8_t head[TO + LENGTH] = {(uint8_t)to};
-    number_put(head + TO, size, LENGTH);
-    if (!bytes_add(&turn->packets, head, sizeof head)) return false;
-    if (bytes_add(&turn->packets, packet, size)) return true;
-    turn->packets.size -= sizeof head;
+bool turn_sends(struct turn *turn, int to, struct packets packets) {
+    const struct batch batch = {to, packets.size};
+    if (!bytes_add(&turn->packets, &batch, sizeof batch)) return false;
+    if (bytes_add(&turn->packets, packets.at, packets.size)) return true;
+    turn->packets.size -= sizeof batch;
     return false;
 }
 
-bool turn_hears(struct bytes *heard, const uint8_t *packet, size_t size) {
-    const sblog_label label = pace_label(packet, size);
-    return !pace_learns(&label) || bytes_add(heard, &label, sizeof label);
-}
-
 void turn_goes(const struct turn *turn, struct pace *pace, uint64_t now) {
-    int places[PROCESS_LIMIT + 1] = {0};
+    struct batch batch;
     if (turn->is_tick) pace_tick_begins(pace, now);
-    const uint8_t *at = turn->packets.at, *end = at ? at + turn->packets.size : at;
-    for (size_t size; at < end; at += TO + LENGTH + size) {
-        size = number_at(at + TO, LENGTH);
-        if (turn->is_tick) pace_tick_sends(pace, *at, at + TO + LENGTH, size, places[*at]++, now);
-        else pace_send(pace, *at, at + TO + LENGTH, size, now);
+    for (size_t at = 0; at < turn->packets.size; at += sizeof batch + batch.size) {
+        memcpy(&batch, turn->packets.at + at, sizeof batch);
+        const struct packets packets = {turn->packets.at + at + sizeof batch, batch.size};
+        if (turn->is_tick) pace_tick_sends(pace, batch.to, packets, now);
+        else pace_send(pace, batch.to, packets, now);
     }
-    const sblog_label *heard = (const sblog_label *)(const void *)turn->heard.at;
+    const struct news *heard = (const struct news *)(const void *)turn->heard.at;
     for (size_t i = 0; i < turn->heard.size / sizeof *heard; i++) pace_hear(pace, &heard[i], now);
 }
 

@@ -30,9 +30,8 @@ struct turn *turn_new(uint64_t until);
 void turn_end(struct turn *turn);
 bool turn_is_empty(const struct turn *turn);
 
-/* A packet is to be sent; one that came is learned from. False without memory. */
-bool turn_sends(struct turn *turn, int to, const uint8_t *packet, size_t size);
-bool turn_hears(struct bytes *heard, const uint8_t *packet, size_t size);
+/* Packets are to be sent to a process; false without memory. */
+bool turn_sends(struct turn *turn, int to, struct packets packets);
 
 /* Its packets go, and the pace learns from what came. */
 void turn_goes(const struct turn *turn, struct pace *pace, uint64_t now);

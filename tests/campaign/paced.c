@@ -7,7 +7,7 @@
 #include <stdlib.h>
 #include <string.h>
 
-enum { MESSAGES = 6000, TICKS = 3000, PEER = 1, SIZE = sizeof(sblog_label) };
+enum { MESSAGES = 6000, TICKS = 3000, PEER = 1, SIZE = sizeof(sblog_label), ONE = PACKETS_LENGTH + SIZE, MOST = 5 };
 
 static struct {
     struct pace pace;
@@ -20,11 +20,19 @@ uint64_t clock_now(void) { return model.now; }
 
 static bool is_lost(void) { return rand() % 100 < model.loss; }
 
-/* A packet of the model is its label. */
-static const uint8_t *delivery_of(uint64_t ssn) {
-    static sblog_label label;
-    label = (sblog_label){.kind = SBLOG_PACKET_DELIVERY, .to = PEER, .ssn = ssn};
-    return (const uint8_t *)&label;
+/* Puts a packet, which in the model is its label, after the others. */
+static void put(uint8_t *all, size_t *size, const sblog_label *label) {
+    number_put(all + *size, SIZE, PACKETS_LENGTH);
+    memcpy(all + *size + PACKETS_LENGTH, label, SIZE);
+    *size += ONE;
+}
+
+/* So many messages from this SSN on. */
+static struct packets deliveries(uint64_t ssn, uint64_t count) {
+    static uint8_t all[MOST * ONE];
+    size_t size = 0;
+    for (uint64_t end = ssn + count; ssn < end; ssn++) put(all, &size, &(sblog_label){.kind = SBLOG_PACKET_DELIVERY, .to = PEER, .ssn = ssn});
+    return (struct packets){all, size};
 }
 
 uint32_t sblog_packet_label(const uint8_t *packet, size_t packet_len, sblog_label *label, uint32_t *fault) {
@@ -34,35 +42,49 @@ uint32_t sblog_packet_label(const uint8_t *packet, size_t packet_len, sblog_labe
 }
 
 /* The peer takes the next one, and says again what it has. */
-void transport_send(struct transport *transport, int to, const uint8_t *packet, size_t size) {
-    const sblog_label label = pace_label(packet, size);
+void transport_send(struct transport *transport, int to, struct packets packets) {
+    const uint8_t *packet;
+    sblog_label label;
     (void)transport, (void)to;
-    if (is_lost() || label.ssn > model.got + 1) return;
-    if (label.ssn == model.got + 1) model.got++;
-    model.has_news |= !is_lost();
+    while (packets_next(&packets, &packet) > 0) {
+        memcpy(&label, packet, SIZE);
+        if (is_lost() || label.ssn > model.got + 1) continue;
+        if (label.ssn == model.got + 1) model.got++;
+        model.has_news |= !is_lost();
+    }
 }
 
-/* What the peer has is heard, until nothing more comes of that. */
+/* What the peer has is heard, in the midst of what tells nothing, until nothing more comes of that. */
 static void hear(void) {
+    struct news news;
+    uint8_t all[3 * ONE];
     while (model.has_news && model.numbered < model.got) {
+        size_t size = 0;
         model.has_news = false;
+        put(all, &size, &(sblog_label){.kind = SBLOG_PACKET_NUMBER, .from = PEER, .ssn = model.numbered});
         model.numbered = model.got;
-        pace_hear(&model.pace, &(sblog_label){.kind = SBLOG_PACKET_NUMBER, .from = PEER, .ssn = model.numbered}, ++model.now);
+        put(all, &size, &(sblog_label){.kind = SBLOG_PACKET_NUMBER, .from = PEER, .ssn = model.numbered});
+        put(all, &size, &(sblog_label){.kind = SBLOG_PACKET_ASK, .from = PEER});
+        if (pace_reads(&model.pace, PEER, (struct packets){all, size}, &news)) pace_hear(&model.pace, &news, ++model.now);
     }
     model.has_news = false;
 }
 
 static void put_out(uint64_t count) {
-    for (; count > 0 && model.put_out < MESSAGES; count--)
-        pace_send(&model.pace, PEER, delivery_of(++model.put_out), SIZE, model.now);
+    for (uint64_t some; count > 0 && model.put_out < MESSAGES; count -= some) {
+        some = count < MOST ? count : MOST;
+        if (some > MESSAGES - model.put_out) some = MESSAGES - model.put_out;
+        pace_send(&model.pace, PEER, deliveries(model.put_out + 1, some), model.now);
+        model.put_out += some;
+    }
 }
 
 static void tick(void) {
-    int place = 0;
+    uint64_t ssn = model.numbered + 1;
     model.now += 1000000;
     pace_tick_begins(&model.pace, model.now);
-    for (uint64_t ssn = model.numbered + 1; ssn <= model.put_out && place < TICK; ssn++)
-        pace_tick_sends(&model.pace, PEER, delivery_of(ssn), SIZE, place++, model.now);
+    for (int place = 0; ssn <= model.put_out && place < TICK; ssn++, place++)
+        pace_tick_sends(&model.pace, PEER, deliveries(ssn, 1), model.now);
 }
 
 static int run(int count, int loss, uint64_t burst) {
@@ -96,7 +118,7 @@ static int spreads(void) {
     memset(&model, 0, sizeof model);
     model.loss = 100;
     pace_begin(&model.pace, &transport, SHORTEST);
-    pace_send(&model.pace, PEER, delivery_of(1), SIZE, model.now);
+    pace_send(&model.pace, PEER, deliveries(1, 1), model.now);
     for (uint64_t tries = 0, pause = SHORTEST, last = 0; tries < TRIES; tries++) {
         uint64_t due = pace_due(&model.pace), took = due - model.now;
         wrong += took < pause || took > pause + pause / 4;
@@ -106,7 +128,7 @@ static int spreads(void) {
         model.now = due;
         if (pause < LONGEST * SHORTEST) pause *= 2;
         pace_tick_begins(&model.pace, model.now);
-        pace_tick_sends(&model.pace, PEER, delivery_of(1), SIZE, 0, model.now);
+        pace_tick_sends(&model.pace, PEER, deliveries(1, 1), model.now);
     }
     bool is_right = wrong == 0 && longer > TRIES / 4 && longer < TRIES * 3 / 4;
     if (!is_right) fprintf(stderr, "%d pauses are wrong, and %d of %d long\n", wrong, longer, TRIES);
