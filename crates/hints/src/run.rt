@@ -16,7 +16,12 @@ const WAITS: &str = "it waits for acknowledgements: drive N above this line send
 
 const DOWN: &str = "$a is down, and what is sent to it waits: recover $a, drive N bring it back";
 
+const BESIDE: &str = "$a is down, and $b isn't up: alone $a, drive N bring $a back";
+
 const PEER: &str = "$b is down: recover $b comes first, or if $a is down too, alone $a, drive N";
+
+const WAITING: &str =
+    "$b is on its way back, and may wait for $a: alone $a, drive N in place of this line bring $a back";
 
 const UNSENT: &str =
     "$a has sent $b no message $n (each receiver's are numbered from 1): drive N makes it work";
@@ -65,6 +70,7 @@ fn phase_words(told: &Told, phase: PhaseName) -> &'static str {
         }
         (Refusal::NotUp, PhaseName::Down) => "$a is down: recover $a, drive N above this line",
         (Refusal::PeerNotUp, PhaseName::Down) => PEER,
+        (Refusal::PeerNotUp, _) if matches!(&told.order, Order::Recover { .. }) => WAITING,
         (Refusal::PeerNotUp, _) => "$b is on its way back: drive N above this line brings it up",
         (Refusal::NotDown, PhaseName::Up | PhaseName::Busy) => {
             "$a is up: crash $a comes before recover $a"
@@ -122,6 +128,7 @@ fn cause(told: &Told, key: u32) -> (&'static str, u8, u64, u64) {
 fn left(rest: Rest) -> (&'static str, u8, u8, u64) {
     match rest {
         Rest::Down { process } => (DOWN, process, 0, 0),
+        Rest::DownBeside { process, other } => (BESIDE, process, other, 0),
         Rest::Held { process } => ("a job of $a is held: finish $a runs it", process, 0, 0),
         Rest::Full { .. } => (FULL, 0, 0, 0),
         Rest::Next {

@@ -1,3 +1,4 @@
 mod Beginnings
 mod Carried
+mod OpenJobs
 mod Played

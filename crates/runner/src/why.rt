@@ -3,10 +3,11 @@
 ghost use Rattle.std.specs.Prelude.{◌≡◌, true};
 ghost use Rattle.runner.specs.Why.{AreKept, Holds, IsAct};
 
+use crate::rest::other_not_up;
 use hints::{Act, Told, Why, named_in};
 use scenario::{Order, Step};
 use sessions::Service;
-use world::{Call, PhaseName, Refusal};
+use world::{Call, Refusal};
 
 /// How many refused orders a hint explains at most.
 const TOLD: usize = 16;
@@ -61,13 +62,10 @@ fn peer_of(session: &Service, order: &Order) -> Why
         return phase_of(session, peer);
     }
     let (but, _) = named_in(order);
-    for process in 1..session.count() + 1 {
-        let phase = session.phase(process);
-        if process != but && !matches!(phase, PhaseName::Up | PhaseName::Busy) {
-            return Why::Phase { process, phase };
-        }
+    match other_not_up(session, but) {
+        Some(process) => phase_of(session, process),
+        None => Why::Number,
     }
-    Why::Number
 }
 
 /// What became of the message of an order.
