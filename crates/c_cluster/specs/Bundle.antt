@@ -62,8 +62,8 @@ IsReceivedAll Does bundle tally old new =
     (packets : List (List ℕ)) × IsBundle packets bundle × InOrder Does packets (old, none_counted) (new, tally)
 
 -- so it is with the packets at the front of some bytes
-pub record IsFrontReceived {S : Type 0} (Does : List ℕ → Counting S → Counting S → Type 0) (bytes : List ℕ) (old new : Option S) (tally : BundleTally)
-    : Type 0 where
+pub record IsFrontReceived {S : Type 0} (Does : List ℕ → Counting S → Counting S → Type 0) (bytes : List ℕ) (old new : Option S)
+    (tally : BundleTally) : Type 0 where
   pub packets : List (List ℕ)
   pub rest : List ℕ
   pub each : AllByRecursion IsPart packets
@@ -87,8 +87,8 @@ pub record GivesAll {S : Type 0} (Gives : NodePacket → S → S → Type 0) (ou
   pub is_bundle : IsBundle packets bundle
   pub copied : IsCopied bundle out out' size
 
--- no packet more is taken that goes to this process: none waits, the next one goes elsewhere, or it doesn't fit a buffer of this size from a
--- place on
+-- no packet more is taken that goes to this process: none waits, the next one goes elsewhere, or it doesn't fit a buffer of this size from
+-- a place on
 abbrev pub IsNoMore : Type 0 → (ℕ → List ℕ → Type 0) → ℕ → ℕ → ℕ → Type 0
 IsNoMore None Waits to at size = None ⊎ ((next : ℕ) × (packet : List ℕ) × Waits next packet × ((next ≢ to) ⊎ ¬ FitsFrom at size packet))
 
