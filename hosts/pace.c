@@ -151,7 +151,7 @@ struct stretch {
 
 static struct stretch stretch_of(struct packets packets) {
     struct stretch stretch = {0};
-    const uint8_t *packet, *first, *last;
+    const uint8_t *packet = NULL, *first, *last;
     stretch.size = packets_next(&packets, &packet);
     first = packet;
     do {
@@ -175,24 +175,23 @@ static sblog_label label_in(const struct stretch *stretch, size_t place, const u
 
 /* Those that go and follow each other go together. */
 static void send_on(struct pace *pace, int to, struct packets packets, bool is_of_tick, uint64_t now) {
-    struct packets going = {packets.at, 0};
+    struct packets going = {packets.at, 0}, rest = packets;
     struct stretch stretch = {0};
     const uint8_t *packet;
     if (to > pace->transport->cluster->count) return;
-    for (size_t size, place = 0; packets.size > 0; place++) {
+    for (size_t size, place = 0; (size = packets_next(&rest, &packet)) > 0; packets = rest, place++) {
         if (place == stretch.count) {
             stretch = stretch_of(packets);
             place = 0;
         }
-        size = packets_next(&packets, &packet);
         const sblog_label label = label_in(&stretch, place, packet);
-        const struct packets one = {going.at + going.size, PACKETS_LENGTH + size};
+        const struct packets one = {packets.at, PACKETS_LENGTH + size};
         if (goes(&pace->flows[to], &label, one, is_of_tick, now)) {
             going.size += one.size;
             continue;
         }
         transport_send(pace->transport, to, going);
-        going = (struct packets){packets.at, 0};
+        going = (struct packets){rest.at, 0};
     }
     transport_send(pace->transport, to, going);
 }
