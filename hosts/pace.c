@@ -14,8 +14,8 @@ struct waiting {
     size_t size;
 };
 
-/* Puts a copy at the end. A message that finds no room or no memory is lost. */
-static void hold(struct held *held, uint64_t ssn, struct packets message) {
+/* Puts a copy at the end; false if there is no room or no memory. */
+static bool hold(struct held *held, uint64_t ssn, struct packets message) {
     struct bytes *bytes = &held->bytes;
     const struct waiting head = {ssn, message.size};
     if (held->from > STALE && held->from > bytes->size / 2) {
@@ -23,10 +23,11 @@ static void hold(struct held *held, uint64_t ssn, struct packets message) {
         memmove(bytes->at, bytes->at + held->from, bytes->size);
         held->from = 0;
     }
-    if (held->count == HELD_LIMIT || !bytes_fit(&bytes->at, &bytes->room, bytes->size + sizeof head + message.size)) return;
+    if (held->count == HELD_LIMIT || !bytes_fit(&bytes->at, &bytes->room, bytes->size + sizeof head + message.size)) return false;
     bytes_add(bytes, &head, sizeof head);
     bytes_add(bytes, message.at, message.size);
     held->count++;
+    return true;
 }
 
 /* The first one, and that it waits no more. */
@@ -115,16 +116,23 @@ static void learn_from_tick(struct flow *flow, uint64_t ssn, uint64_t now) {
     if (++flow->again == TICK && ssn > flow->newest) flow->refill = ssn;
 }
 
-/* Whether a message goes now. One beyond the window is held, unless it waits already. One of a tick that was sent goes again if its
-   answer is late; one within the window goes on, since it may have been lost when too many waited. */
+/* A message waits, if it doesn't already. If it can't, or one before it couldn't, a tick brings both once those before are answered. */
+static void waits(struct flow *flow, uint64_t ssn, struct packets message, bool is_of_tick) {
+    bool is_next = is_of_tick || flow->newest == 0 || ssn <= flow->newest + 1;
+    if (is_of_tick && ssn <= flow->newest) return;
+    if (!is_next || !hold(&flow->held, ssn, message)) flow->refill = flow->newest;
+    else if (ssn > flow->newest) flow->newest = ssn;
+}
+
+/* Whether a message goes now. One beyond the window waits. One of a tick that was sent goes again if its answer is late. */
 static bool message_goes(struct flow *flow, uint64_t ssn, struct packets message, bool is_of_tick, uint64_t now) {
     if (is_of_tick) learn_from_tick(flow, ssn, now);
     else if (!flow->is_known) flow->answered = ssn - 1;
     flow->is_known = true;
     bool is_again = is_of_tick && ssn <= flow->sent, is_beyond = !is_again && ssn > flow->answered + flow->window;
-    if (is_beyond && !(is_of_tick && ssn <= flow->newest)) hold(&flow->held, ssn, message);
-    if (ssn > flow->newest) flow->newest = ssn;
+    if (is_beyond) waits(flow, ssn, message, is_of_tick);
     if (is_beyond || (is_again && !flow->is_late)) return false;
+    if (ssn > flow->newest) flow->newest = ssn;
     is_sent(flow, ssn, now);
     return true;
 }
@@ -151,7 +159,7 @@ struct stretch {
 
 static struct stretch stretch_of(struct packets packets) {
     struct stretch stretch = {0};
-    const uint8_t *packet, *first, *last;
+    const uint8_t *packet = NULL, *first, *last;
     stretch.size = packets_next(&packets, &packet);
     first = packet;
     do {
@@ -175,24 +183,23 @@ static sblog_label label_in(const struct stretch *stretch, size_t place, const u
 
 /* Those that go and follow each other go together. */
 static void send_on(struct pace *pace, int to, struct packets packets, bool is_of_tick, uint64_t now) {
-    struct packets going = {packets.at, 0};
+    struct packets going = {packets.at, 0}, rest = packets;
     struct stretch stretch = {0};
     const uint8_t *packet;
     if (to > pace->transport->cluster->count) return;
-    for (size_t size, place = 0; packets.size > 0; place++) {
+    for (size_t size, place = 0; (size = packets_next(&rest, &packet)) > 0; packets = rest, place++) {
         if (place == stretch.count) {
             stretch = stretch_of(packets);
             place = 0;
         }
-        size = packets_next(&packets, &packet);
         const sblog_label label = label_in(&stretch, place, packet);
-        const struct packets one = {going.at + going.size, PACKETS_LENGTH + size};
+        const struct packets one = {packets.at, PACKETS_LENGTH + size};
         if (goes(&pace->flows[to], &label, one, is_of_tick, now)) {
             going.size += one.size;
             continue;
         }
         transport_send(pace->transport, to, going);
-        going = (struct packets){packets.at, 0};
+        going = (struct packets){rest.at, 0};
     }
     transport_send(pace->transport, to, going);
 }

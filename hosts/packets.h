@@ -14,6 +14,13 @@ struct packets {
 };
 
 /* Takes the first one; its size, 0 if there is none. */
-size_t packets_next(struct packets *packets, const uint8_t **packet);
+static inline size_t packets_next(struct packets *packets, const uint8_t **packet) {
+    size_t size = packets->size < PACKETS_LENGTH ? 0 : packets->at[0] | (size_t)packets->at[1] << 8;
+    if (size == 0 || size > packets->size - PACKETS_LENGTH) return 0;
+    *packet = packets->at + PACKETS_LENGTH;
+    packets->at += PACKETS_LENGTH + size;
+    packets->size -= PACKETS_LENGTH + size;
+    return size;
+}
 
 #endif
