@@ -16,9 +16,10 @@ from listening import HERE, PROCESSES, begin, connect, works
 PORT = 17740  # of figures
 
 
-def told(words, status=0):
+def told(words, *statuses):
+    """What a program with these words says, which ends with one of these statuses, or with 0."""
     done = subprocess.run([program_path(), *words], stdin=subprocess.DEVNULL, capture_output=True, text=True, timeout=20)
-    if done.returncode not in (status if isinstance(status, tuple) else (status,)):
+    if done.returncode not in (statuses or (0,)):
         raise Wrong(f"{words}: status {done.returncode}, {done.stderr!r}")
     return done.stdout, done.stderr.splitlines()
 

@@ -59,7 +59,7 @@ def rests(cluster):
         ends(cluster)
         out = os.path.join(cluster.folder, "state")
         words = [[*node.command()[1:], "--export", f"{out}.{node.name}.{pause}"] for node in cluster.nodes]
-        if all(told(it, (0, 1))[0].endswith(STILL + "\n") for it in words):
+        if all(told(it, 0, 1)[0].endswith(STILL + "\n") for it in words):
             refuses(cluster.nodes[0], 7, "it is the store of another process", "--export", out, "--store", cluster.gateway.store)
             return
         begins(cluster)
