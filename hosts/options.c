@@ -99,7 +99,7 @@ static bool read_option(int option, const char *text, struct options *options) {
     case SANDBOX: options->sandbox = true; break;
     case CHECK: options->looks = true; break;
     case INSPECT: options->inspected = text; break;
-    case EXPORT: options->exported = text; break;
+    case EXPORT: options->exported = text; return *text;
     case TLS: options->tls = text; break;
     case LISTEN: return read_address(text, CARRIER_TLS, &options->listen);
     case METRICS: return read_address(text, CARRIER_TCP, &options->metrics);
