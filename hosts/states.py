@@ -1,8 +1,10 @@
 """States leave the stores of a cluster that was stopped, and a new cluster begins with them."""
 import os
+import subprocess
 import sys
 import time
 
+from disk import preload
 from lives import Cluster, Wrong
 from listening import HERE, tells
 from looks import files_of, holds, told
@@ -65,6 +67,16 @@ def rests(cluster):
         begins(cluster)
         time.sleep(0.1 * pause)
     raise Wrong("messages stay under way")
+
+
+def dies(node, folder):
+    """A file that isn't whole and durable has no name."""
+    out, library = os.path.join(folder, "dead"), preload(folder)
+    for call in ("fsync", "rename"):
+        environment = {**os.environ, "LD_PRELOAD": library, "DIE_ON": call, "DIE_AT": "1"}
+        done = subprocess.run([*node.command(), "--export", out], env=environment, capture_output=True)
+        if done.returncode != -9 or os.path.exists(out):
+            raise Wrong(f"--export that dies at {call} ends with {done.returncode}, or leaves a file")
 
 
 def leaves(cluster, made, folder):
@@ -174,6 +186,7 @@ def moves(folder, words):
         stays_under_way(old, made, [next(transfers) for _ in range(20)])
         is_refused(old, os.path.join(folder, "none"))
     rests(old)
+    dies(old.nodes[0], folder)
     leaves(old, made, new.folder)
     with_states(new)
     judges(new)
