@@ -3,6 +3,7 @@ has whole clusters."""
 import itertools
 import os
 import signal
+import subprocess
 import time
 
 from disk import preload, read
@@ -69,6 +70,10 @@ def hangs(node, number, status, seconds):
         raise Wrong(f"{node.name} doesn't wait for its disk")
     if seconds < LIMIT:
         node.child.send_signal(number)
+    try:
+        node.child.wait(2 * LIMIT)
+    except subprocess.TimeoutExpired as over:
+        raise Wrong(f"{node.name} waits for its disk without an end") from over
     ends(node, status)
     if not seconds - 1 < time.monotonic() - began < seconds + LIMIT / 2:
         raise Wrong(f"{node.name} ended after {time.monotonic() - began} seconds")

@@ -8,7 +8,7 @@ use Rattle.byteorder.specs.Numbers.{little_number-reads_back, length-bytes_low_f
 use Rattle.operations.specs.Bytes.{overwritten}
 use Rattle.packets.specs.declared.packet.NodePacket.{NodePacket}
 use Rattle.packets.specs.Format.{IsPacket, packet_bytes}
-use Rattle.c_cluster.specs.Bundle.{IsPart, IsBundle, part_bytes, BeginsWithNone, FitsFrom, InOrder}
+use Rattle.c_cluster.specs.Bundle.{IsPart, IsBundle, part_bytes, BeginsWithNone, FitsFrom, InOrder, GivesTo, GivesNext}
 use Rattle.c_handles.proofs.Overwritten.{overwritten_none, put_more}
 
 -- the first two bytes of a part tell its length
@@ -144,3 +144,12 @@ more_laid out mid out' end end' count count' packets packet l some fits written 
       count_is = omega (arith, c, l.count_is, length-append packets (packet ∷ []));
       few = omega (arith, c, l.few, e, size);
     }
+
+-- one more is given and written
+pub next_laid : {S : Type 0} (Gives : NodePacket → S → S → Type 0) (out mid out' : List ℕ) (end end' count to : ℕ) (packets : List (List ℕ)) (a b c : S) → Laid out mid end count packets → InOrder (GivesTo Gives to) packets a b → length mid ≡ length out
+    → GivesNext Gives mid out' end end' to b c → (all : List (List ℕ)) × Laid out out' end' (count + 1) all × InOrder (GivesTo Gives to) all a c
+next_laid Gives out mid out' end end' count to packets a b c laid given same g = (
+  packets ++ g.packet ∷ [],
+  more_laid out mid out' end end' count (count + 1) packets g.packet laid (packet_some g.given.0 g.packet g.given.1) g.fits g.written g.end_is same refl,
+  one_more (GivesTo Gives to) packets g.packet a b c given g.given,
+)

@@ -1,9 +1,10 @@
 -- The packets of a bundle (docs/FORMATS.md, "Bundle"), and what is done with each
-use Rattle.std.specs.Prelude.{◌≡◌, ℕ, ◌+◌, ◌^◌, ◌<◌, ◌≤◌, List, [], ◌∷◌, ◌++◌, length, Option}
+use Rattle.std.specs.Prelude.{◌≡◌, ◌≢◌, ◌⊎◌, ℕ, ◌+◌, ◌^◌, ◌<◌, ◌≤◌, List, [], ◌∷◌, ◌++◌, length, Option}
 use Rattle.std.specs.List.{flat_map, AllByRecursion}
 use Rattle.byteorder.specs.Endian.{little_bytes}
 use Rattle.packets.specs.declared.packet.NodePacket.{NodePacket}
 use Rattle.packets.specs.Format.{IsPacket}
+use Rattle.operations.specs.Bytes.{overwritten}
 use Rattle.c_handles.specs.Buffer.{IsCopied}
 use Rattle.c_cluster.specs.declared.bundle.BundleTally.{BundleTally}
 
@@ -61,8 +62,8 @@ IsReceivedAll Does bundle tally old new =
     (packets : List (List ℕ)) × IsBundle packets bundle × InOrder Does packets (old, none_counted) (new, tally)
 
 -- so it is with the packets at the front of some bytes
-pub record IsFrontReceived {S : Type 0} (Does : List ℕ → Counting S → Counting S → Type 0) (bytes : List ℕ) (old new : Option S) (tally : BundleTally)
-    : Type 0 where
+pub record IsFrontReceived {S : Type 0} (Does : List ℕ → Counting S → Counting S → Type 0) (bytes : List ℕ) (old new : Option S)
+    (tally : BundleTally) : Type 0 where
   pub packets : List (List ℕ)
   pub rest : List ℕ
   pub each : AllByRecursion IsPart packets
@@ -85,3 +86,16 @@ pub record GivesAll {S : Type 0} (Gives : NodePacket → S → S → Type 0) (ou
   pub given : InOrder (GivesTo Gives to) packets old new
   pub is_bundle : IsBundle packets bundle
   pub copied : IsCopied bundle out out' size
+
+-- no packet more is taken that goes to this process: none waits, the next one goes elsewhere, or it doesn't fit a buffer of this size from
+-- a place on
+abbrev pub IsNoMore : Type 0 → (ℕ → List ℕ → Type 0) → ℕ → ℕ → ℕ → Type 0
+IsNoMore None Waits to at size = None ⊎ ((next : ℕ) × (packet : List ℕ) × Waits next packet × ((next ≢ to) ⊎ ¬ FitsFrom at size packet))
+
+-- the first packet that waits is taken, which goes to this process: it is written from a place on, and ends there
+pub record GivesNext {S : Type 0} (Gives : NodePacket → S → S → Type 0) (out out' : List ℕ) (at end to : ℕ) (old new : S) : Type 0 where
+  pub packet : List ℕ
+  pub fits : FitsFrom at (length out) packet
+  pub given : GivesTo Gives to packet old new
+  pub written : out' ≡ overwritten out at (part_bytes packet)
+  pub end_is : end ≡ at + length (part_bytes packet)

@@ -19,7 +19,8 @@ use Rattle.node_laws.specs.Outputs.{NoGap, GoOn, AreBehind, SayTheSame}
 use Rattle.process.specs.Process.{TheProcess}
 use Rattle.node_laws.specs.HostProcess.{as_process}
 use Rattle.node_laws.specs.HostReplies.{answering}
-use Rattle.node_laws.specs.HostSystem.{System, Opens, new_system, HostCall, Gave, GaveBytes, Resumed, Died, Revived, Outside, as_lives, AreCalls}
+use Rattle.node_laws.specs.HostSystem.{System, Opens, new_system, HostCall, Gave, GaveBytes, Resumed, Died, Revived, Outside, as_lives}
+use Rattle.node_laws.specs.HostSystem.{AreCalls}
 use Rattle.node_laws.specs.HostSystem.{after_call, after_calls}
 
 -- the first n processes are the same in both systems, and so are what is stored of them, their incarnations, the gateway and the packets

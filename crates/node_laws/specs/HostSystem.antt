@@ -25,7 +25,8 @@ use Rattle.process.specs.Revival.{IsOpened, IsRevived}
 use Rattle.process.specs.Checkpoints.{IsSavable, Keeps}
 use Rattle.process.specs.Suspension.{Suspends, IsResumed}
 use Rattle.process.specs.Work.{job_at, answer_to, Works}
-use Rattle.node_laws.specs.HostProcess.{Absent, Pending, Durable, Hosted, Runs, Killed, Alive, Has, Asleep, goes_on, sleeps, keeps, as_process}
+use Rattle.node_laws.specs.HostProcess.{Absent, Pending, Durable, Hosted, Runs, Killed, Alive, Has, Asleep, goes_on, sleeps, keeps}
+use Rattle.node_laws.specs.HostProcess.{as_process}
 use Rattle.node_laws.specs.HostReplies.{answering}
 
 -- the processes by number; for each the bytes that its host has stored, and the greatest incarnation; the gateway, and the gateway that its
@@ -131,8 +132,8 @@ ResumesAs image limits bytes new = (same : AnyImage) × ((as_image same ≡ as_i
 
 -- each call does what the contract of its function says. A packet that is handed over was given, at any time, and may be handed over again.
 -- A host stores the bytes of the checkpoint for which the process waits, and tells it once they are stored. A process comes back from its
--- stored bytes, with the same handler, in an incarnation above all that were stored. One that was suspended isn't called until it is resumed
--- or killed. So it is resumed at most once, and not if it came back from its stored bytes
+-- stored bytes, with the same handler, in an incarnation above all that were stored. One that was suspended isn't called until it is
+-- resumed or killed. So it is resumed at most once, and not if it came back from its stored bytes
 abbrev pub DoesIt : (ℕ → AnyImage) → ℕ → System → HostCall → Type 0
 DoesIt images n s (Gave p x new) = IsFirst n p × Alive (λ old. Stays (Takes (Some x)) old new) (s.processes p)
 DoesIt images n s (GaveBytes p x bytes new) = IsFirst n p × (IsPacket x bytes × Alive (λ old. GivesBytes bytes old new) (s.processes p))

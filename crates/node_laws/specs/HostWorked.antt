@@ -1,5 +1,6 @@
--- A worked list of calls of hosts: the only process of a cluster receives three messages. After the first its checkpoint is stored, and it is
--- suspended and resumed. It is killed when two are acknowledged; it is revived from its checkpoint, replays two, and is up with all three
+-- A worked list of calls of hosts: the only process of a cluster receives three messages. After the first its checkpoint is stored, and it
+-- is suspended and resumed. It is killed when two are acknowledged; it is revived from its checkpoint, replays two, and is up with all
+-- three
 use Rattle.std.specs.Prelude.{◌≡◌, ℕ, List, [], ◌∷◌, ◌++◌, length, take, pos}
 use Rattle.decode.specs.declared.insn.Reg.{Reg}
 use Rattle.decode.specs.declared.insn.Size.TheVariants.{Byte}
@@ -27,7 +28,8 @@ use Rattle.process.specs.declared.lifecycle.Lifecycle.{Lifecycle}
 use Rattle.process.specs.declared.lifecycle.Lifecycle.TheVariants.{Up, Collecting, Replaying, Restoring}
 use Rattle.process.specs.Process.{TheProcess}
 use Rattle.node_laws.specs.HostProcess.{Absent, Runs, Sleeps}
-use Rattle.node_laws.specs.HostSystem.{System, Opens, new_system, HostCall, Gave, Handed, Worked, Froze, Stored, Saved, Suspended, Resumed, Died, Revived}
+use Rattle.node_laws.specs.HostSystem.{System, Opens, new_system, HostCall, Gave, Handed, Worked, Froze, Stored, Saved, Suspended, Resumed}
+use Rattle.node_laws.specs.HostSystem.{Died, Revived}
 use Rattle.node_laws.specs.HostSystem.{Outside, AreCalls, after_calls}
 use Rattle.node_laws.specs.HostLives.{StayExact, OneAtATime}
 
@@ -141,14 +143,16 @@ abbrev pub later : AnyImage → List ℕ → List ℕ → ℕ → System
 later image stored bytes k = after_calls (opened image stored) (before image bytes ++ take k (behind image))
 
 -- with these bytes of its opening and of its checkpoint they are such calls, from an opening on; the process is killed alone, and stays
--- exact. After fifteen calls it is suspended, and after one more it runs again as it was. When it is killed it has three messages, of which two are acknowledged without a gap. It collects, until a call after which it has
--- two to replay. Then it is up in its second incarnation, with all three and the state that it had
+-- exact. After fifteen calls it is suspended, and after one more it runs again as it was. When it is killed it has three messages, of
+-- which two are acknowledged without a gap. It collects, until a call after which it has two to replay. Then it is up in its second
+-- incarnation, with all three and the state that it had
 pub record IsWorked (image : AnyImage) (stored bytes : List ℕ) : Type 0 where
   pub opens : Opens 1 (λ _. image) (λ _. usual) (λ _. process image (Up n0)) (λ _. 0 ∷ []) (λ _. stored)
   pub calls : AreCalls (λ _. image) 1 (opened image stored) (before image bytes ++ behind image)
   pub alone : OneAtATime 1 (opened image stored) (before image bytes ++ behind image)
   pub exact : StayExact 1 (opened image stored) (before image bytes ++ behind image)
-  pub sleeps : (after_calls (opened image stored) (take 15 (before image bytes))).processes 1 ≡ Sleeps (process image (Up (quiet n5))) (suspended_bytes (quiet n5))
+  pub sleeps : (after_calls (opened image stored) (take 15 (before image bytes))).processes 1
+      ≡ Sleeps (process image (Up (quiet n5))) (suspended_bytes (quiet n5))
   pub wakes : (after_calls (opened image stored) (take 16 (before image bytes))).processes 1 ≡ Runs (process image (Up (quiet n5))) Absent
   pub was_up : (after_calls (opened image stored) (before image bytes)).processes 1 ≡ Runs (process image (Up n10)) Absent
   pub had : length_of n10 ≡ 3

@@ -1,5 +1,5 @@
--- A worked list of calls with messages: the only process of a cluster receives three. After the first it keeps a checkpoint, and is suspended
--- and resumed. It is killed when two are acknowledged, and comes back with all, of which it replays two
+-- A worked list of calls with messages: the only process of a cluster receives three. After the first it keeps a checkpoint, and is
+-- suspended and resumed. It is killed when two are acknowledged, and comes back with all, of which it replays two
 use Rattle.std.specs.Prelude.{◌≡◌, ℕ, List, [], ◌∷◌, Some, true, false}
 use Rattle.packets.specs.declared.packet.Body.TheVariants.{Delivery, Number, Acknowledgement, Saved, Ask, Told, Resume, Restored}
 use Rattle.packets.specs.declared.packet.NodePacket.{NodePacket}

@@ -131,8 +131,8 @@ pub record ExportsAreCalls : Type 0 where
       → IsMade out out' size (Some old) (Some new) → IsFrozen images n s p out out' size new
   pub saved : (images : ℕ → AnyImage) (n : ℕ) (s : System) (p : ℕ) (old new : TheProcess) → Holds n s p Durable old
       → HasSaved (Some old) (Some new) → DoesIt images n s (Saved p new)
-  pub suspended : (images : ℕ → AnyImage) (n : ℕ) (s : System) (p : ℕ) (w : Checkpoint) (old new : TheProcess) (out out' : List ℕ) (size : ℕ)
-      → Holds n s p w old
+  pub suspended : (images : ℕ → AnyImage) (n : ℕ) (s : System) (p : ℕ) (w : Checkpoint) (old new : TheProcess)
+      (out out' : List ℕ) (size : ℕ) → Holds n s p w old
       → IsWritten out out' size (Some old) (Some new) → IsPutToSleep images n s p out out' size
   pub resumed : (images : ℕ → AnyImage) (n : ℕ) (s : System) (p : ℕ) (file bytes : List ℕ) (l : NodeLimits) (old new : TheProcess)
       → IsFirst n p → s.processes p ≡ Sleeps old bytes → IsImageIn file (images p)

@@ -1,9 +1,9 @@
 //! What the gateway of a handle gives: packets, outputs, its store and changes.
 
-ghost use Rattle.std.specs.Prelude.{◌≡◌, ◌+◌, ℕ, length, MatchResult, OnErr};
+ghost use Rattle.std.specs.Prelude.{◌≡◌, ◌+◌, ℕ, [], length, true, MatchResult, OnErr, IfOk, IfSome, IfNone};
 ghost use Rattle.operations.specs.Bytes.{overwritten};
 ghost use Rattle.gateway.specs.Written.{Waits};
-ghost use Rattle.c_cluster.specs.Bundle.{part_bytes, FitsFrom, GivesTo, GivesAll};
+ghost use Rattle.c_cluster.specs.Bundle.{part_bytes, FitsFrom, GivesTo, GivesAll, GivesNext, IsNoMore};
 ghost use Rattle.c_cluster.specs.Gateways.Bundles.{AreTaken, AreUntaken, GivesNone, Leaves};
 ghost use Rattle.c_cluster.specs.Gateways.Answers.{Does, Results};
 ghost use Rattle.c_cluster.specs.Gateways.Results.{Gives, GivesNot, IsShown, IsStored, IsTaken, IsTold, IsUnshown, IsUnstored, IsUntaken, IsUntold, Shows, ShowsNot, Spells, Tells, WritesNot};
@@ -15,7 +15,7 @@ use crate::gateways::fault::GatewayFault;
 use crate::gateways::handle::GatewayHandle;
 use c_handles::{copy, measure, write};
 use gateway::Gateway;
-use std::alloc::Global;
+use std::alloc::{AllocError, Global};
 
 /// Takes the first packet that waits: writes its bytes, their number, and its receiver.
 fn give(
@@ -57,7 +57,8 @@ pub(crate) fn take(
 }
 
 /// Takes the first packets that wait, as many as go to the same process and fit: writes them as those
-/// of a bundle, and their receiver.
+/// of a bundle, and their receiver. Answers whether these are all: if not, memory ran out for the next
+/// one.
 fn give_all(
     alloc: Global,
     gateway: &mut Gateway,
@@ -65,8 +66,9 @@ fn give_all(
     size: &mut usize,
     to: &mut u8,
     count: &mut u64,
-) -> Result<(), GatewayFault>
-    ensures given { Does result gateway.old gateway.new (GivesAll Leaves out.old out.new size.new to.new count.new) (GivesNone out.old out.new size.old size.new) }
+) -> Result<bool, GatewayFault>
+    ensures given { MatchResult result (λ _. GivesAll Leaves out.old out.new size.new to.new count.new gateway.old gateway.new) (λ why. GivesNone out.old out.new size.old size.new gateway.old why × (gateway.new ≡ gateway.old)) }
+    ensures all { IfOk result (λ all. all ≡ true → IsNoMore (gateway.new.out ≡ []) (λ next packet. Waits next packet gateway.new) to.new size.new (length out.old)) }
     ensures kept { OnErr result ((to.new ≡ to.old) × (count.new ≡ count.old)) }
 {
     let Some((receiver, first)) = gateway.first_bytes(alloc)? else {
@@ -76,19 +78,41 @@ fn give_all(
         *size = LENGTH_BYTES + first.len();
         return Err(GatewayFault::Room);
     }
-    let mut end = give_first(gateway, out, 0, &first);
-    let mut given = 1;
-    while let Ok(Some((next, bytes))) = gateway.first_bytes(alloc) {
-        if next != receiver || !fits(out, end, &bytes) {
-            break;
-        }
-        end = give_first(gateway, out, end, &bytes);
-        given += 1;
-    }
-    *size = end;
+    *size = give_first(gateway, out, 0, &first);
     *to = receiver;
-    *count = given;
-    Ok(())
+    *count = 1;
+    loop {
+        match give_next(alloc, gateway, out, *size, receiver) {
+            Ok(Some(end)) => {
+                *size = end;
+                *count += 1;
+            }
+            Ok(None) => return Ok(true),
+            Err(_) => return Ok(false),
+        }
+    }
+}
+
+/// Writes the first packet that waits at `at`, if it goes to this process and fits, and takes it.
+/// Answers the place after it.
+fn give_next(
+    alloc: Global,
+    gateway: &mut Gateway,
+    out: &mut [u8],
+    at: usize,
+    to: u8,
+) -> Result<Option<usize>, AllocError>
+    ensures given { IfOk result (λ o. IfSome o (λ end. GivesNext Leaves out.old out.new at end to gateway.old gateway.new)) }
+    ensures all { IfOk result (λ o. IfNone o (IsNoMore (gateway.old.out ≡ []) (λ next packet. Waits next packet gateway.old) to at (length out.old) × (gateway.new ≡ gateway.old) × (out.new ≡ out.old))) }
+    ensures kept { OnErr result ((gateway.new ≡ gateway.old) × (out.new ≡ out.old)) }
+{
+    let Some((next, packet)) = gateway.first_bytes(alloc)? else {
+        return Ok(None);
+    };
+    if next != to || !fits(out, at, &packet) {
+        return Ok(None);
+    }
+    Ok(Some(give_first(gateway, out, at, &packet)))
 }
 
 /// Writes the first packet that waits at `at`, after its length, and takes it. Answers the place after
@@ -119,9 +143,12 @@ pub(crate) fn take_all(
     let Some(mut gateway) = handle.take(alloc) else {
         return Err(GatewayFault::Handle);
     };
-    let done = give_all(alloc, &mut gateway, out, size, to, count);
+    let given = give_all(alloc, &mut gateway, out, size, to, count);
     handle.put(gateway);
-    done
+    match given {
+        Ok(_all) => Ok(()),
+        Err(why) => Err(why),
+    }
 }
 
 /// Takes the first output that wasn't taken: writes its process, its SSN, its bytes and their

@@ -1,10 +1,10 @@
 //! What the process of a handle gives: packets, checkpoints, its state.
 
-ghost use Rattle.std.specs.Prelude.{◌≡◌, ◌⊎◌, ◌+◌, ℕ, [], length, MatchResult, OnErr};
+ghost use Rattle.std.specs.Prelude.{◌≡◌, ◌⊎◌, ◌+◌, ℕ, [], length, true, MatchResult, OnErr, IfOk, IfSome, IfNone};
 ghost use Rattle.operations.specs.Bytes.{overwritten};
 ghost use Rattle.process.specs.Process.{out_of};
 ghost use Rattle.c_cluster.specs.declared.nodes.fault.NodeFault.TheVariants.{Memory, Absent};
-ghost use Rattle.c_cluster.specs.Bundle.{part_bytes, FitsFrom, GivesTo, GivesAll};
+ghost use Rattle.c_cluster.specs.Bundle.{part_bytes, FitsFrom, GivesTo, GivesAll, GivesNext, IsNoMore};
 ghost use Rattle.c_cluster.specs.Nodes.Bundles.{Waits, Leaves, AreTaken, LeavesAllIn, AreUntaken};
 ghost use Rattle.c_cluster.specs.Nodes.Answers.{Results};
 ghost use Rattle.c_cluster.specs.Nodes.Results.{IsTaken, IsUntaken, IsMade, IsUnmade, IsRead, IsUnread, TakesOut, LeavesIn, Makes, DoesNotMake};
@@ -76,9 +76,13 @@ pub(crate) fn take_all(
     };
     let taken = take_all_of(alloc, &mut process, out, size, to, count);
     handle.put(process);
-    taken
+    match taken {
+        Ok(_all) => Ok(()),
+        Err(why) => Err(why),
+    }
 }
 
+/// Answers whether these are all: if not, memory ran out for the next one.
 fn take_all_of(
     alloc: Global,
     process: &mut Member,
@@ -86,8 +90,9 @@ fn take_all_of(
     size: &mut usize,
     to: &mut u8,
     count: &mut u64,
-) -> Result<(), NodeFault>
+) -> Result<bool, NodeFault>
     ensures taken { MatchResult result (λ _. GivesAll Leaves out.old out.new size.new to.new count.new process.old process.new) (LeavesAllIn out.old out.new size.old size.new process.old process.new) }
+    ensures all { IfOk result (λ all. all ≡ true → IsNoMore (out_of process.new.lifecycle ≡ []) (λ next packet. Waits next packet process.new) to.new size.new (length out.old)) }
     ensures kept { OnErr result ((to.new ≡ to.old) × (count.new ≡ count.old)) }
 {
     let (receiver, first) = waiting(alloc, process)?;
@@ -95,19 +100,43 @@ fn take_all_of(
         *size = LENGTH_BYTES + first.len();
         return Err(NodeFault::Room);
     }
-    let mut end = give(process, out, 0, &first);
-    let mut taken = 1;
-    while let Ok((next, bytes)) = waiting(alloc, process) {
-        if next != receiver || !fits(out, end, &bytes) {
-            break;
-        }
-        end = give(process, out, end, &bytes);
-        taken += 1;
-    }
-    *size = end;
+    *size = give(process, out, 0, &first);
     *to = receiver;
-    *count = taken;
-    Ok(())
+    *count = 1;
+    loop {
+        match give_next(alloc, process, out, *size, receiver) {
+            Ok(Some(end)) => {
+                *size = end;
+                *count += 1;
+            }
+            Ok(None) => return Ok(true),
+            Err(_) => return Ok(false),
+        }
+    }
+}
+
+/// Writes the first packet that waits at `at`, if it goes to this process and fits, and takes it.
+/// Answers the place after it.
+fn give_next(
+    alloc: Global,
+    process: &mut Member,
+    out: &mut [u8],
+    at: usize,
+    to: u8,
+) -> Result<Option<usize>, NodeFault>
+    ensures given { IfOk result (λ o. IfSome o (λ end. GivesNext Leaves out.old out.new at end to process.old process.new)) }
+    ensures all { IfOk result (λ o. IfNone o (IsNoMore (out_of process.old.lifecycle ≡ []) (λ next packet. Waits next packet process.old) to at (length out.old) × (process.new ≡ process.old) × (out.new ≡ out.old))) }
+    ensures kept { OnErr result ((process.new ≡ process.old) × (out.new ≡ out.old)) }
+{
+    let (next, packet) = match waiting(alloc, process) {
+        Ok(first) => first,
+        Err(NodeFault::Absent) => return Ok(None),
+        Err(why) => return Err(why),
+    };
+    if next != to || !fits(out, at, &packet) {
+        return Ok(None);
+    }
+    Ok(Some(give(process, out, at, &packet)))
 }
 
 /// The first packet that waits: its receiver and its bytes.

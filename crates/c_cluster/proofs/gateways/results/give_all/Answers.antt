@@ -1,13 +1,14 @@
-use Rattle.std.proofs.Common.{rules, ◌≡◌, ◌+◌, ◌∷◌, ◌++◌, [], ℕ, List, length, refl, sym, subst, arith}
+use Rattle.std.proofs.Common.{rules, ◌≡◌, [], ℕ, List, length, refl, sym, subst, arith}
 use Rattle.std.proofs.lemmas.Grind.{common_steps}
-use Rattle.c_cluster.specs.Bundle.{FitsFrom, GivesTo}
-use Rattle.c_cluster.specs.Gateways.Bundles.{Leaves}
+use Rattle.gateway.specs.Gateway.{TheGateway}
 use Rattle.gateway.specs.Written.{Waits}
-use Rattle.c_cluster.proofs.Bundles.{none_laid, more_laid, one_more, packet_some}
+use Rattle.c_cluster.specs.Bundle.{FitsFrom, GivesNext, IsNoMore}
+use Rattle.c_cluster.specs.Gateways.Bundles.{Leaves}
+use Rattle.c_cluster.proofs.Bundles.{none_laid, next_laid}
 use Rattle.c_cluster.proofs.gateways.results.give_all.Goals as goal
 
-pub loop-next-init : goal.loop-next-init
-loop-next-init c =
+pub loop-end-init : goal.loop-end-init
+loop-end-init c =
     let out = c.args.out.now in
     let gateway = c.args.gateway.now in
     let to = c.in-Some.receiver in
@@ -15,23 +16,28 @@ loop-next-init c =
     let first : Waits to c.in-Some.first.items gateway = first_of (search rules, grind (arith, common_steps)) in
     let waits : Waits to bytes gateway = subst (λ (b : List ℕ). Waits to b gateway) (sym c.deref-2.ensures.value) first in
     let fits : FitsFrom 0 (length out) bytes = first_of (search rules, grind (arith, common_steps)) in
-    let given : GivesTo Leaves to bytes gateway c.give_first-end.new.gateway = c.give_first-end.ensures.given to waits in
-    let laid = more_laid out out c.give_first-end.new.out 0 c.give_first-end.result 0 1 [] bytes (none_laid out) (packet_some waits.0 bytes waits.3) fits c.give_first-end.ensures.written c.give_first-end.ensures.end refl refl in
-    (bytes ∷ [], laid, (c.give_first-end.new.gateway, given, refl), omega arith)
+    let one : GivesNext Leaves out c.give_first.new.out 0 c.give_first.result to gateway c.give_first.new.gateway =
+    record { packet = bytes; fits = fits; given = c.give_first.ensures.given to waits; written = c.give_first.ensures.written; end_is = c.give_first.ensures.end } in
+    let all = next_laid Leaves out out c.give_first.new.out 0 c.give_first.result 0 to [] gateway gateway c.give_first.new.gateway (none_laid out) refl refl one in
+    (all.0, all.1, all.2, omega arith, refl)
 
-pub loop-next-preserved : goal.loop-next-preserved
-loop-next-preserved c =
-    let i = c.loop-next.invariant in
+pub loop-end-preserved : goal.loop-end-preserved
+loop-end-preserved c =
+    let i = c.loop-end.invariant in
     let out = c.args.out.now in
-    let mid = c.loop-next.out in
-    let gateway = c.loop-next.gateway in
+    let mid = c.loop-end.out in
     let to = c.in-Some.receiver in
-    let bytes = c.deref-in-Ok-Some.result.now in
-    let next : Waits c.in-Ok-Some.next c.in-Ok-Some.bytes.items gateway = (rw c.in-Ok-Some.field-0-is at c.in-Ok-Some.ensures) in
-    let same : c.in-Ok-Some.next ≡ to = first_of (search rules, grind (arith, common_steps)) in
-    let waits : Waits to bytes gateway = subst (λ (b : List ℕ). Waits to b gateway) (sym c.deref-in-Ok-Some.ensures.value) (subst (λ (n : ℕ). Waits n c.in-Ok-Some.bytes.items gateway) same next) in
-    let fits : FitsFrom c.loop-next.end (length mid) bytes = first_of (search rules, grind (arith, common_steps)) in
-    let given : GivesTo Leaves to bytes gateway c.give_first-end-in-Ok-Some.new.gateway = c.give_first-end-in-Ok-Some.ensures.given to waits in
     let long : length mid ≡ length out = first_of (search rules, grind (arith, common_steps)) in
-    let laid = more_laid out mid c.give_first-end-in-Ok-Some.new.out c.loop-next.end c.give_first-end-in-Ok-Some.result c.loop-next.given (c.loop-next.given + 1) i.0 bytes i.1 (packet_some waits.0 bytes waits.3) fits c.give_first-end-in-Ok-Some.ensures.written c.give_first-end-in-Ok-Some.ensures.end long refl in
-    (i.0 ++ bytes ∷ [], laid, one_more (GivesTo Leaves to) i.0 bytes c.args.gateway.now gateway c.give_first-end-in-Ok-Some.new.gateway i.2 given, omega arith)
+    let one : GivesNext Leaves mid c.give_next.new.out c.loop-end.size c.in-Ok-Some.end to c.loop-end.gateway c.give_next.new.gateway = (rw c.in-Ok-Some.field-0-is at c.in-Ok-Some.ensures.given) in
+    let all = next_laid Leaves out mid c.give_next.new.out c.loop-end.size c.in-Ok-Some.end c.loop-end.count to i.0 c.args.gateway.now c.loop-end.gateway c.give_next.new.gateway i.1 i.2 long one in
+    (all.0, all.1, all.2, omega arith, refl)
+
+pub returns-in-Ok-None-clause-all : goal.returns-in-Ok-None-clause-all
+returns-in-Ok-None-clause-all c all =
+    let old = c.loop-end.gateway in
+    let new = c.give_next.new.gateway in
+    let out = c.loop-end.out in
+    let P : TheGateway → ℕ → Type 0 = λ g size. IsNoMore (g.out ≡ []) (λ next packet. Waits next packet g) c.in-Some.receiver c.loop-end.size size in
+    let none : P old (length out) × (new ≡ old) × (c.give_next.new.out ≡ out) = (rw c.in-Ok-None.field-0-is at c.in-Ok-None.ensures.all) in
+    let long : length out ≡ length c.args.out.now = first_of (search rules, grind (arith, common_steps)) in
+    subst (λ n. P new n) long (subst (λ g. P g (length out)) (sym none.1) none.0)

@@ -1,11 +1,11 @@
-use Rattle.std.proofs.Common.{ℕ, ◌-◌, ◌<◌, List, length}
+use Rattle.std.proofs.Common.{◌≡◌, ℕ, ◌-◌, ◌<◌, List, length}
 use Rattle.c_cluster.specs.Bundle.{InOrder, GivesTo}
 use Rattle.c_cluster.specs.Nodes.Bundles.{Leaves}
 use Rattle.c_cluster.proofs.Bundles.{Laid}
 use Rattle.c_cluster.proofs.nodes.results.take_all_of.Given as goal
 
-abbrev pub invariant-loop-next : goal.invariant-loop-next
-invariant-loop-next l = (packets : List (List ℕ)) × Laid l.fn.out l.out l.end l.taken packets × InOrder (GivesTo Leaves l.receiver) packets l.fn.process l.process × (0 < l.taken)
+abbrev pub invariant-loop-end : goal.invariant-loop-end
+invariant-loop-end l = (packets : List (List ℕ)) × Laid l.fn.out l.out l.size l.count packets × InOrder (GivesTo Leaves l.receiver) packets l.fn.process l.process × (0 < l.count) × (l.to ≡ l.receiver)
 
-abbrev pub decreases-loop-next : goal.decreases-loop-next
-decreases-loop-next l = length l.initial.out - l.end
+abbrev pub decreases-loop-end : goal.decreases-loop-end
+decreases-loop-end l = length l.initial.out - l.size
