@@ -9,7 +9,9 @@
 #include <string.h>
 #include <strings.h>
 
-enum { WORD_LIMIT = 6, FAULT_LIMIT = 20 };
+enum { WORD_LIMIT = 7, FAULT_LIMIT = 20 };
+
+static const char STATE[] = "state=";
 
 /* What is being read, for sentences about it. */
 struct reading {
@@ -37,14 +39,14 @@ static int read_address(const struct reading *at, const char *word, struct addre
     return why ? refused(at, why, word) : STATUS_DONE;
 }
 
-/* An image is named from where the cluster file is. */
-static char *beside(const char *path, const char *image) {
+/* Images and states are named from where the cluster file is. */
+static char *beside(const char *path, const char *name) {
     const char *slash = strrchr(path, '/');
-    size_t folder = *image == '/' || !slash ? 0 : (size_t)(slash - path) + 1;
-    char *joined = malloc(folder + strlen(image) + 1);
+    size_t folder = *name == '/' || !slash ? 0 : (size_t)(slash - path) + 1;
+    char *joined = malloc(folder + strlen(name) + 1);
     if (!joined) return NULL;
     memcpy(joined, path, folder);
-    strcpy(joined + folder, image);
+    strcpy(joined + folder, name);
     return joined;
 }
 
@@ -64,17 +66,34 @@ static int read_number(struct reading *at, const char *word, const struct cluste
     return STATUS_DONE;
 }
 
+/* The words of a line of a process, but for the last one if that names its state. */
+static int read_state(const struct reading *at, char *const words[], int *count, char **state) {
+    const char *word = words[*count - 1];
+    *state = NULL;
+    if (*count < 5 || strncmp(word, STATE, strlen(STATE)) != 0) return STATUS_DONE;
+    if (!word[strlen(STATE)]) return refused(at, "the file is missing", word);
+    --*count;
+    *state = beside(at->path, word + strlen(STATE));
+    return *state ? STATUS_DONE : STATUS_MEMORY;
+}
+
 static int read_process(struct reading *at, char *const words[], int count, struct cluster *cluster) {
-    if (count != 4 && count != 5) return refused(at, "such a line is: process NAME IMAGE ADDRESS, or process N NAME IMAGE ADDRESS", "");
+    char *state;
+    int number, status = read_state(at, words, &count, &state);
+    if (status != STATUS_DONE) return status;
+    if (count != 4 && count != 5)
+        return refused(at, "such a line is: process NAME IMAGE ADDRESS, or process N NAME IMAGE ADDRESS, and then maybe state=FILE", "");
     const char *name = words[count - 3];
     if (!is_name(name)) return refused(at, "a name has 1 to 32 letters, digits, - and _", name);
     if (!strcmp(name, "gateway")) return refused(at, "no process is called so", name);
     if (cluster_find(cluster, name)) return refused(at, "there are two processes of this name", name);
     if (cluster->count == PROCESS_LIMIT) return refused(at, "a cluster has at most 15 processes", name);
-    int number, status = read_number(at, count == 5 ? words[1] : NULL, cluster, &number);
+    status = read_number(at, count == 5 ? words[1] : NULL, cluster, &number);
     if (status != STATUS_DONE) return status;
     struct process *process = &cluster->processes[number];
     cluster->count++;
+    process->line = at->line;
+    process->state = state;
     strcpy(process->name, name);
     process->image = beside(at->path, words[count - 2]);
     return process->image ? read_address(at, words[count - 1], &process->address) : STATUS_MEMORY;

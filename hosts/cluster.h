@@ -11,6 +11,8 @@ enum { PROCESS_LIMIT = SBLOG_PROCESS_LIMIT, NAME_LIMIT = 32 };
 struct process {
     char name[NAME_LIMIT + 1];
     char *image; /* none of the gateway */
+    char *state; /* the file that a process with a new store begins with, or null: it begins with zeros */
+    int line;    /* of the file */
     struct address address;
 };
 

@@ -8,7 +8,7 @@ import time
 
 import lives
 from lives import Cluster, Wrong
-from listening import PROCESSES, connect, payload, works
+from listening import PROCESSES, connect, payload, tells, works
 from looks import told
 from stopped import prints_once
 from storage import Bucket, Table, lets_through
@@ -98,18 +98,34 @@ def lives_on(folder, storage):
     goes_on(cluster, relay)
 
 
+def exports(cluster, node):
+    """The state of a suspended node leaves its store, which stays as it is."""
+    out, before = os.path.join(cluster.folder, "state"), holds(cluster, node)
+    if "suspended: the next start goes on" not in before:
+        raise Wrong(f"{node.name} isn't suspended: {before}")
+    said, lines = told([*node.command()[1:], "--export", out])
+    state = node.kept()[0]
+    if f"state of {len(state)} bytes, after 6 messages" not in said or "under way 0: its receivers have taken all" not in said or lines:
+        raise Wrong(f"--export of {node.name} says {said}, {lines}")
+    with open(out, "rb") as file:
+        if file.read() != state or holds(cluster, node) != before:
+            raise Wrong("--export writes something else")
+
+
 def goes_on(cluster, relay):
     """All are stopped, and go on; after a kill nobody goes on from what was left before."""
     life = incarnation(cluster, relay)
+    echo = cluster.nodes[1]
+    tells(echo, kept=0)
     cluster.stop()
-    if "suspended: the next start goes on" not in holds(cluster, relay):
-        raise Wrong(f"relay isn't suspended: {holds(cluster, relay)}")
+    exports(cluster, echo)
     cluster.start()
     one = connect(cluster)
     one.says("outputs", "took echo 6")
     works(cluster, one, 7)
     if incarnation(cluster, relay) != life or "suspended: " in holds(cluster, relay):
         raise Wrong(f"relay doesn't go on: {relay.said[-3:]}")
+    told([*echo.command()[1:], "--export", os.path.join(cluster.folder, "another")], 7)
     relay.kill()
     relay.start()
     relay.wait_up()

@@ -5,6 +5,7 @@
 #include <errno.h>
 #include <fcntl.h>
 #include <libgen.h>
+#include <limits.h>
 #include <stdio.h>
 #include <stdlib.h>
 #include <sys/file.h>
@@ -85,7 +86,7 @@ static bool write_all(int file, const uint8_t *bytes, size_t size) {
 
 /* Written beside, synced, renamed, and the folder synced. */
 static int folder_write(const struct store *store, const char *name, const void *bytes, size_t size) {
-    char beside[64];
+    char beside[NAME_MAX + 8];
     snprintf(beside, sizeof beside, "%s.new", name);
     int file = openat(store->folder, beside, O_WRONLY | O_CREAT | O_TRUNC | O_CLOEXEC, MODE);
     bool stored = file >= 0 && write_all(file, bytes, size) && fsync(file) == 0;

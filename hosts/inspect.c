@@ -52,8 +52,8 @@ static void print_processes(const uint8_t *whole, const char *identity) {
     int count = stored_read(whole, all);
     for (int p = 1; p <= count; p++) {
         print_name(identity, p);
-        printf("%" PRIu64 " inputs logged, %" PRIu64 " of them kept; %" PRIu64 " outputs shown; incarnation %" PRIu64 "\n",
-               all[p].logged, all[p].kept, all[p].shown, all[p].incarnation);
+        printf("%" PRIu64 " inputs logged, %" PRIu64 " of them kept, %" PRIu64 " not taken; %" PRIu64 " outputs shown; incarnation %" PRIu64
+               "\n", all[p].logged, all[p].kept, all[p].untaken, all[p].shown, all[p].incarnation);
     }
 }
 

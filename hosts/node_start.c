@@ -14,25 +14,37 @@
 #include <string.h>
 #include <sys/socket.h>
 
-enum { ROOM = 4096 }; /* what a checkpoint takes at first */
+enum { ROOM = 4096 };                /* what a checkpoint takes at first */
+enum { STATE_SIZE = 4, LENGTH = 2 }; /* the place in an image of its state's length (docs/FORMATS.md, "Image file") */
 
 static const char *const KEPT = "kept";
 
+static const struct process *own_line(const struct node_host *host) { return &host->cluster->processes[host->options->me]; }
+
+static int read_file(const char *path, uint8_t **bytes, size_t *size) {
+    FILE *file = fopen(path, "rb");
+    long length = -1;
+    if (file && fseek(file, 0, SEEK_END) == 0) length = ftell(file);
+    *bytes = length < 0 ? NULL : malloc((size_t)length + 1);
+    if (*bytes) {
+        rewind(file);
+        *size = fread(*bytes, 1, (size_t)length, file);
+    } else report_fault("%s", path);
+    if (file) fclose(file);
+    return *bytes ? STATUS_DONE : STATUS_IO;
+}
+
 /* Reads the image, and what tells it from others. */
 static int read_image(struct node_host *host, char hash[HASH_TEXT]) {
-    const char *path = host->cluster->processes[host->options->me].image;
-    FILE *file = fopen(path, "rb");
-    long size = -1;
-    if (file && fseek(file, 0, SEEK_END) == 0) size = ftell(file);
-    host->image = size < 0 ? NULL : malloc((size_t)size + 1);
-    if (host->image) {
-        rewind(file);
-        host->image_size = fread(host->image, 1, (size_t)size, file);
-        hash_text(host->image, host->image_size, hash);
-    }
-    if (!host->image) report_fault("%s", path);
-    if (file) fclose(file);
-    return host->image ? STATUS_DONE : STATUS_IO;
+    int status = read_file(own_line(host)->image, &host->image, &host->image_size);
+    if (status == STATUS_DONE) hash_text(host->image, host->image_size, hash);
+    return status;
+}
+
+/* Reads what a new store begins with, if its line names that. */
+static int read_state(struct node_host *host, bool is_new) {
+    const char *path = own_line(host)->state;
+    return is_new && path ? read_file(path, &host->state, &host->state_size) : STATUS_DONE;
 }
 
 uint32_t node_bytes(struct node_host *host, uint32_t (*call)(sblog_node *, uint8_t *, size_t, size_t *), size_t *size) {
@@ -55,9 +67,20 @@ static int judge_new(struct node_host *host, size_t size) {
     return STATUS_STORE;
 }
 
+/* The state has another length than the image says. */
+static int state_refused(const struct node_host *host) {
+    report("%s, line %d: the state has %zu bytes, and that of the image %" PRIu64 ": %s", host->options->cluster, own_line(host)->line,
+           host->state_size, number_at(host->image + STATE_SIZE, LENGTH), own_line(host)->state);
+    return STATUS_CLUSTER;
+}
+
 static int open_new(struct node_host *host, const struct owner *owner) {
-    uint32_t code = sblog_node_open(host->image, host->image_size, (uint8_t)owner->me, (uint8_t)host->cluster->count, PAGE, TICK,
-                                    NUMBERS, RECEIPTS, owner->durable, &host->node);
+    const uint8_t me = (uint8_t)owner->me, count = (uint8_t)host->cluster->count;
+    uint32_t code = host->state ? sblog_node_open_with(host->image, host->image_size, me, count, PAGE, TICK, NUMBERS, RECEIPTS,
+                                                       owner->durable, host->state, host->state_size, &host->node)
+                                : sblog_node_open(host->image, host->image_size, me, count, PAGE, TICK, NUMBERS, RECEIPTS,
+                                                  owner->durable, &host->node);
+    if (code == SBLOG_NODE_BYTES) return state_refused(host);
     return code == SBLOG_NODE_DONE ? STATUS_DONE : code_refused("open", code, 0);
 }
 
@@ -97,7 +120,6 @@ static int revive(struct node_host *host, const struct owner *owner, uint64_t in
 static int begin_again(struct node_host *host, const struct owner *owner, uint64_t incarnation) {
     uint8_t *kept;
     size_t size;
-    bool is_resumed;
     int status = slots_open(&host->slots, &host->store, &kept, &size);
     if (status != STATUS_DONE) return status;
     if (!kept || incarnation == 0) {
@@ -105,8 +127,8 @@ static int begin_again(struct node_host *host, const struct owner *owner, uint64
         free(kept);
         return STATUS_STORE;
     }
-    status = suspension_take(host, incarnation, kept, size, &is_resumed);
-    if (status == STATUS_DONE && !is_resumed) status = revive(host, owner, incarnation + 1, kept, size);
+    status = suspension_take(host, incarnation, kept, size, &host->is_resumed);
+    if (status == STATUS_DONE && !host->is_resumed) status = revive(host, owner, incarnation + 1, kept, size);
     free(kept);
     return status;
 }
@@ -133,6 +155,7 @@ int node_begin(struct node_host *host) {
     const struct owner owner = owner_of(host, hash);
     int status = read_image(host, hash);
     if (status == STATUS_DONE) status = store_open(&host->store, options->store, &owner, false, &host->ids, &is_new);
+    if (status == STATUS_DONE) status = read_state(host, is_new);
     if (status == STATUS_DONE) status = transport_open(&host->transport, host->cluster, options->me);
     if (status == STATUS_DONE) pace_begin(&host->pace, &host->transport, options->tick);
     if (status == STATUS_DONE) status = metrics_open(&host->metrics, &options->metrics);
@@ -149,9 +172,22 @@ int node_look(struct node_host *host) {
     int image = read_image(host, hash), status = image;
     int store = image == STATUS_DONE ? store_open(&host->store, options->store, &owner, true, &host->ids, &is_new) : image;
     status_first(&status, store);
+    if (store == STATUS_DONE) status_first(&status, read_state(host, is_new));
     status_first(&status, transport_look(host->cluster, options->me));
     status_first(&status, address_look(&options->metrics, SOCK_STREAM));
     status_first(&status, privileges_look(options));
     if (image == STATUS_DONE) status_first(&status, store == STATUS_DONE ? begin_life(host, &owner, is_new) : open_new(host, &owner));
     return status;
+}
+
+int node_reopen(struct node_host *host) {
+    char hash[HASH_TEXT];
+    bool is_new = true;
+    const struct owner owner = owner_of(host, hash);
+    int status = read_image(host, hash);
+    if (status == STATUS_DONE) status = store_open(&host->store, host->options->store, &owner, true, &host->ids, &is_new);
+    if (status == STATUS_DONE && !is_new) status = begin_life(host, &owner, false);
+    if (status != STATUS_DONE || host->is_resumed) return status;
+    report("%s: the process isn't suspended: SIGTERM suspends one that is up", host->store.path);
+    return STATUS_STORE;
 }

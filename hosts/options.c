@@ -40,15 +40,17 @@ static const char USAGE[] =
     "  --log json, --log pairs  lines of standard error as JSON, or as key=value\n"
     "  --check                starts nothing: says whether these words, cluster file, image, store and addresses would do\n"
     "  --inspect STORE        says what a store holds, and ends\n"
+    "  --export OUT           writes a suspended process's state to the new file OUT, says what of it is under way, and ends\n"
     "  --version              says which version this is, and ends\n"
     "\n"
     "SIGUSR1 prints that line once. SIGHUP reads the files of --tls again. SIGTERM and SIGINT end a gateway, and suspend a process:\n"
     "its next start goes on. A second one ends it as SIGKILL does, and so does a disk that takes over 10 seconds.\n"
-    "Statuses: 0; 2 the command line; 3 a refused image; 4 a refused cluster file; 5 want of memory;\n"
-    "6 input and output; 7 a store that isn't this process's or its cluster's, is in use, or was claimed by another life.\n";
+    "Statuses: 0; 1 --export, while messages are under way; 2 the command line; 3 a refused image; 4 a refused cluster file;\n"
+    "5 want of memory; 6 input and output; 7 a store that isn't this process's or its cluster's, is in use, isn't suspended where\n"
+    "that is needed, or was claimed by another life.\n";
 
 enum { CLUSTER = 1, ME, STORE, CHECKPOINT_EVERY, DURABLE, VOLATILE, EVERY_TICK, LISTEN, METRICS, STATUS, LOG, TLS, USER, SANDBOX, CHECK,
-       INSPECT, HELP, VERSION };
+       INSPECT, EXPORT, HELP, VERSION };
 
 static const struct option OPTIONS[] = {
     {"cluster", required_argument, NULL, CLUSTER}, {"me", required_argument, NULL, ME},
@@ -60,7 +62,7 @@ static const struct option OPTIONS[] = {
     {"check", no_argument, NULL, CHECK},           {"inspect", required_argument, NULL, INSPECT},
     {"log", required_argument, NULL, LOG},         {"user", required_argument, NULL, USER},
     {"sandbox", no_argument, NULL, SANDBOX},       {"tls", required_argument, NULL, TLS},
-    {NULL, 0, NULL, 0},
+    {"export", required_argument, NULL, EXPORT},   {NULL, 0, NULL, 0},
 };
 
 /* A number in its range. */
@@ -97,6 +99,7 @@ static bool read_option(int option, const char *text, struct options *options) {
     case SANDBOX: options->sandbox = true; break;
     case CHECK: options->looks = true; break;
     case INSPECT: options->inspected = text; break;
+    case EXPORT: options->exported = text; return *text;
     case TLS: options->tls = text; break;
     case LISTEN: return read_address(text, CARRIER_TLS, &options->listen);
     case METRICS: return read_address(text, CARRIER_TCP, &options->metrics);
@@ -122,6 +125,8 @@ static int judge(const struct options *options) {
     if (!options->cluster || options->me < 0 || !options->store) report("--cluster, --me and --store are needed; see --help");
     else if (options->listen.where && options->me != 0) report("--listen is of the gateway alone");
     else if (options->listen.carrier == CARRIER_TLS && !options->tls) report("--tls is needed by --listen tls:");
+    else if (options->me == 0 && options->exported) report("--export is of processes alone: a gateway has no state");
+    else if (options->looks && options->exported) report("--check and --export exclude each other");
     else if (options->me == 0 && (options->says_durable || !options->durable))
         report("--durable and --volatile are of processes alone: the gateway always is durable");
     else if (options->says_durable && !options->durable) report("--durable and --volatile exclude each other");

@@ -1,6 +1,7 @@
 /* A process of a cluster as a program of its own, or the cluster's gateway (docs/CLUSTER.md). The library does the thinking;
    this carries it. Nothing here is proved. */
 #include "cluster.h"
+#include "export.h"
 #include "gateway_host.h"
 #include "inspect.h"
 #include "node_host.h"
@@ -27,6 +28,7 @@ int main(int argc, char **argv) {
         return STATUS_COMMAND;
     }
     report_as(cluster.processes[options.me].name);
+    if (options.exported) return export_state(&options, &cluster);
     umask(S_IRWXG | S_IRWXO); /* files and sockets are this user's alone */
     signals_take(options.tls != NULL);
     if (options.tls) status = tls_open(options.tls, &cluster, options.me);

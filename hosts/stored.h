@@ -7,7 +7,7 @@
 #include <stdint.h>
 
 struct stored {
-    uint64_t logged, kept; /* inputs */
+    uint64_t logged, kept, untaken; /* inputs; untaken: kept, and without a number of the process */
     uint64_t shown;        /* outputs */
     uint64_t incarnation;
 };

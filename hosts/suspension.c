@@ -8,7 +8,7 @@
 #include <string.h>
 
 /* Places in the file: the id of the store, the bytes of the node, and in these the length of its kept bytes, and these. */
-enum { NODE = ID_BYTES, LENGTH = NODE + 4, KEPT = LENGTH + 8, WORD = 8 };
+enum { NODE = ID_BYTES, LENGTH = NODE + 4, KEPT = LENGTH + 8, PROCESSES = KEPT + 5, WORD = 8, FLAG = 1 };
 
 static const uint8_t *id_of(const struct node_host *host) { return host->ids.stores[host->options->me].bytes; }
 
@@ -37,6 +37,18 @@ static const char *fault_of(const struct node_host *host, const struct bytes *fi
     return is_whole ? "it is of another checkpoint" : "it isn't whole";
 }
 
+/* How many messages of its logs have no RSN, in bytes that the library took. There is a log for each process, and for the gateway. */
+static uint64_t untaken_in(const uint8_t *file) {
+    uint64_t untaken = 0;
+    int logs = file[PROCESSES] + 1;
+    const uint8_t *at = file + KEPT + number_at(file + LENGTH, WORD) + WORD + FLAG + logs * (WORD + FLAG);
+    for (; logs > 0; logs--) {
+        uint64_t count = number_at(at, WORD);
+        for (at += WORD; count > 0; count--, at += WORD) untaken += number_at(at, WORD) == 0;
+    }
+    return untaken;
+}
+
 /* The same of a node that may be resumed from them, which goes on then. */
 static const char *resume(struct node_host *host, const struct bytes *file, uint64_t incarnation) {
     uint32_t fault, code = sblog_node_resume(host->image, host->image_size, file->at + NODE, file->size - NODE, PAGE, TICK, NUMBERS,
@@ -47,6 +59,7 @@ static const char *resume(struct node_host *host, const struct bytes *file, uint
         sblog_node_close(&host->node);
         return "it is of another life";
     }
+    host->untaken = untaken_in(file->at);
     host->was_exact = host->standing.exact; /* if it wasn't, that was told before */
     return NULL;
 }
