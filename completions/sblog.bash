@@ -14,7 +14,7 @@ _sblog_files() {
 _sblog() {
     local word=${COMP_WORDS[COMP_CWORD]} before=${COMP_WORDS[COMP_CWORD - 1]}
     if [[ $COMP_CWORD -eq 1 ]]; then
-        local names='run live draw check explain asm pack dis native test build help --help --version'
+        local names='run live draw check explain asm pack dis native migrate test build help --help --version'
         COMPREPLY=($(compgen -W "$names" -- "$word"))
         return
     fi
@@ -65,6 +65,9 @@ _sblog() {
     native)
         _sblog_words '--help' || _sblog_files 'sbi'
         ;;
+    migrate)
+        _sblog_words '--help' || _sblog_files 'sbi'
+        ;;
     test)
         _sblog_words '--write --help' || _sblog_files 'scenario'
         ;;
@@ -77,7 +80,7 @@ _sblog() {
         _sblog_words '--state --form --function --help' || _sblog_files 'c'
         ;;
     help)
-        COMPREPLY=($(compgen -W 'run live draw check explain asm pack dis native test build' -- "$word"))
+        COMPREPLY=($(compgen -W 'run live draw check explain asm pack dis native migrate test build' -- "$word"))
         ;;
     esac
 }

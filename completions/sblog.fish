@@ -10,6 +10,7 @@ complete -c sblog -n __fish_use_subcommand -f -a asm -d 'Writes the image of an 
 complete -c sblog -n __fish_use_subcommand -f -a pack -d 'Writes the image of a function of an object file, or of the bytes of its code'
 complete -c sblog -n __fish_use_subcommand -f -a dis -d 'Prints the assembler text of an image'
 complete -c sblog -n __fish_use_subcommand -f -a native -d 'Writes the x86-64 machine code of an image'
+complete -c sblog -n __fish_use_subcommand -f -a migrate -d 'Calls a handler on the bytes of a state, and writes the state that it leaves'
 complete -c sblog -n __fish_use_subcommand -f -a test -d 'Runs scenarios, and compares what they print with what is expected'
 complete -c sblog -n __fish_use_subcommand -f -a build -d 'Has clang compile a handler, and writes its image'
 complete -c sblog -n __fish_use_subcommand -f -a help -d 'Print the help of a command'
@@ -32,4 +33,4 @@ complete -c sblog -n '__fish_seen_subcommand_from test' -l write -d 'Writes NAME
 complete -c sblog -n '__fish_seen_subcommand_from build' -x -l state -d 'Bytes of state, 0 to 1024 (default of the type that the second argument points to)'
 complete -c sblog -n '__fish_seen_subcommand_from build' -x -l form -a '1 2 3' -d 'Form of the image, 1, 2 or 3 (default 3)'
 complete -c sblog -n '__fish_seen_subcommand_from build' -x -l function -d 'Function of SOURCE, where it has several'
-complete -c sblog -n '__fish_seen_subcommand_from help' -f -a 'run live draw check explain asm pack dis native test build'
+complete -c sblog -n '__fish_seen_subcommand_from help' -f -a 'run live draw check explain asm pack dis native migrate test build'

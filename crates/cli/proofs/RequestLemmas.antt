@@ -101,6 +101,7 @@ asked_in_range (Some used) (order.Asm source image state form) asks = asks.3.2.m
 asked_in_range (Some used) (order.Pack code image state form function) asks = state_in_range used.1 state asks.3
 asked_in_range (Some used) (order.Dis image) asks = tt
 asked_in_range (Some used) (order.Native image code) asks = tt
+asked_in_range (Some used) (order.Migrate image state converted) asks = tt
 
 -- commands whose names begin differently
 unlike : (name other : Text) → slice_index name 0 ≢ slice_index other 0 → name ≡ other → ⊥
@@ -120,6 +121,7 @@ no_asm rows none (order.Asm source image state form) h = none state form h.3 h.4
 no_asm rows none (order.Pack code image state form function) h = unlike (codes "asm") (codes "pack") (λ (e : ◌≡◌ {A = ℕ} 97 112). omega arith) h.0
 no_asm rows none (order.Dis image) h = unlike (codes "asm") (codes "dis") (λ (e : ◌≡◌ {A = ℕ} 97 100). omega arith) h.0
 no_asm rows none (order.Native image code) h = unlike (codes "asm") (codes "native") (λ (e : ◌≡◌ {A = ℕ} 97 110). omega arith) h.0
+no_asm rows none (order.Migrate image state converted) h = unlike (codes "asm") (codes "migrate") (λ (e : ◌≡◌ {A = ℕ} 97 109). omega arith) h.0
 
 -- the same of `pack`
 pub no_pack : (rows : List Row) → ((state : Option ℕ) (form : Option FileForm) → MayHaveState rows state → MayHaveForm rows form → ⊥)
@@ -135,6 +137,7 @@ no_pack rows none (order.Asm source image state form) h = unlike (codes "pack") 
 no_pack rows none (order.Pack code image state form function) h = none state form h.3 h.4
 no_pack rows none (order.Dis image) h = unlike (codes "pack") (codes "dis") (λ (e : ◌≡◌ {A = ℕ} 112 100). omega arith) h.0
 no_pack rows none (order.Native image code) h = unlike (codes "pack") (codes "native") (λ (e : ◌≡◌ {A = ℕ} 112 110). omega arith) h.0
+no_pack rows none (order.Migrate image state converted) h = unlike (codes "pack") (codes "migrate") (λ (e : ◌≡◌ {A = ℕ} 112 109). omega arith) h.0
 
 -- and with no number of workers, or no budget, none for workers
 pub no_live : (rows : List Row) → ((workers budget : ℕ) → HasWorkers rows workers → HasBudget rows budget → ⊥)
@@ -150,6 +153,7 @@ no_live rows none (order.Asm source image state form) h = unlike (codes "live") 
 no_live rows none (order.Pack code image state form function) h = unlike (codes "live") (codes "pack") (λ (e : ◌≡◌ {A = ℕ} 108 112). omega arith) h.0
 no_live rows none (order.Dis image) h = unlike (codes "live") (codes "dis") (λ (e : ◌≡◌ {A = ℕ} 108 100). omega arith) h.0
 no_live rows none (order.Native image code) h = unlike (codes "live") (codes "native") (λ (e : ◌≡◌ {A = ℕ} 108 110). omega arith) h.0
+no_live rows none (order.Migrate image state converted) h = unlike (codes "live") (codes "migrate") (λ (e : ◌≡◌ {A = ℕ} 108 109). omega arith) h.0
 
 is_simple_and_free-sblog_app : is_simple_and_free sblog_app ≡ true
 unfolding clap_on_literals

@@ -177,6 +177,9 @@ dis_leaf = get_or program.subs 7 program.top
 abbrev native_leaf : Shape
 native_leaf = get_or program.subs 8 program.top
 
+abbrev migrate_leaf : Shape
+migrate_leaf = get_or program.subs 9 program.top
+
 abbrev rule_in : Shape → ℕ → Rule
 rule_in s i = get_or s.rules i help_rule
 
@@ -346,6 +349,15 @@ native_keeps = (
   (set_keeps IsSound (rule_in native_leaf 1) (λ v fits. path_sound (rule_in native_leaf 1) refl refl refl refl v), (help_keeps, tt)),
 )
 
+migrate_keeps : AllByRecursion (Keeps IsSound false) migrate_leaf.rules
+migrate_keeps = (
+  set_keeps IsSound (rule_in migrate_leaf 0) (λ v fits. path_sound (rule_in migrate_leaf 0) refl refl refl refl v),
+  (
+    set_keeps IsSound (rule_in migrate_leaf 1) (λ v fits. path_sound (rule_in migrate_leaf 1) refl refl refl refl v),
+    (set_keeps IsSound (rule_in migrate_leaf 2) (λ v fits. path_sound (rule_in migrate_leaf 2) refl refl refl refl v), (help_keeps, tt)),
+  ),
+)
+
 top_keeps : AllByRecursion (Keeps IsSound false) program.top.rules
 top_keeps = (help_keeps, tt)
 
@@ -511,6 +523,16 @@ native_given words none =
     let all = two_required (is_given (codes "IMAGE") rows) (is_given (codes "OUT") rows) fine.3 in
     (path_given (codes "IMAGE") rows fine.0 all.0, path_given (codes "OUT") rows fine.0 all.1)
 
+migrate_given : (words : List Text) → level_fault migrate_leaf [] nothing_held words false [] ≡ []
+    → ((path : Text) × HasImage (rows_after migrate_leaf.rules [] words) path)
+    × ((path : Text) × HasPath (codes "STATE") (rows_after migrate_leaf.rules [] words) path)
+    × ((path : Text) × HasPath (codes "OUT") (rows_after migrate_leaf.rules [] words) path)
+migrate_given words none =
+    let fine = level_fine IsSound migrate_leaf (λ p a is. find_all (Keeps IsSound false) p migrate_leaf.rules a migrate_keeps is) [] words false [] (refl, (refl, (refl, (refl, tt)))) none in
+    let rows = rows_after migrate_leaf.rules [] words in
+    let all = three_required (is_given (codes "IMAGE") rows) (is_given (codes "STATE") rows) (is_given (codes "OUT") rows) fine.3 in
+    (path_given (codes "IMAGE") rows fine.0 all.0, path_given (codes "STATE") rows fine.0 all.1, path_given (codes "OUT") rows fine.0 all.2)
+
 -- `run` in the style that its options ask for
 run_asked : (rows : List Row) (path : Text) → HasScenario rows path → (json names : Bool) → json ≡ is_set (codes "json") rows → names ≡ is_set (codes "names") rows
     → (o : Order) × AsksIn (codes "run") rows o
@@ -524,44 +546,48 @@ explain_asked rows path given true is = (order.Why path, (refl, given, sym is))
 explain_asked rows path given false is = (order.Explain path, (refl, given, sym is))
 
 -- the command that the words name
-abbrev named : Bool → Bool → Bool → Bool → Bool → Bool → Bool → Bool → Bool → Bool → Option Shape
-named run live draw check explain asm pack dis native help =
+abbrev named : Bool → Bool → Bool → Bool → Bool → Bool → Bool → Bool → Bool → Bool → Bool → Option Shape
+named run live draw check explain asm pack dis native migrate help =
     cond run (Some run_leaf) (cond live (Some live_leaf) (cond draw (Some draw_leaf) (cond check (Some check_leaf) (cond explain (Some explain_leaf)
-    (cond asm (Some asm_leaf) (cond pack (Some pack_leaf) (cond dis (Some dis_leaf) (cond native (Some native_leaf) (cond help (Some (get_or program.subs 9 program.top)) None)))))))))
+    (cond asm (Some asm_leaf) (cond pack (Some pack_leaf) (cond dis (Some dis_leaf) (cond native (Some native_leaf) (cond migrate (Some migrate_leaf)
+    (cond help (Some (get_or program.subs 10 program.top)) None))))))))))
 
-order_by : (run live draw check explain asm pack dis native help : Bool) (words : List Text) → (help ≡ true → ⊥)
-    → option_map_or (λ s. level_fault s [] nothing_held words false []) (named run live draw check explain asm pack dis native help) [] ≡ []
-    → is_some (option_map (λ s. rows_at s words) (named run live draw check explain asm pack dis native help)) ≡ true
-    → (o : Order) × AsksBy (option_map (λ s. rows_at s words) (named run live draw check explain asm pack dis native help)) o
-order_by true live draw check explain asm pack dis native help words no_help none has =
+order_by : (run live draw check explain asm pack dis native migrate help : Bool) (words : List Text) → (help ≡ true → ⊥)
+    → option_map_or (λ s. level_fault s [] nothing_held words false []) (named run live draw check explain asm pack dis native migrate help) [] ≡ []
+    → is_some (option_map (λ s. rows_at s words) (named run live draw check explain asm pack dis native migrate help)) ≡ true
+    → (o : Order) × AsksBy (option_map (λ s. rows_at s words) (named run live draw check explain asm pack dis native migrate help)) o
+order_by true live draw check explain asm pack dis native migrate help words no_help none has =
     let given = run_given words none in
     run_asked (rows_after run_leaf.rules [] words) given.0 given.1 _ _ refl refl
-order_by false true draw check explain asm pack dis native help words no_help none has =
+order_by false true draw check explain asm pack dis native migrate help words no_help none has =
     let given = live_given words none in
     (order.Live given.0.0 given.1.0 given.2.0, (refl, given.0.1, given.1.1, given.2.1))
-order_by false false true check explain asm pack dis native help words no_help none has =
+order_by false false true check explain asm pack dis native migrate help words no_help none has =
     let given = draw_given words none in
     (order.Draw given.0.0 given.1.0 (is_set (codes "messages") (rows_after draw_leaf.rules [] words)), (refl, given.0.1, given.1.1, refl))
-order_by false false false true explain asm pack dis native help words no_help none has =
+order_by false false false true explain asm pack dis native migrate help words no_help none has =
     let given = check_given words none in
     (order.Check given.0, (refl, given.1))
-order_by false false false false true asm pack dis native help words no_help none has =
+order_by false false false false true asm pack dis native migrate help words no_help none has =
     let given = explain_given words none in
     explain_asked (rows_after explain_leaf.rules [] words) given.0 given.1 _ refl
-order_by false false false false false true pack dis native help words no_help none has =
+order_by false false false false false true pack dis native migrate help words no_help none has =
     let given = asm_given words none in
     (order.Asm given.0.0 given.1.0 given.2.0 given.3.0, (refl, given.0.1, given.1.1, given.2.1, given.3.1))
-order_by false false false false false false true dis native help words no_help none has =
+order_by false false false false false false true dis native migrate help words no_help none has =
     let given = pack_given words none in
     (order.Pack given.0.0 given.1.0 given.2.0 given.3.0 (first_of (codes "function") (rows_after pack_leaf.rules [] words)), (refl, given.0.1, given.1.1, given.2.1, given.3.1, refl))
-order_by false false false false false false false true native help words no_help none has =
+order_by false false false false false false false true native migrate help words no_help none has =
     let given = dis_given words none in
     (order.Dis given.0, (refl, given.1))
-order_by false false false false false false false false true help words no_help none has =
+order_by false false false false false false false false true migrate help words no_help none has =
     let given = native_given words none in
     (order.Native given.0.0 given.1.0, (refl, given.0.1, given.1.1))
-order_by false false false false false false false false false true words no_help none has = absurd (no_help refl)
-order_by false false false false false false false false false false words no_help none has = absurd (true≢false (sym has))
+order_by false false false false false false false false false true help words no_help none has =
+    let given = migrate_given words none in
+    (order.Migrate given.0.0 given.1.0 given.2.0, (refl, given.0.1, given.1.1, given.2.1))
+order_by false false false false false false false false false false true words no_help none has = absurd (no_help refl)
+order_by false false false false false false false false false false false words no_help none has = absurd (true≢false (sym has))
 
 or_false : (b : Bool) → (b || false) ≡ true → b ≡ true
 or_false true e = refl
@@ -593,5 +619,6 @@ asks_something words none =
     from (Some p) fine none has =
         order_by (bytes_eq (codes "run") p.0 || false) (bytes_eq (codes "live") p.0 || false) (bytes_eq (codes "draw") p.0 || false)
         (bytes_eq (codes "check") p.0 || false) (bytes_eq (codes "explain") p.0 || false) (bytes_eq (codes "asm") p.0 || false)
-        (bytes_eq (codes "pack") p.0 || false) (bytes_eq (codes "dis") p.0 || false) (bytes_eq (codes "native") p.0 || false) (bytes_eq (codes "help") p.0 || false) p.1
+        (bytes_eq (codes "pack") p.0 || false) (bytes_eq (codes "dis") p.0 || false) (bytes_eq (codes "native") p.0 || false)
+        (bytes_eq (codes "migrate") p.0 || false) (bytes_eq (codes "help") p.0 || false) p.1
         (not_named_help p.0 (fine refl)) none has

@@ -84,6 +84,7 @@ pub data Order : Type 0 where
   Pack : Text → Text → Option ℕ → Option FileForm → Option Text → Order
   Dis : Text → Order
   Native : Text → Text → Order
+  Migrate : Text → Text → Text → Order
 
 -- a request with its paths as plain texts
 abbrev pub order_of : Request → Order
@@ -98,6 +99,7 @@ order_of (request.Asm source image state form) = Asm source.now image.now state 
 order_of (request.Pack code image asked) = Pack code.now image.now asked.state asked.form (option_map (λ s. s.now) asked.function)
 order_of (request.Dis image) = Dis image.now
 order_of (request.Native image code) = Native image.now code.now
+order_of (request.Migrate image state converted) = Migrate image.now state.now converted.now
 
 -- a state has at most 1,024 bytes; workers are 1 to 16, and have a budget of 1 to 1,000,000
 abbrev pub IsInRange : Order → Type 0
@@ -126,6 +128,8 @@ AsksIn name rows (Pack code image state form function) = (name ≡ codes "pack")
     × (first_of (codes "function") rows ≡ function)
 AsksIn name rows (Dis image) = (name ≡ codes "dis") × HasImage rows image
 AsksIn name rows (Native image code) = (name ≡ codes "native") × HasImage rows image × HasPath (codes "OUT") rows code
+AsksIn name rows (Migrate image state converted) = (name ≡ codes "migrate")
+    × HasImage rows image × HasPath (codes "STATE") rows state × HasPath (codes "OUT") rows converted
 
 -- the command that was used, if there was one, makes this request
 abbrev pub AsksBy : Option (Text × List Row) → Order → Type 0

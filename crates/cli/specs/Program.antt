@@ -71,6 +71,11 @@ dis_app = with_rule (new_app (codes "dis")) (required_rule (codes "IMAGE"))
 abbrev pub native_app : App
 native_app = with_rule (with_rule (new_app (codes "native")) (required_rule (codes "IMAGE"))) (required_rule (codes "OUT"))
 
+-- `migrate IMAGE STATE OUT`
+abbrev pub migrate_app : App
+migrate_app = with_rule (with_rule (with_rule (new_app (codes "migrate")) (required_rule (codes "IMAGE"))) (required_rule (codes "STATE")))
+    (required_rule (codes "OUT"))
+
 -- the program without commands: its words don't have its name, and one of them has to be a command
 abbrev pub top_app : App
 top_app = on_top (λ s. record s { no_binary_name = true; subcommand_required = true })
@@ -80,5 +85,6 @@ top_app = on_top (λ s. record s { no_binary_name = true; subcommand_required = 
 abbrev pub sblog_app : App
 sblog_app =
     with_subcommand (with_subcommand (with_subcommand (with_subcommand (with_subcommand (with_subcommand (with_subcommand
-    (with_subcommand (with_subcommand top_app
-    run_app.top) live_app.top) draw_app.top) check_app.top) explain_app.top) asm_app.top) pack_app.top) dis_app.top) native_app.top
+    (with_subcommand (with_subcommand (with_subcommand top_app
+    run_app.top) live_app.top) draw_app.top) check_app.top) explain_app.top) asm_app.top) pack_app.top) dis_app.top) native_app.top)
+    migrate_app.top

@@ -3,7 +3,7 @@
 ghost use Rattle.std.specs.Prelude.{◌≡◌, IfOk, codes, false, true};
 ghost use Rattle.clap.specs.Words.{App, Rule, app_of, rule_of, with_rule, with_subcommand};
 ghost use Rattle.clap.specs.declared.builder.Command.TheViews.{out-Command as fields_of};
-ghost use Rattle.cli.specs.Program.{asm_app, check_app, dis_app, draw_app, explain_app, flag_rule, live_app, native_app, number_rule, pack_app, required_rule, run_app, sblog_app, text_rule, top_app};
+ghost use Rattle.cli.specs.Program.{asm_app, check_app, dis_app, draw_app, explain_app, flag_rule, live_app, migrate_app, native_app, number_rule, pack_app, required_rule, run_app, sblog_app, text_rule, top_app};
 
 use clap::builder::ValueParser;
 use clap::{Arg, ArgAction, Command};
@@ -246,6 +246,19 @@ fn native<'a>(alloc: Global) -> Result<Command<'a>, AllocError>
     )
 }
 
+fn migrate<'a>(alloc: Global) -> Result<Command<'a>, AllocError>
+    ensures shape { IfOk result (λ c. app_of c ≡ migrate_app) }
+    ensures local { IfOk result (λ c. (fields_of c).has_globals ≡ false) }
+{
+    let bare = Ok(Command::new(alloc, "migrate").about(
+        "Calls a handler on the bytes of a state, and writes the state that it leaves",
+    ));
+    let image = with(bare, required(alloc, "IMAGE", IMAGE));
+    let help = "File of the state to convert, at most 1024 bytes";
+    let state = with(image, required(alloc, "STATE", help));
+    with(state, required(alloc, "OUT", "File to write the state to"))
+}
+
 /// The program without its commands. Its own name is not among the words.
 fn program<'a>(alloc: Global) -> Result<Command<'a>, AllocError>
     ensures { IfOk result (λ c. app_of c ≡ top_app) }
@@ -269,5 +282,6 @@ pub(crate) fn sblog<'a>(alloc: Global) -> Result<Command<'a>, AllocError>
     let with_asm = joined(with_explain, asm(alloc));
     let with_pack = joined(with_asm, pack(alloc));
     let with_dis = joined(with_pack, dis(alloc));
-    joined(with_dis, native(alloc))
+    let with_native = joined(with_dis, native(alloc));
+    joined(with_native, migrate(alloc))
 }

@@ -12,6 +12,7 @@
 #![tactic(auto)]
 
 mod command;
+mod option_words;
 mod refusal;
 mod request;
 

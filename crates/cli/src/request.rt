@@ -5,6 +5,7 @@ ghost use Rattle.clap.specs.Words.{first_of, found_of, kind_of, rows_of, subcomm
 ghost use Rattle.cli.specs.Asks.{AsksBy, AsksFor, AsksIn, Explains, Gives, GivesOrder, HasForm, HasNumber, IsInRange, IsRefusal, MayHaveForm, MayHaveState, is_set, order_of};
 
 use crate::command::{BUDGET, sblog};
+use crate::option_words::below_words;
 use crate::refusal::{Usage, UsageRefusal};
 use clap::error::ErrorKind;
 use clap::{ArgMatches, Error};
@@ -80,6 +81,12 @@ pub enum Request<'a> {
     Native {
         image: &'a str,
         code: &'a str,
+    },
+    /// `migrate IMAGE STATE OUT`.
+    Migrate {
+        image: &'a str,
+        state: &'a str,
+        converted: &'a str,
     },
 }
 
@@ -262,6 +269,19 @@ fn native_in<'a>(matches: &ArgMatches<'a>) -> Option<Request<'a>>
     Some(Request::Native { image, code })
 }
 
+fn migrate_in<'a>(matches: &ArgMatches<'a>) -> Option<Request<'a>>
+    ensures { GivesOrder (AsksIn (codes "migrate") (rows_of (found_of matches.now))) result }
+{
+    let image = path_in(matches, "IMAGE")?;
+    let state = path_in(matches, "STATE")?;
+    let converted = path_in(matches, "OUT")?;
+    Some(Request::Migrate {
+        image,
+        state,
+        converted,
+    })
+}
+
 /// What the command `name` asks for with these matches.
 fn request_in<'a>(name: &str, matches: &ArgMatches<'a>) -> Option<Request<'a>>
     ensures { GivesOrder (AsksIn name.now (rows_of (found_of matches.now))) result }
@@ -276,6 +296,7 @@ fn request_in<'a>(name: &str, matches: &ArgMatches<'a>) -> Option<Request<'a>>
         "pack" => pack_in(matches),
         "dis" => dis_in(matches),
         "native" => native_in(matches),
+        "migrate" => migrate_in(matches),
         _ => None,
     }
 }
@@ -286,76 +307,6 @@ fn request_of<'a>(matches: &ArgMatches<'a>) -> Option<Request<'a>>
 {
     let (name, inner) = matches.subcommand()?;
     request_in(name, inner)
-}
-
-/// Whether a word is a number with a sign.
-fn is_negative(word: &str) -> bool {
-    match word.strip_prefix('-') {
-        Some(number) => number.starts_with(|letter: char| letter.is_ascii_digit()),
-        None => false,
-    }
-}
-
-/// Whether a word is a longer state than there is.
-fn is_long_state(word: &str) -> bool {
-    match word.parse::<u64>() {
-        Ok(number) => number > STATE_BYTES as u64,
-        Err(_) => false,
-    }
-}
-
-/// A line that says what the value of an option is, if it was given with a sign, which `clap` takes for an option, or is too long a
-/// state; else empty.
-fn range_words<S: AsStr>(words: &[S]) -> &'static str {
-    let mut before = "";
-    for word in words {
-        let word = word.as_str();
-        match before {
-            "--state" if is_negative(word) || is_long_state(word) =>
-                return "--state is a number from 0 to 1024\n",
-            "--form" if is_negative(word) => return "--form is 1, 2 or 3\n",
-            "--workers" if is_negative(word) => return "--workers is a number from 1 to 16\n",
-            "--budget" if is_negative(word) => return "--budget is a number from 1 to 1000000\n",
-            _ => before = word,
-        }
-    }
-    ""
-}
-
-/// A line that says which commands take an option, if it was given to another one; else empty.
-fn option_words<S: AsStr>(words: &[S]) -> &'static str {
-    let command = match words.first() {
-        Some(word) => word.as_str(),
-        None => return "",
-    };
-    for word in words {
-        let word = word.as_str();
-        let name = word.split_once('=').map_or(word, |(name, _)| name);
-        match name {
-            "--state" | "--form" if !matches!(command, "asm" | "pack") => {
-                return "asm and pack take --state and --form: an image has both in it (./sblog explain --source takes them, of an object file)\n";
-            }
-            "--function" if command != "pack" => return "pack takes --function\n",
-            "--workers" | "--budget" if command != "live" => {
-                return "live takes --workers and --budget\n";
-            }
-            "--messages" if command != "draw" => return "draw takes --messages\n",
-            "--json" | "--names" if command != "run" => return "run takes --json and --names\n",
-            "--why" if command != "explain" => return "explain takes --why\n",
-            _ => {}
-        }
-    }
-    ""
-}
-
-/// The line below an error of `clap`, or empty.
-fn below_words<S: AsStr>(words: &[S]) -> &'static str {
-    let range = range_words(words);
-    if range.is_empty() {
-        option_words(words)
-    } else {
-        range
-    }
 }
 
 /// The text of an error of `clap`, or a line in its place if it is empty, and further words below it.

@@ -3,4 +3,5 @@ pub mod FaultLemmas
 mod HeadLemmas
 mod JudgedLemmas
 pub mod LoadLemmas
+mod MigrateLemmas
 mod PackLemmas

@@ -9,6 +9,7 @@ pub mod Hints
 pub mod Inside
 pub mod Judged
 pub mod Loads
+pub mod Migrate
 pub mod Native
 pub mod OwnInput
 pub mod Pack

@@ -1,12 +1,13 @@
 //! The commands that need no session, and what all commands share: files, streams, faults and hints.
 //!
-//! [`check_image`], [`write_image`], [`disassemble_image`], [`explain_image`], [`write_packed`] and [`write_machine_code`] are the
-//! commands on images, [`load_scenario`] reads the scenario of a run and loads its images. Their promise: what a command answers
-//! or writes is that of the file in `specs/` with its name, by the bytes of the file that it reads; its fault is the one that
-//! these bytes come to, unless a file has failed. A command that writes a file changes no other one, and none if it fails.
-//! [`print_or_tell`] prints the text of a command, or tells its fault in the line of `specs/Fault.antt`. Files are known by the
-//! trait [`Files`], streams by [`Stream`], so that a test can hold them in memory and let them fail. The program has
-//! [`SystemFiles`], [`Reports`] and [`Faults`], of which nothing but the kind of a fault is proved.
+//! [`check_image`], [`write_image`], [`disassemble_image`], [`explain_image`], [`write_packed`], [`write_machine_code`] and
+//! [`write_converted`] are the commands on images, [`load_scenario`] reads the scenario of a run and loads its images. Their
+//! promise: what a command answers or writes is that of the file in `specs/` with its name, by the bytes of the files that it
+//! reads; its fault is the one that these bytes come to, unless a file has failed. A command that writes a file changes no
+//! other one, and none if it fails. [`print_or_tell`] prints the text of a command, or tells its fault in the line of
+//! `specs/Fault.antt`. Files are known by the trait [`Files`], streams by [`Stream`], so that a test can hold them in memory
+//! and let them fail. The program has [`SystemFiles`], [`Reports`] and [`Faults`], of which nothing but the kind of a fault is
+//! proved.
 //!
 //! ```text
 //! let accepted = check_image(alloc, "adder.sbi", &mut files, &mut site)?; // prints as "accepted 6 instructions"
@@ -15,6 +16,7 @@
 
 mod asm;
 mod check;
+mod conversion;
 mod dis;
 mod end;
 mod explanation;
@@ -39,6 +41,7 @@ mod system;
 pub use asm::write_image;
 pub use check::{Accepted, check_image};
 pub use cli::{Packing, Usage};
+pub use conversion::write_converted;
 pub use dis::disassemble_image;
 pub use end::print_or_tell;
 pub use explanation::explain_image;

@@ -2,7 +2,7 @@
 use Rattle.std.specs.Prelude.{◌≡◌, ◌≢◌, ◌⊎◌, ℕ, Bool, true, List, Option, Some}
 use Rattle.std.specs.Io.KnownBytes.{Appends}
 use Rattle.std.specs.String.{string_bytes}
-use Rattle.cli.specs.Asks.{AsksFor, IsRefusal, own_input_text, Order, Run, Tell, Live, Draw, Check, Explain, Why, Asm, Pack, Dis, Native}
+use Rattle.cli.specs.Asks.{AsksFor, IsRefusal, own_input_text, Order, Run, Tell, Live, Draw, Check, Explain, Why, Asm, Pack, Dis, Native, Migrate}
 use Rattle.cli.specs.declared.refusal.UsageRefusal.TheVariants as refusal
 use Rattle.block_order.specs.declared.blocks.Blocks.{Blocks}
 use Rattle.listing.specs.RulePage.{page_text}
@@ -16,6 +16,7 @@ use Rattle.image_commands.specs.Explain.{IsUnexplained}
 use Rattle.image_commands.specs.Fault.{FaultOf, Tells}
 use Rattle.image_commands.specs.Files.{Content, IsWritten, Sameness}
 use Rattle.image_commands.specs.Hints.{command_in, has_hints}
+use Rattle.image_commands.specs.Migrate.{IsUnconverted, MakesState}
 use Rattle.image_commands.specs.Native.{IsMachineCode}
 use Rattle.image_commands.specs.Pack.{IsMade, IsUnmade}
 use Rattle.image_commands.specs.Loads.{IsImagePath, IsUnloadable}
@@ -33,7 +34,7 @@ SparesImages content scenario place = (bytes : List ℕ) → content scenario �
     → (s : Scenario) × IsScenario All bytes s × ((path : List ℕ) → IsImagePath s.processes.entries path → path ≢ place)
 
 -- the files after an order: `asm` and `pack` write the image file of their source, `native` the machine code of its image, `draw`
--- the picture of its scenario, the others leave all as it was
+-- the picture of its scenario, `migrate` the state that its image makes, the others leave all as it was
 abbrev pub Leaves : Order → Content → Content → Type 0
 Leaves (Asm source image state form) content content' =
     IsWritten source image (λ bytes file. IsAssembled bytes state form file) content content'
@@ -43,6 +44,8 @@ Leaves (Native image code) content content' = IsWritten image code (λ bytes fil
 Leaves (Draw scenario picture only) content content' =
     IsWritten scenario picture (λ bytes file. IsDrawn content bytes only file) content content'
     × SparesImages content scenario picture
+Leaves (Migrate image state converted) content content' =
+    IsWritten image converted (MakesState content state) content content' × (state ≢ converted)
 Leaves order content content' = content' ≡ content
 
 -- the order prints this text, by its file; `explain --why` the page of its rule, whatever the files are
@@ -78,6 +81,7 @@ IsRefused content (Why rule) bytes f = ⊥
 IsRefused content (Pack source image state form name) bytes f = IsUnmade state name bytes f
 IsRefused content (Dis image) bytes f = IsUnlisted bytes f
 IsRefused content (Native image code) bytes f = IsUnaccepted bytes f
+IsRefused content (Migrate image state converted) bytes f = IsUnconverted content state bytes f
 
 -- the order comes to the fault
 abbrev pub IsFault : Content → Bool → Order → Fault → Type 0
@@ -88,6 +92,7 @@ abbrev pub WritesOver : Sameness → Content → Order → Type 0
 WritesOver one content (Asm source image state form) = one source image ≡ true
 WritesOver one content (Pack source image state form name) = one source image ≡ true
 WritesOver one content (Native image code) = one image code ≡ true
+WritesOver one content (Migrate image state converted) = (one image converted ≡ true) ⊎ (one state converted ≡ true)
 WritesOver one content (Draw scenario picture only) = (one scenario picture ≡ true) ⊎ ((bytes : List ℕ) → content scenario ≡ Some bytes
     → (s : Scenario) × IsScenario All bytes s × (path : List ℕ) × IsImagePath s.processes.entries path × (one path picture ≡ true))
 WritesOver one content order = ⊥

@@ -1,6 +1,6 @@
 -- What a command prints, by the file that it reads.
 use Rattle.std.specs.Prelude.{◌≡◌, ℕ, List, []}
-use Rattle.cli.specs.Asks.{Order, Run, Tell, Live, Draw, Check, Explain, Why, Asm, Pack, Dis, Native}
+use Rattle.cli.specs.Asks.{Order, Run, Tell, Live, Draw, Check, Explain, Why, Asm, Pack, Dis, Native, Migrate}
 use Rattle.listing.specs.FileListing.{IsFileExplained}
 use Rattle.block_order.specs.declared.blocks.Blocks.{Blocks}
 use Rattle.listing.specs.RulePage.{page_text}
@@ -8,6 +8,7 @@ use Rattle.image_commands.specs.Asm.{IsAssembled}
 use Rattle.image_commands.specs.Check.{IsAccepted, accepted_text}
 use Rattle.image_commands.specs.Dis.{IsListing}
 use Rattle.image_commands.specs.Files.{Content}
+use Rattle.image_commands.specs.Migrate.{MakesState}
 use Rattle.image_commands.specs.Native.{IsMachineCode}
 use Rattle.image_commands.specs.Pack.{IsMade}
 use Rattle.tracer.specs.Draw.{IsDrawn}
@@ -28,6 +29,7 @@ path_of (Why rule) = rule
 path_of (Pack source image state form name) = source
 path_of (Dis image) = image
 path_of (Native image code) = image
+path_of (Migrate image state converted) = image
 
 -- the order prints this text where that file has these bytes
 abbrev pub IsReport : Content → Order → List ℕ → List ℕ → Type 0
@@ -44,3 +46,4 @@ IsReport content (Pack source image state form name) bytes text =
     × (text ≡ [])
 IsReport content (Dis image) bytes text = IsListing bytes text
 IsReport content (Native image code) bytes text = ((file : List ℕ) × IsMachineCode bytes file) × (text ≡ [])
+IsReport content (Migrate image state converted) bytes text = ((file : List ℕ) × MakesState content state bytes file) × (text ≡ [])

@@ -14,7 +14,7 @@ use cli::{Request, parse_words};
 use hints::command_words;
 use image_commands::{
     Fault, Files, Loaded, Site, Stream, check_image, disassemble_image, explain_image, hints_in,
-    load_scenario, print_or_tell, write_image, write_machine_code, write_packed,
+    load_scenario, print_or_tell, write_converted, write_image, write_machine_code, write_packed,
 };
 use listing::page_of;
 use runner::run;
@@ -108,6 +108,11 @@ fn answer_alone<F: Files>(
             Ok(())
         }
         Request::Native { image, code } => write_machine_code(alloc, image, code, files, site),
+        Request::Migrate {
+            image,
+            state,
+            converted,
+        } => write_converted(alloc, image, state, converted, files, site),
     }
 }
 

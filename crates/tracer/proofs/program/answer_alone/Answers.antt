@@ -78,6 +78,24 @@ returns-in-Native-clause-fault g c =
     (λ f fault. subst (λ o. IsWriteFault g.F.Files.may_be_one (g.F.Files.content c.args.files.now) (g.F.Files.failed c.write_machine_code.new.files) o f) (sym (ap order_of c.in-Native.is)) fault)
     c.write_machine_code.ensures.fault
 
+pub returns-in-Migrate-clause-report : goal.returns-in-Migrate-clause-report
+returns-in-Migrate-clause-report g c =
+    on_ok_weaker c.write_converted.result
+    (λ made. subst (λ o. IsAnswer (g.F.Files.content c.args.files.now) o (string_bytes c.args.text.now)) (sym (ap order_of c.in-Migrate.is)) (λ known there. (made known there, c.requires.empty)))
+    c.write_converted.ensures.made
+
+pub returns-in-Migrate-clause-left : goal.returns-in-Migrate-clause-left
+returns-in-Migrate-clause-left g c =
+    on_ok_weaker c.write_converted.result
+    (λ left. subst (λ o. Leaves o (g.F.Files.content c.args.files.now) (g.F.Files.content c.write_converted.new.files)) (sym (ap order_of c.in-Migrate.is)) left)
+    c.write_converted.ensures.left
+
+pub returns-in-Migrate-clause-fault : goal.returns-in-Migrate-clause-fault
+returns-in-Migrate-clause-fault g c =
+    IfErr-weaker c.write_converted.result _ _
+    (λ f fault. subst (λ o. IsWriteFault g.F.Files.may_be_one (g.F.Files.content c.args.files.now) (g.F.Files.failed c.write_converted.new.files) o f) (sym (ap order_of c.in-Migrate.is)) fault)
+    c.write_converted.ensures.fault
+
 pub returns-in_err-text-in-Tell-clause-fault : goal.returns-in_err-text-in-Tell-clause-fault
 returns-in_err-text-in-Tell-clause-fault g c =
     let content = g.F.Files.content c.args.files.now in
