@@ -57,4 +57,5 @@ MakesState content path bytes new = (old : List ℕ) → content path ≡ Some o
 -- why it makes none: the file is refused as an image, or is one, and the old state has more than 1,024 bytes
 abbrev pub IsUnconverted : Content → List ℕ → List ℕ → Fault → Type 0
 IsUnconverted content path bytes f = IsUnaccepted bytes f
-    ⊎ ((f ≡ Header StateLength) × ((image : TheImage) × IsImage image bytes) × ((old : List ℕ) → content path ≡ Some old → STATE_BYTES < length old))
+    ⊎ ((f ≡ Header StateLength) × ((image : TheImage) × IsImage image bytes)
+        × ((old : List ℕ) → content path ≡ Some old → STATE_BYTES < length old))

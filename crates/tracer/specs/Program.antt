@@ -2,7 +2,8 @@
 use Rattle.std.specs.Prelude.{◌≡◌, ◌≢◌, ◌⊎◌, ℕ, Bool, true, List, Option, Some}
 use Rattle.std.specs.Io.KnownBytes.{Appends}
 use Rattle.std.specs.String.{string_bytes}
-use Rattle.cli.specs.Asks.{AsksFor, IsRefusal, own_input_text, Order, Run, Tell, Live, Draw, Check, Explain, Why, Asm, Pack, Dis, Native, Migrate}
+use Rattle.cli.specs.Asks.{AsksFor, IsRefusal, own_input_text}
+use Rattle.cli.specs.Asks.{Order, Run, Tell, Live, Draw, Check, Explain, Why, Asm, Pack, Dis, Native, Migrate}
 use Rattle.cli.specs.declared.refusal.UsageRefusal.TheVariants as refusal
 use Rattle.block_order.specs.declared.blocks.Blocks.{Blocks}
 use Rattle.listing.specs.RulePage.{page_text}
