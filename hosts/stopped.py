@@ -175,6 +175,8 @@ def prints_once(folder, storage=None):
         ends_well(cluster.gateway)
         count = max(ssn for _, ssn in cluster.logged)
         cluster.restart_gateway()
+    cluster.write("relay", b"")
+    cluster.wait_logged(0)  # a gateway that answers takes signals
     cluster.wait_for(lambda: len(cluster.outputs["echo"]) >= count)
     if any(cluster.stop()) or cluster.repeated:
         raise Wrong(f"{cluster.repeated} outputs come again")
