@@ -58,4 +58,4 @@ MakesState content path bytes new = (old : List ℕ) → content path ≡ Some o
 abbrev pub IsUnconverted : Content → List ℕ → List ℕ → Fault → Type 0
 IsUnconverted content path bytes f = IsUnaccepted bytes f
     ⊎ ((f ≡ Header StateLength) × ((image : TheImage) × IsImage image bytes)
-        × ((old : List ℕ) → content path ≡ Some old → STATE_BYTES < length old))
+    × ((old : List ℕ) → content path ≡ Some old → STATE_BYTES < length old))
