@@ -158,7 +158,7 @@ def compiled(folder):
             print(f"not tried, since there is no {words[0]}: {source}")
 
 
-COUNT, KILLS = 10000, 30
+COUNT, KILLS = 40000, 30
 
 
 def survives(folder, command):
