@@ -38,9 +38,6 @@ log-ends w p q (suc n) = more (log-ends w p q n) (w.numbers q p n) refl
 module _ (born : ℕ → ℕ) (now : ℕ) (s : Telling) (h : Aged born now s) where
   -- what is put out
   fine-put : (p d : ℕ) (x : Body) → p ≤ s.cluster.count → MayPut s.cluster p d x → Fine born s.cluster p d x
-  fine-put p d (Delivery i ssn x) l may = tt
-  fine-put p d (Number i ssn k) l may = tt
-  fine-put p d (Acknowledgement i k) l may = tt
   fine-put p d (Ask i k) l may = ((some p may.0, l), let e : i ≡ s.cluster.stored p = may.1 in omega arith)
     where
       some : (p : ℕ) → s.cluster.stage p ≡ Collecting → 0 < p
@@ -52,9 +49,8 @@ module _ (born : ℕ → ℕ) (now : ℕ) (s : Telling) (h : Aged born now s) wh
       let e : j ≡ s.cluster.stored p = may.2 ∙ h.plain.settled p (well-is s.cluster p may.0).0 in
       let r = log-ends (seen s.cluster) d p (suc (length (sent (seen s.cluster) p d))) in
       ((omega arith), (omega arith), (r.0, λ m l a g. may.4 m a g ∙ r.1 m l), λ g. inl (sym b ∙ g, e))
-  fine-put p d (Resume i k r) l may = tt
   fine-put p d (Restored i j n r u f) l may = let e : j ≡ s.cluster.stored p = may.4 ∙ h.plain.settled p (well-is s.cluster p may.0).0 in omega arith
-  fine-put p d (Saved n) l may = tt
+  fine-put p d other l may = tt
 
   fine : (p d : ℕ) (x : Body) → In (parcel p d x) s.cluster.parcels → (p ≢ d) × Fine born s.cluster p d x
   fine = h.parcels

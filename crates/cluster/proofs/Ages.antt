@@ -11,12 +11,11 @@ use Rattle.cluster.proofs.Sane.{Low, Todo}
 
 -- a phase that a node is in
 abbrev pub IsSound : Phase → Type 0
-IsSound Up = Unit {0}
-IsSound (Busy m) = Unit {0}
 IsSound Down = ⊥
 IsSound (Replaying j w a) = (w ≡ false) × (a ≡ false)
 IsSound (Resync []) = ⊥
 IsSound (Resync (q ∷ qs)) = Unit {0}
+IsSound other = Unit {0}
 
 -- behind some number a page of those above k has no entry
 abbrev pub Ends : ℕ → Option ℕ → (ℕ → Option Message) → Type 0
@@ -58,10 +57,9 @@ is_some None = false
 is_some (Some t) = true
 
 abbrev pub at_stage : Stage → Bool → Bool
-at_stage Live b = true
-at_stage Frozen b = true
 at_stage Dead b = false
 at_stage Collecting b = b
+at_stage other b = true
 
 -- p has an answer of q in its present life: it collects and has a page of it, or has collected
 abbrev pub has_told : Cluster → ℕ → ℕ → Bool
@@ -79,25 +77,15 @@ module _ (born : ℕ → ℕ) where
 
   -- what packets of p to d speak of
   abbrev pub Fine : Cluster → ℕ → ℕ → Body → Type 0
-  Fine c p d (Delivery i ssn x) = Unit {0}
-  Fine c p d (Number i ssn k) = Unit {0}
-  Fine c p d (Acknowledgement i k) = Unit {0}
   Fine c p d (Ask i k) = IsNode c p × (i ≤ c.stored p)
   Fine c p d (Told i j k u f) = (i ≤ c.stored d) × (j ≤ c.stored p) × Ends k u f × (i ≡ c.stored d → ((c.heard p d ≡ c.stored d) × (j ≡ c.stored p)) ⊎ (born d < born p))
-  Fine c p d (Resume i k s) = Unit {0}
   Fine c p d (Restored i j n s u f) = j ≤ c.stored p
-  Fine c p d (Saved n) = Unit {0}
+  Fine c p d other = Unit {0}
 
   -- and a Told in which nothing is lost is of one that was up in its receiver's life
   abbrev pub Real : Cluster → ℕ → ℕ → Body → Type 0
-  Real c p d (Delivery i ssn x) = Unit {0}
-  Real c p d (Number i ssn k) = Unit {0}
-  Real c p d (Acknowledgement i k) = Unit {0}
-  Real c p d (Ask i k) = Unit {0}
   Real c p d (Told i j k u f) = (i ≤ c.stored d) × (i ≡ c.stored d → Later c d p)
-  Real c p d (Resume i k s) = Unit {0}
-  Real c p d (Restored i j n s u f) = Unit {0}
-  Real c p d (Saved n) = Unit {0}
+  Real c p d other = Unit {0}
 
   -- as of this time
   pub record Aged (now : ℕ) (s : Telling) : Type 0 where
@@ -120,9 +108,6 @@ module _ (born : ℕ → ℕ) where
     later-on p q k = elim k [ inl w ↦ elim (o.well q w) [ inl v ↦ inl v | inr e ↦ inr (inl e) ] | inr r ↦ elim r [ inl e ↦ inr (inl (o.dead q e)) | inr l ↦ inr (inr l) ] ]
 
     pub fine-on : (p q : ℕ) (x : Body) → Fine c p q x → Fine d p q x
-    fine-on p q (Delivery i ssn x) f = tt
-    fine-on p q (Number i ssn k) f = tt
-    fine-on p q (Acknowledgement i k) f = tt
     fine-on p q (Ask i k) f =
         let a : d.stored p ≡ c.stored p = o.stored p in
         let n : d.count ≡ c.count = o.count in
@@ -135,22 +120,15 @@ module _ (born : ℕ → ℕ) where
         let l : i ≤ c.stored q = f.0 in
         let m : j ≤ c.stored p = f.1 in
         ((omega arith), (omega arith), f.2, λ e. elim (f.3 (e ∙ b)) [ inl h ↦ inl (known-on q p h.0, h.1 ∙ sym a) | inr h ↦ inr h ])
-    fine-on p q (Resume i k s) f = tt
     fine-on p q (Restored i j n s u g) f = let a : d.stored p ≡ c.stored p = o.stored p in let l : j ≤ c.stored p = f in omega arith
-    fine-on p q (Saved n) f = tt
+    fine-on p q other f = tt
 
     pub real-on : (p q : ℕ) (x : Body) → Real c p q x → Real d p q x
-    real-on p q (Delivery i ssn x) f = tt
-    real-on p q (Number i ssn k) f = tt
-    real-on p q (Acknowledgement i k) f = tt
-    real-on p q (Ask i k) f = tt
     real-on p q (Told i j k u g) f =
         let b : d.stored q ≡ c.stored q = o.stored q in
         let l : i ≤ c.stored q = f.0 in
         ((omega arith), λ e. later-on q p (f.1 (e ∙ b)))
-    real-on p q (Resume i k s) f = tt
-    real-on p q (Restored i j n s u g) f = tt
-    real-on p q (Saved n) f = tt
+    real-on p q other f = tt
 
   -- so all of it goes on, with what is new
   pub aged-on : (now : ℕ) (s t : Telling) → Aged now s → On s.cluster t.cluster → Plain t.cluster

@@ -90,9 +90,6 @@ module _ (born : ℕ → ℕ) (now : ℕ) (s : Telling) (h : Aged born now s) (r
   ]
 
   fine-same : (p q : ℕ) (x : Body) → Fine born s.cluster p q x → Fine (put born r (suc now)) (does s.cluster (Opens r n)) p q x
-  fine-same p q (Delivery i ssn x) f = tt
-  fine-same p q (Number i ssn k) f = tt
-  fine-same p q (Acknowledgement i k) f = tt
   fine-same p q (Ask i k) f = let a : s.cluster.stored p ≤ (does s.cluster (Opens r n)).stored p = more p in let l : i ≤ s.cluster.stored p = f.1 in (f.0, omega arith)
   fine-same p q (Told i j k u g) f =
       let a : s.cluster.stored p ≤ (does s.cluster (Opens r n)).stored p = more p in
@@ -109,22 +106,15 @@ module _ (born : ℕ → ℕ) (now : ℕ) (s : Telling) (h : Aged born now s) (r
               | inr z ↦ elim (f.3 (e ∙ stored-same q o)) [ inl v ↦ inl (known-same q p o z v.0, v.1 ∙ sym (stored-same p z)) | inr v ↦ inr (less-same q p o z v) ]
             ],
       )
-  fine-same p q (Resume i k s) f = tt
   fine-same p q (Restored i j m t u g) f = let a : s.cluster.stored p ≤ (does s.cluster (Opens r n)).stored p = more p in let l : j ≤ s.cluster.stored p = f in omega arith
-  fine-same p q (Saved m) f = tt
+  fine-same p q other f = tt
 
   real-same : (p q : ℕ) (x : Body) → Real born s.cluster p q x → Real (put born r (suc now)) (does s.cluster (Opens r n)) p q x
-  real-same p q (Delivery i ssn x) f = tt
-  real-same p q (Number i ssn k) f = tt
-  real-same p q (Acknowledgement i k) f = tt
-  real-same p q (Ask i k) f = tt
   real-same p q (Told i j k u g) f =
       let b : s.cluster.stored q ≤ (does s.cluster (Opens r n)).stored q = more q in
       let l : i ≤ s.cluster.stored q = f.0 in
       ((omega arith), λ e. let o : q ≢ r = not-now i q l e in later-same q p o (f.1 (e ∙ stored-same q o)))
-  real-same p q (Resume i k s) f = tt
-  real-same p q (Restored i j m t u g) f = tt
-  real-same p q (Saved m) f = tt
+  real-same p q other f = tt
 
   -- whoever has an answer isn't r
   told-before : (p q : ℕ) → has_told (does s.cluster (Opens r n)) p q ≡ true → (p ≢ r) × (has_told s.cluster p q ≡ true)

@@ -29,10 +29,7 @@ put2-column {X} f a b x r c n = let m : (c == b) ≡ false = grind (arith, nat_t
 
 anew-up : (x : Phase) (p : ℕ) → is_up (restores_anew x p) ≡ false
 anew-up Up p = refl
-anew-up (Busy m) p = refl
-anew-up Down p = refl
-anew-up (Replaying j w a) p = refl
-anew-up (Resync rs) p = refl
+anew-up other p = refl
 
 -- of two nodes that differ: q has heard of the life in which p asks
 abbrev Heard : ℕ → ℕ → ℕ → Telling → Telling → Type 0

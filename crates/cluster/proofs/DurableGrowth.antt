@@ -14,15 +14,11 @@ use Rattle.cluster.proofs.Firsts.{append_nil}
 -- an act takes back no input, and nothing that was shown or that a checkpoint covers; nor does an event
 pub goes-continue : (c : Cluster) (e : Event) → ((p : ℕ) → c.saved p ≤ length (c.history p)) → Continues c (goes c e)
 goes-continue c (Acts a) within = does-continue c a within
-goes-continue c (Meets q p i k) within = still c
-goes-continue c (Loses q p i j k) within = still c
-goes-continue c (Leaves p q) within = still c
+goes-continue c other within = still c
 
 pub goes-handlers : (c : Cluster) (e : Event) → (goes c e).handlers ≡ c.handlers
 goes-handlers c (Acts a) = does-handlers c a
-goes-handlers c (Meets q p i k) = refl
-goes-handlers c (Loses q p i j k) = refl
-goes-handlers c (Leaves p q) = refl
+goes-handlers c other = refl
 
 -- more messages send no less
 sends-more : (f : Handlers) → Grows f → (p d : ℕ) (g rest : List Message) → Begins (f.sends p g d) (f.sends p (g ++ rest) d)

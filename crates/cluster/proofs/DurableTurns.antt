@@ -346,18 +346,13 @@ module _ (born : ℕ → ℕ) (c : Cluster) (h : Plain c) (fine : (p d : ℕ) (x
       split false f e = inr (without-less xs p q e)
 
   anew : (x : Phase) (p q : ℕ) → has (todo_of (restores_anew x p)) q ≡ true → (q ≡ p) ⊎ (has (todo_of x) q ≡ true)
-  anew Up p q e = joined [] p q e
-  anew (Busy m) p q e = joined [] p q e
-  anew Down p q e = joined [] p q e
   anew (Replaying j w a) p q e = inr e
   anew (Resync qs) p q e = joined qs p q e
+  anew other p q e = joined [] p q e
 
   anew-sound : (x : Phase) (p : ℕ) → IsSound x → IsSound (restores_anew x p)
-  anew-sound Up p s = tt
-  anew-sound (Busy m) p s = tt
-  anew-sound Down p s = tt
   anew-sound (Replaying j w a) p s = s
-  anew-sound (Resync qs) p s = tt
+  anew-sound other p s = tt
 
   un-gate : (p : ℕ) → is_well c p ≡ false → 0 ≢ p
   un-gate p w e =

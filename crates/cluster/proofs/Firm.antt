@@ -28,12 +28,9 @@ IsThere last k s d ssn = last s ≡ true → (0 < ssn) × (ssn ≤ length (k s d
 abbrev pub IsTrue : (ℕ → Bool) → Sends → ℕ → ℕ → Body → Type 0
 IsTrue last k p d (Delivery i ssn x) = IsGood last k d (message p ssn x)
 IsTrue last k p d (Number i ssn n) = IsThere last k d p ssn
-IsTrue last k p d (Acknowledgement i n) = Unit {0}
-IsTrue last k p d (Ask i n) = Unit {0}
 IsTrue last k p d (Told i j n u f) = (m : ℕ) (x : Message) → n < m → reaches u m ≡ true → f m ≡ Some x → IsGood last k d x
-IsTrue last k p d (Resume i n s) = Unit {0}
 IsTrue last k p d (Restored i j n s u f) = (ssn m : ℕ) → s < ssn → reaches u ssn ≡ true → f ssn ≡ Some m → IsThere last k d p ssn
-IsTrue last k p d (Saved n) = Unit {0}
+IsTrue last k p d other = Unit {0}
 
 -- and what one that collects was told
 abbrev pub IsGoodSoFar : (ℕ → Bool) → Sends → ℕ → Option Collected → Type 0
@@ -70,12 +67,9 @@ module _ (last : ℕ → Bool) (k l : Sends) (more : (p d : ℕ) → Begins (k p
   pub true-more : (p d : ℕ) (x : Body) → IsTrue last k p d x → IsTrue last l p d x
   true-more p d (Delivery i ssn x) g = good-more d (message p ssn x) g
   true-more p d (Number i ssn n) g = there-more d p ssn g
-  true-more p d (Acknowledgement i n) g = tt
-  true-more p d (Ask i n) g = tt
   true-more p d (Told i j n u f) g = λ m x a b e. good-more d x (g m x a b e)
-  true-more p d (Resume i n s) g = tt
   true-more p d (Restored i j n s u f) g = λ ssn m a b e. there-more d p ssn (g ssn m a b e)
-  true-more p d (Saved n) g = tt
+  true-more p d other g = tt
 
   pub so-far-more : (p : ℕ) (t : Option Collected) → IsGoodSoFar last k p t → IsGoodSoFar last l p t
   so-far-more p None g = tt

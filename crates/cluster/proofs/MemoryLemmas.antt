@@ -121,11 +121,8 @@ count-parts s (suc k) (m ∷ h) = let r : count_of s h ≡ count_of s (take k h)
 
 -- a node has no more of its history in its state than all
 within-history : (x : Phase) (h : List Message) (saved : ℕ) → saved ≤ length h → Replays saved (length h) x → length_in h saved x ≤ length h
-within-history Up h saved l r = omega arith
-within-history (Busy m) h saved l r = omega arith
 within-history Down h saved l r = l
-within-history (Replaying j working alone) h saved l r = omega arith
-within-history (Resync todo) h saved l r = omega arith
+within-history other h saved l r = omega arith
 
 module _ (c : Cluster) (b : Beside) (agrees : Agrees c b) (lawful : Lawful (world c b)) where
   -- what anyone took was sent

@@ -63,9 +63,7 @@ does-order c act jobs may o = o
 
 steps-order : (durable : ℕ → Bool) (c : Cluster) (e : Event) → Durable durable c → Might c e → Ordered c → Ordered (steps durable c e)
 steps-order durable c (Acts a) h may o = does-order c a (λ d m e. (h.firm.jobs d m e).1) may o
-steps-order durable c (Meets q p i k) h may o = o
-steps-order durable c (Loses q p i j k) h may o = o
-steps-order durable c (Leaves p q) h may o = o
+steps-order durable c other h may o = o
 
 events-order : (durable : ℕ → Bool) (c : Cluster) (es : List Event) → Durable durable c → Events durable c es → Ordered c → Ordered (after_events durable c es)
 events-order durable c [] h r o = o

@@ -41,10 +41,7 @@ with-idle (r ∷ rs) m e = let t : false ≡ true = ap is_busy e in cc
 -- who restores anew has no other job open than before
 anew-idle : (x : Phase) (p : ℕ) → (m : Message) → restores_anew x p ≡ Busy m → x ≡ Busy m
 anew-idle (Replaying j w a) p m e = e
-anew-idle Up p m e = absurd (let t : false ≡ true = ap is_busy e in cc)
-anew-idle (Busy y) p m e = absurd (let t : false ≡ true = ap is_busy e in cc)
-anew-idle Down p m e = absurd (let t : false ≡ true = ap is_busy e in cc)
-anew-idle (Resync rs) p m e = absurd (let t : false ≡ true = ap is_busy e in cc)
+anew-idle other p m e = absurd (let t : false ≡ true = ap is_busy e in cc)
 
 module _ (last : ℕ → Bool) (c : Cluster) (h : Firm last c) where
   abbrev k : Sends
@@ -96,12 +93,9 @@ module _ (last : ℕ → Bool) (c : Cluster) (h : Firm last c) where
   put-true : (released : (p d : ℕ) → last p ≡ true → released_to (seen c) p d ≤ length (k p d)) (p d : ℕ) (x : Body) → MayPut c p d x → IsTrue last k p d x
   put-true released p d (Delivery i ssn x) may = λ e. let r : released_to (seen c) p d ≤ length (k p d) = released p d e in let s : ssn ≤ released_to (seen c) p d = may.2 in let t : c.trims p d < ssn = may.3 in there-good p d ssn x may.0 may.4 (omega arith) (omega arith)
   put-true released p d (Number i ssn n) may = named p d ssn n may.2
-  put-true released p d (Acknowledgement i n) may = tt
-  put-true released p d (Ask i n) may = tt
   put-true released p d (Told i j n u f) may = λ m x a b e. entry-good p d m x may.0 (sym (may.4 m a b) ∙ e)
-  put-true released p d (Resume i n s) may = tt
   put-true released p d (Restored i j n s u f) may = λ ssn m a b e. named p d ssn m (names-found (c.history p) d ssn m (sym (may.7 ssn a b) ∙ e))
-  put-true released p d (Saved n) may = tt
+  put-true released p d other may = tt
 
   -- one parcel more
   parcel-more : (p d : ℕ) (x : Body) → p ≢ d → IsTrue last k p d x → (a b : ℕ) (y : Body) → In (parcel a b y) (parcel p d x ∷ c.parcels) → (a ≢ b) × IsTrue last k a b y
