@@ -140,10 +140,6 @@ zeros-at zero q = refl
 zeros-at (suc n) zero = refl
 zeros-at (suc n) (suc q) = zeros-at n q
 
--- nothing was
-pub from-none : (me count n : ℕ) → FromPeers me count 0 (replicate n 0) []
-from-none me count n = record { total = sum-zeros n; none_own = zeros-at n me; behind = tt }
-
 -- ---- by peer
 
 pub without-long : {X : Type 0} (me : ℕ) (xs : List X) → me < length xs → suc (length (without_own me xs)) ≡ length xs

@@ -72,8 +72,7 @@ nothing-told from (Acknowledgement i k) n d u a q r v = absurd (a i k refl)
 nothing-told from (Ask i k) n d u a q r v = absurd (q i k refl)
 nothing-told from (Resume i k s) n d u a q r v = absurd (r i k s refl)
 nothing-told from (Saved k) n d u a q r v = absurd (v k refl)
-nothing-told from (Told i j k flags entries) n d u a q r v = refl
-nothing-told from (Restored i j k s flags pairs) n d u a q r v = refl
+nothing-told from other n d u a q r v = refl
 
 -- ---- what is in its range
 

@@ -117,9 +117,8 @@ told-so from to (packets.Number i ssn k) n w live low other me c s put = records
 told-so from to (packets.Acknowledgement i k) n w live low other me c s put = acknowledges from i k n w live c s (said-me c from to n.me (Acknowledgement i k) put.0 me put.1 put.2)
 told-so from to (packets.Saved k) n w live low other me c s put = drops n from k live low other (omega (arith, w.logs_wide, low)) c s (said-me c from to n.me (Saved k) put.0 me put.1 put.2)
 told-so from to (packets.Ask i k) n w live low other me c s put = asks n from i k w live low other c s (said-me c from to n.me (Ask i k) put.0 me put.1 put.2)
-told-so from to (packets.Told i j k flags entries) n w live low other me c s put = stays n c s
 told-so from to (packets.Resume i k a) n w live low other me c s put = resumes n from i k a w live low other c s (said-me c from to n.me (Resume i k a) put.0 me put.1 put.2)
-told-so from to (packets.Restored i j k a flags pairs) n w live low other me c s put = stays n c s
+told-so from to x n w live low other me c s put = stays n c s
 
 -- a packet is handed to a node
 pub handed-so : (x : NodePacket) (n : TheNode) → Within n → IsHanded x n (handed x n)

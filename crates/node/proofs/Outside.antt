@@ -106,11 +106,10 @@ may-put : (g c : Cluster) → SameOutside g c → (d : ℕ) (x : Body) → IsGat
 may-put g c e d (Delivery i ssn y) o m = rw (sym e.stage, sym e.greeted, sym e.phase, sym e.life, sym (e.inputs d), sym (e.trims d)) m
 may-put g c e d (Number i ssn k) o m = rw (sym e.stage, sym e.greeted, sym e.phase, sym e.life, sym e.history) m
 may-put g c e d (Acknowledgement i k) o m = m
-may-put g c e d (Ask i k) o m = absurd o
 may-put g c e d (Told i j k u f) o m = (rw (sym e.stage, sym e.greeted, sym e.phase) m.0, m.1 ∙ e.heard d, m.2 ∙ e.life, m.3, λ w l r. m.4 w l r ∙ entry-same g c e d w)
-may-put g c e d (Resume i k s) o m = absurd o
 may-put g c e d (Restored i j n s u f) o m = rw (sym e.stage, sym e.greeted, sym e.phase, sym e.life, sym (e.heard d), sym (e.resumed d), sym e.shown, sym e.history) m
 may-put g c e d (Saved n) o m = rw (sym e.stage, sym e.greeted, sym e.phase, sym e.shown) m
+may-put g c e d other o m = absurd o
 
 -- so it may do what it may by what it sees
 pub may-too : (g c : Cluster) → SameOutside g c → (a : Act) → IsGateway a → May g a → May c a

@@ -39,9 +39,7 @@ sent-size n c p d s low other =
 up-lives : (f : Phase) → is_up f ≡ true → is_down f ≡ false
 up-lives Up e = refl
 up-lives (Busy m) e = refl
-up-lives Down e = absurd (cc)
-up-lives (Replaying j w a) e = absurd (cc)
-up-lives (Resync todo) e = absurd (cc)
+up-lives other e = absurd (cc)
 
 -- what a queue keeps is an entry
 pub entry-is : (n : TheNode) (c : Cluster) (p d ssn : ℕ) → Stands n c p → d ≤ c.count → d ≢ p → is_kept ssn (log_at n.logs d) ≡ true → is_entry (seen c) p d ssn ≡ true

@@ -99,12 +99,7 @@ stands-at f s c p some low h = h.stand p some (subst (λ k. p ≤ k) h.outside.c
 said-of : (ps : List Parcel) (p d : ℕ) (body : bodies.Body) (b : Body) → body_of body ≡ Some b → WasSaid ps p d body → In (parcel p d b) ps
 said-of ps p d (packets.Told i j k flags entries) b e w = absurd (cc)
 said-of ps p d (packets.Restored i j n s flags pairs) b e w = absurd (cc)
-said-of ps p d (packets.Delivery i ssn x) b e w = let same : w.0 ≡ b = cc (w.1) in subst (λ z. In (parcel p d z) ps) same w.2
-said-of ps p d (packets.Number i ssn k) b e w = let same : w.0 ≡ b = cc (w.1) in subst (λ z. In (parcel p d z) ps) same w.2
-said-of ps p d (packets.Acknowledgement i k) b e w = let same : w.0 ≡ b = cc (w.1) in subst (λ z. In (parcel p d z) ps) same w.2
-said-of ps p d (packets.Ask i k) b e w = let same : w.0 ≡ b = cc (w.1) in subst (λ z. In (parcel p d z) ps) same w.2
-said-of ps p d (packets.Resume i k s) b e w = let same : w.0 ≡ b = cc (w.1) in subst (λ z. In (parcel p d z) ps) same w.2
-said-of ps p d (packets.Saved n) b e w = let same : w.0 ≡ b = cc (w.1) in subst (λ z. In (parcel p d z) ps) same w.2
+said-of ps p d other b e w = let same : w.0 ≡ b = cc (w.1) in subst (λ z. In (parcel p d z) ps) same w.2
 
 said-here : (ps qs : List Parcel) (x : NodePacket) (o : Option Body) → body_of x.body ≡ o → ((y : Parcel) → In y ps → In y qs) → WasSaid qs x.from x.to x.body → (y : Parcel) → In y (with_said x o ps) → In y qs
 said-here ps qs x None is more w y i = more y i

@@ -327,11 +327,6 @@ ticking n = by-if (Acts n) n.frozen n (ticked_below n.me (n.count + 1) n) (λ e.
 
 -- What the loops of a tick go through
 
--- one message more is looked at
-pub resends-none : (to s k : ℕ) (n : TheNode) → resends to s k 0 n ≡ n
-resends-none to s zero n = refl
-resends-none to s (suc k) n = refl
-
 pub resends-step : (to s last left : ℕ) (n : TheNode) → s < last → 0 < left → (b : Bool) → is_none (number_of (s + 1) (log_at n.logs to)) ≡ b
     → resends to s (last - s) left n ≡ (if b then resends to (s + 1) (last - (s + 1)) (left - 1) (delivers to (s + 1) n) else resends to (s + 1) (last - (s + 1)) left n)
 resends-step to s last left n inside some b e =
@@ -343,11 +338,6 @@ resends-step to s last left n inside some b e =
         ≡ (if t then resends to (s + 1) (last - (s + 1)) (left - 1) (delivers to (s + 1) n) else resends to (s + 1) (last - (s + 1)) left n)
     by true = refl
     by false = ap (λ z. resends to (s + 1) (last - (s + 1)) z n) (let f : suc (left - 1) ≡ left = omega (arith, some) in f)
-
--- and one number more
-pub renumbers-none : (to place k : ℕ) (n : TheNode) → renumbers to place k 0 n ≡ n
-renumbers-none to place zero n = refl
-renumbers-none to place (suc k) n = refl
 
 pub renumbers-step : (to place last left : ℕ) (n : TheNode) → place < last → 0 < left → (b : Bool) → is_told_at to place n ≡ b
     → renumbers to place (last - place) left n ≡ (if b then renumbers to (place + 1) (last - (place + 1)) left n else renumbers to (place + 1) (last - (place + 1)) (left - 1) (tells to (covered_of to n + place + 1) n))

@@ -7,44 +7,26 @@ use Rattle.cluster.specs.Parcels.{Parcel}
 use Rattle.cluster.specs.Cluster.{Cluster, Collected, Stage, waiting}
 use Rattle.packets.specs.declared.packet.NodePacket.{NodePacket}
 use Rattle.node.specs.declared.job.OpenJob.{OpenJob}
+use Rattle.node.specs.declared.limit.Limits.{Limits}
 use Rattle.node.specs.Queue.{TheQueue}
 use Rattle.node.specs.Node.{TheNode, log_at}
 use Rattle.node.specs.Stands.{Each, PutOut, HasReceived, KeepsOf, IsShut, IsNextAfter, Stands, sent_by, freed_in, most_released, phase_of, stage_of}
 
--- with other receipts too, of which more are acknowledged and more is released
-pub stands-anew : (n : TheNode) (c : Cluster) (p : ℕ) {receipts : Received} {left : ℕ} {queues : List TheQueue} {hears : List ℕ} {obeyed : List Bool} {packets : List NodePacket} {acknowledged : ℕ → ℕ → Bool} {released : ℕ → ℕ → ℕ}
+-- with other limits and receipts too, of which more are acknowledged and more is released
+pub stands-anew : (n : TheNode) (c : Cluster) (p : ℕ) {limits : Limits} {receipts : Received} {left : ℕ} {queues : List TheQueue} {hears : List ℕ} {obeyed : List Bool} {packets : List NodePacket} {acknowledged : ℕ → ℕ → Bool} {released : ℕ → ℕ → ℕ}
     {trims : ℕ → ℕ → ℕ} {numbers : ℕ → ℕ → ℕ → Option ℕ} {heard : ℕ → ℕ → ℕ} {resumed : ℕ → ℕ → Bool} {told : ℕ → ℕ → Option Collected} {parcels : List Parcel} → Stands n c p
     → HasReceived n.count n.base n.covered receipts (c.history p) (acknowledged p)
     → waiting (record c { acknowledged = acknowledged }) p ≡ left
     → ((d : ℕ) → d ≤ c.count → d ≢ p → KeepsOf (log_at queues d) (trims p d) (c.handlers.sends p (c.history p) d) (numbers p d))
-    → ((d : ℕ) → d ≤ c.count → d ≢ p → IsShut (log_at queues d) (length (c.history p)) (most_released n.limits.durable (record c { released = released }) p d) (sent_by c.handlers p (c.history p) d))
-    → ((d : ℕ) → sent_by c.handlers p (c.history p) d (freed_in n.limits.durable (record c { acknowledged = acknowledged }) p) ≤ released p d)
+    → ((d : ℕ) → d ≤ c.count → d ≢ p → IsShut (log_at queues d) (length (c.history p)) (most_released limits.durable (record c { released = released }) p d) (sent_by c.handlers p (c.history p) d))
+    → ((d : ℕ) → sent_by c.handlers p (c.history p) d (freed_in limits.durable (record c { acknowledged = acknowledged }) p) ≤ released p d)
     → ((q : ℕ) → q ≤ c.count → heard p q ≡ slice_index_or hears q 0)
     → ((q : ℕ) → q ≤ c.count → resumed p q ≡ slice_index_or obeyed q true)
     → Each (PutOut c.count parcels p) packets
-    → Stands (record n { receipts = receipts; waiting = left; logs = queues; heard = hears; resumed = obeyed; out = packets })
+    → Stands (record n { limits = limits; receipts = receipts; waiting = left; logs = queues; heard = hears; resumed = obeyed; out = packets })
     (record c { acknowledged = acknowledged; released = released; trims = trims; numbers = numbers; heard = heard; resumed = resumed; told = told; parcels = parcels }) p
 stands-anew n c p s received waits logs gates free hears obeyed out =
-    record {
-      me = s.me;
-      count = s.count;
-      inside = s.inside;
-      stage = s.stage;
-      greeted = s.greeted;
-      phase = s.phase;
-      works = s.works;
-      life = s.life;
-      state = s.state;
-      saved = s.saved;
-      received = received;
-      waits = waits;
-      logs = logs;
-      gates = gates;
-      free = free;
-      heard = hears;
-      resumed = obeyed;
-      out = out;
-    }
+    record { me = s.me; count = s.count; inside = s.inside; stage = s.stage; greeted = s.greeted; phase = s.phase; works = s.works; life = s.life; state = s.state; saved = s.saved; received = received; waits = waits; logs = logs; gates = gates; free = free; heard = hears; resumed = obeyed; out = out }
 
 -- with other logs, other marks of its peers and other packets, in a cluster that has them too
 pub stands-with : (n : TheNode) (c : Cluster) (p : ℕ) {queues : List TheQueue} {hears : List ℕ} {obeyed : List Bool} {packets : List NodePacket}
@@ -62,23 +44,4 @@ pub stands-staged : (n : TheNode) (c : Cluster) (p : ℕ) {waits : Bool} {job : 
     → stage p ≡ stage_of waits → phase p ≡ phase_of job → IsNextAfter (c.history p) job
     → Stands (record n { frozen = waits; working = job }) (record c { stage = stage; phase = phase }) p
 stands-staged n c p s staged phased works =
-    record {
-      me = s.me;
-      count = s.count;
-      inside = s.inside;
-      stage = staged;
-      greeted = s.greeted;
-      phase = phased;
-      works = works;
-      life = s.life;
-      state = s.state;
-      saved = s.saved;
-      received = s.received;
-      waits = s.waits;
-      logs = s.logs;
-      gates = s.gates;
-      free = s.free;
-      heard = s.heard;
-      resumed = s.resumed;
-      out = s.out;
-    }
+    record { me = s.me; count = s.count; inside = s.inside; stage = staged; greeted = s.greeted; phase = phased; works = works; life = s.life; state = s.state; saved = s.saved; received = s.received; waits = s.waits; logs = s.logs; gates = s.gates; free = s.free; heard = s.heard; resumed = s.resumed; out = s.out }

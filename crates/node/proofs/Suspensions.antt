@@ -12,6 +12,7 @@ use Rattle.node.specs.declared.limit.Limits.{Limits}
 use Rattle.node.specs.Queue.{TheQueue, IsSmall, leading}
 use Rattle.node.specs.Node.{TheNode, log_at}
 use Rattle.node.specs.Stands.{Stands, IsShut, most_released, freed_in, sent_by}
+use Rattle.node.proofs.StandsLemmas.{stands-anew}
 use Rattle.node.specs.Suspension.{joined_by, number_of_code, is_sent, is_unused, CanSuspend, woken, WokenStands}
 
 -- ---- two lists joined
@@ -124,26 +125,8 @@ module _ (n : TheNode) (c : Cluster) (p : ℕ) (can : CanSuspend n) (s : Stands 
 
   stands-again : (limits : Limits) → Stands (woken limits n) c p
   stands-again limits =
-      record {
-        me = s.me;
-        count = s.count;
-        inside = s.inside;
-        stage = s.stage;
-        greeted = s.greeted;
-        phase = s.phase;
-        works = s.works;
-        life = s.life;
-        state = s.state;
-        saved = s.saved;
-        received = s.received;
-        waits = s.waits;
-        logs = s.logs;
-        gates = shut-again limits.durable;
-        free = λ d. (let e : sent_by c.handlers p h d (freed_in limits.durable c p) ≡ many d = freed-sends limits.durable d in let l : many d ≤ c.released p d = all-out d in omega (arith, e, l));
-        heard = s.heard;
-        resumed = s.resumed;
-        out = tt;
-      }
+      stands-anew n c p s s.received s.waits s.logs (shut-again limits.durable)
+      (λ d. let e : sent_by c.handlers p h d (freed_in limits.durable c p) ≡ many d = freed-sends limits.durable d in let l : many d ≤ c.released p d = all-out d in omega (arith, e, l)) s.heard s.resumed tt
 
 pub woken-stands : WokenStands
 woken-stands n limits c p can s = stands-again n c p can s limits
