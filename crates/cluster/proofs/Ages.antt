@@ -2,9 +2,9 @@
 use Rattle.std.proofs.Common.{◌≡◌, ◌≢◌, inl, inr, ℕ, ◌<◌, ◌≤◌, length, Bool, true, false, refl, sym, ap, ◌∙◌, arith}
 use Rattle.std.specs.Prelude.{◌⊎◌, [], ◌∷◌, Option, Some, None}
 use Rattle.world.specs.declared.message.Message.{Message}
-use Rattle.world.specs.Phases.{Phase, Up, Busy, Down, Replaying, Resync}
-use Rattle.cluster.specs.Parcels.{Body, Delivery, Number, Acknowledgement, Ask, Told, Resume, Restored, Saved, parcel, In, reaches}
-use Rattle.cluster.specs.Cluster.{Stage, Live, Frozen, Dead, Collecting, Collected, Cluster, runs, is_well}
+use Rattle.world.specs.Phases.{Phase, Up, Down, Replaying, Resync}
+use Rattle.cluster.specs.Parcels.{Body, Ask, Told, Restored, parcel, In, reaches}
+use Rattle.cluster.specs.Cluster.{Stage, Live, Dead, Collecting, Collected, Cluster, runs, is_well}
 use Rattle.cluster.specs.Rules.{IsNode}
 use Rattle.cluster.specs.Exact.{Telling, Flagged, Said}
 use Rattle.cluster.proofs.Sane.{Low, Todo}

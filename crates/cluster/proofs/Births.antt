@@ -6,7 +6,7 @@ use Rattle.world.specs.Handlers.{Handlers}
 use Rattle.world.specs.Phases.{is_up}
 use Rattle.world.specs.World.{put}
 use Rattle.theorems.proofs.Changes.{choose, at-itself}
-use Rattle.cluster.specs.Parcels.{Body, Delivery, Number, Acknowledgement, Ask, Told, Resume, Restored, Saved}
+use Rattle.cluster.specs.Parcels.{Body, Ask, Told, Restored}
 use Rattle.cluster.specs.Cluster.{Collecting, Collected, runs, is_well}
 use Rattle.cluster.specs.Rules.{Act, Opens, May, does}
 use Rattle.cluster.proofs.Facts.{true-not-false}

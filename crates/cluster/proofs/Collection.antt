@@ -3,7 +3,7 @@ use Rattle.std.proofs.Common.{◌≡◌, ◌≢◌, inl, inr, ℕ, ◌≤◌, []
 use Rattle.std.specs.Prelude.{◌⊎◌, Option, Some, None, ◌&&◌, ◌==◌, nat_lt, if◌then◌else◌}
 use Rattle.std.proofs.lemmas.Bool.Decides.{nat_tests}
 use Rattle.world.specs.declared.message.Message.{Message}
-use Rattle.world.specs.Phases.{Phase, Up, Busy, Down, Replaying, Resync, is_up}
+use Rattle.world.specs.Phases.{Phase, Up, is_up}
 use Rattle.theorems.proofs.Changes.{choose}
 use Rattle.theorems.proofs.Tests.{not-below}
 use Rattle.cluster.specs.Parcels.{Body, Ask, Told, parcel, In}
@@ -194,14 +194,7 @@ module _ (p q : ℕ) (ne : q ≢ p) where
           [],
           tt,
           tt,
-          record {
-            orderly = v.orderly;
-            count = v.count ∙ r.count;
-            stage = λ x. v.stage x ∙ r.stage x;
-            ready = v.ready;
-            whole = v.whole;
-            told = λ x n. v.told x n ∙ r.told x;
-          },
+          record { orderly = v.orderly; count = v.count ∙ r.count; stage = λ x. v.stage x ∙ r.stage x; ready = v.ready; whole = v.whole; told = λ x n. v.told x n ∙ r.told x },
         )))
 
     -- whatever it has told so far

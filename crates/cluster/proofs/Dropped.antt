@@ -92,12 +92,7 @@ module _ (p d k : ℕ) (other : d ≢ p) where
     -- one parcel more
     put-more : (q r : ℕ) (x : Body) → ((i j n s : ℕ) (u : Option ℕ) (f : ℕ → Option ℕ) → parcel d p (Restored i j n s u f) ≡ parcel q r x → k ≤ n) → Dropped (record c { parcels = parcel q r x ∷ c.parcels })
     put-more q r x says =
-        record {
-          inside = h.inside;
-          covers = h.covers;
-          gone = h.gone;
-          told = λ i j n s u f a y z. elim a [ inl e ↦ inr (says i j n s u f e) | inr e ↦ h.told i j n s u f e y z ];
-        }
+        record { inside = h.inside; covers = h.covers; gone = h.gone; told = λ i j n s u f a y z. elim a [ inl e ↦ inr (says i j n s u f e) | inr e ↦ h.told i j n s u f e y z ] }
 
     puts : (q r : ℕ) (x : Body) → MayPut c q r x → (i j n s : ℕ) (u : Option ℕ) (f : ℕ → Option ℕ) → parcel d p (Restored i j n s u f) ≡ parcel q r x → k ≤ n
     puts q r x may i j n s u f e =
@@ -115,12 +110,7 @@ module _ (p d k : ℕ) (other : d ≢ p) where
     restages q x same alive =
         let back : runs (put c.stage q x p) ≡ runs (c.stage p) = choose q (λ j t. runs (if t then x else c.stage j) ≡ runs (c.stage j)) same (λ j _. refl) p in
         let lives : put c.stage q x p ≢ Dead → c.stage p ≢ Dead = choose q (λ j t. (if t then x else c.stage j) ≢ Dead → c.stage j ≢ Dead) (λ _. alive) (λ j _ e. e) p in
-        record {
-          inside = h.inside;
-          covers = h.covers;
-          gone = λ r e. h.gone (sym back ∙ r) e;
-          told = λ i j n s u f a y z. elim (h.told i j n s u f a (lives y) z) [ inl e ↦ inl (back ∙ e.0, e.1) | inr e ↦ inr e ];
-        }
+        record { inside = h.inside; covers = h.covers; gone = λ r e. h.gone (sym back ∙ r) e; told = λ i j n s u f a y z. elim (h.told i j n s u f a (lives y) z) [ inl e ↦ inl (back ∙ e.0, e.1) | inr e ↦ inr e ] }
 
     dies : (q : ℕ) → Dropped (does c (Dies q))
     dies q =

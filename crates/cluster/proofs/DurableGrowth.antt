@@ -8,7 +8,7 @@ use Rattle.theorems.proofs.ListLemmas.{begins-trans}
 use Rattle.cluster.specs.Cluster.{Cluster}
 use Rattle.cluster.proofs.Settings.{does-handlers}
 use Rattle.cluster.proofs.Growth.{Continues, still, same-begins, does-continue}
-use Rattle.cluster.specs.Overlap.{Event, Acts, Meets, Loses, Leaves, goes, kept_sends}
+use Rattle.cluster.specs.Overlap.{Event, Acts, goes, kept_sends}
 use Rattle.cluster.proofs.Firsts.{append_nil}
 
 -- an act takes back no input, and nothing that was shown or that a checkpoint covers; nor does an event

@@ -26,6 +26,18 @@ sound-with : (ps : List ℕ) → IsSound (phase_with ps)
 sound-with [] = tt
 sound-with (p ∷ ps) = tt
 
+-- more was heard, and so it is plain
+plain-heard : (c : Cluster) (heard : ℕ → ℕ → ℕ) → Low (record c { heard = heard }) → Plain c → Plain (record c { heard = heard })
+plain-heard c heard low h = record { low = low; begun = h.begun; settled = h.settled; gateway = h.gateway; sound = h.sound; todo = h.todo; within = h.within; ends = h.ends; own = h.own }
+
+-- so where other pages are told
+plain-told : (c : Cluster) (told : ℕ → ℕ → Option Collected) → ((p q : ℕ) → IsEnding (told p q)) → ((p : ℕ) → told p p ≡ None) → Plain c → Plain (record c { told = told })
+plain-told c told ends own h = record { low = h.low; begun = h.begun; settled = h.settled; gateway = h.gateway; sound = h.sound; todo = h.todo; within = h.within; ends = ends; own = own }
+
+-- and where a history or what a checkpoint covers is another
+plain-within : (c : Cluster) (history : ℕ → List Message) (saved : ℕ → ℕ) → ((p : ℕ) → saved p ≤ length (history p)) → Plain c → Plain (record c { history = history; saved = saved })
+plain-within c history saved within h = record { low = h.low; begun = h.begun; settled = h.settled; gateway = h.gateway; sound = h.sound; todo = h.todo; within = within; ends = h.ends; own = h.own }
+
 module _ (c : Cluster) where
   sound-turn : (p : ℕ) (x : Phase) → IsSound x → ((j : ℕ) → IsSound (c.phase j)) → (j : ℕ) → IsSound (put c.phase p x j)
   sound-turn p x s h = choose p (λ j b. IsSound (if b then x else c.phase j)) s (λ j _. h j)
@@ -40,17 +52,7 @@ module _ (c : Cluster) where
 
   plain-turn : (p : ℕ) (x : Phase) → 0 ≢ p → IsSound x → ((q : ℕ) → has (todo_of x) q ≡ true → IsNode c q × (q ≢ p)) → Plain c → Plain (record c { phase = put c.phase p x })
   plain-turn p x n s t h =
-      record {
-        low = h.low;
-        begun = h.begun;
-        settled = h.settled;
-        gateway = (h.gateway.0, h.gateway.1, put-other c.phase p x 0 n ∙ h.gateway.2);
-        sound = sound-turn p x s h.sound;
-        todo = todo-turn c p x t h.todo;
-        within = h.within;
-        ends = h.ends;
-        own = h.own;
-      }
+      record { low = h.low; begun = h.begun; settled = h.settled; gateway = (h.gateway.0, h.gateway.1, put-other c.phase p x 0 n ∙ h.gateway.2); sound = sound-turn p x s h.sound; todo = todo-turn c p x t h.todo; within = h.within; ends = h.ends; own = h.own }
 
   pub low-hears : (a b i : ℕ) → Low c → i ≤ c.stored b → Low (record c { heard = put2 c.heard a b i })
   low-hears a b i l n = choose2 a b (λ x y t. (if t then i else c.heard x y) ≤ c.stored y) n (λ x y _. l x y)
@@ -58,14 +60,7 @@ module _ (c : Cluster) where
   -- more was heard
   on-hears : (a b i : ℕ) → Low c → c.heard a b ≤ i → i ≤ c.stored b → On c (record c { heard = put2 c.heard a b i })
   on-hears a b i l m n =
-      record {
-        count = refl;
-        stored = λ p. refl;
-        heard = choose2 a b (λ x y t. c.heard x y ≤ (if t then i else c.heard x y)) m (λ x y _. omega arith);
-        low = low-hears a b i l n;
-        well = λ p w. inl w;
-        dead = λ p e. e;
-      }
+      record { count = refl; stored = λ p. refl; heard = choose2 a b (λ x y t. c.heard x y ≤ (if t then i else c.heard x y)) m (λ x y _. omega arith); low = low-hears a b i l n; well = λ p w. inl w; dead = λ p e. e }
 
   on-same : Low c → On c c
   on-same l = record { count = refl; stored = λ p. refl; heard = λ p q. omega arith; low = l; well = λ p w. inl w; dead = λ p e. e }
@@ -114,17 +109,7 @@ module _ (c : Cluster) where
 
   plain-stage : (p : ℕ) (x : Stage) → 0 ≢ p → (runs x ≡ true → c.life p ≡ c.stored p) → Plain c → Plain (record c { stage = put c.stage p x })
   plain-stage p x n s h =
-      record {
-        low = h.low;
-        begun = h.begun;
-        settled = settled-stage p x s h;
-        gateway = (stage-gate p x n h, h.gateway.1, h.gateway.2);
-        sound = h.sound;
-        todo = h.todo;
-        within = h.within;
-        ends = h.ends;
-        own = h.own;
-      }
+      record { low = h.low; begun = h.begun; settled = settled-stage p x s h; gateway = (stage-gate p x n h, h.gateway.1, h.gateway.2); sound = h.sound; todo = h.todo; within = h.within; ends = h.ends; own = h.own }
 
   un-own : (a b : ℕ) (o : Option Collected) → a ≢ b → ((p : ℕ) → c.told p p ≡ None) → (x : ℕ) → put2 c.told a b o x x ≡ None
   un-own a b o n h x = choose2 a b (λ x y t. x ≡ y → (if t then o else c.told x y) ≡ None) (λ e. absurd (n e)) (λ x y _ e. let P : ℕ → Type 0 = λ z. c.told x z ≡ None in subst P e (h x)) x x refl
@@ -235,78 +220,29 @@ module _ (born : ℕ → ℕ) (c : Cluster) (h : Plain c) (fine : (p d : ℕ) (x
   none-todo p x e q t = absurd (let z : false ≡ true = sym (ap (λ xs. has xs q) e) ∙ t in cc)
 
   pub plain-act : (a : Act) → is_opening a ≡ false → May c a → Plain (does c a)
-  plain-act (Arrives q p (Restored i j m s (Some u) f)) n may =
-      record {
-        low = low-hears c p q j h.low (fine q p (Restored i j m s (Some u) f) may.0).1;
-        begun = h.begun;
-        settled = h.settled;
-        gateway = h.gateway;
-        sound = h.sound;
-        todo = h.todo;
-        within = h.within;
-        ends = h.ends;
-        own = h.own;
-      }
+  plain-act (Arrives q p (Restored i j m s (Some u) f)) n may = plain-heard c (put2 c.heard p q j) (low-hears c p q j h.low (fine q p (Restored i j m s (Some u) f) may.0).1) h
   plain-act (Arrives p (suc d) (Delivery i ssn x)) n may = plain-turn c (suc d) (Busy (message p ssn x)) (not-gate c (suc d) may.1.0) tt (none-todo (suc d) (Busy (message p ssn x)) refl) h
   plain-act (Works p m) n may =
       let g = plain-turn c p Up (not-gate c p may.0) tt (none-todo p Up refl) h in
       let longer : length (c.history p ++ m ∷ []) ≡ length (c.history p) + 1 = length-append _ _ in
       let l : c.saved p ≤ length (c.history p) = h.within p in
-      record {
-        low = g.low;
-        begun = g.begun;
-        settled = g.settled;
-        gateway = g.gateway;
-        sound = g.sound;
-        todo = g.todo;
-        within = choose p (λ j b. c.saved j ≤ length (if b then c.history p ++ m ∷ [] else c.history j)) (omega arith) (λ j _. h.within j);
-        ends = g.ends;
-        own = g.own;
-      }
+      plain-within (record c { phase = put c.phase p Up }) (put c.history p (c.history p ++ m ∷ [])) c.saved (choose p (λ j b. c.saved j ≤ length (if b then c.history p ++ m ∷ [] else c.history j)) (omega arith) (λ j _. h.within j)) g
   plain-act (Replays p j) n may = either-way (nat_lt (c.saved p + suc j) (length (c.history p))) _ _ Plain
       (plain-turn c p (Replaying (suc j) false false) (not-gate c p may.0) (refl, refl) (none-todo p (Replaying (suc j) false false) refl) h)
       (plain-turn c p (phase_with (peers (seen c) p false)) (not-gate c p may.0) (sound-with _) (peers-todo p) h)
   plain-act (Arrives p q (Ask i k)) n may =
       let f = fine p q (Ask i k) may.0 in
-      record {
-        low = low-hears c q p i h.low f.1.1;
-        begun = h.begun;
-        settled = h.settled;
-        gateway = h.gateway;
-        sound = h.sound;
-        todo = h.todo;
-        within = h.within;
-        ends = told-ends c q p None tt h.ends;
-        own = un-own c q p None (λ e. f.0 (sym e)) h.own;
-      }
+      plain-told (record c { heard = put2 c.heard q p i }) (put2 c.told q p None) (told-ends c q p None tt h.ends) (un-own c q p None (λ e. f.0 (sym e)) h.own) (plain-heard c (put2 c.heard q p i) (low-hears c q p i h.low f.1.1) h)
   plain-act (Arrives q p (Told i j k u f)) n may =
       let t = fine q p (Told i j k u f) may.0 in
-      record {
-        low = low-hears c p q j h.low t.1.1;
-        begun = h.begun;
-        settled = h.settled;
-        gateway = h.gateway;
-        sound = h.sound;
-        todo = h.todo;
-        within = h.within;
-        ends = told-ends c p q (Some (with_page (c.told p q) k u f)) (page-ends c (c.told p q) k u f t.1.2) h.ends;
-        own = un-own c p q _ (λ e. t.0 (sym e)) h.own;
-      }
+      let page : Option Collected = Some (with_page (c.told p q) k u f) in
+      plain-told (record c { heard = put2 c.heard p q j }) (put2 c.told p q page) (told-ends c p q page (page-ends c (c.told p q) k u f t.1.2) h.ends) (un-own c p q page (λ e. t.0 (sym e)) h.own)
+      (plain-heard c (put2 c.heard p q j) (low-hears c p q j h.low t.1.1) h)
   plain-act (Recovers p k) n may = either-way (nat_lt (c.saved p) k) _ _ Plain
       (plain-recovers p k (Replaying 0 false false) may (refl, refl) (none-todo p (Replaying 0 false false) refl)) (plain-recovers p k (phase_with (peers (seen c) p false)) may (sound-with _) (peers-todo p))
   plain-act (Arrives (suc q) p (Restored i j m s None f)) n may =
       let g = plain-turn c p (phase_with (without (todo_of (c.phase p)) (suc q))) (restores-gate c p (suc q) h may.1.3) (sound-with _) (rest-todo p (suc q)) h in
-      record {
-        low = low-hears c p (suc q) j h.low (fine (suc q) p (Restored i j m s None f) may.0).1;
-        begun = g.begun;
-        settled = g.settled;
-        gateway = g.gateway;
-        sound = g.sound;
-        todo = g.todo;
-        within = g.within;
-        ends = g.ends;
-        own = g.own;
-      }
+      plain-heard (record c { phase = put c.phase p (phase_with (without (todo_of (c.phase p)) (suc q))) }) (put2 c.heard p (suc q) j) (low-hears c p (suc q) j h.low (fine (suc q) p (Restored i j m s None f) may.0).1) g
   plain-act (Arrives zero p (Restored i j m s None f)) n may =
       record {
         low = h.low;
@@ -320,18 +256,7 @@ module _ (born : ℕ → ℕ) (c : Cluster) (h : Plain c) (fine : (p d : ℕ) (x
         own = h.own;
       }
   plain-act (Freezes p) n may = plain-stage c p Frozen (not-gate c p may.0) (λ _. h.settled p (ap runs (takes-is c p may.1).0)) h
-  plain-act (Keeps p) n may =
-      record {
-        low = h.low;
-        begun = h.begun;
-        settled = h.settled;
-        gateway = h.gateway;
-        sound = h.sound;
-        todo = h.todo;
-        within = choose p (λ j b. (if b then length (c.history p) else c.saved j) ≤ length (c.history j)) (omega arith) (λ j _. h.within j);
-        ends = h.ends;
-        own = h.own;
-      }
+  plain-act (Keeps p) n may = plain-within c c.history (put c.saved p (length (c.history p))) (choose p (λ j b. (if b then length (c.history p) else c.saved j) ≤ length (c.history j)) (omega arith) (λ j _. h.within j)) h
   plain-act (Thaws p) n may = plain-stage c p Live (not-gate c p may.0) (λ _. h.settled p (ap runs may.1)) h
   plain-act (Dies p) n may = plain-stage c p Dead (not-gate c p may.0) (λ e. absurd (let z : false ≡ true = e in cc)) h
   plain-act (Opens p m) n may = absurd (cc)
@@ -377,16 +302,6 @@ module _ (born : ℕ → ℕ) (c : Cluster) (h : Plain c) (fine : (p d : ℕ) (x
   plain-event (Meets q p i k) n may =
       let f = fine p q (Ask i k) may.0 in
       let g = plain-turn c q (restores_anew (c.phase q) p) (un-gate q may.1.1) (anew-sound (c.phase q) p (h.sound q)) (λ r e. elim (anew (c.phase q) p r e) [ inl z ↦ (let P : ℕ → Type 0 = λ i. IsNode c i × (i ≢ q) in subst P (sym z) (f.1.0, f.0)) | inr t ↦ h.todo q r t ]) h in
-      record {
-        low = low-hears c q p i h.low f.1.1;
-        begun = g.begun;
-        settled = g.settled;
-        gateway = g.gateway;
-        sound = g.sound;
-        todo = g.todo;
-        within = g.within;
-        ends = g.ends;
-        own = g.own;
-      }
+      plain-heard (record c { phase = put c.phase q (restores_anew (c.phase q) p) }) (put2 c.heard q p i) (low-hears c q p i h.low f.1.1) g
   plain-event (Loses q p i j k) n may = h
   plain-event (Leaves p q) n may = plain-turn c p (phase_with (without (todo_of (c.phase p)) q)) (restores-gate c p q h may.1) (sound-with _) (rest-todo p q) h

@@ -6,7 +6,7 @@ use Rattle.world.specs.History.{Payload, nth, count_of}
 use Rattle.world.specs.Phases.{Busy}
 use Rattle.theorems.specs.Growth.{Begins, Grows}
 use Rattle.theorems.proofs.ListLemmas.{nth-prefix, begins-length}
-use Rattle.cluster.specs.Parcels.{Body, Delivery, Number, Acknowledgement, Ask, Told, Resume, Restored, Saved, parcel, In, reaches}
+use Rattle.cluster.specs.Parcels.{Body, Delivery, Number, Told, Restored, parcel, In, reaches}
 use Rattle.cluster.specs.Cluster.{Collected, Cluster}
 use Rattle.cluster.specs.Rules.{message}
 use Rattle.cluster.specs.Overlap.{kept_sends}

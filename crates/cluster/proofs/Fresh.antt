@@ -147,12 +147,7 @@ module _ (p : ℕ) where
       -- a page that is put out
       puts : (r d : ℕ) (x : Body) → May c (Puts r d x) → Of (does c (Puts r d x)) (c.saved p) took
       puts r d x may =
-          record {
-            begins = h.begins;
-            numbers = h.numbers;
-            told = λ q i j k u f a s e. elim a [ inl y ↦ page q i j k u f y | inr y ↦ h.told q i j k u f y s e ];
-            collected = h.collected;
-          }
+          record { begins = h.begins; numbers = h.numbers; told = λ q i j k u f a s e. elim a [ inl y ↦ page q i j k u f y | inr y ↦ h.told q i j k u f y s e ]; collected = h.collected }
         where
           page : (q i j k : ℕ) (u : Option ℕ) (f : ℕ → Option Message) → parcel q p (Told i j k u f) ≡ parcel r d x → ((v : ℕ) → u ≡ Some v → k < v) × ((m : ℕ) (y : Message) → k < m → reaches u m ≡ true → f m ≡ Some y → c.saved p < m → Names took m q y.ssn)
           page q i j k u f y =
@@ -289,12 +284,7 @@ module _ (p : ℕ) where
       -- what was told before p was opened is to an earlier incarnation
       opens : (r n : ℕ) → Of (does c (Opens r n)) (c.saved p) took
       opens r n =
-          record {
-            begins = h.begins;
-            numbers = h.numbers;
-            told = λ q i j k u f a s e. later q i j k u f a (p == r) refl s e;
-            collected = λ q s. new (p == r) q s;
-          }
+          record { begins = h.begins; numbers = h.numbers; told = λ q i j k u f a s e. later q i j k u f a (p == r) refl s e; collected = λ q s. new (p == r) q s }
         where
           later : (q i j k : ℕ) (u : Option ℕ) (f : ℕ → Option Message) → In (parcel q p (Told i j k u f)) c.parcels → (t : Bool) → (p == r) ≡ t → (if t then Collecting else c.stage p) ≡ Collecting → i ≡ (if t then suc (n + c.stored r) else c.stored p)
               → ((v : ℕ) → u ≡ Some v → k < v) × ((m : ℕ) (x : Message) → k < m → reaches u m ≡ true → f m ≡ Some x → c.saved p < m → Names took m q x.ssn)

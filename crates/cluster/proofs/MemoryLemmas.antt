@@ -4,7 +4,7 @@ use Rattle.std.specs.Prelude.{None, Some, ◌==◌, nat_lt, if◌then◌else◌}
 use Rattle.std.proofs.lemmas.Bool.Decides.{nat_tests}
 use Rattle.world.specs.declared.message.Message.{Message}
 use Rattle.world.specs.History.{count_of}
-use Rattle.world.specs.Phases.{Phase, Up, Busy, Down, Replaying, Resync, is_busy}
+use Rattle.world.specs.Phases.{Phase, Down, is_busy}
 use Rattle.world.specs.Logs.{payloads, sent, sent_in_all, covered, length_in}
 use Rattle.world.specs.Refusals.{one_if}
 use Rattle.theorems.specs.Orphans.{payloads_of}

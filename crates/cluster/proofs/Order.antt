@@ -12,7 +12,7 @@ use Rattle.cluster.specs.Parcels.{Delivery, Restored}
 use Rattle.cluster.specs.Cluster.{Cluster, opening}
 use Rattle.cluster.specs.Rules.{Act, Arrives, Works, Replays, Recovers, May, does, message, plan, told_by, kept_by}
 use Rattle.cluster.proofs.Growth.{either-way}
-use Rattle.cluster.specs.Overlap.{Event, Acts, Meets, Loses, Leaves, Might, steps, Events, after_events}
+use Rattle.cluster.specs.Overlap.{Event, Acts, Might, steps, Events, after_events}
 use Rattle.cluster.specs.DurablePromises.{InOrder, AlwaysInOrder}
 use Rattle.cluster.proofs.Firsts.{if_next-is}
 use Rattle.cluster.proofs.DurablePromised.{Durable, opens-durable, step-durable}

@@ -181,12 +181,7 @@ module _ (c : Cluster) (b : Beside) (p : ℕ) (h : Agrees c b) (l : Lawful (worl
               (λ z. let x : c.trims p d ≤ covered (seen c) p d = h.trimmed.trimmed p d in omega arith)
               (λ j _ z. let x : c.saved_trims j d ≤ covered (seen c) j d = h.trimmed.saved_trimmed j d in omega arith) s y;
         };
-        untrimmed = record {
-          trims = h.untrimmed.trims;
-          saved_trims = λ s d. choose p (λ j t. (if t then b.trims p else b.saved_trims j) d ≡ 0) (h.untrimmed.trims p d) (λ j _. h.untrimmed.saved_trims j d) s;
-          feed = h.untrimmed.feed;
-          free = h.untrimmed.free;
-        };
+        untrimmed = record { trims = h.untrimmed.trims; saved_trims = λ s d. choose p (λ j t. (if t then b.trims p else b.saved_trims j) d ≡ 0) (h.untrimmed.trims p d) (λ j _. h.untrimmed.saved_trims j d) s; feed = h.untrimmed.feed; free = h.untrimmed.free };
         numbered = record {
           numbers = h.numbered.numbers;
           logged = λ q r s m x y n e. elim (h.numbered.logged q r s m x y n e) [

@@ -4,7 +4,7 @@ use Rattle.std.specs.Prelude.{Option, Some, None, ◌==◌, ◌&&◌, nat_lt, na
 use Rattle.std.proofs.lemmas.Bool.Decides.{nat_tests}
 use Rattle.world.specs.declared.message.Message.{Message}
 use Rattle.world.specs.History.{Payload, nth, count_of}
-use Rattle.world.specs.Phases.{Phase, Up, Busy, Down, Replaying, Resync, todo_of, without, is_busy}
+use Rattle.world.specs.Phases.{Phase, Up, Busy, Replaying, todo_of, without, is_busy}
 use Rattle.world.specs.World.{put}
 use Rattle.world.specs.Logs.{sent, length_of, released_to}
 use Rattle.world.specs.Plan.{logged_as}
@@ -18,7 +18,7 @@ use Rattle.theorems.proofs.LogLemmas.{payloads-prefix}
 use Rattle.theorems.proofs.HistoryLemmas.{names-found}
 use Rattle.theorems.proofs.PlanLemmas.{first_below-at, logged_as-at}
 use Rattle.theorems.proofs.Recoveries.{up_to-is}
-use Rattle.cluster.specs.Parcels.{Body, Delivery, Number, Acknowledgement, Ask, Told, Resume, Restored, Saved, Parcel, parcel, In, reaches}
+use Rattle.cluster.specs.Parcels.{Body, Delivery, Number, Acknowledgement, Ask, Told, Resume, Restored, Parcel, parcel, In, reaches}
 use Rattle.cluster.specs.Cluster.{Collected, Cluster, seen, is_well}
 use Rattle.cluster.specs.Rules.{Act, Input, Puts, Arrives, Works, Replays, Recovers, Keeps, Opens, MayPut, May, does, message, entry_of, entry_in, with_page, Asks, IsAll, told_by, kept_by, entered, put2, goes_on, takes_in, taken_back}
 use Rattle.cluster.proofs.Facts.{choose2, well-is}

@@ -241,14 +241,7 @@ module _ (born : ℕ → ℕ) (now p : ℕ) where
             tt,
             tt,
             (
-              record {
-                aged = step-aged born now s (Takes true false (Works p m)) refl h.aged may;
-                count = refl;
-                stage = λ r. refl;
-                greeted = λ r _. refl;
-                phase = λ r n. put-other s.cluster.phase p Up r n;
-                lost = λ r. refl;
-              },
+              record { aged = step-aged born now s (Takes true false (Works p m)) refl h.aged may; count = refl; stage = λ r. refl; greeted = λ r _. refl; phase = λ r n. put-other s.cluster.phase p Up r n; lost = λ r. refl },
               is-well (step s (Takes true false (Works p m))).cluster p (ap runs h.live) g (ap is_up there),
               there,
             ),
@@ -295,14 +288,7 @@ module _ (born : ℕ → ℕ) (now p : ℕ) where
             tt,
             tt,
             (
-              record {
-                aged = step-aged born now s (Leaving p q) refl h.aged m;
-                count = refl;
-                stage = λ r. refl;
-                greeted = λ r _. refl;
-                phase = λ r n. put-other s.cluster.phase p (phase_with (without (todo_of (s.cluster.phase p)) q)) r n;
-                lost = λ r. refl;
-              },
+              record { aged = step-aged born now s (Leaving p q) refl h.aged m; count = refl; stage = λ r. refl; greeted = λ r _. refl; phase = λ r n. put-other s.cluster.phase p (phase_with (without (todo_of (s.cluster.phase p)) q)) r n; lost = λ r. refl },
               put-same s.cluster.phase p (phase_with (without (todo_of (s.cluster.phase p)) q)),
             ),
           )

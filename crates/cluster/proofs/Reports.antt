@@ -111,20 +111,12 @@ module _ (s : Telling) (ps : List Parcel) (h : Follows s ps) (exact lost : Bool)
   follows (Puts p d (Saved n)) g = record { others = one-more (parcel p d (Saved n)); told = λ y i e. inr (h.told y i e); found = h.found }
   follows (Arrives p zero (Delivery i ssn x)) g = h
   follows (Replays p j) g =
-      record {
-        others = either-way (nat_lt (s.cluster.saved p + suc j) (length (s.cluster.history p))) _ _ (λ v. (x : Parcel) → is_told x.body ≡ false → In x v.parcels → In x ps) h.others h.others;
-        told = h.told;
-        found = h.found;
-      }
+      record { others = either-way (nat_lt (s.cluster.saved p + suc j) (length (s.cluster.history p))) _ _ (λ v. (x : Parcel) → is_told x.body ≡ false → In x v.parcels → In x ps) h.others h.others; told = h.told; found = h.found }
   follows (Arrives r t (Number i ssn k)) g = record { others = one-more (parcel t r (Acknowledgement i k)); told = λ y i e. inr (h.told y i e); found = h.found }
   follows (Arrives p q (Ask i k)) g = record { others = h.others; told = h.told; found = choose2 q p (λ a b t. (if t then false else s.lost a b) ≡ false) refl (λ a b _. h.found a b) }
   follows (Arrives q p (Told i j k u f)) g = record { others = h.others; told = h.told; found = choose2 p q (λ a b t. (if t then lost else s.lost a b) ≡ false) g (λ a b _. h.found a b) }
   follows (Recovers p k) g =
-      record {
-        others = either-way (nat_lt (s.cluster.saved p) k) _ _ (λ v. (x : Parcel) → is_told x.body ≡ false → In x v.parcels → In x ps) h.others h.others;
-        told = h.told;
-        found = h.found;
-      }
+      record { others = either-way (nat_lt (s.cluster.saved p) k) _ _ (λ v. (x : Parcel) → is_told x.body ≡ false → In x v.parcels → In x ps) h.others h.others; told = h.told; found = h.found }
   follows (Arrives zero p (Restored i j n r None f)) g = h
   follows (Opens p n) g = record { others = h.others; told = h.told; found = λ a b. choose p (λ j t. (if t then (λ (k : ℕ). false) else s.lost j) b ≡ false) refl (λ j _. h.found j b) a }
   follows act g = h

@@ -100,12 +100,7 @@ module _ (q : ℕ) where
             [],
             tt,
             tt,
-            record {
-              orderly = r.orderly;
-              count = r.count;
-              ready = r.ready;
-              others = λ x n. let k = r.others x n in (k.0 ∙ put-other s.cluster.stage q Live x n, k.1, k.2);
-            },
+            record { orderly = r.orderly; count = r.count; ready = r.ready; others = λ x n. let k = r.others x n in (k.0 ∙ put-other s.cluster.stage q Live x n, k.1, k.2) },
           ))))
 
 -- and so are all, one after the other
