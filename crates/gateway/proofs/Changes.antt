@@ -1,5 +1,6 @@
 -- The gateway stands where a change is an act of its own
 use Rattle.std.proofs.Common.{◌≡◌, ◌≢◌, inl, ℕ, suc, ◌+◌, ◌-◌, ◌<◌, ◌≤◌, List, [], ◌∷◌, ◌++◌, length, map, take, drop, min, max, Bool, true, false, refl, sym, ap, ◌∙◌, subst, arith, append_assoc}
+use Rattle.std.specs.List.{AllByRecursion}
 use Rattle.std.specs.Prelude.{Option, Some, slice_index_or, ◌==◌, nat_lt, nat_le, if◌then◌else◌}
 use Rattle.std.proofs.lemmas.Bool.Decides.{nat_tests}
 use Rattle.std.proofs.lemmas.List.{map-append, take-append-drop}
@@ -9,22 +10,24 @@ use Rattle.world.specs.World.{put}
 use Rattle.world.specs.Calls.{up_to}
 use Rattle.world.specs.Logs.{is_entry}
 use Rattle.theorems.proofs.Changes.{at-itself}
-use Rattle.cluster.specs.Parcels.{Delivery, Number, Acknowledgement, Ask, Resume, Saved, parcel, In}
+use Rattle.cluster.specs.Parcels.{Delivery, Number, Acknowledgement, Ask, Resume, Saved, Parcel, parcel, In}
 use Rattle.world.specs.Phases.{Up}
 use Rattle.cluster.specs.Cluster.{Cluster, seen}
 use Rattle.cluster.specs.Rules.{Input, Arrives, May, does, IsNode}
 use Rattle.packets.specs.declared.packet.Body.TheVariants as packets
+use Rattle.packets.specs.declared.packet.NodePacket.{NodePacket}
 use Rattle.stores.specs.declared.change.Output.{Output}
+use Rattle.stores.specs.declared.change.Change.{Change}
 use Rattle.stores.specs.declared.change.Change.TheVariants as changes
 use Rattle.stores.specs.declared.peer.Logged.{Logged}
 use Rattle.stores.specs.Peer.{ThePeer, no_entry, last_of, is_kept, appended, recorded, dropped_first, hears, forgets, shows}
 use Rattle.stores.specs.Store.{TheStore, IsOf, peer_at, with_peer}
 use Rattle.gateway.specs.Gateway.{TheGateway, peer_of, posts, happens}
 use Rattle.gateway.specs.Calls.{obeyed}
-use Rattle.gateway.specs.Stands.{Stands, KeepsOf, EndsWith, Goes, shown_as}
+use Rattle.gateway.specs.Stands.{Stands, PutOut, KeepsOf, EndsWith, Goes, shown_as}
 use Rattle.stores.proofs.Peers.{each-peer, same-part, as-many, each-twice, twice-many}
 use Rattle.gateway.proofs.Preservation.{kept-within, sent-size, kept-appended, kept-numbered, kept-dropped, kept-forgot}
-use Rattle.gateway.proofs.Steps.{takes-here, out-posted, does-one, stays, stands-waiting}
+use Rattle.gateway.proofs.Steps.{takes-here, out-posted, does-one, stays, stands-with, stands-waiting}
 
 pub node-is : (g : TheGateway) (c : Cluster) (p : ℕ) → Stands g c → IsOf p g.store → IsNode c p
 node-is g c p s o = (o.some, omega (arith, o.low, s.count))
@@ -49,9 +52,28 @@ module _ (g : TheGateway) (c : Cluster) (p : ℕ) (new : ThePeer) (o : IsOf p g.
   pub resumed-still : new.resumed ≡ (peer_of p g).resumed → (q : ℕ) → IsNode c q → c.resumed 0 q ≡ (peer_at q store).resumed
   resumed-still e q n = s.resumed q n ∙ sym (same-part (λ (z : ThePeer). z.resumed) g.store p q new o n.0 e)
 
+  -- it has other logs, and the rest is as it was
+  stands-logs : {ks : List Change} {packets : List NodePacket} {trims : ℕ → ℕ → ℕ} {numbers : ℕ → ℕ → ℕ → Option ℕ} {inputs : ℕ → List Payload} {parcels : List Parcel}
+      → new.shown ≡ (peer_of p g).shown → new.heard ≡ (peer_of p g).heard → new.resumed ≡ (peer_of p g).resumed
+      → ((q : ℕ) → IsNode c q → KeepsOf (peer_at q store) (trims 0 q) (inputs q) (numbers 0 q)) → AllByRecursion (PutOut c.count parcels) packets
+      → Stands (record g { store = with_peer p new g.store; changes = ks; out = packets }) (record c { trims = trims; numbers = numbers; inputs = inputs; parcels = parcels })
+  stands-logs shown heard resumed logs out = stands-with g c s count-still logs (shown-still shown) s.outputs (heard-still heard) (resumed-still resumed) out
+
+-- a log whose messages and numbers are as they were
+kept-same : (y z : ThePeer) (d : ℕ) (xs : List Payload) (numbers : ℕ → Option ℕ) → y.dropped ≡ z.dropped → y.entries ≡ z.entries → KeepsOf z d xs numbers → KeepsOf y d xs numbers
+kept-same y z d xs numbers e f k =
+    record {
+      before = k.before;
+      many = k.many ∙ sym e;
+      joined = ap (λ (es : List Logged). k.before ++ map (λ (x : Logged). x.payload) es) f ∙ k.joined;
+      dropped_is = k.dropped_is ∙ sym e;
+      numbers_are = λ i l. ap (λ (es : List Logged). (slice_index_or es i no_entry).number) f ∙ k.numbers_are i (subst (λ (es : List Logged). i < length es) f l) ∙ ap (λ n. numbers (suc (n + i))) (sym e);
+      beyond = λ i l. k.beyond i (let same : length y.entries ≡ length z.entries = ap length f in omega (arith, l, same, e));
+    }
+
 -- an input
 pub goes-input : (g : TheGateway) (c : Cluster) (p : ℕ) (x : Payload) → IsOf p g.store → Stands g c → Goes (happens (changes.Input p x) g) c
-goes-input g c p x o s = does-one (happens (changes.Input p x) g) c (Input p x) node tt stands
+goes-input g c p x o s = does-one (happens (changes.Input p x) g) c (Input p x) node tt (stands-logs g c p (appended x (peer_of p g)) o s refl refl refl logs s.out)
   where
     node : IsNode c p
     node = node-is g c p s o
@@ -61,27 +83,11 @@ goes-input g c p x o s = does-one (happens (changes.Input p x) g) c (Input p x) 
         (at-itself p (λ t. KeepsOf (appended x (peer_of p g)) (c.trims 0 p) (if t then c.inputs p ++ x ∷ [] else c.inputs p) (c.numbers 0 p)) (kept-appended (peer_of p g) (c.trims 0 p) (c.inputs p) x (c.numbers 0 p) (s.logs p node)))
         (λ apart. rw (apart-is q p apart) (s.logs q n))
 
-    stands : Stands (happens (changes.Input p x) g) (does c (Input p x))
-    stands =
-        record {
-          count = count-still g c p (appended x (peer_of p g)) o s;
-          stage = s.stage;
-          greeted = s.greeted;
-          phase = s.phase;
-          life = s.life;
-          history = s.history;
-          logs = logs;
-          shown = shown-still g c p (appended x (peer_of p g)) o s refl;
-          outputs = s.outputs;
-          heard = heard-still g c p (appended x (peer_of p g)) o s refl;
-          resumed = resumed-still g c p (appended x (peer_of p g)) o s refl;
-          out = s.out;
-        }
-
 -- a number is recorded, and acknowledged
 pub goes-numbered : (g : TheGateway) (c : Cluster) (p i ssn k : ℕ) → IsOf p g.store → Stands g c → In (parcel p 0 (Number i ssn k)) c.parcels → i ≡ (peer_of p g).heard → is_kept ssn (peer_of p g) ≡ true
     → Goes (posts p (packets.Acknowledgement i k) (happens (changes.Numbered p ssn k) g)) c
-goes-numbered g c p i ssn k o s given heard kept = does-one (posts p (packets.Acknowledgement i k) (happens (changes.Numbered p ssn k) g)) c (Arrives p 0 (Number i ssn k)) may refl stands
+goes-numbered g c p i ssn k o s given heard kept = does-one (posts p (packets.Acknowledgement i k) (happens (changes.Numbered p ssn k) g)) c (Arrives p 0 (Number i ssn k)) may refl
+    (stands-logs g c p (recorded ssn k (peer_of p g)) o s refl refl refl logs (out-posted (happens (changes.Numbered p ssn k) g) c p (packets.Acknowledgement i k) (Acknowledgement i k) refl (count-still g c p (recorded ssn k (peer_of p g)) o s) s.out))
   where
     node : IsNode c p
     node = node-is g c p s o
@@ -103,26 +109,6 @@ goes-numbered g c p i ssn k o s given heard kept = does-one (posts p (packets.Ac
         (at-itself p (λ t. KeepsOf (recorded ssn k (peer_of p g)) (c.trims 0 p) (c.inputs p) (if t then put (c.numbers 0 p) ssn (Some k) else c.numbers 0 p)) (kept-numbered (peer_of p g) (c.trims 0 p) (c.inputs p) (c.numbers 0 p) ssn k kept (s.logs p node)))
         (λ apart. rw (apart-is q p apart) (s.logs q n))
 
-    count : length (with_peer p (recorded ssn k (peer_of p g)) g.store).peers ≡ c.count
-    count = count-still g c p (recorded ssn k (peer_of p g)) o s
-
-    stands : Stands (posts p (packets.Acknowledgement i k) (happens (changes.Numbered p ssn k) g)) (does c (Arrives p 0 (Number i ssn k)))
-    stands =
-        record {
-          count = count;
-          stage = s.stage;
-          greeted = s.greeted;
-          phase = s.phase;
-          life = s.life;
-          history = s.history;
-          logs = logs;
-          shown = shown-still g c p (recorded ssn k (peer_of p g)) o s refl;
-          outputs = s.outputs;
-          heard = heard-still g c p (recorded ssn k (peer_of p g)) o s refl;
-          resumed = resumed-still g c p (recorded ssn k (peer_of p g)) o s refl;
-          out = out-posted (happens (changes.Numbered p ssn k) g) c p (packets.Acknowledgement i k) (Acknowledgement i k) refl count s.out;
-        }
-
 -- how many are dropped, and how many have been then
 abbrev many_dropped : ThePeer → ℕ → ℕ
 many_dropped z k = min (min k (last_of z) - z.dropped) (length z.entries)
@@ -133,7 +119,8 @@ trims_dropped c p k = max (c.trims 0 p) (min k (length (c.inputs p)))
 -- what is covered for good is dropped
 pub goes-dropped : (g : TheGateway) (c : Cluster) (p k : ℕ) → IsOf p g.store → Stands g c → In (parcel p 0 (Saved k)) c.parcels → (peer_of p g).dropped < min k (last_of (peer_of p g))
     → Goes (happens (changes.Dropped p (min k (last_of (peer_of p g)))) g) c
-goes-dropped g c p k o s given some = does-one (happens (changes.Dropped p (min k (last_of (peer_of p g)))) g) c (Arrives p 0 (Saved k)) (given, takes-here g c s) refl stands
+goes-dropped g c p k o s given some = does-one (happens (changes.Dropped p (min k (last_of (peer_of p g)))) g) c (Arrives p 0 (Saved k)) (given, takes-here g c s) refl
+    (stands-logs g c p (dropped_first (many_dropped (peer_of p g) k) (peer_of p g)) o s refl refl refl logs s.out)
   where
     node : IsNode c p
     node = node-is g c p s o
@@ -155,23 +142,6 @@ goes-dropped g c p k o s given some = does-one (happens (changes.Dropped p (min 
         (at-itself p (λ t. KeepsOf (dropped_first (many_dropped (peer_of p g) k) (peer_of p g)) (if t then (trims_dropped c p k) else c.trims 0 p) (c.inputs p) (c.numbers 0 p)) dropped)
         (λ apart. rw (apart-is q p apart) (s.logs q n))
 
-    stands : Stands (happens (changes.Dropped p (min k (last_of (peer_of p g)))) g) (does c (Arrives p 0 (Saved k)))
-    stands =
-        record {
-          count = count-still g c p (dropped_first (many_dropped (peer_of p g) k) (peer_of p g)) o s;
-          stage = s.stage;
-          greeted = s.greeted;
-          phase = s.phase;
-          life = s.life;
-          history = s.history;
-          logs = logs;
-          shown = shown-still g c p (dropped_first (many_dropped (peer_of p g) k) (peer_of p g)) o s refl;
-          outputs = s.outputs;
-          heard = heard-still g c p (dropped_first (many_dropped (peer_of p g) k) (peer_of p g)) o s refl;
-          resumed = resumed-still g c p (dropped_first (many_dropped (peer_of p g) k) (peer_of p g)) o s refl;
-          out = s.out;
-        }
-
 -- how many of a process are shown, with one more
 abbrev tally : Bool → ℕ
 tally b = if b then 1 else 0
@@ -190,7 +160,8 @@ ends-push o os h e =
 -- an output is shown
 pub goes-shown : (g : TheGateway) (c : Cluster) (i : ℕ) (x : Output) → IsOf x.process g.store → Stands g c → In (parcel x.process 0 (Delivery i x.ssn x.payload)) c.parcels → i ≡ (peer_of x.process g).heard
     → x.ssn ≡ suc (peer_of x.process g).shown → Goes (happens (changes.Shown x) g) c
-goes-shown g c i x o s given heard next = does-one (happens (changes.Shown x) g) c (Arrives x.process 0 (Delivery i x.ssn x.payload)) may refl stands
+goes-shown g c i x o s given heard next = does-one (happens (changes.Shown x) g) c (Arrives x.process 0 (Delivery i x.ssn x.payload)) may refl
+    (stands-with g c s (count-still g c x.process (shows x.ssn (peer_of x.process g)) o s) logs shown (ends-push x g.store.outputs c.shown s.outputs) (heard-still g c x.process (shows x.ssn (peer_of x.process g)) o s refl) (resumed-still g c x.process (shows x.ssn (peer_of x.process g)) o s refl) s.out)
   where
     node : IsNode c x.process
     node = node-is g c x.process s o
@@ -199,10 +170,8 @@ goes-shown g c i x o s given heard next = does-one (happens (changes.Shown x) g)
     may = (given, (heard ∙ sym (s.heard x.process node), next ∙ ap suc (s.shown x.process node)))
 
     logs : (q : ℕ) → IsNode c q → KeepsOf (peer_at q (with_peer x.process (shows x.ssn (peer_of x.process g)) g.store)) (c.trims 0 q) (c.inputs q) (c.numbers 0 q)
-    logs q n = each-peer (λ z y. KeepsOf y (c.trims 0 z) (c.inputs z) (c.numbers 0 z)) g.store x.process q (shows x.ssn (peer_of x.process g)) o n.0 still (λ apart. s.logs q n)
-      where
-        still : KeepsOf (shows x.ssn (peer_of x.process g)) (c.trims 0 x.process) (c.inputs x.process) (c.numbers 0 x.process)
-        still = let l = s.logs x.process node in record { before = l.before; many = l.many; joined = l.joined; dropped_is = l.dropped_is; numbers_are = l.numbers_are; beyond = l.beyond }
+    logs q n = each-peer (λ z y. KeepsOf y (c.trims 0 z) (c.inputs z) (c.numbers 0 z)) g.store x.process q (shows x.ssn (peer_of x.process g)) o n.0
+        (kept-same (shows x.ssn (peer_of x.process g)) (peer_of x.process g) (c.trims 0 x.process) (c.inputs x.process) (c.numbers 0 x.process) refl refl (s.logs x.process node)) (λ apart. s.logs q n)
 
     shown : (q : ℕ) → IsNode c q → (peer_at q (with_peer x.process (shows x.ssn (peer_of x.process g)) g.store)).shown ≡ count_of q (c.shown ++ shown_as x ∷ [])
     shown q n = each-peer (λ z y. y.shown ≡ count_of z (c.shown ++ shown_as x ∷ [])) g.store x.process q (shows x.ssn (peer_of x.process g)) o n.0
@@ -216,23 +185,6 @@ goes-shown g c i x o s given heard next = does-one (happens (changes.Shown x) g)
         let was : (peer_of q g).shown ≡ count_of q c.shown = s.shown q n in
         omega (arith, e, none, was))
 
-    stands : Stands (happens (changes.Shown x) g) (does c (Arrives x.process 0 (Delivery i x.ssn x.payload)))
-    stands =
-        record {
-          count = count-still g c x.process (shows x.ssn (peer_of x.process g)) o s;
-          stage = s.stage;
-          greeted = s.greeted;
-          phase = s.phase;
-          life = s.life;
-          history = s.history;
-          logs = logs;
-          shown = shown;
-          outputs = ends-push x g.store.outputs c.shown s.outputs;
-          heard = heard-still g c x.process (shows x.ssn (peer_of x.process g)) o s refl;
-          resumed = resumed-still g c x.process (shows x.ssn (peer_of x.process g)) o s refl;
-          out = s.out;
-        }
-
 ends-taken : (k : ℕ) (os : List Output) (h : List Message) → EndsWith os h → EndsWith (drop k os) h
 ends-taken k os h e =
     record {
@@ -242,41 +194,16 @@ ends-taken k os h e =
 
 -- outputs are taken: that is no act
 pub goes-taken : (g : TheGateway) (c : Cluster) (k : ℕ) → Stands g c → Goes (happens (changes.Taken k) g) c
-goes-taken g c k s =
-    stays (happens (changes.Taken k) g) c (record {
-      count = s.count;
-      stage = s.stage;
-      greeted = s.greeted;
-      phase = s.phase;
-      life = s.life;
-      history = s.history;
-      logs = s.logs;
-      shown = s.shown;
-      outputs = ends-taken k g.store.outputs c.shown s.outputs;
-      heard = s.heard;
-      resumed = s.resumed;
-      out = s.out;
-    })
+goes-taken g c k s = stays (happens (changes.Taken k) g) c (stands-with g c s s.count s.logs s.shown (ends-taken k g.store.outputs c.shown s.outputs) s.heard s.resumed s.out)
 
 -- nor is it when its host asks what happened
 pub goes-asked : (g : TheGateway) (c : Cluster) → Stands g c → Goes (record g { changes = [] }) c
-goes-asked g c s = stays (record g { changes = [] }) c (stands-waiting g c g.out [] s s.out)
-
--- a log whose messages and numbers are as they were
-kept-same : (y z : ThePeer) (d : ℕ) (xs : List Payload) (numbers : ℕ → Option ℕ) → y.dropped ≡ z.dropped → y.entries ≡ z.entries → KeepsOf z d xs numbers → KeepsOf y d xs numbers
-kept-same y z d xs numbers e f k =
-    record {
-      before = k.before;
-      many = k.many ∙ sym e;
-      joined = ap (λ (es : List Logged). k.before ++ map (λ (x : Logged). x.payload) es) f ∙ k.joined;
-      dropped_is = k.dropped_is ∙ sym e;
-      numbers_are = λ i l. ap (λ (es : List Logged). (slice_index_or es i no_entry).number) f ∙ k.numbers_are i (subst (λ (es : List Logged). i < length es) f l) ∙ ap (λ n. numbers (suc (n + i))) (sym e);
-      beyond = λ i l. k.beyond i (let same : length y.entries ≡ length z.entries = ap length f in omega (arith, l, same, e));
-    }
+goes-asked g c s = stays (record g { changes = [] }) c (stands-waiting g c s s.out)
 
 -- a newer incarnation is heard of
 pub goes-heard : (g : TheGateway) (c : Cluster) (p i k : ℕ) → IsOf p g.store → Stands g c → In (parcel p 0 (Ask i k)) c.parcels → (peer_of p g).heard < i → Goes (happens (changes.Heard p i false) g) c
-goes-heard g c p i k o s given newer = does-one (happens (changes.Heard p i false) g) c (Arrives p 0 (Ask i k)) (given, (omega (arith, s.heard p node, newer), inl (takes-here g c s))) refl stands
+goes-heard g c p i k o s given newer = does-one (happens (changes.Heard p i false) g) c (Arrives p 0 (Ask i k)) (given, (omega (arith, s.heard p node, newer), inl (takes-here g c s))) refl
+    (stands-with g c s (count-still g c p (hears i false (peer_of p g)) o s) logs (shown-still g c p (hears i false (peer_of p g)) o s refl) s.outputs heard resumed s.out)
   where
     node : IsNode c p
     node = node-is g c p s o
@@ -293,27 +220,11 @@ goes-heard g c p i k o s given newer = does-one (happens (changes.Heard p i fals
     resumed q n = each-peer (λ z y. (if z == p then false else c.resumed 0 z) ≡ y.resumed) g.store p q (hears i false (peer_of p g)) o n.0
         (at-itself p (λ t. (if t then false else c.resumed 0 p) ≡ false) refl) (λ apart. rw (apart-is q p apart) (s.resumed q n))
 
-    stands : Stands (happens (changes.Heard p i false) g) (does c (Arrives p 0 (Ask i k)))
-    stands =
-        record {
-          count = count-still g c p (hears i false (peer_of p g)) o s;
-          stage = s.stage;
-          greeted = s.greeted;
-          phase = s.phase;
-          life = s.life;
-          history = s.history;
-          logs = logs;
-          shown = shown-still g c p (hears i false (peer_of p g)) o s refl;
-          outputs = s.outputs;
-          heard = heard;
-          resumed = resumed;
-          out = s.out;
-        }
-
 -- a Resume is obeyed: numbers above what is kept are forgotten
 pub goes-obeyed : (g : TheGateway) (c : Cluster) (p i k n : ℕ) → IsOf p g.store → Stands g c → In (parcel p 0 (Resume i k n)) c.parcels → i ≡ (peer_of p g).heard → (peer_of p g).resumed ≡ false → Goes (obeyed p i k g) c
 goes-obeyed g c p i k n o s given last fresh =
-    does-one (obeyed p i k g) c (Arrives p 0 (Resume i k n)) (given, (takes-here g c s, last ∙ sym (s.heard p node), s.resumed p node ∙ fresh, (λ m busy. absurd (let up : c.phase 0 ≡ Up = s.phase in cc)))) refl stands
+    does-one (obeyed p i k g) c (Arrives p 0 (Resume i k n)) (given, (takes-here g c s, last ∙ sym (s.heard p node), s.resumed p node ∙ fresh, (λ m busy. absurd (let up : c.phase 0 ≡ Up = s.phase in cc)))) refl
+    (stands-with g c s (twice-many g.store p (forgets k (peer_of p g)) (hears i true) o ∙ s.count) logs shown s.outputs heard resumed s.out)
   where
     node : IsNode c p
     node = node-is g c p s o
@@ -333,20 +244,3 @@ goes-obeyed g c p i k n o s given last fresh =
     resumed : (q : ℕ) → IsNode c q → (if q == p then true else c.resumed 0 q) ≡ (peer_of q (obeyed p i k g)).resumed
     resumed q m = each-twice g.store p (forgets k (peer_of p g)) (hears i true) o (λ z y. (if z == p then true else c.resumed 0 z) ≡ y.resumed) q m.0
         (at-itself p (λ t. (if t then true else c.resumed 0 p) ≡ true) refl) (λ apart. rw (apart-is q p apart) (s.resumed q m))
-
-    stands : Stands (obeyed p i k g) (does c (Arrives p 0 (Resume i k n)))
-    stands =
-        record {
-          count = twice-many g.store p (forgets k (peer_of p g)) (hears i true) o ∙ s.count;
-          stage = s.stage;
-          greeted = s.greeted;
-          phase = s.phase;
-          life = s.life;
-          history = s.history;
-          logs = logs;
-          shown = shown;
-          outputs = s.outputs;
-          heard = heard;
-          resumed = resumed;
-          out = s.out;
-        }

@@ -93,11 +93,9 @@ told-so : (x : NodePacket) (g : TheGateway) → IsOf x.from g.store → x.to ≡
 told-so x g o me (packets.Delivery i ssn y) e c s w = arrives i (record { process = x.from; ssn = ssn; payload = y }) g o c s (said-is c.parcels x.from x.to (Delivery i ssn y) w.body me (subst (λ z. Says x.from z w.body) e w.says) w.among)
 told-so x g o me (packets.Number i ssn k) e c s w = records x.from i ssn k g o c s (said-is c.parcels x.from x.to (Number i ssn k) w.body me (subst (λ z. Says x.from z w.body) e w.says) w.among)
 told-so x g o me (packets.Saved k) e c s w = drops x.from k g o c s (said-is c.parcels x.from x.to (Saved k) w.body me (subst (λ z. Says x.from z w.body) e w.says) w.among)
-told-so x g o me (packets.Acknowledgement i k) e c s w = stays g c s
 told-so x g o me (packets.Ask i k) e c s w = asks x.from i k g o c s (said-is c.parcels x.from x.to (Ask i k) w.body me (subst (λ z. Says x.from z w.body) e w.says) w.among)
-told-so x g o me (packets.Told i j k flags entries) e c s w = stays g c s
 told-so x g o me (packets.Resume i k n) e c s w = resumes x.from i k n g o c s (said-is c.parcels x.from x.to (Resume i k n) w.body me (subst (λ z. Says x.from z w.body) e w.says) w.among)
-told-so x g o me (packets.Restored i j n k flags pairs) e c s w = stays g c s
+told-so x g o me other e c s w = stays g c s
 
 pub handed-so : (x : NodePacket) (g : TheGateway) → IsHanded x g (handed x g)
 handed-so x g = by-if (IsHanded x g) (is_for g x) (told x.from x.body g) g (λ e. here (both ((x.count == length g.store.peers) && (x.to == 0) && nat_lt 0 x.from && nat_le x.from x.count) (in_range x.body) e)) (λ e c s w. stays g c s)

@@ -1,37 +1,43 @@
 -- Acts one after another, and packets that are put out
-use Rattle.std.proofs.Common.{◌≡◌, inl, inr, ℕ, ◌<◌, List, [], ◌∷◌, ◌++◌, length, Bool, true, false, refl, sym, subst, arith}
-use Rattle.std.specs.Prelude.{nat_lt, if◌then◌else◌}
+use Rattle.std.proofs.Common.{◌≡◌, inl, inr, ℕ, ◌-◌, ◌<◌, List, [], ◌∷◌, ◌++◌, length, Bool, true, false, refl, sym, subst, arith}
+use Rattle.std.specs.Prelude.{Option, slice_index_or, nat_lt, if◌then◌else◌}
 use Rattle.std.specs.List.{AllByRecursion}
+use Rattle.world.specs.declared.message.Message.{Message}
+use Rattle.world.specs.History.{Payload, count_of}
 use Rattle.cluster.specs.Parcels.{Body, Parcel, parcel, In}
-use Rattle.cluster.specs.Cluster.{Cluster, is_well, takes}
+use Rattle.cluster.specs.Cluster.{Cluster, Collected, is_well, takes}
 use Rattle.cluster.specs.Rules.{Act, Puts, May, MayPut, does, Run, after_run, IsNode}
 use Rattle.packets.specs.declared.packet.Body as bodies
 use Rattle.packets.specs.declared.packet.NodePacket.{NodePacket}
 use Rattle.packets.specs.Outbox.{pushed}
 use Rattle.stores.specs.declared.change.Change.{Change}
+use Rattle.stores.specs.declared.change.Output.{Output}
+use Rattle.stores.specs.Peer.{ThePeer, no_peer}
 use Rattle.packets.specs.declared.outbox.TheConstants.{OUTBOX}
 use Rattle.gateway.specs.Gateway.{TheGateway, posts, packet_of}
 use Rattle.packets.specs.Says.{Says}
 use Rattle.gateway.specs.Acts.{IsByGateway}
-use Rattle.gateway.specs.Stands.{Stands, PutOut, Goes, Owes, Acts}
+use Rattle.gateway.specs.Stands.{Stands, PutOut, KeepsOf, EndsWith, Goes, Owes, Acts}
 
--- it stands so with other packets that were put out, and whatever is told of what happened
-pub stands-waiting : (g : TheGateway) (c : Cluster) (out : List NodePacket) (ks : List Change) → Stands g c → AllByRecursion (PutOut c.count c.parcels) out → Stands (record g { out = out; changes = ks }) c
-stands-waiting g c out ks s put =
-    record {
-      count = s.count;
-      stage = s.stage;
-      greeted = s.greeted;
-      phase = s.phase;
-      life = s.life;
-      history = s.history;
-      logs = s.logs;
-      shown = s.shown;
-      outputs = s.outputs;
-      heard = s.heard;
-      resumed = s.resumed;
-      out = put;
-    }
+-- it stands with other logs, outputs, marks of its peers and packets, in a cluster that has them too
+pub stands-with : (g : TheGateway) (c : Cluster) {page tick : ℕ} {peers : List ThePeer} {outputs : List Output} {ks : List Change} {packets : List NodePacket} {trims : ℕ → ℕ → ℕ} {numbers : ℕ → ℕ → ℕ → Option ℕ}
+    {heard : ℕ → ℕ → ℕ} {resumed : ℕ → ℕ → Bool} {told : ℕ → ℕ → Option Collected} {inputs : ℕ → List Payload} {shown : List Message} {parcels : List Parcel} → Stands g c
+    → length peers ≡ c.count
+    → ((p : ℕ) → IsNode c p → KeepsOf (slice_index_or peers (p - 1) no_peer) (trims 0 p) (inputs p) (numbers 0 p))
+    → ((p : ℕ) → IsNode c p → (slice_index_or peers (p - 1) no_peer).shown ≡ count_of p shown)
+    → EndsWith outputs shown
+    → ((p : ℕ) → IsNode c p → heard 0 p ≡ (slice_index_or peers (p - 1) no_peer).heard)
+    → ((p : ℕ) → IsNode c p → resumed 0 p ≡ (slice_index_or peers (p - 1) no_peer).resumed)
+    → AllByRecursion (PutOut c.count parcels) packets
+    → Stands (record { page = page; tick = tick; store = record { peers = peers; outputs = outputs }; changes = ks; out = packets })
+    (record c { trims = trims; numbers = numbers; heard = heard; resumed = resumed; told = told; inputs = inputs; shown = shown; parcels = parcels })
+stands-with g c s count logs shown outputs heard resumed out =
+    record { count = count; stage = s.stage; greeted = s.greeted; phase = s.phase; life = s.life; history = s.history; logs = logs; shown = shown; outputs = outputs; heard = heard; resumed = resumed; out = out }
+
+-- whatever waits, if it was put out, and whatever is told of what happened
+pub stands-waiting : (g : TheGateway) (c : Cluster) {page tick : ℕ} {out : List NodePacket} {ks : List Change} → Stands g c → AllByRecursion (PutOut c.count c.parcels) out
+    → Stands (record g { page = page; tick = tick; out = out; changes = ks }) c
+stands-waiting g c s out = stands-with g c s s.count s.logs s.shown s.outputs s.heard s.resumed out
 
 -- what holds of all holds of them where less was asked
 pub all-more : {X : Type 0} (P Q : X → Type 0) (xs : List X) → ((x : X) → P x → Q x) → AllByRecursion P xs → AllByRecursion Q xs
@@ -68,24 +74,6 @@ takes-here g c s = rw (s.stage, s.greeted, s.phase) refl
 pub well-here : (g : TheGateway) (c : Cluster) → Stands g c → is_well c 0 ≡ true
 well-here g c s = rw (s.stage, s.greeted, s.phase) refl
 
--- it stands in the cluster in which the packet is put out
-pub stands-posted : (g : TheGateway) (c : Cluster) (p : ℕ) (x : bodies.Body) (b : Body) → Says 0 x b → Stands g c → Stands (posts p x g) (does c (Puts 0 p b))
-stands-posted g c p x b says s =
-    record {
-      count = s.count;
-      stage = s.stage;
-      greeted = s.greeted;
-      phase = s.phase;
-      life = s.life;
-      history = s.history;
-      logs = s.logs;
-      shown = s.shown;
-      outputs = s.outputs;
-      heard = s.heard;
-      resumed = s.resumed;
-      out = out-posted g c p x b says s.count s.out;
-    }
-
 -- to put out what the cluster lets it
 pub posted : (g : TheGateway) (c : Cluster) (p : ℕ) (x : bodies.Body) (b : Body) → Says 0 x b → Stands g c → IsNode c p → MayPut c 0 p b → Goes (posts p x g) c
 posted g c p x b says s node may =
@@ -93,7 +81,7 @@ posted g c p x b says s node may =
       acts = Puts 0 p b ∷ [];
       run = ((omega arith, node.1, (λ e. absurd (let some : 0 < p = node.0 in omega (arith, e, some))), may), tt);
       by = (refl, tt);
-      stands = stands-posted g c p x b says s;
+      stands = stands-with g c s s.count s.logs s.shown s.outputs s.heard s.resumed (out-posted g c p x b says s.count s.out);
     }
 
 -- to do nothing
@@ -109,16 +97,14 @@ run-on : (c : Cluster) (acts more : List Act) → Run c acts → Run (after_run 
 run-on c [] more r q = (q, refl)
 run-on c (a ∷ acts) more r q = let t = run-on (does c a) acts more r.1 q in ((r.0, t.0), t.1)
 
-pub goes-then : (mid new : TheGateway) (c : Cluster) → Goes mid c → ((d : Cluster) → Stands mid d → Goes new d) → Goes new c
-goes-then mid new c g more =
-    let m = more (after_run c g.acts) g.stands in
+-- from where it went
+pub goes-behind : (mid new : TheGateway) (c : Cluster) → (g : Goes mid c) → Goes new (after_run c g.acts) → Goes new c
+goes-behind mid new c g m =
     let both = run-on c g.acts m.acts g.run m.run in
-    record {
-      acts = g.acts ++ m.acts;
-      run = both.0;
-      by = all-append IsByGateway g.acts m.acts g.by m.by;
-      stands = subst (Stands new) (sym both.1) m.stands;
-    }
+    record { acts = g.acts ++ m.acts; run = both.0; by = all-append IsByGateway g.acts m.acts g.by m.by; stands = subst (Stands new) (sym both.1) m.stands }
+
+pub goes-then : (mid new : TheGateway) (c : Cluster) → Goes mid c → ((d : Cluster) → Stands mid d → Goes new d) → Goes new c
+goes-then mid new c g more = goes-behind mid new c g (more (after_run c g.acts) g.stands)
 
 pub acts-self : (g : TheGateway) → Acts g g
 acts-self g c s u = stays g c s

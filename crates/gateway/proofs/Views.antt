@@ -26,4 +26,4 @@ takes-so None g rest e = (e.0, ap (λ xs. record g { out = xs }) e.1 ∙ ap (λ 
 takes-so (Some x) g rest e = (ap (λ xs. record g { out = xs }) e, λ c s. taken c s (subst (AllByRecursion (PutOut c.count c.parcels)) e s.out))
   where
     taken : (c : Cluster) → Stands g c → AllByRecursion (PutOut c.count c.parcels) (x ∷ rest) → PutOut c.count c.parcels x × Stands (record g { out = rest }) c
-    taken c s out = (out.0, stands-waiting g c rest g.changes s out.1)
+    taken c s out = (out.0, stands-waiting g c s out.1)
