@@ -17,22 +17,12 @@ not-kept p a e f = let none : own_act a ≡ None = ap own_act f in absurd (cc)
 -- so the calls of one that comes back leave what is kept of it
 pub kept-along : (k : Kept) (p : ℕ) (P : Cluster → Type 0) (c : Cluster) → IsKeptOf k c p → GoesTo p P c → GoesTo p (λ d. P d × IsKeptOf k d p) c
 kept-along k p P c s g =
-    record {
-      acts = g.acts;
-      run = g.run;
-      by = g.by;
-      stands = (g.stands, kept-stays k p g.acts c (each-more (λ (a : Act). own_act a ≡ Some p) (λ (a : Act). a ≢ Keeps p) g.acts (λ a e. not-kept p a e) g.by) s);
-    }
+    record { acts = g.acts; run = g.run; by = g.by; stands = (g.stands, kept-stays k p g.acts c (each-more (λ (a : Act). own_act a ≡ Some p) (λ (a : Act). a ≢ Keeps p) g.acts (λ a e. not-kept p a e) g.by) s) }
 
 -- nor does it change when p is opened
 pub kept-reopened : (k : Kept) (p life : ℕ) (P : Cluster → Type 0) (c : Cluster) → IsKeptOf k c p → Reopens p life P c → Reopens p life (λ d. P d × IsKeptOf k d p) c
 kept-reopened k p life P c s r =
-    record {
-      skipped = r.skipped;
-      opens = r.opens;
-      incarnation = r.incarnation;
-      goes = kept-along k p P (does c (Opens p r.skipped)) (kept-stays k p (Opens p r.skipped ∷ []) c ((λ e. absurd (cc)), tt) s) r.goes;
-    }
+    record { skipped = r.skipped; opens = r.opens; incarnation = r.incarnation; goes = kept-along k p P (does c (Opens p r.skipped)) (kept-stays k p (Opens p r.skipped ∷ []) c ((λ e. absurd (cc)), tt) s) r.goes }
 
 pub comes-again : ComesBackAgain
 comes-again k life n c revives inside alive early s =

@@ -62,13 +62,7 @@ module _ (o : TheOwn) (c : Cluster) (p : ℕ) (out : Each (IsSent c.count c.parc
 
   hears : (from : ℕ) (x : bodies.Body) → OnlyTells c p o (heard from x o)
   hears from (packets.Ask i k) = asks from i k
-  hears from (packets.Delivery i ssn x) = none-told
-  hears from (packets.Number i ssn k) = none-told
-  hears from (packets.Acknowledgement i k) = none-told
-  hears from (packets.Told i j k flags entries) = none-told
-  hears from (packets.Resume i k s) = none-told
-  hears from (packets.Restored i j n s flags pairs) = none-told
-  hears from (packets.Saved n) = none-told
+  hears from other = none-told
 
   pub only-tells : (x : NodePacket) → OnlyTells c p o (handed x o)
   only-tells x = by-own (OnlyTells c p o) (is_for o x && in_range x.body) (heard x.from x.body o) o (λ e. hears x.from x.body) (λ e. none-told)

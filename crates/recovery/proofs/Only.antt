@@ -1,9 +1,9 @@
 -- What the rules let one do that replays
 use Rattle.std.proofs.Common.{zero, suc, None, Some, ◌≡◌, ◌⊎◌, inl, inr, ℕ, true, false, refl, sym, ◌∙◌, subst, arith}
 use Rattle.world.specs.Phases.{Replaying, todo_of, has, is_replaying}
-use Rattle.cluster.specs.Parcels.{Body, Delivery, Number, Acknowledgement, Ask, Told, Resume, Restored, Saved}
+use Rattle.cluster.specs.Parcels.{Body, Delivery, Number, Acknowledgement, Ask, Told, Resume, Restored}
 use Rattle.cluster.specs.Cluster.{Cluster, Live, Frozen, Dead, Collecting, is_well, takes}
-use Rattle.cluster.specs.Rules.{Input, Puts, Arrives, Works, Replays, Recovers, Freezes, Keeps, Thaws, Dies, Opens, MayPut}
+use Rattle.cluster.specs.Rules.{Input, Puts, Arrives, Replays, Recovers, Keeps, Thaws, Dies, Opens, MayPut}
 use Rattle.recovery.specs.Replays.{TheReplaying, is_over}
 use Rattle.recovery.specs.StandsAtReplay.{StandsReplaying, IsReplay, OnlyReplays}
 
@@ -33,14 +33,10 @@ module _ (n : TheReplaying) (c : Cluster) (p : ℕ) (s : StandsReplaying n c p) 
   replays-next j e = let f : Replaying j false false ≡ Replaying n.done false false = sym e ∙ phase-is in (cc f)
 
   puts-only : (d : ℕ) (x : Body) → MayPut c p d x → IsReplay n (Puts p d x)
-  puts-only d (Delivery i ssn x) m = not-well m.0
-  puts-only d (Number i ssn k) m = not-well m.0
   puts-only d (Acknowledgement i k) m = m
   puts-only d (Ask i k) m = not-collecting m.0
-  puts-only d (Told i j k u f) m = not-well m.0
   puts-only d (Resume i k t) m = tt
-  puts-only d (Restored i j k t u f) m = not-well m.0
-  puts-only d (Saved k) m = not-well m.0
+  puts-only d other m = not-well m.0
 
   hears-none : (takes c p ≡ true) ⊎ (c.stage p ≡ Collecting) → ⊥
   hears-none (inl e) = not-takes e
@@ -52,11 +48,9 @@ only-replays n c p (Input d x) s left may by = absurd (omega (arith, by, s.own.i
 only-replays n c p (Puts q d x) s left may by = let P : ℕ → Type 0 = λ z. MayPut c z d x → IsReplay n (Puts z d x) in subst P (sym by) (puts-only n c p s left d x) may.3
 only-replays n c p (Arrives q (suc d) (Delivery i ssn x)) s left may by = let P : ℕ → Type 0 = λ z. takes c z ≡ true in not-takes n c p s left (subst P by may.1.1)
 only-replays n c p (Arrives q zero (Delivery i ssn x)) s left may by = absurd (omega (arith, by, s.own.inside.0))
-only-replays n c p (Works q m) s left may by = let P : ℕ → Type 0 = λ z. takes c z ≡ true in not-takes n c p s left (subst P by may.1)
 only-replays n c p (Replays q j) s left may by = let P : ℕ → Type 0 = λ z. c.phase z ≡ Replaying j false false in replays-next n c p s left j (subst P by may.2)
 only-replays n c p (Arrives r q (Number i ssn k)) s left may by = let P : ℕ → Type 0 = λ z. takes c z ≡ true in not-takes n c p s left (subst P by may.1.0)
 only-replays n c p (Arrives q r (Acknowledgement i k)) s left may by = let P : ℕ → Type 0 = λ z. takes c z ≡ true in not-takes n c p s left (subst P by may.1.1)
-only-replays n c p (Arrives d q (Saved k)) s left may by = let P : ℕ → Type 0 = λ z. takes c z ≡ true in not-takes n c p s left (subst P by may.1)
 only-replays n c p (Arrives r q (Ask i k)) s left may by = let P : ℕ → Type 0 = λ z. (takes c z ≡ true) ⊎ (c.stage z ≡ Collecting) in hears-none n c p s left (subst P by may.1.1)
 only-replays n c p (Arrives r q (Told i j k u f)) s left may by = let P : ℕ → Type 0 = λ z. c.stage z ≡ Collecting in not-collecting n c p s left (subst P by may.1.0)
 only-replays n c p (Recovers q k) s left may by = let P : ℕ → Type 0 = λ z. c.stage z ≡ Collecting in not-collecting n c p s left (subst P by may.1)
@@ -67,8 +61,8 @@ only-replays n c p (Arrives zero q (Restored i j k t None f)) s left may by =
     let P : ℕ → Type 0 = λ z. is_replaying (c.phase z) ≡ false in
     let f : is_replaying (c.phase p) ≡ true = rw (phase-is n c p s left) refl in
     absurd (cc (subst P by may.1.3, f))
-only-replays n c p (Freezes q) s left may by = let P : ℕ → Type 0 = λ z. takes c z ≡ true in not-takes n c p s left (subst P by may.1)
 only-replays n c p (Keeps q) s left may by = let P : ℕ → Type 0 = λ z. c.stage z ≡ Frozen in not-frozen n c p s left (subst P by may.1)
 only-replays n c p (Thaws q) s left may by = let P : ℕ → Type 0 = λ z. c.stage z ≡ Frozen in not-frozen n c p s left (subst P by may.1)
 only-replays n c p (Dies q) s left may by = tt
 only-replays n c p (Opens q k) s left may by = let P : ℕ → Type 0 = λ z. c.stage z ≡ Dead in not-dead n c p s left (subst P by may.1)
+only-replays n c p other s left may by = let P : ℕ → Type 0 = λ z. takes c z ≡ true in not-takes n c p s left (subst P by may.1)

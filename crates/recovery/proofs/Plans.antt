@@ -1,5 +1,5 @@
 -- What is kept is what the cluster keeps
-use Rattle.std.proofs.Common.{Result, Ok, Err, ◌≡◌, ◌≢◌, ℕ, zero, suc, ◌+◌, ◌-◌, ◌<◌, ◌≤◌, List, [], ◌∷◌, ◌++◌, length, map, take, Bool, true, false, refl, sym, ap, ◌∙◌, subst, arith, append_assoc}
+use Rattle.std.proofs.Common.{Result, Ok, ◌≡◌, ◌≢◌, ℕ, zero, suc, ◌+◌, ◌-◌, ◌<◌, ◌≤◌, List, [], ◌∷◌, ◌++◌, length, map, take, Bool, true, false, refl, sym, ap, ◌∙◌, subst, arith, append_assoc}
 use Rattle.std.specs.Prelude.{Option, Some, None, IfOk, IfSome, slice_index_or, slice_set, ◌||◌, ◌==◌}
 use Rattle.std.proofs.lemmas.Bool.Decides.{nat_tests}
 use Rattle.std.proofs.lemmas.List.{append-nil, length-append, length-take, length-map, take_all, get_or-set_same, get_or-set_other}
@@ -33,9 +33,6 @@ first-at {X} f d (suc n) x none here l = split (d == n) refl (λ m. first-at f d
     split false e rest =
         let less : d < n = (let apart : d ≢ n = grind (arith, nat_tests) in omega (arith, apart, l)) in
         rw (rest less) refl
-
-pub first-next : {X : Type 0} (f : ℕ → Option X) (d : ℕ) → first_below f d ≡ None → f d ≡ None → first_below f (suc d) ≡ None
-first-next f d none here = rw (none, here) refl
 
 first-same : {X : Type 0} (f g : ℕ → Option X) (n : ℕ) → ((i : ℕ) → i < n → f i ≡ g i) → first_below f n ≡ first_below g n
 first-same f g zero e = refl
@@ -252,6 +249,5 @@ recovering n jobs plans all c s = may-recover n jobs all plans c s s.alone
 
 -- what is said of a plan where there is one
 pub ok-some : {X E : Type 0} (P Q : X → Type 0) (r : Result (Option X) E) → ((x : X) → P x → Q x) → IfOk r (λ o. IfSome o P) → IfOk r (λ o. IfSome o Q)
-ok-some P Q (Ok None) f h = tt
 ok-some P Q (Ok (Some x)) f h = f x h
-ok-some P Q (Err e) f h = tt
+ok-some P Q other f h = tt

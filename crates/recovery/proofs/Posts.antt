@@ -59,47 +59,15 @@ own-out o c p h trims numbers rest out s = own-with o c c p h refl refl refl s s
 
 pub collecting-out : (n : TheCollecting) (c : Cluster) (p : ℕ) (rest : List NodePacket) → Each (IsSent c.count c.parcels p) rest → StandsCollecting n c p → StandsCollecting (record n { own = record n.own { out = rest } }) c p
 collecting-out n c p rest out s =
-    record {
-      stage = s.stage;
-      life = s.life;
-      own = own-out n.own c p _ _ _ rest out s.own;
-      told = s.told;
-      alone = s.alone;
-    }
+    record { stage = s.stage; life = s.life; own = own-out n.own c p _ _ _ rest out s.own; told = s.told; alone = s.alone }
 
 pub replaying-out : (n : TheReplaying) (c : Cluster) (p : ℕ) (rest : List NodePacket) → Each (IsSent c.count c.parcels p) rest → StandsReplaying n c p → StandsReplaying (record n { own = record n.own { out = rest } }) c p
 replaying-out n c p rest out s =
-    record {
-      stage = s.stage;
-      greeted = s.greeted;
-      phase = s.phase;
-      life = s.life;
-      own = own-out n.own c p _ _ _ rest out s.own;
-      behind = s.behind;
-      received = s.received;
-      acknowledged = s.acknowledged;
-      numbers = s.numbers;
-      resumed = s.resumed;
-      restoring = s.restoring;
-      shut = s.shut;
-      released = s.released;
-    }
+    record { stage = s.stage; greeted = s.greeted; phase = s.phase; life = s.life; own = own-out n.own c p _ _ _ rest out s.own; behind = s.behind; received = s.received; acknowledged = s.acknowledged; numbers = s.numbers; resumed = s.resumed; restoring = s.restoring; shut = s.shut; released = s.released }
 
 pub replayed-out : (n : TheReplayed) (c : Cluster) (p : ℕ) (rest : List NodePacket) → Each (IsSent c.count c.parcels p) rest → StandsReplayed n c p → StandsReplayed (record n { own = record n.own { out = rest } }) c p
 replayed-out n c p rest out s =
-    record {
-      stage = s.stage;
-      greeted = s.greeted;
-      phase = s.phase;
-      life = s.life;
-      own = own-out n.own c p _ _ _ rest out s.own;
-      received = s.received;
-      acknowledged = s.acknowledged;
-      numbers = s.numbers;
-      resumed = s.resumed;
-      restoring = s.restoring;
-      released = s.released;
-    }
+    record { stage = s.stage; greeted = s.greeted; phase = s.phase; life = s.life; own = own-out n.own c p _ _ _ rest out s.own; received = s.received; acknowledged = s.acknowledged; numbers = s.numbers; resumed = s.resumed; restoring = s.restoring; released = s.released }
 
 -- what it puts out was put out
 pub own-posted : (o : TheOwn) (c : Cluster) (p to : ℕ) (x : bodies.Body) (b : Body) (h : List Message) (trims : ℕ → ℕ) (numbers : ℕ → ℕ → Option ℕ)

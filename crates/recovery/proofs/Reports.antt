@@ -204,12 +204,7 @@ module _ (n : TheCollecting) (c : Cluster) (from : ℕ) (s : StandsCollecting n 
   hearing : (x : bodies.Body) → IsSaid c.parcels from n.own.me x → Onward n.own.me c (heard from x n)
   hearing (packets.Told i j k flags page) said = page-heard i j k flags page said
   hearing (packets.Ask i k) said = ask-heard i k said
-  hearing (packets.Delivery i ssn x) said = none-heard
-  hearing (packets.Number i ssn k) said = none-heard
-  hearing (packets.Acknowledgement i k) said = none-heard
-  hearing (packets.Resume i k t) said = none-heard
-  hearing (packets.Restored i j k t flags pairs) said = none-heard
-  hearing (packets.Saved k) said = none-heard
+  hearing other said = none-heard
 
 -- a packet comes
 pub handing : (n : TheCollecting) (x : NodePacket) → length n.told ≡ suc n.own.count → length n.own.heard ≡ suc n.own.count → IsHanded x n (handed x n)

@@ -43,19 +43,7 @@ not-well n c p (suc q) s low open_is =
 restoring-own : (n : TheRestoring) (c : Cluster) (p : ℕ) {rest : List NodePacket} {parcels : List Parcel} → HasOwn (record n.own { out = rest }) (record c { parcels = parcels }) p (c.history p) (c.trims p) (c.numbers p)
     → StandsRestoring n c p → StandsRestoring (record n { own = record n.own { out = rest } }) (record c { parcels = parcels }) p
 restoring-own n c p own s =
-    record {
-      stage = s.stage;
-      greeted = s.greeted;
-      phase = s.phase;
-      life = s.life;
-      own = own;
-      received = s.received;
-      acknowledged = s.acknowledged;
-      fresh = s.fresh;
-      resumed = s.resumed;
-      restoring = s.restoring;
-      released = s.released;
-    }
+    record { stage = s.stage; greeted = s.greeted; phase = s.phase; life = s.life; own = own; received = s.received; acknowledged = s.acknowledged; fresh = s.fresh; resumed = s.resumed; restoring = s.restoring; released = s.released }
 
 -- with other packets that were put out
 pub restoring-out : (n : TheRestoring) (c : Cluster) (p : ℕ) (rest : List NodePacket) → Each (IsSent c.count c.parcels p) rest → StandsRestoring n c p → StandsRestoring (record n { own = record n.own { out = rest } }) c p

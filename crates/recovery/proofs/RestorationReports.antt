@@ -393,12 +393,7 @@ module _ (n : TheRestoring) (c : Cluster) (from : ℕ) (st : StandsRestoring n c
   hearing : (x : bodies.Body) → IsSaid c.parcels from n.own.me x → Onward n.own.me c (heard from x n)
   hearing (packets.Restored i j covered s flags pairs) said = page-heard i j covered s flags pairs said
   hearing (packets.Ask i k) said = by-branch (Onward n.own.me c) (in_range (packets.Ask i k)) (asked_by from i k n) n (λ e. asking-heard i k) (λ e. none-heard)
-  hearing (packets.Delivery i ssn x) said = none-heard
-  hearing (packets.Number i ssn k) said = none-heard
-  hearing (packets.Acknowledgement i k) said = none-heard
-  hearing (packets.Resume i k t) said = none-heard
-  hearing (packets.Told i j k flags entries) said = none-heard
-  hearing (packets.Saved k) said = none-heard
+  hearing other said = none-heard
 
 -- a packet comes
 pub handing : (n : TheRestoring) (x : NodePacket) → IsRestoring n.own n.above n.answered → IsHanded x n (handed x n)

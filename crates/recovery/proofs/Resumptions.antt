@@ -1,6 +1,6 @@
 -- What the bytes of a suspended node are read as, and the node that they make
 use Rattle.std.proofs.Common.{◌≡◌, ℕ, zero, suc, ◌+◌, ◌-◌, ◌^◌, ◌<◌, ◌≤◌, List, [], ◌∷◌, ◌++◌, length, map, replicate, take, drop, Bool, true, false, Result, Ok, Err, refl, sym, ap, ◌∙◌, subst, append_assoc, arith}
-use Rattle.std.specs.Prelude.{Option, Some, None, is_some, ◌&&◌, ◌==◌, nat_lt, nat_le, if◌then◌else◌, slice_index_or}
+use Rattle.std.specs.Prelude.{Option, Some, None, is_some, ◌&&◌, ◌==◌, nat_lt, nat_le, slice_index_or}
 use Rattle.std.specs.List.{flat_map, list_all, AllByRecursion}
 use Rattle.std.proofs.lemmas.Bool.Decides.{nat_tests}
 use Rattle.std.proofs.lemmas.List.{length-map, get_or-map, nil_from_length}
@@ -13,7 +13,7 @@ use Rattle.packets.specs.declared.fault.PacketError.TheVariants as packet
 use Rattle.packets.specs.declared.fault.PacketFault.{PacketFault}
 use Rattle.packets.specs.declared.kept.Kept.{Kept}
 use Rattle.packets.specs.declared.kept.KeptLog.{KeptLog}
-use Rattle.packets.specs.Inside.Reader.{◌>>=◌, Fails, Reader, bytes_at, byte_at, number_at, times}
+use Rattle.packets.specs.Inside.Reader.{Fails, Reader, bytes_at, byte_at, number_at, times}
 use Rattle.packets.specs.Inside.Reader as reader
 use Rattle.packets.proofs.Codecs.{IsBytes, bind_ok, ok_is, not_both, Codec, word_codec, byte_codec, bytes_codec, both_codec, word_then, times_codec, counted_codec}
 use Rattle.packets.proofs.KeptLemmas.{one_kept}
@@ -22,12 +22,12 @@ use Rattle.node.specs.declared.job.OpenJob.{OpenJob}
 use Rattle.node.specs.declared.suspension.Unsuspended.{Unsuspended}
 use Rattle.node.specs.declared.suspension.Unsuspended.TheVariants as kept
 use Rattle.node.specs.Limit.{AreAllowed}
-use Rattle.node.specs.Queue.{TheQueue, IsQueue, IsSmall, no_queue, released_again, released_all}
+use Rattle.node.specs.Queue.{TheQueue, IsSmall, no_queue, released_again}
 use Rattle.node.specs.Node.{TheNode, Within, log_at}
 use Rattle.node.specs.Checkpoints.{counts_from}
 use Rattle.node.specs.Stands.{Each}
 use Rattle.node.specs.Kept.{with_own, without_own, log_of, kept_of, queue_of}
-use Rattle.node.specs.Suspension.{suspension_magic, flag_byte, number_code, codes_of, codes_bytes, rest_bytes, suspended_bytes, is_sent, is_unused, is_covered, IsWhole, CanSuspend, IsSuspended, IsUnsuspended, woken, joined_by, number_of_code, numbered_by}
+use Rattle.node.specs.Suspension.{suspension_magic, flag_byte, number_code, codes_of, codes_bytes, rest_bytes, is_sent, is_unused, is_covered, IsWhole, CanSuspend, IsSuspended, IsUnsuspended, woken, joined_by, number_of_code, numbered_by}
 use Rattle.node.proofs.Counts.{own-again}
 use Rattle.node.proofs.Preservation.{map-without}
 use Rattle.node.proofs.Views.{none-is}

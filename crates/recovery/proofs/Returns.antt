@@ -35,15 +35,7 @@ none-below f (suc n) none = let e : count_below f n ≡ 0 = none-below f n (λ k
 -- a queue keeps what it kept, whatever it released
 keeps-released : (durable : Bool) (q : TheQueue) (trims : ℕ) (sent : List (List ℕ)) (numbers : ℕ → Option ℕ) → KeepsOf q trims sent numbers → KeepsOf (released_again durable q) trims sent numbers
 keeps-released true q trims sent numbers k = k
-keeps-released false q trims sent numbers k = record {
-  before = k.before;
-  many = k.many;
-  joined = k.joined;
-  dropped_is = k.dropped_is;
-  as_many = k.as_many;
-  numbers_are = k.numbers_are;
-  beyond = k.beyond;
-}
+keeps-released false q trims sent numbers k = record { before = k.before; many = k.many; joined = k.joined; dropped_is = k.dropped_is; as_many = k.as_many; numbers_are = k.numbers_are; beyond = k.beyond }
 
 module _ (n : TheRestoring) (c : Cluster) (s : StandsRestoring n c n.own.me) (all : is_up n ≡ true) where
   abbrev p : ℕ

@@ -1,11 +1,11 @@
-use Rattle.std.proofs.Common.{rules, ◌≡◌, ◌∙◌, ℕ, List, [], map, Bool, false, sym, ap, subst, arith}
+use Rattle.std.proofs.Common.{rules, ◌≡◌, ◌∙◌, List, [], map, false, sym, ap, subst, arith}
 use Rattle.std.specs.Prelude.{None}
 use Rattle.std.proofs.lemmas.Grind.{common_steps}
 use Rattle.rsn.specs.Receipts.{Received}
 use Rattle.node.specs.Queue.{TheQueue, released_again}
 use Rattle.node.specs.Node.{TheNode, IsWithin}
 use Rattle.node.specs.Suspension.{joined_by, numbered_by}
-use Rattle.recovery.specs.Own.{TheOwn, own_of}
+use Rattle.recovery.specs.Own.{TheOwn}
 use Rattle.recovery.specs.Resumption.{is_set, made}
 use Rattle.recovery.proofs.Resumptions.{made-within, released-still}
 use Rattle.recovery.proofs.resumption.node_of.Goals as goal

@@ -1,11 +1,11 @@
-use Rattle.std.proofs.Common.{◌≡◌, ◌+◌, ◌∙◌, ◌++◌, ℕ, List, Ok, suc, drop, sym, ap, subst, arith}
+use Rattle.std.proofs.Common.{◌≡◌, ◌+◌, ◌++◌, ℕ, List, sym, ap, subst, arith}
 use Rattle.std.proofs.lemmas.Result.{err_from_is_err_and}
 use Rattle.packets.specs.declared.kept.Kept.{Kept}
 use Rattle.packets.specs.Kept.{kept_bytes}
 use Rattle.packets.proofs.Codecs.{IsBytes, IsBytes-drop}
 use Rattle.node.specs.Node.{TheNode}
 use Rattle.node.specs.Kept.{kept_of}
-use Rattle.node.specs.Suspension.{rest_bytes, IsSuspended}
+use Rattle.node.specs.Suspension.{rest_bytes}
 use Rattle.node.proofs.Preservation.{kept-comes}
 use Rattle.recovery.specs.declared.rest.Rest.{Rest}
 use Rattle.recovery.specs.Resumption.{text_at, rest_at, rest_of}
