@@ -10,7 +10,7 @@ use Rattle.packets.specs.declared.fault.PacketFault.{PacketFault}
 use Rattle.packets.specs.declared.fault.PacketFault.TheVariants.{Fields}
 use Rattle.packets.specs.Packet.{kind_of}
 use Rattle.packets.specs.Format.{long_bytes, IsLong, IsPayload, IsEntry, IsPair, IsPage, HasRoom, payload_bytes, entry_bytes, pair_bytes, page_bytes, body_bytes}
-use Rattle.packets.specs.Inside.Reader.{◌>>=◌, Reader, byte_at, number_at, payload_at, entry_at, pair_at, page_at, both, whole, body_at}
+use Rattle.packets.specs.Inside.Reader.{◌>>=◌, Reader, byte_at, number_at, payload_at, entry_at, pair_at, counted_at, both, whole, body_at}
 use Rattle.packets.proofs.Codecs.{IsBytes, bind_ok, ok_is, done, Codec, byte_codec, word_codec, payload_codec, entry_codec, pair_codec, two_words, word_then, both_codec, page_codec, whole_found, whole_again, whole_fails, bind_err}
 
 -- what stands behind the words of a page: flags and entries
@@ -20,8 +20,8 @@ flagged_bytes spell x = x.0 ∷ [] ++ page_bytes spell x.1
 abbrev IsFlagged : {A : Type 0} → (A → Type 0) → ℕ × List A → Type 0
 IsFlagged P x = (x.0 < 256) × IsPage P x.1
 
-flagged : (A : Type 0) (P : A → Type 0) (s : A → List ℕ) (r : Reader A) → Codec A P s r → Codec (ℕ × List A) (λ x. IsFlagged P x) (λ x. flagged_bytes s x) (both byte_at (page_at r))
-flagged A P s r one = both_codec ℕ (List A) (λ b. b < 256) (λ xs. IsPage P xs) (λ b. b ∷ []) (λ xs. page_bytes s xs) byte_at (page_at r) byte_codec (page_codec A P s r one)
+flagged : (A : Type 0) (P : A → Type 0) (s : A → List ℕ) (r : Reader A) → Codec A P s r → Codec (ℕ × List A) (λ x. IsFlagged P x) (λ x. flagged_bytes s x) (both byte_at (counted_at 2 r))
+flagged A P s r one = both_codec ℕ (List A) (λ b. b < 256) (λ xs. IsPage P xs) (λ b. b ∷ []) (λ xs. page_bytes s xs) byte_at (counted_at 2 r) byte_codec (page_codec A P s r one)
 
 delivery : Codec (ℕ × (ℕ × List ℕ)) (λ x. IsLong x.0 × (IsLong x.1.0 × IsPayload x.1.1)) (λ x. long_bytes x.0 ++ (long_bytes x.1.0 ++ payload_bytes x.1.1)) (both (number_at 8) (both (number_at 8) payload_at))
 delivery = word_then (ℕ × List ℕ) (λ x. IsLong x.0 × IsPayload x.1) (λ x. long_bytes x.0 ++ payload_bytes x.1) (both (number_at 8) payload_at)
@@ -41,17 +41,17 @@ abbrev ToldFields : Type 0
 ToldFields = ℕ × (ℕ × (ℕ × (ℕ × List LoggedMessage)))
 
 told : Codec ToldFields (λ x. IsLong x.0 × (IsLong x.1.0 × (IsLong x.1.1.0 × IsFlagged IsEntry x.1.1.1))) (λ x. long_bytes x.0 ++ (long_bytes x.1.0 ++ (long_bytes x.1.1.0 ++ flagged_bytes entry_bytes x.1.1.1)))
-    (both (number_at 8) (both (number_at 8) (both (number_at 8) (both byte_at (page_at entry_at)))))
-told = three_then (ℕ × List LoggedMessage) (λ x. IsFlagged IsEntry x) (λ x. flagged_bytes entry_bytes x) (both byte_at (page_at entry_at)) (flagged LoggedMessage (λ e. IsEntry e) (λ e. entry_bytes e) entry_at entry_codec)
+    (both (number_at 8) (both (number_at 8) (both (number_at 8) (both byte_at (counted_at 2 entry_at)))))
+told = three_then (ℕ × List LoggedMessage) (λ x. IsFlagged IsEntry x) (λ x. flagged_bytes entry_bytes x) (both byte_at (counted_at 2 entry_at)) (flagged LoggedMessage (λ e. IsEntry e) (λ e. entry_bytes e) entry_at entry_codec)
 
 abbrev RestoredFields : Type 0
 RestoredFields = ℕ × (ℕ × (ℕ × (ℕ × (ℕ × List Pair))))
 
 restored : Codec RestoredFields (λ x. IsLong x.0 × (IsLong x.1.0 × (IsLong x.1.1.0 × (IsLong x.1.1.1.0 × IsFlagged IsPair x.1.1.1.1))))
     (λ x. long_bytes x.0 ++ (long_bytes x.1.0 ++ (long_bytes x.1.1.0 ++ (long_bytes x.1.1.1.0 ++ flagged_bytes pair_bytes x.1.1.1.1))))
-    (both (number_at 8) (both (number_at 8) (both (number_at 8) (both (number_at 8) (both byte_at (page_at pair_at))))))
-restored = three_then (ℕ × (ℕ × List Pair)) (λ x. IsLong x.0 × IsFlagged IsPair x.1) (λ x. long_bytes x.0 ++ flagged_bytes pair_bytes x.1) (both (number_at 8) (both byte_at (page_at pair_at)))
-    (word_then (ℕ × List Pair) (λ x. IsFlagged IsPair x) (λ x. flagged_bytes pair_bytes x) (both byte_at (page_at pair_at)) (flagged Pair (λ p. IsPair p) (λ p. pair_bytes p) pair_at pair_codec))
+    (both (number_at 8) (both (number_at 8) (both (number_at 8) (both (number_at 8) (both byte_at (counted_at 2 pair_at))))))
+restored = three_then (ℕ × (ℕ × List Pair)) (λ x. IsLong x.0 × IsFlagged IsPair x.1) (λ x. long_bytes x.0 ++ flagged_bytes pair_bytes x.1) (both (number_at 8) (both byte_at (counted_at 2 pair_at)))
+    (word_then (ℕ × List Pair) (λ x. IsFlagged IsPair x) (λ x. flagged_bytes pair_bytes x) (both byte_at (counted_at 2 pair_at)) (flagged Pair (λ p. IsPair p) (λ p. pair_bytes p) pair_at pair_codec))
 
 -- ---- bodies
 

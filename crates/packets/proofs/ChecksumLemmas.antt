@@ -122,29 +122,9 @@ eighth_agrees : agrees eight_times 0 EIGHTH ≡ true
 unfolding agrees left twice thrice four_times five_times six_times seven_times eight_times
 eighth_agrees = refl
 
-at_table : (i : ℕ) → i < 256 → get_or TABLE i 0 ≡ left i
-at_table i lt = agreed left 0 i TABLE first_agrees lt ∙ ap left (zero-add i)
-
-at_second : (i : ℕ) → i < 256 → get_or SECOND i 0 ≡ twice i
-at_second i lt = agreed twice 0 i SECOND second_agrees lt ∙ ap twice (zero-add i)
-
-at_third : (i : ℕ) → i < 256 → get_or THIRD i 0 ≡ thrice i
-at_third i lt = agreed thrice 0 i THIRD third_agrees lt ∙ ap thrice (zero-add i)
-
-at_fourth : (i : ℕ) → i < 256 → get_or FOURTH i 0 ≡ four_times i
-at_fourth i lt = agreed four_times 0 i FOURTH fourth_agrees lt ∙ ap four_times (zero-add i)
-
-at_fifth : (i : ℕ) → i < 256 → get_or FIFTH i 0 ≡ five_times i
-at_fifth i lt = agreed five_times 0 i FIFTH fifth_agrees lt ∙ ap five_times (zero-add i)
-
-at_sixth : (i : ℕ) → i < 256 → get_or SIXTH i 0 ≡ six_times i
-at_sixth i lt = agreed six_times 0 i SIXTH sixth_agrees lt ∙ ap six_times (zero-add i)
-
-at_seventh : (i : ℕ) → i < 256 → get_or SEVENTH i 0 ≡ seven_times i
-at_seventh i lt = agreed seven_times 0 i SEVENTH seventh_agrees lt ∙ ap seven_times (zero-add i)
-
-at_eighth : (i : ℕ) → i < 256 → get_or EIGHTH i 0 ≡ eight_times i
-at_eighth i lt = agreed eight_times 0 i EIGHTH eighth_agrees lt ∙ ap eight_times (zero-add i)
+-- a table has at each place what it agrees with
+looked_up_in : (f : ℕ → ℕ) (ts : List ℕ) → agrees f 0 ts ≡ true → (i : ℕ) → i < length ts → get_or ts i 0 ≡ f i
+looked_up_in f ts e i lt = agreed f 0 i ts e lt ∙ ap f (zero-add i)
 
 -- ---- a byte
 
@@ -202,7 +182,7 @@ one_byte r b lt = added r b lt ∙ apart (bit_xor r b) ∙ ap (λ (z : ℕ). bit
 -- a step by the table is eight steps of the division, by the bits of a byte
 pub behind_byte : (r b : ℕ) → b < 256 → bit_xor (get_or TABLE (bit_and (bit_xor r b) 255) 0) (r / 2 ^ 8) ≡ fold next_remainder r (byte_bits b)
 unfolding place
-behind_byte r b lt = ap (λ (z : ℕ). bit_xor z (r / 256)) (at_table (place r b) (place_lt r b)) ∙ sym (one_byte r b lt)
+behind_byte r b lt = ap (λ (z : ℕ). bit_xor z (r / 256)) (looked_up_in _ _ first_agrees (place r b) (place_lt r b)) ∙ sym (one_byte r b lt)
 
 -- ---- eight bytes
 
@@ -312,7 +292,7 @@ module _ (r a b c d e f g h : ℕ) where
       let sum : ℕ → ℕ = λ v. bit_xor (bit_xor (bit_xor (bit_xor v (four_times e)) (thrice f)) (twice g)) (left h) in
       let there : four_times halfway ≡ bit_xor (bit_xor (bit_xor (eight_times p) (seven_times q)) (six_times s)) (five_times t) =
       ap four_times (sym (behind_four r a b c d small la lb lc ld)) ∙ moved_on p q s t in
-      rw (at_eighth p (place_lt r a), at_seventh q (place_lt (r / 2 ^ 8) b), at_sixth s (place_lt (r / 2 ^ 16) c), at_fifth t (place_lt (r / 2 ^ 24) d), at_fourth e le, at_third f lf, at_second g lg, at_table h lh)
+      rw (looked_up_in _ _ eighth_agrees p (place_lt r a), looked_up_in _ _ seventh_agrees q (place_lt (r / 2 ^ 8) b), looked_up_in _ _ sixth_agrees s (place_lt (r / 2 ^ 16) c), looked_up_in _ _ fifth_agrees t (place_lt (r / 2 ^ 24) d), looked_up_in _ _ fourth_agrees e le, looked_up_in _ _ third_agrees f lf, looked_up_in _ _ second_agrees g lg, looked_up_in _ _ first_agrees h lh)
       (sym (four_more halfway e f g h le lf lg lh ∙ ap sum there))
 
 -- a list of eight

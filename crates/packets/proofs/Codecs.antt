@@ -1,5 +1,5 @@
 -- Readers that read just what is spelled
-use Rattle.std.proofs.Common.{◌≡◌, ℕ, zero, suc, ◌+◌, ◌^◌, ◌<◌, ◌≤◌, Bool, true, false, cond, ltb, eqb, List, [], ◌∷◌, ◌++◌, length, get_or, take, drop, Result, Ok, Err, refl, sym, ap, subst, ◌∙◌, append_assoc, arith, inl, inr, ◌⊎◌}
+use Rattle.std.proofs.Common.{◌≡◌, ℕ, zero, suc, ◌+◌, ◌^◌, ◌<◌, ◌≤◌, Bool, true, false, cond, ltb, eqb, List, [], ◌∷◌, ◌++◌, length, get_or, take, drop, Ok, Err, refl, sym, ap, subst, ◌∙◌, append_assoc, arith, inl, inr}
 use Rattle.std.specs.Int.{w16, w32, w64, from_le_bytes}
 use Rattle.std.specs.List.{flat_map, AllByRecursion}
 use Rattle.std.proofs.lemmas.Bool.{cases_lt, ltb-false, le-ltb, eqb-true}
@@ -12,7 +12,8 @@ use Rattle.packets.specs.declared.page.Pair.{Pair}
 use Rattle.packets.specs.declared.fault.PacketFault.{PacketFault}
 use Rattle.packets.specs.declared.fault.PacketFault.TheVariants.{Fields}
 use Rattle.packets.specs.Format.{short_bytes, long_bytes, IsLong, IsPayload, IsEntry, IsPair, IsPage, payload_bytes, entry_bytes, pair_bytes, page_bytes}
-use Rattle.packets.specs.Inside.Reader.{◌>>=◌, Reader, bytes_at, byte_at, number_at, payload_at, both, times, page_at, entry_at, pair_at, whole}
+use Rattle.packets.specs.Kept.{word_bytes}
+use Rattle.packets.specs.Inside.Reader.{◌>>=◌, Reader, bytes_at, byte_at, number_at, payload_at, both, times, counted_at, entry_at, pair_at, whole}
 pub use Rattle.packets.proofs.Steps.{done, broken, ok_is, err_is, not_both, bind_ok, bind_err, guard_ok, passed_ok, passed, cond_err}
 
 abbrev pub IsBytes : List ℕ → Type 0
@@ -276,7 +277,8 @@ times_codec n A P s r one = record {
 
 -- a count of some width, and as many things
 pub counted_codec : (w : ℕ) (count : ℕ → List ℕ) → Codec ℕ (λ n. n < 256 ^ w) count (number_at w) → (A : Type 0) (P : A → Type 0) (s : A → List ℕ) (r : Reader A) → Codec A P s r
-    → Codec (List A) (λ xs. (length xs < 256 ^ w) × AllByRecursion P xs) (λ xs. count (length xs) ++ flat_map s xs) (λ bytes. number_at w bytes >>= λ n. times r n.0 n.1)
+    → Codec (List A) (λ xs. (length xs < 256 ^ w) × AllByRecursion P xs) (λ xs. count (length xs) ++ flat_map s xs) (counted_at w r)
+unfolding counted_at
 counted_codec w count number A P s r one = record {
   takes = λ bytes x fits e.
       let a = bind_ok (number_at w bytes) (λ n. times r n.0 n.1) x e in
@@ -297,9 +299,18 @@ counted_codec w count number A P s r one = record {
 }
 
 -- a count, and as many things
-pub page_codec : (A : Type 0) (P : A → Type 0) (s : A → List ℕ) (r : Reader A) → Codec A P s r → Codec (List A) (λ xs. IsPage P xs) (λ xs. page_bytes s xs) (page_at r)
-unfolding page_at
+pub page_codec : (A : Type 0) (P : A → Type 0) (s : A → List ℕ) (r : Reader A) → Codec A P s r → Codec (List A) (λ xs. IsPage P xs) (λ xs. page_bytes s xs) (counted_at 2 r)
 page_codec A P s r one = counted_codec 2 (λ n. short_bytes n) short_codec A P s r one
+
+-- a number of four bytes
+pub quad_codec : Codec ℕ (λ n. n < 256 ^ 4) (λ n. word_bytes n) (number_at 4)
+unfolding word_bytes
+quad_codec = number_codec 4 back_4
+
+-- a count of four bytes, and as many things
+pub quads_codec : (A : Type 0) (P : A → Type 0) (s : A → List ℕ) (r : Reader A) → Codec A P s r
+    → Codec (List A) (λ xs. (length xs < 2 ^ 32) × AllByRecursion P xs) (λ xs. word_bytes (length xs) ++ flat_map s xs) (counted_at 4 r)
+quads_codec A P s r one = counted_codec 4 (λ n. word_bytes n) quad_codec A P s r one
 
 -- ---- all of the bytes
 

@@ -6,13 +6,9 @@ use Rattle.packets.specs.declared.kept.KeptLog.{KeptLog}
 use Rattle.packets.specs.declared.kept_reader.KeptHead.{KeptHead}
 use Rattle.packets.specs.Format.{long_bytes, payload_bytes, IsLong, IsPayload}
 use Rattle.packets.specs.Kept.{word_bytes, log_bytes, kept_fields, IsKeptLog, KeptHasRoom}
-use Rattle.packets.specs.Inside.Reader.{◌>>=◌, Reader, bytes_at, number_at, payload_at, both, times, whole}
-use Rattle.packets.specs.Inside.KeptReader.{payloads_at, log_at, kept_of, kept_at}
-use Rattle.packets.proofs.Codecs.{IsBytes, bind_ok, ok_is, Codec, back_4, number_codec, word_codec, payload_codec, mapped_codec, both_codec, word_then, times_codec, counted_codec, bytes_codec, whole_found, whole_again}
-
-quad_codec : Codec ℕ (λ n. n < 256 ^ 4) (λ n. word_bytes n) (number_at 4)
-unfolding word_bytes
-quad_codec = number_codec 4 back_4
+use Rattle.packets.specs.Inside.Reader.{◌>>=◌, Reader, bytes_at, number_at, payload_at, both, counted_at, times, whole}
+use Rattle.packets.specs.Inside.KeptReader.{log_at, kept_of, kept_at}
+use Rattle.packets.proofs.Codecs.{IsBytes, bind_ok, ok_is, Codec, word_codec, payload_codec, mapped_codec, both_codec, word_then, times_codec, quads_codec, bytes_codec, whole_found, whole_again}
 
 abbrev IsPayloads : List (List ℕ) → Type 0
 IsPayloads xs = (length xs < 2 ^ 32) × AllByRecursion IsPayload xs
@@ -20,15 +16,11 @@ IsPayloads xs = (length xs < 2 ^ 32) × AllByRecursion IsPayload xs
 abbrev payloads_bytes : List (List ℕ) → List ℕ
 payloads_bytes xs = word_bytes (length xs) ++ flat_map payload_bytes xs
 
-payloads_codec : Codec (List (List ℕ)) (λ xs. IsPayloads xs) (λ xs. payloads_bytes xs) payloads_at
-unfolding payloads_at
-payloads_codec = counted_codec 4 (λ n. word_bytes n) quad_codec (List ℕ) (λ p. IsPayload p) (λ p. payload_bytes p) payload_at payload_codec
-
 log_codec : Codec KeptLog (λ l. IsKeptLog l) (λ l. log_bytes l) log_at
 unfolding log_at
-log_codec = mapped_codec (ℕ × List (List ℕ)) KeptLog (λ x. IsLong x.0 × IsPayloads x.1) (λ x. long_bytes x.0 ++ payloads_bytes x.1) (both (number_at 8) payloads_at)
+log_codec = mapped_codec (ℕ × List (List ℕ)) KeptLog (λ x. IsLong x.0 × IsPayloads x.1) (λ x. long_bytes x.0 ++ payloads_bytes x.1) (both (number_at 8) (counted_at 4 payload_at))
     (λ x. record { first = x.0; payloads = x.1 }) (λ l. (l.first, l.payloads)) (λ x. refl) (λ l. refl)
-    (word_then (List (List ℕ)) (λ xs. IsPayloads xs) (λ xs. payloads_bytes xs) payloads_at payloads_codec)
+    (word_then (List (List ℕ)) (λ xs. IsPayloads xs) (λ xs. payloads_bytes xs) (counted_at 4 payload_at) (quads_codec (List ℕ) (λ p. IsPayload p) (λ p. payload_bytes p) payload_at payload_codec))
 
 abbrev pub KeptFields : Type 0
 KeptFields = ℕ × (List ℕ × (List ℕ × List KeptLog))

@@ -1,70 +1,37 @@
 -- The laws of kept bytes: what is read is written so, what is written so is read, and a refusal is the first fault
-use Rattle.std.proofs.Common.{◌≡◌, ℕ, zero, suc, ◌+◌, ◌-◌, ◌<◌, ◌≤◌, Bool, true, false, cond, eqb, List, [], ◌∷◌, ◌++◌, length, take, drop, Result, Ok, Err, refl, sym, ap, subst, ◌∙◌, arith, inl, inr, ◌⊎◌}
-use Rattle.std.specs.Prelude.{◌≢◌, not, ◌||◌, nat_lt, nat_eq, IfOk, IfErr, slice_index}
+use Rattle.std.proofs.Common.{◌≡◌, ℕ, suc, ◌-◌, ◌<◌, ◌≤◌, true, false, List, [], ◌∷◌, ◌++◌, length, take, drop, Result, Ok, Err, refl, sym, ap, subst, ◌∙◌, arith, inl, inr}
+use Rattle.std.specs.Prelude.{◌||◌, nat_lt, IfOk, IfErr, slice_index, slice_index_or}
 use Rattle.std.specs.List.{flat_map}
-use Rattle.std.specs.Cmp.Lexicographic.{pointwise, same_text, other_text}
-use Rattle.std.proofs.lemmas.Bool.{ltb-false, ltb-true, le-ltb, eqb-true, eqb-false, eq-eqb, cases_lt}
-use Rattle.std.proofs.lemmas.List.{take_at, drop_at, length-append}
-use Rattle.byteorder.specs.Endian.{little_bytes, little_number}
+use Rattle.std.proofs.lemmas.Bool.{ltb-false, ltb-true, le-ltb}
+use Rattle.std.proofs.lemmas.List.{length-append}
 use Rattle.byteorder.specs.Numbers.{length-bytes_low_first}
 use Rattle.packets.specs.declared.kept.Kept.{Kept}
 use Rattle.packets.specs.declared.kept_reader.KeptHead.{KeptHead}
-use Rattle.packets.specs.declared.fault.PacketFault.{PacketFault}
 use Rattle.packets.specs.declared.kept_fault.KeptFault.{KeptFault}
 use Rattle.packets.specs.declared.kept_fault.KeptFault.TheVariants.{Short, Magic, Checksum, Count, Own, State, Fields, Range}
 use Rattle.packets.specs.declared.kept_fault.KeptError.{KeptError}
 use Rattle.packets.specs.declared.kept_fault.KeptError.TheVariants as errors
-use Rattle.packets.specs.Checksum.{crc32c}
 use Rattle.packets.specs.Format.{short_bytes, long_bytes, checksum_bytes}
 use Rattle.packets.specs.Faults.{fields_of}
 use Rattle.packets.specs.Kept.{kept_magic, log_bytes, kept_fields, kept_unsealed, kept_bytes, kept_in_range, KeptFits, IsKept}
 use Rattle.packets.specs.KeptFaults.{kept_fault_number, state_length, SpellsKept, HasKeptFault, IsFirstKept, IsKeptReason, ReadsKept, IsOneKept}
-use Rattle.packets.specs.Inside.Reader.{and_then}
-use Rattle.packets.specs.Inside.KeptReader.{GivesKept, kept_at, read_kept, kept_fields_at, kept_head_at, kept_reading}
+use Rattle.packets.specs.Inside.Reader.{or_fault}
+use Rattle.packets.specs.Inside.KeptReader.{GivesKept, kept_at, kept_fields_at, kept_head_at, kept_reading}
 use Rattle.packets.proofs.Codecs.{IsBytes, IsBytes-drop, IsBytes-take, back_2, number_again}
-use Rattle.packets.proofs.Steps.{done, ok_is, err_is, bind_ok, bind_err, passed_ok, passed_err, passed, cond_err}
-use Rattle.packets.proofs.Sealing.{Numbered, AreOfSeal, sealed_as, sealed_again}
+use Rattle.packets.proofs.Steps.{done, ok_is, or_ok, or_err, passed, cond_err}
+use Rattle.packets.proofs.Sealing.{Numbered, AreOfSeal, AreSteps, sealed_again, first_refused, found_in, whole_text}
 use Rattle.packets.proofs.Sealing as sealing
-use Rattle.packets.proofs.WholeLemmas.{neither, either, count_wrong, eight, split_as, last_of}
+use Rattle.packets.proofs.WholeLemmas.{neither, either, count_wrong, eight}
 use Rattle.packets.proofs.KeptCodecs.{IsKeptBody, kept_found, kept_again_at}
-
--- ---- steps
-
--- what the fields are read as
-read_ok : (r : Result Kept PacketFault) (k : Kept) → read_kept r ≡ Ok k → r ≡ Ok k
-read_ok (Ok l) k e = ap (λ (m : Kept). Ok m) (ok_is l k e)
-read_ok (Err d) k e = absurd cc
-
-read_err : (r : Result Kept PacketFault) (f : KeptFault) → read_kept r ≡ Err f → (Fields ≡ f) × ((k : Kept) → r ≢ Ok k)
-read_err (Ok l) f e = absurd cc
-read_err (Err d) f e = (err_is {A = Kept} Fields f e, λ k same. absurd cc)
 
 -- ---- faults before others
 
-fault_at : ℕ → KeptFault
-fault_at (suc zero) = Short
-fault_at (suc (suc zero)) = Magic
-fault_at (suc (suc (suc zero))) = Checksum
-fault_at (suc (suc (suc (suc zero)))) = Count
-fault_at (suc (suc (suc (suc (suc zero))))) = Own
-fault_at (suc (suc (suc (suc (suc (suc zero)))))) = State
-fault_at (suc (suc (suc (suc (suc (suc (suc zero))))))) = Fields
-fault_at _ = Range
-
-fault_again : (f : KeptFault) → fault_at (kept_fault_number f) ≡ f
-unfolding fault_at
-fault_again Short = refl
-fault_again Magic = refl
-fault_again Checksum = refl
-fault_again Count = refl
-fault_again Own = refl
-fault_again State = refl
-fault_again Fields = refl
-fault_again Range = refl
-
 faults_by : Numbered kept_fault_number
-unfolding fault_at
-faults_by = record { at = fault_at; again = fault_again; last = omega arith }
+faults_by = record {
+  at = λ n. slice_index_or (Range ∷ Short ∷ Magic ∷ Checksum ∷ Count ∷ Own ∷ State ∷ Fields ∷ []) n Range;
+  again = elim [ Short ↦ refl | Magic ↦ refl | Checksum ↦ refl | Count ↦ refl | Own ↦ refl | State ↦ refl | Fields ↦ refl | Range ↦ refl ];
+  last = omega arith;
+}
 
 seal : AreOfSeal kept_fault_number HasKeptFault Short Magic Checksum 20 kept_magic
 seal = record { by = faults_by; first = refl; second = refl; third = refl; short_is = λ bytes. (λ h. h, λ h. h); magic_is = λ bytes. (λ h. h, λ h. h); checksum_is = λ bytes. (λ h. h, λ h. h) }
@@ -77,23 +44,7 @@ clear_more = sealing.clear_more kept_fault_number HasKeptFault faults_by
 
 -- bytes with this fault and none before it
 as_first : (d f : KeptFault) (bytes : List ℕ) → d ≡ f → HasKeptFault d bytes → Clear (kept_fault_number d) bytes → IsFirstKept f bytes
-as_first d f bytes same holds clear = subst (λ (g : KeptFault). IsFirstKept g bytes) same (record { holds = holds; first = clear })
-
--- ---- magic and checksum
-
-abbrev Sealed : List ℕ → List ℕ → Type 0
-Sealed = sealing.Sealed 20 kept_magic
-
-sealed : (bytes fields : List ℕ) → kept_fields_at bytes ≡ Ok fields → Sealed bytes fields
-unfolding kept_fields_at
-sealed = sealed_as Short Magic Checksum 20 kept_magic
-
-sealed_clear : (bytes fields : List ℕ) → Sealed bytes fields → Clear 4 bytes
-sealed_clear = sealing.sealed_clear kept_fault_number HasKeptFault Short Magic Checksum 20 kept_magic seal
-
-sealed_refused : (bytes : List ℕ) (f : KeptFault) → kept_fields_at bytes ≡ Err f → IsFirstKept f bytes
-unfolding kept_fields_at
-sealed_refused bytes f e = let x = sealing.sealed_refused kept_fault_number HasKeptFault Short Magic Checksum 20 kept_magic seal bytes f e in record { holds = x.0; first = x.1 }
+as_first = sealing.as_first_of kept_fault_number HasKeptFault
 
 -- ---- the head
 
@@ -165,49 +116,31 @@ headed_refused bytes f clear e =
 
 -- ---- the fields
 
-spelled : (bytes fields : List ℕ) (h : KeptHead) (k : Kept) → Sealed bytes fields → Headed bytes h → IsKeptBody h fields k → SpellsKept k bytes
-spelled bytes fields h k s t is = record { me = is.me ∙ t.me_is; count = is.count ∙ t.count_is; state = is.state ∙ t.state_is; room = is.room; fields = sym s.fields_are ∙ is.spelled }
+spelled : (bytes : List ℕ) (h : KeptHead) (k : Kept) → Headed bytes h → IsKeptBody h (fields_of bytes) k → SpellsKept k bytes
+spelled bytes h k t is = record { me = is.me ∙ t.me_is; count = is.count ∙ t.count_is; state = is.state ∙ t.state_is; room = is.room; fields = is.spelled }
 
-read_again : (bytes fields : List ℕ) (h : KeptHead) (k : Kept) → Sealed bytes fields → Headed bytes h → SpellsKept k bytes → kept_at h fields ≡ Ok k
-read_again bytes fields h k s t is =
-    kept_again_at h fields k (record { me = is.me ∙ sym t.me_is; count = is.count ∙ sym t.count_is; state = is.state ∙ sym t.state_is; room = is.room; spelled = s.fields_are ∙ is.fields })
+read_again : (bytes : List ℕ) (h : KeptHead) (k : Kept) → Headed bytes h → SpellsKept k bytes → kept_at h (fields_of bytes) ≡ Ok k
+read_again bytes h k t is =
+    kept_again_at h (fields_of bytes) k (record { me = is.me ∙ sym t.me_is; count = is.count ∙ sym t.count_is; state = is.state ∙ sym t.state_is; room = is.room; spelled = is.fields })
 
-abbrev finish : Kept → Result Kept KeptFault
-finish k = cond (kept_in_range k) (Ok k) (Err Range)
-
-fields_fit : (bytes fields : List ℕ) → IsBytes bytes → Sealed bytes fields → IsBytes fields
-fields_fit bytes fields fits s = subst (λ (x : List ℕ). IsBytes x) (sym s.fields_are) (IsBytes-take _ (drop 8 bytes) (IsBytes-drop 8 bytes fits))
+steps : AreSteps kept_fault_number HasKeptFault Short Magic Checksum Fields Range 20 kept_magic kept_head_at (λ h fields. or_fault Fields (kept_at h fields)) kept_in_range Headed SpellsKept
+steps = record {
+  seal = seal;
+  next = refl;
+  headed = headed;
+  clear = headed_clear;
+  refused = headed_refused;
+  spelled = λ bytes h k t fits e. spelled bytes h k t (kept_found h (fields_of bytes) k fits (or_ok Fields (kept_at h (fields_of bytes)) k e));
+  again = λ bytes h k t is. ap (or_fault Fields) (read_again bytes h k t is);
+  fails = λ bytes h f e. or_err Fields (kept_at h bytes) f e;
+  fields_is = λ bytes. (λ h. h, λ h. h);
+  range_is = λ bytes. (λ h. h, λ h. h);
+}
 
 -- the fault of bytes that are refused is the first that they have
 refused : (bytes : List ℕ) (f : KeptFault) → IsBytes bytes → kept_reading bytes ≡ Err f → IsFirstKept f bytes
-unfolding kept_reading
-refused bytes f fits e =
-    elim (bind_err (kept_fields_at bytes) (λ fields. and_then (kept_head_at bytes) (λ head. and_then (read_kept (kept_at head fields)) finish)) f e) [
-      | inl a ↦ sealed_refused bytes f a
-      | inr a ↦
-          let s : Sealed bytes a.0 = sealed bytes a.0 a.1 in
-          let c3 : Clear 4 bytes = sealed_clear bytes a.0 s in
-          elim (bind_err (kept_head_at bytes) (λ head. and_then (read_kept (kept_at head a.0)) finish) f a.2) [
-            | inl b ↦ headed_refused bytes f c3 b
-            | inr b ↦
-                let t : Headed bytes b.0 = headed bytes b.0 b.1 in
-                let c6 : Clear 7 bytes = headed_clear bytes b.0 t c3 in
-                elim (bind_err (read_kept (kept_at b.0 a.0)) finish f b.2) [
-                  | inl c ↦
-                      let out = read_err (kept_at b.0 a.0) f c in
-                      as_first Fields f bytes out.0 (λ k is. out.1 k (read_again bytes a.0 b.0 k s t is)) c6
-                  | inr c ↦
-                      let read : kept_at b.0 a.0 ≡ Ok c.0 = read_ok (kept_at b.0 a.0) c.0 c.1 in
-                      let out = passed_err (kept_in_range c.0) Range c.0 f c.2 in
-                      let here : SpellsKept c.0 bytes = spelled bytes a.0 b.0 c.0 s t (kept_found b.0 a.0 c.0 (fields_fit bytes a.0 fits s) read) in
-                      let wrong : HasKeptFault Range bytes = λ k is good.
-                      let same : k ≡ c.0 = ok_is k c.0 (ap (λ (r : Result Kept PacketFault). read_kept r) (sym (read_again bytes a.0 b.0 k s t is) ∙ read)) in
-                      let no : true ≡ false = sym good ∙ ap kept_in_range same ∙ out.0 in
-                      absurd cc in
-                      as_first Range f bytes out.1 wrong (clear_more Fields bytes c6 (λ no. no c.0 here))
-                ]
-          ]
-    ]
+unfolding kept_reading kept_fields_at
+refused = first_refused steps (λ h k. k)
 
 -- ---- what is read is written so
 
@@ -253,20 +186,12 @@ fits_of bytes h k t is range = record {
 
 -- bytes that are read as what is kept of a process are its bytes
 found : (bytes : List ℕ) (k : Kept) → IsBytes bytes → kept_reading bytes ≡ Ok k → IsKept k bytes
-unfolding kept_reading
+unfolding kept_reading kept_fields_at
 found bytes k fits e =
-    let a = bind_ok (kept_fields_at bytes) (λ fields. and_then (kept_head_at bytes) (λ head. and_then (read_kept (kept_at head fields)) finish)) k e in
-    let b = bind_ok (kept_head_at bytes) (λ head. and_then (read_kept (kept_at head a.0)) finish) k a.2 in
-    let c = bind_ok (read_kept (kept_at b.0 a.0)) finish k b.2 in
-    let g = passed_ok (kept_in_range c.0) Range c.0 k c.2 in
-    let s : Sealed bytes a.0 = sealed bytes a.0 a.1 in
-    let t : Headed bytes b.0 = headed bytes b.0 b.1 in
-    let l : Kept = c.0 in
-    let is : SpellsKept l bytes = spelled bytes a.0 b.0 l s t (kept_found b.0 a.0 l (fields_fit bytes a.0 fits s) (read_ok (kept_at b.0 a.0) l c.1)) in
-    let text : take (length bytes - 4) bytes ≡ kept_unsealed l = text_of bytes l fits s.long s.magical is in
-    let last : drop (length bytes - 4) bytes ≡ checksum_bytes (kept_unsealed l) = last_of bytes (kept_unsealed l) fits (omega (arith, s.long)) s.summed text in
-    let so : bytes ≡ kept_bytes l = split_as (length bytes - 4) bytes (kept_unsealed l) (checksum_bytes (kept_unsealed l)) text last in
-    subst (λ (m : Kept). IsKept m bytes) g.1 (record { fits = fits_of bytes b.0 l t is g.0; bytes_are = so })
+    let a = found_in steps (λ h k. k) bytes k fits e in
+    let text : take (length bytes - 4) bytes ≡ kept_unsealed a.body = text_of bytes a.body fits a.sealed.long a.sealed.magical a.spelled in
+    subst (λ (l : Kept). IsKept l bytes) a.is
+    (record { fits = fits_of bytes a.head a.body a.headed a.spelled a.range; bytes_are = whole_text 20 kept_magic bytes (fields_of bytes) (kept_unsealed a.body) (omega arith) fits a.sealed text })
 
 -- ---- what is written so is read
 

@@ -1,7 +1,6 @@
 pub mod Lists
 pub mod ChecksumLemmas
 pub mod Counted
-pub mod Spelled
 pub mod Steps
 pub mod Codecs
 pub mod Sealing

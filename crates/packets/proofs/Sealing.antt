@@ -3,14 +3,14 @@ use Rattle.std.proofs.Common.{◌≡◌, ℕ, suc, ◌+◌, ◌-◌, ◌^◌, �
 use Rattle.std.specs.Prelude.{◌≢◌, not, nat_lt, nat_eq}
 use Rattle.std.specs.Cmp.Lexicographic.{pointwise, same_text, other_text}
 use Rattle.std.proofs.lemmas.Bool.{ltb-false, ltb-true, le-ltb, eqb-true, eqb-false, eq-eqb, cases_lt}
-use Rattle.std.proofs.lemmas.List.{take_at, drop_at, length-append}
+use Rattle.std.proofs.lemmas.List.{take_at, drop_at, take-append-drop, length-append, length-take}
 use Rattle.byteorder.specs.Endian.{little_bytes, little_number}
 use Rattle.packets.specs.Checksum.{crc32c}
-use Rattle.packets.specs.Faults.{fields_of}
+use Rattle.packets.specs.Faults.{fields_of, IsSummed, IsFirstOf}
 use Rattle.packets.specs.Format.{checksum_bytes}
-use Rattle.packets.specs.Inside.Reader.{sealed_fields}
-use Rattle.packets.proofs.Codecs.{number_again}
-use Rattle.packets.proofs.Steps.{done, ok_is, passed, cond_err}
+use Rattle.packets.specs.Inside.Reader.{and_then, sealed_fields, in_steps}
+use Rattle.packets.proofs.Codecs.{IsBytes, IsBytes-drop, IsBytes-take, back_4, number_again}
+use Rattle.packets.proofs.Steps.{done, ok_is, bind_ok, bind_err, passed, passed_ok, passed_err, cond_err}
 
 -- ---- faults before others
 
@@ -42,12 +42,9 @@ module _ {F : Type 0} (number : F → ℕ) (Has : F → List ℕ → Type 0) (by
             subst (λ (h : F). ¬ Has h bytes) is absent
       ]
 
--- the bytes have this fault and none before it
-abbrev pub IsFirstOf : {F : Type 0} → (F → ℕ) → (F → List ℕ → Type 0) → F → List ℕ → Type 0
-IsFirstOf number Has f bytes = Has f bytes × Clear number Has (number f) bytes
-
+-- bytes with this fault and none before it
 pub as_first_of : {F : Type 0} (number : F → ℕ) (Has : F → List ℕ → Type 0) (d f : F) (bytes : List ℕ) → d ≡ f → Has d bytes → Clear number Has (number d) bytes → IsFirstOf number Has f bytes
-as_first_of {F} number Has d f bytes same holds clear = subst (λ (g : F). IsFirstOf number Has g bytes) same (holds, clear)
+as_first_of {F} number Has d f bytes same holds clear = subst (λ (g : F). IsFirstOf number Has g bytes) same (record { holds = holds; first = clear })
 
 -- ---- magic and checksum
 
@@ -55,7 +52,7 @@ as_first_of {F} number Has d f bytes same holds clear = subst (λ (g : F). IsFir
 pub record Sealed (least : ℕ) (magic bytes fields : List ℕ) : Type 0 where
   pub long : least ≤ length bytes
   pub magical : take 4 bytes ≡ magic
-  pub summed : little_number 4 (drop (length bytes - 4) bytes) ≡ crc32c (take (length bytes - 4) bytes)
+  pub summed : IsSummed bytes
   pub fields_are : fields ≡ fields_of bytes
 
 -- three faults of an order are those of the length, the magic and the checksum
@@ -66,7 +63,7 @@ pub record AreOfSeal {F : Type 0} (number : F → ℕ) (Has : F → List ℕ →
   pub third : number checksum ≡ 3
   pub short_is : (bytes : List ℕ) → Has short bytes ↔ (length bytes < least)
   pub magic_is : (bytes : List ℕ) → Has magic bytes ↔ (take 4 bytes ≢ m)
-  pub checksum_is : (bytes : List ℕ) → Has checksum bytes ↔ (little_number 4 (drop (length bytes - 4) bytes) ≢ crc32c (take (length bytes - 4) bytes))
+  pub checksum_is : (bytes : List ℕ) → Has checksum bytes ↔ (¬ IsSummed bytes)
 
 pub turned : (b : Bool) → not b ≡ false → b ≡ true
 turned true e = refl
@@ -144,3 +141,99 @@ module _ {F : Type 0} (number : F → ℕ) (Has : F → List ℕ → Type 0) (sh
                   ]
             ]
       ]
+
+-- ---- steps
+
+-- a head and fields of which each step says what was read, and each fault what could not be
+pub record AreSteps {F H B : Type 0} (number : F → ℕ) (Has : F → List ℕ → Type 0) (short magic checksum fields range : F) (least : ℕ) (m : List ℕ) (head : List ℕ → Result H F) (body : H → List ℕ → Result B F)
+    (fine : B → Bool) (Headed : List ℕ → H → Type 0) (Spells : B → List ℕ → Type 0) : Type 0 where
+  pub seal : AreOfSeal number Has short magic checksum least m
+  pub next : number range ≡ suc (number fields)
+  pub headed : (bytes : List ℕ) (h : H) → head bytes ≡ Ok h → Headed bytes h
+  pub clear : (bytes : List ℕ) (h : H) → Headed bytes h → Clear number Has 4 bytes → Clear number Has (number fields) bytes
+  pub refused : (bytes : List ℕ) (f : F) → Clear number Has 4 bytes → head bytes ≡ Err f → IsFirstOf number Has f bytes
+  pub spelled : (bytes : List ℕ) (h : H) (b : B) → Headed bytes h → IsBytes (fields_of bytes) → body h (fields_of bytes) ≡ Ok b → Spells b bytes
+  pub again : (bytes : List ℕ) (h : H) (b : B) → Headed bytes h → Spells b bytes → body h (fields_of bytes) ≡ Ok b
+  pub fails : (bytes : List ℕ) (h : H) (f : F) → body h bytes ≡ Err f → fields ≡ f
+  pub fields_is : (bytes : List ℕ) → Has fields bytes ↔ ((b : B) → ¬ Spells b bytes)
+  pub range_is : (bytes : List ℕ) → Has range bytes ↔ ((b : B) → Spells b bytes → fine b ≢ true)
+
+-- what bytes are read as
+pub record Steps {H B V : Type 0} (least : ℕ) (m : List ℕ) (value : H → B → V) (fine : B → Bool) (Headed : List ℕ → H → Type 0) (Spells : B → List ℕ → Type 0) (bytes : List ℕ) (v : V) : Type 0 where
+  pub head : H
+  pub body : B
+  pub is : value head body ≡ v
+  pub sealed : Sealed least m bytes (fields_of bytes)
+  pub headed : Headed bytes head
+  pub spelled : Spells body bytes
+  pub range : fine body ≡ true
+
+fields_fit : (bytes : List ℕ) → IsBytes bytes → IsBytes (fields_of bytes)
+fields_fit bytes fits = IsBytes-take _ (drop 8 bytes) (IsBytes-drop 8 bytes fits)
+
+module _ {F H B V : Type 0} {number : F → ℕ} {Has : F → List ℕ → Type 0} {short magic checksum fields range : F} {least : ℕ} {m : List ℕ} {head : List ℕ → Result H F} {body : H → List ℕ → Result B F} {fine : B → Bool}
+    {Headed : List ℕ → H → Type 0} {Spells : B → List ℕ → Type 0} (s : AreSteps number Has short magic checksum fields range least m head body fine Headed Spells) (value : H → B → V) where
+  abbrev finish : H → B → Result V F
+  finish h b = cond (fine b) (Ok (value h b)) (Err range)
+
+  abbrev read : List ℕ → Result V F
+  read bytes = in_steps (sealed_fields short magic checksum least m bytes) (head bytes) body value fine range
+
+  -- the fault of bytes that are refused is the first that they have
+  pub first_refused : (bytes : List ℕ) (f : F) → IsBytes bytes → read bytes ≡ Err f → IsFirstOf number Has f bytes
+  first_refused bytes f fits e =
+      elim (bind_err (sealed_fields short magic checksum least m bytes) (λ x. and_then (head bytes) (λ h. and_then (body h x) (finish h))) f e) [
+        | inl a ↦ sealed_refused number Has short magic checksum least m s.seal bytes f a
+        | inr a ↦
+            let t = sealed_as short magic checksum least m bytes a.0 a.1 in
+            let c4 = sealed_clear number Has short magic checksum least m s.seal bytes a.0 t in
+            elim (bind_err (head bytes) (λ h. and_then (body h a.0) (finish h)) f a.2) [
+              | inl b ↦ s.refused bytes f c4 b
+              | inr b ↦
+                  let h = s.headed bytes b.0 b.1 in
+                  let c = s.clear bytes b.0 h c4 in
+                  let same : body b.0 (fields_of bytes) ≡ body b.0 a.0 = ap (body b.0) (sym t.fields_are) in
+                  elim (bind_err (body b.0 a.0) (finish b.0) f b.2) [
+                    | inl d ↦
+                        let none : (x : B) → ¬ Spells x bytes = λ x is. (let no : done x ≡ Err f = sym (s.again bytes b.0 x h is) ∙ same ∙ d in absurd cc) in
+                        as_first_of number Has fields f bytes (s.fails a.0 b.0 f d) ((s.fields_is bytes).1 none) c
+                    | inr d ↦
+                        let out = passed_err (fine d.0) range (value b.0 d.0) f d.2 in
+                        let here : Spells d.0 bytes = s.spelled bytes b.0 d.0 h (fields_fit bytes fits) (same ∙ d.1) in
+                        let wrong : (x : B) → Spells x bytes → fine x ≢ true = λ x is good.
+                        (let is_it : x ≡ d.0 = ok_is x d.0 (sym (s.again bytes b.0 x h is) ∙ same ∙ d.1) in
+                        let no : true ≡ false = sym good ∙ ap fine is_it ∙ out.0 in
+                        absurd cc) in
+                        let before : Clear number Has (suc (number fields)) bytes = clear_more number Has s.seal.by fields bytes c (λ no. (s.fields_is bytes).0 no d.0 here) in
+                        as_first_of number Has range f bytes out.1 ((s.range_is bytes).1 wrong) (subst (λ (n : ℕ). Clear number Has n bytes) (sym s.next) before)
+                  ]
+            ]
+      ]
+
+  -- what bytes that are accepted are read as
+  pub found_in : (bytes : List ℕ) (v : V) → IsBytes bytes → read bytes ≡ Ok v → Steps least m value fine Headed Spells bytes v
+  found_in bytes v fits e =
+      let a = bind_ok (sealed_fields short magic checksum least m bytes) (λ x. and_then (head bytes) (λ h. and_then (body h x) (finish h))) v e in
+      let b = bind_ok (head bytes) (λ h. and_then (body h a.0) (finish h)) v a.2 in
+      let c = bind_ok (body b.0 a.0) (finish b.0) v b.2 in
+      let g = passed_ok (fine c.0) range (value b.0 c.0) v c.2 in
+      let t = sealed_as short magic checksum least m bytes a.0 a.1 in
+      let h = s.headed bytes b.0 b.1 in
+      record {
+        head = b.0;
+        body = c.0;
+        is = g.1;
+        sealed = record { long = t.long; magical = t.magical; summed = t.summed; fields_are = refl };
+        headed = h;
+        spelled = s.spelled bytes b.0 c.0 h (fields_fit bytes fits) (ap (body b.0) (sym t.fields_are) ∙ c.1);
+        range = g.0;
+      }
+
+-- bytes are what was sealed, if all but their checksum is
+pub whole_text : (least : ℕ) (m bytes fields text : List ℕ) → 12 ≤ least → IsBytes bytes → Sealed least m bytes fields → take (length bytes - 4) bytes ≡ text → bytes ≡ text ++ checksum_bytes text
+unfolding checksum_bytes
+whole_text least m bytes fields text enough fits s front =
+    let n = length bytes - 4 in
+    let four : length (drop n bytes) ≡ 4 = omega (arith, length-append (take n bytes) (drop n bytes), ap length (take-append-drop n bytes), length-take n bytes, s.long, enough) in
+    let last : drop n bytes ≡ checksum_bytes text = sym (back_4 (drop n bytes) four (IsBytes-drop n bytes fits)) ∙ ap (λ (x : ℕ). little_bytes 4 x) (s.summed ∙ ap crc32c front) in
+    sym (take-append-drop n bytes) ∙ rw (front, last) refl

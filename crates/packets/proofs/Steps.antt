@@ -1,6 +1,7 @@
 -- Steps of reading, whatever their faults are called.
 use Rattle.std.proofs.Common.{◌≡◌, Bool, true, false, cond, Result, Ok, Err, refl, ap, inl, inr, ◌⊎◌}
-use Rattle.packets.specs.Inside.Reader.{and_then}
+use Rattle.packets.specs.declared.fault.PacketFault.{PacketFault}
+use Rattle.packets.specs.Inside.Reader.{and_then, or_fault}
 
 abbrev pub done : {F A : Type 0} → A → Result A F
 done x = Ok x
@@ -29,6 +30,15 @@ bind_ok (Err d) f y e = absurd cc
 pub bind_err : {F A B : Type 0} (r : Result A F) (k : A → Result B F) (f : F) → and_then r k ≡ Err f → (r ≡ Err f) ⊎ ((x : A) × (r ≡ Ok x) × (k x ≡ Err f))
 bind_err {F} {A} {B} (Ok x) k f e = inr (x, refl, e)
 bind_err {F} {A} {B} (Err d) k f e = inl (ap (λ (g : F). broken {A = A} g) (err_is {A = B} d f e))
+
+-- a step whose faults are all called d
+pub or_ok : {F A : Type 0} (d : F) (r : Result A PacketFault) (x : A) → or_fault d r ≡ Ok x → r ≡ Ok x
+or_ok {F} {A} d (Ok y) x e = ap (λ (z : A). Ok z) (ok_is y x e)
+or_ok d (Err f) x e = absurd cc
+
+pub or_err : {F A : Type 0} (d : F) (r : Result A PacketFault) (f : F) → or_fault d r ≡ Err f → d ≡ f
+or_err d (Ok y) f e = absurd cc
+or_err {F} {A} d (Err g) f e = err_is {A = A} d f e
 
 -- a test that did not fail
 pub guard_ok : {F A : Type 0} (b : Bool) (d : F) (x y : A) → cond b (Err d) (Ok x) ≡ Ok y → (b ≡ false) × (x ≡ y)

@@ -1,10 +1,7 @@
 -- The laws of packets: what is read is written so, what is written so is read, and a refusal is the first fault
-use Rattle.std.proofs.Common.{◌≡◌, ℕ, zero, suc, ◌+◌, ◌-◌, ◌^◌, ◌<◌, ◌≤◌, Bool, true, false, cond, eqb, List, [], ◌∷◌, ◌++◌, length, take, drop, Option, Some, None, Result, Ok, Err, refl, sym, ap, subst, ◌∙◌, arith, inl, inr, ◌⊎◌}
-use Rattle.std.specs.Prelude.{◌≢◌, not, ◌||◌, nat_lt, nat_eq, IfOk, IfErr, slice_index}
-use Rattle.std.specs.Cmp.Lexicographic.{pointwise, same_text, other_text}
-use Rattle.std.proofs.lemmas.Bool.{ltb-false, ltb-true, le-ltb, eqb-true, eqb-false, eq-eqb, ne_eqb, cases_lt}
-use Rattle.std.proofs.lemmas.List.{take_at, drop_at, take-append-drop, length-append, length-take}
-use Rattle.byteorder.specs.Endian.{little_bytes, little_number}
+use Rattle.std.proofs.Common.{◌≡◌, ℕ, suc, ◌-◌, ◌<◌, ◌≤◌, Bool, true, false, cond, eqb, List, [], ◌∷◌, ◌++◌, length, take, drop, Option, Some, None, Result, Ok, Err, refl, sym, ap, subst, ◌∙◌, arith, inl, inr, ◌⊎◌}
+use Rattle.std.specs.Prelude.{◌≢◌, ◌||◌, nat_lt, IfOk, IfErr, slice_index, slice_index_or}
+use Rattle.std.proofs.lemmas.Bool.{ltb-false, ltb-true, le-ltb, eqb-true, eqb-false, ne_eqb}
 use Rattle.packets.specs.declared.kind.PacketKind as the_kind
 use Rattle.packets.specs.declared.kind.PacketKind.TheVariants as kinds
 use Rattle.packets.specs.declared.head.PacketHead.{PacketHead}
@@ -14,17 +11,16 @@ use Rattle.packets.specs.declared.fault.PacketFault.{PacketFault}
 use Rattle.packets.specs.declared.fault.PacketFault.TheVariants.{Short, Magic, Checksum, Kind, Count, Ends, Fields, Range}
 use Rattle.packets.specs.declared.fault.PacketError.{PacketError}
 use Rattle.packets.specs.declared.fault.PacketError.TheVariants as errors
-use Rattle.packets.specs.Checksum.{crc32c}
 use Rattle.packets.specs.Packet.{kind_number, kind_at, kind_of, in_range}
 use Rattle.packets.specs.Format.{magic, body_bytes, unsealed, packet_bytes, checksum_bytes, HasRoom, Fits, IsPacket}
 use Rattle.packets.specs.Faults.{fault_number, fields_of, Spells, HasFault, IsFirst, IsReason, Reads}
 use Rattle.packets.specs.Laws.{IsOnePacket}
-use Rattle.packets.specs.Inside.Reader.{◌>>=◌, Gives, body_at, fields_at, known, head_in_range, head_at, packet_of, reading}
-use Rattle.packets.proofs.Codecs.{IsBytes, IsBytes-drop, IsBytes-take, back_4}
-use Rattle.packets.proofs.Steps.{done, ok_is, err_is, bind_ok, bind_err, passed_ok, passed_err, passed, cond_err}
-use Rattle.packets.proofs.Sealing.{Numbered, AreOfSeal, sealed_as, sealed_again}
+use Rattle.packets.specs.Inside.Reader.{Gives, body_at, fields_at, known, head_in_range, head_at, packet_of, reading}
+use Rattle.packets.proofs.Codecs.{IsBytes}
+use Rattle.packets.proofs.Steps.{ok_is, err_is, bind_ok, bind_err, passed, cond_err}
+use Rattle.packets.proofs.Sealing.{Numbered, AreOfSeal, AreSteps, sealed_again, first_refused, found_in, whole_text}
 use Rattle.packets.proofs.Sealing as sealing
-use Rattle.packets.proofs.BodyLemmas.{IsBody, body_found, body_again, body_fails}
+use Rattle.packets.proofs.BodyLemmas.{body_found, body_again, body_fails}
 
 -- ---- kinds
 
@@ -64,30 +60,12 @@ kind_found n k = this_or n kinds.Delivery k _ (this_or n kinds.Number k _ (this_
 
 -- ---- faults before others
 
-fault_at : ℕ → PacketFault
-fault_at (suc zero) = Short
-fault_at (suc (suc zero)) = Magic
-fault_at (suc (suc (suc zero))) = Checksum
-fault_at (suc (suc (suc (suc zero)))) = Kind
-fault_at (suc (suc (suc (suc (suc zero))))) = Count
-fault_at (suc (suc (suc (suc (suc (suc zero)))))) = Ends
-fault_at (suc (suc (suc (suc (suc (suc (suc zero))))))) = Fields
-fault_at _ = Range
-
-fault_again : (f : PacketFault) → fault_at (fault_number f) ≡ f
-unfolding fault_at
-fault_again Short = refl
-fault_again Magic = refl
-fault_again Checksum = refl
-fault_again Kind = refl
-fault_again Count = refl
-fault_again Ends = refl
-fault_again Fields = refl
-fault_again Range = refl
-
 faults_by : Numbered fault_number
-unfolding fault_at
-faults_by = record { at = fault_at; again = fault_again; last = omega arith }
+faults_by = record {
+  at = λ n. slice_index_or (Range ∷ Short ∷ Magic ∷ Checksum ∷ Kind ∷ Count ∷ Ends ∷ Fields ∷ []) n Range;
+  again = elim [ Short ↦ refl | Magic ↦ refl | Checksum ↦ refl | Kind ↦ refl | Count ↦ refl | Ends ↦ refl | Fields ↦ refl | Range ↦ refl ];
+  last = omega arith;
+}
 
 seal : AreOfSeal fault_number HasFault Short Magic Checksum 12 magic
 seal = record { by = faults_by; first = refl; second = refl; third = refl; short_is = λ bytes. (λ h. h, λ h. h); magic_is = λ bytes. (λ h. h, λ h. h); checksum_is = λ bytes. (λ h. h, λ h. h) }
@@ -100,23 +78,7 @@ clear_more = sealing.clear_more fault_number HasFault faults_by
 
 -- bytes with this fault and none before it
 as_first : (d f : PacketFault) (bytes : List ℕ) → d ≡ f → HasFault d bytes → Clear (fault_number d) bytes → IsFirst f bytes
-as_first d f bytes same holds clear = subst (λ (g : PacketFault). IsFirst g bytes) same (record { holds = holds; first = clear })
-
--- ---- magic and checksum
-
-abbrev Sealed : List ℕ → List ℕ → Type 0
-Sealed = sealing.Sealed 12 magic
-
-sealed : (bytes fields : List ℕ) → fields_at bytes ≡ Ok fields → Sealed bytes fields
-unfolding fields_at
-sealed = sealed_as Short Magic Checksum 12 magic
-
-sealed_clear : (bytes fields : List ℕ) → Sealed bytes fields → Clear 4 bytes
-sealed_clear = sealing.sealed_clear fault_number HasFault Short Magic Checksum 12 magic seal
-
-sealed_refused : (bytes : List ℕ) (f : PacketFault) → fields_at bytes ≡ Err f → IsFirst f bytes
-unfolding fields_at
-sealed_refused bytes f e = let x = sealing.sealed_refused fault_number HasFault Short Magic Checksum 12 magic seal bytes f e in record { holds = x.0; first = x.1 }
+as_first = sealing.as_first_of fault_number HasFault
 
 -- ---- the head
 
@@ -222,46 +184,29 @@ headed_refused bytes f clear e =
 
 -- ---- the fields
 
-spelled : (bytes fields : List ℕ) (h : PacketHead) (b : Body) → Sealed bytes fields → Headed bytes h → IsBody h.kind fields b → Spells b bytes
-spelled bytes fields h b s t is = record { kind = ap kind_number is.kind_is ∙ t.kind; room = is.room; fields = sym s.fields_are ∙ is.spelled }
-
-read_again : (bytes fields : List ℕ) (h : PacketHead) (b : Body) → Sealed bytes fields → Headed bytes h → Spells b bytes → body_at h.kind fields ≡ Ok b
-read_again bytes fields h b s t is =
+read_again : (bytes : List ℕ) (h : PacketHead) (b : Body) → Headed bytes h → Spells b bytes → body_at h.kind (fields_of bytes) ≡ Ok b
+read_again bytes h b t is =
     let same : kind_of b ≡ h.kind = one_kind (kind_of b) h.kind (is.kind ∙ sym t.kind) in
-    let text : fields ≡ body_bytes b = s.fields_are ∙ is.fields in
-    subst (λ (k : the_kind.PacketKind). body_at k fields ≡ Ok b) same (subst (λ (x : List ℕ). body_at (kind_of b) x ≡ Ok b) (sym text) (body_again b is.room))
+    subst (λ (k : the_kind.PacketKind). body_at k (fields_of bytes) ≡ Ok b) same (subst (λ (x : List ℕ). body_at (kind_of b) x ≡ Ok b) (sym is.fields) (body_again b is.room))
+
+steps : AreSteps fault_number HasFault Short Magic Checksum Fields Range 12 magic head_at (λ h. body_at h.kind) in_range Headed Spells
+steps = record {
+  seal = seal;
+  next = refl;
+  headed = headed;
+  clear = headed_clear;
+  refused = headed_refused;
+  spelled = λ bytes h b t fits e. (let is = body_found h.kind (fields_of bytes) b fits e in record { kind = ap kind_number is.kind_is ∙ t.kind; room = is.room; fields = is.spelled });
+  again = read_again;
+  fails = λ bytes h f e. sym (body_fails h.kind bytes f e);
+  fields_is = λ bytes. (λ h. h, λ h. h);
+  range_is = λ bytes. (λ h. h, λ h. h);
+}
 
 -- the fault of bytes that are refused is the first that they have
 pub refused : (bytes : List ℕ) (f : PacketFault) → IsBytes bytes → reading bytes ≡ Err f → IsFirst f bytes
-unfolding reading
-refused bytes f fits e =
-    elim (bind_err (fields_at bytes) (λ fields. head_at bytes >>= λ head. body_at head.kind fields >>= λ body. cond (in_range body) (Ok (packet_of head body)) (Err Range)) f e) [
-      | inl a ↦ sealed_refused bytes f a
-      | inr a ↦
-          let s : Sealed bytes a.0 = sealed bytes a.0 a.1 in
-          let c3 : Clear 4 bytes = sealed_clear bytes a.0 s in
-          elim (bind_err (head_at bytes) (λ head. body_at head.kind a.0 >>= λ body. cond (in_range body) (Ok (packet_of head body)) (Err Range)) f a.2) [
-            | inl b ↦ headed_refused bytes f c3 b
-            | inr b ↦
-                let t : Headed bytes b.0 = headed bytes b.0 b.1 in
-                let c6 : Clear 7 bytes = headed_clear bytes b.0 t c3 in
-                elim (bind_err (body_at b.0.kind a.0) (λ body. cond (in_range body) (Ok (packet_of b.0 body)) (Err Range)) f b.2) [
-                  | inl c ↦
-                      let is : Fields ≡ f = sym (body_fails b.0.kind a.0 f c) in
-                      let wrong : HasFault Fields bytes = λ x h. let here : Ok x ≡ Err f = sym (read_again bytes a.0 b.0 x s t h) ∙ c in absurd cc in
-                      as_first Fields f bytes is wrong c6
-                  | inr c ↦
-                      let out = passed_err (in_range c.0) Range (packet_of b.0 c.0) f c.2 in
-                      let bytes_fit : IsBytes a.0 = subst (λ (x : List ℕ). IsBytes x) (sym s.fields_are) (IsBytes-take _ (drop 8 bytes) (IsBytes-drop 8 bytes fits)) in
-                      let here : Spells c.0 bytes = spelled bytes a.0 b.0 c.0 s t (body_found b.0.kind a.0 c.0 bytes_fit c.1) in
-                      let wrong : HasFault Range bytes = λ x h good.
-                      let same : x ≡ c.0 = ok_is x c.0 (sym (read_again bytes a.0 b.0 x s t h) ∙ c.1) in
-                      let no : true ≡ false = sym good ∙ ap in_range same ∙ out.0 in
-                      absurd cc in
-                      as_first Range f bytes out.1 wrong (clear_more Fields bytes c6 (λ no. no c.0 here))
-                ]
-          ]
-    ]
+unfolding reading fields_at
+refused = first_refused steps packet_of
 
 -- ---- what is read is written so
 
@@ -295,38 +240,14 @@ text_of bytes h b long magical t is =
     ap (λ (n : ℕ). take n bytes) cut ∙ eight bytes m (omega (arith, long))
     ∙ rw (magical, ← is.kind, ← t.count_is, ← t.from_is, ← t.to_is) (ap (λ (x : List ℕ). magic ++ (kind_number (kind_of b) ∷ h.count ∷ h.from ∷ h.to ∷ x)) is.fields)
 
-pub split_as : (n : ℕ) (bytes front back : List ℕ) → take n bytes ≡ front → drop n bytes ≡ back → bytes ≡ front ++ back
-split_as n bytes front back a b = sym (take-append-drop n bytes) ∙ rw (a, b) refl
-
-pub last_of : (bytes text : List ℕ) → IsBytes bytes → 12 ≤ length bytes → little_number 4 (drop (length bytes - 4) bytes) ≡ crc32c (take (length bytes - 4) bytes) → take (length bytes - 4) bytes ≡ text
-    → drop (length bytes - 4) bytes ≡ checksum_bytes text
-unfolding checksum_bytes
-last_of bytes text fits long summed front =
-    let n = length bytes - 4 in
-    let four : length (drop n bytes) ≡ 4 = omega (arith, length-append (take n bytes) (drop n bytes), ap length (take-append-drop n bytes), length-take n bytes, long) in
-    sym (back_4 (drop n bytes) four (IsBytes-drop n bytes fits)) ∙ ap (λ (x : ℕ). little_bytes 4 x) (summed ∙ ap crc32c front)
-
-is_this : (bytes : List ℕ) (q p : NodePacket) → q ≡ p → Fits q → bytes ≡ packet_bytes q → IsPacket p bytes
-is_this bytes q p same fits text = subst (λ (x : NodePacket). IsPacket x bytes) same (record { fits = fits; bytes_are = text })
-
 -- bytes that are read as a packet are its bytes
 pub found : (bytes : List ℕ) (p : NodePacket) → IsBytes bytes → reading bytes ≡ Ok p → IsPacket p bytes
-unfolding reading
+unfolding reading fields_at
 found bytes p fits e =
-    let a = bind_ok (fields_at bytes) (λ fields. head_at bytes >>= λ head. body_at head.kind fields >>= λ body. cond (in_range body) (Ok (packet_of head body)) (Err Range)) p e in
-    let b = bind_ok (head_at bytes) (λ head. body_at head.kind a.0 >>= λ body. cond (in_range body) (Ok (packet_of head body)) (Err Range)) p a.2 in
-    let c = bind_ok (body_at b.0.kind a.0) (λ body. cond (in_range body) (Ok (packet_of b.0 body)) (Err Range)) p b.2 in
-    let g = passed_ok (in_range c.0) Range (packet_of b.0 c.0) p c.2 in
-    let s : Sealed bytes a.0 = sealed bytes a.0 a.1 in
-    let t : Headed bytes b.0 = headed bytes b.0 b.1 in
-    let bytes_fit : IsBytes a.0 = subst (λ (x : List ℕ). IsBytes x) (sym s.fields_are) (IsBytes-take _ (drop 8 bytes) (IsBytes-drop 8 bytes fits)) in
-    let is : Spells c.0 bytes = spelled bytes a.0 b.0 c.0 s t (body_found b.0.kind a.0 c.0 bytes_fit c.1) in
-    let q : NodePacket = packet_of b.0 c.0 in
-    let text : take (length bytes - 4) bytes ≡ unsealed q = text_of bytes b.0 c.0 s.long s.magical t is in
-    let last : drop (length bytes - 4) bytes ≡ checksum_bytes (unsealed q) = last_of bytes (unsealed q) fits s.long s.summed text in
-    let spelled_so : bytes ≡ packet_bytes q = split_as (length bytes - 4) bytes (unsealed q) (checksum_bytes (unsealed q)) text last in
-    let good : Fits q = fits_of bytes b.0 c.0 t is.room g.0 in
-    is_this bytes q p g.1 good spelled_so
+    let a = found_in steps packet_of bytes p fits e in
+    let text : take (length bytes - 4) bytes ≡ unsealed (packet_of a.head a.body) = text_of bytes a.head a.body a.sealed.long a.sealed.magical a.headed a.spelled in
+    subst (λ (x : NodePacket). IsPacket x bytes) a.is
+    (record { fits = fits_of bytes a.head a.body a.headed a.spelled.room a.range; bytes_are = whole_text 12 magic bytes (fields_of bytes) (unsealed (packet_of a.head a.body)) (omega arith) fits a.sealed text })
 
 -- ---- what is written so is read
 

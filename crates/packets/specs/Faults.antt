@@ -28,6 +28,10 @@ fault_number Range = 8
 abbrev pub fields_of : List ℕ → List ℕ
 fields_of bytes = slice_range bytes 8 (length bytes - 4)
 
+-- the last four bytes are the checksum of the others
+abbrev pub IsSummed : List ℕ → Type 0
+IsSummed bytes = little_number 4 (drop (length bytes - 4) bytes) ≡ crc32c (take (length bytes - 4) bytes)
+
 -- the body has the kind in these bytes, and their fields are its
 pub record Spells (b : Body) (bytes : List ℕ) : Type 0 where
   pub kind : kind_number (kind_of b) ≡ slice_index bytes 4
@@ -38,7 +42,7 @@ pub record Spells (b : Body) (bytes : List ℕ) : Type 0 where
 abbrev pub HasFault : PacketFault → List ℕ → Type 0
 HasFault Short bytes = length bytes < 12
 HasFault Magic bytes = take 4 bytes ≢ magic
-HasFault Checksum bytes = little_number 4 (drop (length bytes - 4) bytes) ≢ crc32c (take (length bytes - 4) bytes)
+HasFault Checksum bytes = ¬ IsSummed bytes
 HasFault Kind bytes = (k : the_kind.PacketKind) → kind_number k ≢ slice_index bytes 4
 HasFault Count bytes = ¬ ((1 ≤ slice_index bytes 5) × (slice_index bytes 5 ≤ PROCESSES))
 HasFault Ends bytes = ¬ ((slice_index bytes 6 ≤ slice_index bytes 5) × (slice_index bytes 7 ≤ slice_index bytes 5)
@@ -46,10 +50,14 @@ HasFault Ends bytes = ¬ ((slice_index bytes 6 ≤ slice_index bytes 5) × (slic
 HasFault Fields bytes = (b : Body) → ¬ Spells b bytes
 HasFault Range bytes = (b : Body) → Spells b bytes → in_range b ≢ true
 
+-- the bytes have the fault f, and none of a lesser number
+pub record IsFirstOf {F : Type 0} (number : F → ℕ) (Has : F → List ℕ → Type 0) (f : F) (bytes : List ℕ) : Type 0 where
+  pub holds : Has f bytes
+  pub first : (g : F) → number g < number f → ¬ Has g bytes
+
 -- the first fault of these bytes
-pub record IsFirst (f : PacketFault) (bytes : List ℕ) : Type 0 where
-  pub holds : HasFault f bytes
-  pub first : (g : PacketFault) → fault_number g < fault_number f → ¬ HasFault g bytes
+abbrev pub IsFirst : PacketFault → List ℕ → Type 0
+IsFirst = IsFirstOf fault_number HasFault
 
 -- why bytes were refused
 abbrev pub IsReason : PacketError → List ℕ → Type 0

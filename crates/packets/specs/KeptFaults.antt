@@ -1,5 +1,5 @@
 -- The faults of bytes of kept state, each by itself, and the first of them
-use Rattle.std.specs.Prelude.{◌≡◌, ◌≢◌, ℕ, ◌-◌, ◌<◌, ◌≤◌, List, length, take, drop, slice_index, true, ⊤, Result, Ok, Err}
+use Rattle.std.specs.Prelude.{◌≡◌, ◌≢◌, ℕ, ◌<◌, ◌≤◌, List, length, take, drop, slice_index, true, ⊤, Result, Ok, Err}
 use Rattle.limits.specs.declared.TheConstants.{PROCESSES, STATE_BYTES}
 use Rattle.byteorder.specs.Endian.{little_number}
 use Rattle.packets.specs.declared.kept.Kept.{Kept}
@@ -7,8 +7,7 @@ use Rattle.packets.specs.declared.kept_fault.KeptFault.{KeptFault}
 use Rattle.packets.specs.declared.kept_fault.KeptFault.TheVariants.{Short, Magic, Checksum, Count, Own, State, Fields, Range}
 use Rattle.packets.specs.declared.kept_fault.KeptError.{KeptError}
 use Rattle.packets.specs.declared.kept_fault.KeptError.TheVariants.{Memory, Fault}
-use Rattle.packets.specs.Checksum.{crc32c}
-use Rattle.packets.specs.Faults.{fields_of}
+use Rattle.packets.specs.Faults.{fields_of, IsSummed, IsFirstOf}
 use Rattle.packets.specs.Kept.{kept_magic, kept_fields, kept_in_range, KeptHasRoom, IsKept}
 
 -- 1 to 8, in the order of docs/FORMATS.md
@@ -38,7 +37,7 @@ pub record SpellsKept (k : Kept) (bytes : List ℕ) : Type 0 where
 abbrev pub HasKeptFault : KeptFault → List ℕ → Type 0
 HasKeptFault Short bytes = length bytes < 20
 HasKeptFault Magic bytes = take 4 bytes ≢ kept_magic
-HasKeptFault Checksum bytes = little_number 4 (drop (length bytes - 4) bytes) ≢ crc32c (take (length bytes - 4) bytes)
+HasKeptFault Checksum bytes = ¬ IsSummed bytes
 HasKeptFault Count bytes = ¬ ((1 ≤ slice_index bytes 5) × (slice_index bytes 5 ≤ PROCESSES))
 HasKeptFault Own bytes = ¬ ((1 ≤ slice_index bytes 4) × (slice_index bytes 4 ≤ slice_index bytes 5))
 HasKeptFault State bytes = STATE_BYTES < state_length bytes
@@ -46,9 +45,8 @@ HasKeptFault Fields bytes = (k : Kept) → ¬ SpellsKept k bytes
 HasKeptFault Range bytes = (k : Kept) → SpellsKept k bytes → kept_in_range k ≢ true
 
 -- the first fault of these bytes
-pub record IsFirstKept (f : KeptFault) (bytes : List ℕ) : Type 0 where
-  pub holds : HasKeptFault f bytes
-  pub first : (g : KeptFault) → kept_fault_number g < kept_fault_number f → ¬ HasKeptFault g bytes
+abbrev pub IsFirstKept : KeptFault → List ℕ → Type 0
+IsFirstKept = IsFirstOf kept_fault_number HasKeptFault
 
 -- why bytes were refused
 abbrev pub IsKeptReason : KeptError → List ℕ → Type 0

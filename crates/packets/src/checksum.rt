@@ -35,14 +35,14 @@ fn behind_word(remainder: u32, word: &[u8; 8]) -> u32
     let second = ((remainder >> 8) ^ word[1] as u32) & 0xff;
     let third = ((remainder >> 16) ^ word[2] as u32) & 0xff;
     let fourth = ((remainder >> 24) ^ word[3] as u32) & 0xff;
-    eighth_by(first)
-        ^ seventh_by(second)
-        ^ sixth_by(third)
-        ^ fifth_by(fourth)
-        ^ fourth_by(word[4] as u32)
-        ^ third_by(word[5] as u32)
-        ^ second_by(word[6] as u32)
-        ^ left_by(word[7] as u32)
+    left_by(&EIGHTH, first)
+        ^ left_by(&SEVENTH, second)
+        ^ left_by(&SIXTH, third)
+        ^ left_by(&FIFTH, fourth)
+        ^ left_by(&FOURTH, word[4] as u32)
+        ^ left_by(&THIRD, word[5] as u32)
+        ^ left_by(&SECOND, word[6] as u32)
+        ^ left_by(&TABLE, word[7] as u32)
 }
 
 /// The remainder after these bytes more.
@@ -61,69 +61,13 @@ fn behind(remainder: u32, byte: u8) -> u32
     ensures { result ≡ fold next_remainder remainder (byte_bits byte) }
 {
     let place = (remainder ^ byte as u32) & 0xff;
-    left_by(place) ^ (remainder >> 8)
+    left_by(&TABLE, place) ^ (remainder >> 8)
 }
 
-/// The remainder that a byte leaves after eight zeros.
-fn left_by(byte: u32) -> u32
+/// What a table has for a byte.
+fn left_by(table: &[u32; 256], byte: u32) -> u32
     requires { byte < 256 }
-    ensures { result ≡ slice_index TABLE byte }
+    ensures { result ≡ slice_index table.now byte }
 {
-    TABLE[byte as usize]
-}
-
-/// After sixteen zeros.
-fn second_by(byte: u32) -> u32
-    requires { byte < 256 }
-    ensures { result ≡ slice_index SECOND byte }
-{
-    SECOND[byte as usize]
-}
-
-/// After twenty-four zeros.
-fn third_by(byte: u32) -> u32
-    requires { byte < 256 }
-    ensures { result ≡ slice_index THIRD byte }
-{
-    THIRD[byte as usize]
-}
-
-/// After thirty-two zeros.
-fn fourth_by(byte: u32) -> u32
-    requires { byte < 256 }
-    ensures { result ≡ slice_index FOURTH byte }
-{
-    FOURTH[byte as usize]
-}
-
-/// After forty zeros.
-fn fifth_by(byte: u32) -> u32
-    requires { byte < 256 }
-    ensures { result ≡ slice_index FIFTH byte }
-{
-    FIFTH[byte as usize]
-}
-
-/// After forty-eight zeros.
-fn sixth_by(byte: u32) -> u32
-    requires { byte < 256 }
-    ensures { result ≡ slice_index SIXTH byte }
-{
-    SIXTH[byte as usize]
-}
-
-/// After fifty-six zeros.
-fn seventh_by(byte: u32) -> u32
-    requires { byte < 256 }
-    ensures { result ≡ slice_index SEVENTH byte }
-{
-    SEVENTH[byte as usize]
-}
-
-/// After sixty-four zeros.
-fn eighth_by(byte: u32) -> u32
-    requires { byte < 256 }
-    ensures { result ≡ slice_index EIGHTH byte }
-{
-    EIGHTH[byte as usize]
+    table[byte as usize]
 }

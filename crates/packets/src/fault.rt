@@ -3,7 +3,7 @@
 ghost use Rattle.std.specs.Prelude.{◌≡◌};
 ghost use Rattle.packets.specs.declared.fault.PacketError.TheVariants.{Memory};
 
-use std::alloc::{AllocError, AllocFailed};
+use std::alloc::AllocError;
 use thiserror::Error;
 
 /// The first fault of bytes that are not a packet, in the order of their numbers.
@@ -11,28 +11,28 @@ use thiserror::Error;
 pub enum PacketFault {
     /// 1: fewer than 12 bytes.
     #[error("fewer than 12 bytes")]
-    Short,
+    Short = 1,
     /// 2: the first four bytes are not the magic.
     #[error("no packet")]
-    Magic,
+    Magic = 2,
     /// 3: the last four bytes are not the checksum of the others.
     #[error("the checksum is wrong")]
-    Checksum,
+    Checksum = 3,
     /// 4: no packet has this kind.
     #[error("no kind of packet")]
-    Kind,
+    Kind = 4,
     /// 5: the number of processes is out of range.
     #[error("the number of processes is out of range")]
-    Count,
+    Count = 5,
     /// 6: it isn't from one node to another.
     #[error("not from one node to another one")]
-    Ends,
+    Ends = 6,
     /// 7: the fields are not those of the kind, or a payload is too long.
     #[error("the fields do not take just the bytes that are there")]
-    Fields,
+    Fields = 7,
     /// 8: a field is out of range.
     #[error("a field is out of range")]
-    Range,
+    Range = 8,
 }
 
 impl PacketFault {
@@ -43,16 +43,7 @@ impl PacketFault {
     pub fn number(self) -> u8
         ensures { result ≡ fault_number self }
     {
-        match self {
-            PacketFault::Short => 1,
-            PacketFault::Magic => 2,
-            PacketFault::Checksum => 3,
-            PacketFault::Kind => 4,
-            PacketFault::Count => 5,
-            PacketFault::Ends => 6,
-            PacketFault::Fields => 7,
-            PacketFault::Range => 8,
-        }
+        self as u8
     }
 }
 
@@ -71,14 +62,6 @@ impl From<AllocError> for PacketError {
     ghost from_gives = { λ _ e. e ≡ Memory };
 
     fn from(_e: AllocError) -> PacketError {
-        PacketError::Memory
-    }
-}
-
-impl<T: Drop> From<AllocFailed<T>> for PacketError {
-    ghost from_gives = { λ _ e. e ≡ Memory };
-
-    fn from(_e: AllocFailed<T>) -> PacketError {
         PacketError::Memory
     }
 }

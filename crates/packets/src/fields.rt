@@ -1,10 +1,11 @@
 //! Reads the fields of a packet.
 
 ghost use Rattle.std.specs.Prelude.{◌≡◌, ◌≤◌, length, IfOk};
-ghost use Rattle.packets.specs.Inside.Reader.{Gives, bytes_at, byte_at, number_at, both, payload_at, entry_at, pair_at, times, page_at};
+ghost use Rattle.packets.specs.Inside.Reader.{Gives, bytes_at, byte_at, number_at, both, payload_at};
 
 use crate::fault::{PacketError, PacketFault};
-use crate::page::{LoggedMessage, Page, Pair};
+use crate::field::Readable;
+use crate::page::{LoggedMessage, Pair};
 use byteorder::{ByteOrder, LittleEndian};
 use helpers::Payload;
 use limits::PAYLOAD_BYTES;
@@ -32,7 +33,7 @@ pub fn byte_of(bytes: &[u8]) -> Result<(u8, &[u8]), PacketError>
 }
 
 /// A number of two bytes.
-fn u16_of(bytes: &[u8]) -> Result<(u16, &[u8]), PacketError>
+pub fn u16_of(bytes: &[u8]) -> Result<(u16, &[u8]), PacketError>
     ensures { Gives (λ x. (x.0, x.1.now)) result (number_at 2 bytes.now) }
 {
     if bytes.len() < 2 {
@@ -101,81 +102,54 @@ pub fn payload_of(bytes: &[u8]) -> Result<(&[u8], &[u8]), PacketError>
     bytes_of(len as usize, rest)
 }
 
-/// The number, the SSN and the payload of an entry, and the bytes after them.
-#[tactic(auto, unfolding(crate::specs::Inside::Reader::entry_at))]
-fn entry_of(bytes: &[u8]) -> Result<(u64, u64, &[u8], &[u8]), PacketError>
-    ensures exact { Gives (λ x. (record { number = x.0; ssn = x.1; payload = x.2.now }, x.3.now)) result (entry_at bytes.now) }
-    ensures bound { IfOk result (λ x. length x.2.now ≤ PAYLOAD_BYTES) }
-{
-    let (number, ssn, rest) = two_of(bytes)?;
-    let (payload, rest) = payload_of(rest)?;
-    Ok((number, ssn, payload, rest))
+impl Readable for u64 {
+    ghost use Rattle.packets.specs.Inside.Reader.{number_at};
+
+    ghost reader = { number_at 8 };
+
+    fn read(_alloc: Global, bytes: &[u8]) -> Result<(u64, &[u8]), PacketError> {
+        u64_of(bytes)
+    }
 }
 
-/// The SSN and the number of a pair.
-#[tactic(auto, unfolding(crate::specs::Inside::Reader::pair_at))]
-fn pair_of(bytes: &[u8]) -> Result<(Pair, &[u8]), PacketError>
-    ensures { Gives (λ x. (x.0, x.1.now)) result (pair_at bytes.now) }
-{
-    let (ssn, number, rest) = two_of(bytes)?;
-    Ok((Pair { ssn, number }, rest))
+impl Readable for Payload {
+    ghost use Rattle.packets.specs.Inside.Reader.{payload_at};
+
+    ghost reader = { payload_at };
+
+    fn read(_alloc: Global, bytes: &[u8]) -> Result<(Payload, &[u8]), PacketError> {
+        let (payload, rest) = payload_of(bytes)?;
+        Ok((Payload::from_slice(payload), rest))
+    }
 }
 
-/// A page of entries.
-#[tactic(auto, unfolding(crate::specs::Inside::Reader::page_at))]
-pub fn entries_of(alloc: Global, bytes: &[u8]) -> Result<(Page<LoggedMessage>, &[u8]), PacketError>
-    ensures { Gives (λ x. (x.0, x.1.now)) result (page_at entry_at bytes.now) }
-{
-    let (count, rest) = u16_of(bytes)?;
-    so_many_entries(alloc, count, rest)
-}
+impl Readable for LoggedMessage {
+    ghost use Rattle.packets.specs.Inside.Reader.{entry_at};
 
-/// `count` entries, and the bytes after them.
-fn so_many_entries(
-    alloc: Global,
-    count: u16,
-    bytes: &[u8],
-) -> Result<(Page<LoggedMessage>, &[u8]), PacketError>
-    ensures { Gives (λ x. (x.0, x.1.now)) result (times entry_at count bytes.now) }
-{
-    let mut entries = Page::new(alloc);
-    let mut rest = bytes;
-    for _ in 0..count {
-        let (number, ssn, payload, after) = entry_of(rest)?;
+    ghost reader = { entry_at };
+
+    #[tactic(auto, unfolding(crate::specs::Inside::Reader::entry_at))]
+    fn read(_alloc: Global, bytes: &[u8]) -> Result<(LoggedMessage, &[u8]), PacketError> {
+        let (number, ssn, rest) = two_of(bytes)?;
+        let (payload, rest) = payload_of(rest)?;
         let payload = Payload::from_slice(payload);
-        entries.push(LoggedMessage {
+        let entry = LoggedMessage {
             number,
             ssn,
             payload,
-        })?;
-        rest = after;
+        };
+        Ok((entry, rest))
     }
-    Ok((entries, rest))
 }
 
-/// A page of pairs.
-#[tactic(auto, unfolding(crate::specs::Inside::Reader::page_at))]
-pub fn pairs_of(alloc: Global, bytes: &[u8]) -> Result<(Page<Pair>, &[u8]), PacketError>
-    ensures { Gives (λ x. (x.0, x.1.now)) result (page_at pair_at bytes.now) }
-{
-    let (count, rest) = u16_of(bytes)?;
-    so_many_pairs(alloc, count, rest)
-}
+impl Readable for Pair {
+    ghost use Rattle.packets.specs.Inside.Reader.{pair_at};
 
-/// `count` pairs, and the bytes after them.
-fn so_many_pairs(
-    alloc: Global,
-    count: u16,
-    bytes: &[u8],
-) -> Result<(Page<Pair>, &[u8]), PacketError>
-    ensures { Gives (λ x. (x.0, x.1.now)) result (times pair_at count bytes.now) }
-{
-    let mut pairs = Page::new(alloc);
-    let mut rest = bytes;
-    for _ in 0..count {
-        let (pair, after) = pair_of(rest)?;
-        pairs.push(pair)?;
-        rest = after;
+    ghost reader = { pair_at };
+
+    #[tactic(auto, unfolding(crate::specs::Inside::Reader::pair_at))]
+    fn read(_alloc: Global, bytes: &[u8]) -> Result<(Pair, &[u8]), PacketError> {
+        let (ssn, number, rest) = two_of(bytes)?;
+        Ok((Pair { ssn, number }, rest))
     }
-    Ok((pairs, rest))
 }

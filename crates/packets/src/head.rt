@@ -1,7 +1,8 @@
 //! The first bytes of a packet.
 
 ghost use Rattle.std.specs.Prelude.{◌≡◌, ◌≤◌, length, IfOk};
-ghost use Rattle.packets.specs.Inside.Reader.{Gives, fields_at, head_at};
+ghost use Rattle.std.specs.Result.{result_map_both};
+ghost use Rattle.packets.specs.Inside.Reader.{Gives, sealed_fields, fields_at, head_at};
 
 use crate::checksum::crc32c;
 use crate::fault::{PacketError, PacketFault};
@@ -27,23 +28,49 @@ pub struct PacketHead {
     pub to: u8,
 }
 
+/// The bytes of the fields, if there are at least so many bytes, and magic and checksum are right.
+/// The first three are the faults of the length, the magic and the checksum.
+pub fn fields_under<F: Copy>(
+    short: F,
+    other: F,
+    changed: F,
+    least: usize,
+    magic: [u8; 4],
+    bytes: &[u8],
+) -> Result<&[u8], F>
+    requires { 12 ≤ least }
+    ensures exact { result_map_both (λ x. x.now) (λ f. f) result ≡ sealed_fields short other changed least magic bytes.now }
+    ensures long { IfOk result (λ x. least ≤ length bytes.now) }
+{
+    if bytes.len() < least {
+        return Err(short);
+    }
+    if &bytes[..4] != magic.as_slice() {
+        return Err(other);
+    }
+    let (text, checksum) = bytes.split_at(bytes.len() - CHECKSUM_LEN);
+    if LittleEndian::read_u32(checksum) != crc32c(text) {
+        return Err(changed);
+    }
+    Ok(&bytes[HEAD_LEN..bytes.len() - CHECKSUM_LEN])
+}
+
 /// The bytes of the fields, if magic and checksum are right.
 #[tactic(auto, unfolding(crate::specs::Inside::Reader::fields_at))]
 pub fn fields_of(bytes: &[u8]) -> Result<&[u8], PacketError>
     ensures exact { Gives (λ x. x.now) result (fields_at bytes.now) }
     ensures long { IfOk result (λ x. 12 ≤ length bytes.now) }
 {
-    if bytes.len() < HEAD_LEN + CHECKSUM_LEN {
-        return Err(PacketError::Fault(PacketFault::Short));
-    }
-    if &bytes[..4] != MAGIC.as_slice() {
-        return Err(PacketError::Fault(PacketFault::Magic));
-    }
-    let (text, checksum) = bytes.split_at(bytes.len() - CHECKSUM_LEN);
-    if LittleEndian::read_u32(checksum) != crc32c(text) {
-        return Err(PacketError::Fault(PacketFault::Checksum));
-    }
-    Ok(&bytes[HEAD_LEN..bytes.len() - CHECKSUM_LEN])
+    let least = HEAD_LEN + CHECKSUM_LEN;
+    fields_under(
+        PacketFault::Short,
+        PacketFault::Magic,
+        PacketFault::Checksum,
+        least,
+        MAGIC,
+        bytes,
+    )
+    .map_err(PacketError::Fault)
 }
 
 /// Kind, the number of processes, from and to.

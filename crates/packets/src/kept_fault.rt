@@ -3,7 +3,7 @@
 ghost use Rattle.std.specs.Prelude.{◌≡◌};
 ghost use Rattle.packets.specs.declared.kept_fault.KeptError.TheVariants.{Memory};
 
-use std::alloc::{AllocError, AllocFailed};
+use std::alloc::AllocError;
 use thiserror::Error;
 
 /// The first fault of bytes that are not the kept state of a process, in the order of their
@@ -12,28 +12,28 @@ use thiserror::Error;
 pub enum KeptFault {
     /// 1: fewer than 20 bytes.
     #[error("fewer than 20 bytes")]
-    Short,
+    Short = 1,
     /// 2: the first four bytes are not the magic.
     #[error("nothing that is kept of a process")]
-    Magic,
+    Magic = 2,
     /// 3: the last four bytes are not the checksum of the others.
     #[error("the checksum is wrong")]
-    Checksum,
+    Checksum = 3,
     /// 4: the number of processes is out of range.
     #[error("the number of processes is out of range")]
-    Count,
+    Count = 4,
     /// 5: the process is none of these.
     #[error("the process is none of these")]
-    Own,
+    Own = 5,
     /// 6: the state is too long.
     #[error("the state is too long")]
-    State,
+    State = 6,
     /// 7: the fields end early or too late, or a payload is too long.
     #[error("the fields do not take just the bytes that are there")]
-    Fields,
+    Fields = 7,
     /// 8: a number is out of range, or the counts don't add up to the messages received.
     #[error("a field is out of range")]
-    Range,
+    Range = 8,
 }
 
 impl KeptFault {
@@ -44,16 +44,7 @@ impl KeptFault {
     pub fn number(self) -> u8
         ensures { result ≡ kept_fault_number self }
     {
-        match self {
-            KeptFault::Short => 1,
-            KeptFault::Magic => 2,
-            KeptFault::Checksum => 3,
-            KeptFault::Count => 4,
-            KeptFault::Own => 5,
-            KeptFault::State => 6,
-            KeptFault::Fields => 7,
-            KeptFault::Range => 8,
-        }
+        self as u8
     }
 }
 
@@ -72,14 +63,6 @@ impl From<AllocError> for KeptError {
     ghost from_gives = { λ _ e. e ≡ Memory };
 
     fn from(_e: AllocError) -> KeptError {
-        KeptError::Memory
-    }
-}
-
-impl<T: Drop> From<AllocFailed<T>> for KeptError {
-    ghost from_gives = { λ _ e. e ≡ Memory };
-
-    fn from(_e: AllocFailed<T>) -> KeptError {
         KeptError::Memory
     }
 }

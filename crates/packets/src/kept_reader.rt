@@ -1,21 +1,20 @@
 //! Reads the kept state of a process.
 
-ghost use Rattle.std.specs.Prelude.{◌≡◌, ◌≤◌, if◌then◌else◌, length, Result, Ok, Err, IfOk, IfErr};
+ghost use Rattle.std.specs.Prelude.{◌≤◌, if◌then◌else◌, length, Result, Ok, Err, IfOk, IfErr};
 ghost use Rattle.packets.specs.declared.kept.Kept.{Kept};
 ghost use Rattle.packets.specs.declared.fault.PacketFault.{PacketFault};
 ghost use Rattle.packets.specs.declared.kept_fault.KeptFault.TheVariants as faults;
 ghost use Rattle.packets.specs.Kept.{kept_in_range, IsKept};
 ghost use Rattle.packets.specs.KeptFaults.{IsKeptReason, ReadsKept};
-ghost use Rattle.packets.specs.Inside.Reader.{Gives, bytes_at, both, times, whole};
-ghost use Rattle.packets.specs.Inside.KeptReader.{GivesKept, log_at, kept_at, read_kept, kept_fields_at, kept_head_at, kept_reading};
+ghost use Rattle.packets.specs.Inside.Reader.{Gives, or_fault, bytes_at, both, times, whole};
+ghost use Rattle.packets.specs.Inside.KeptReader.{GivesKept, log_at, kept_at, kept_fields_at, kept_head_at, kept_reading};
 
-use crate::checksum::crc32c;
 use crate::fault::{PacketError, PacketFault};
+use crate::field::many_of;
 use crate::fields::{bytes_of, u64_of};
-use crate::head::{CHECKSUM_LEN, HEAD_LEN};
+use crate::head::fields_under;
 use crate::kept::{Kept, KeptLog};
 use crate::kept_fault::{KeptError, KeptFault};
-use crate::kept_fields::{counts_of, logs_of};
 use crate::page::Page;
 use byteorder::{ByteOrder, LittleEndian};
 use limits::{PROCESSES, STATE_BYTES};
@@ -74,17 +73,15 @@ fn fields_of(bytes: &[u8]) -> Result<&[u8], KeptError>
     ensures exact { GivesKept (λ x. x.now) result (kept_fields_at bytes.now) }
     ensures long { IfOk result (λ x. 20 ≤ length bytes.now) }
 {
-    if bytes.len() < KEPT_LEN {
-        return Err(KeptError::Fault(KeptFault::Short));
-    }
-    if &bytes[..4] != KEPT_MAGIC.as_slice() {
-        return Err(KeptError::Fault(KeptFault::Magic));
-    }
-    let (text, checksum) = bytes.split_at(bytes.len() - CHECKSUM_LEN);
-    if LittleEndian::read_u32(checksum) != crc32c(text) {
-        return Err(KeptError::Fault(KeptFault::Checksum));
-    }
-    Ok(&bytes[HEAD_LEN..bytes.len() - CHECKSUM_LEN])
+    fields_under(
+        KeptFault::Short,
+        KeptFault::Magic,
+        KeptFault::Checksum,
+        KEPT_LEN,
+        KEPT_MAGIC,
+        bytes,
+    )
+    .map_err(KeptError::Fault)
 }
 
 /// The process, the number of processes, and the length of the state.
@@ -118,7 +115,7 @@ fn body_of(alloc: Global, head: KeptHead, bytes: &[u8]) -> Result<Kept, PacketEr
     ensures { Gives (λ x. x) result (kept_at head bytes.now) }
 {
     let (length, rest) = u64_of(bytes)?;
-    let (counts, rest) = counts_of(alloc, head.count, rest)?;
+    let (counts, rest) = many_of(alloc, u64::from(head.count), rest)?;
     let (state, logs) = state_and_logs(alloc, head, rest)?;
     Ok(Kept {
         me: head.me,
@@ -139,7 +136,7 @@ fn state_and_logs(
     ensures { Gives (λ x. x) result (whole (both (bytes_at head.state_len) (times log_at head.count)) bytes.now) }
 {
     let (state, rest) = bytes_of(head.state_len as usize, bytes)?;
-    let (logs, rest) = logs_of(alloc, head.count, rest)?;
+    let (logs, rest) = many_of(alloc, u64::from(head.count), rest)?;
     if !rest.is_empty() {
         return Err(PacketError::Fault(PacketFault::Fields));
     }
@@ -149,7 +146,7 @@ fn state_and_logs(
 
 /// A field that can't be read is fault 7.
 fn with_fault(read: Result<Kept, PacketError>) -> Result<Kept, KeptError>
-    ensures { (r : Result Kept PacketFault) → Gives (λ x. x) read r → GivesKept (λ x. x) result (read_kept r) }
+    ensures { (r : Result Kept PacketFault) → Gives (λ x. x) read r → GivesKept (λ x. x) result (or_fault faults.Fields r) }
 {
     match read {
         Ok(kept) => Ok(kept),

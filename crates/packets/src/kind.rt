@@ -3,14 +3,14 @@
 /// The kind of a packet, without its fields.
 #[derive(Clone, Copy, Debug, PartialEq, Eq)]
 pub enum PacketKind {
-    Delivery,
-    Number,
-    Acknowledgement,
-    Ask,
-    Told,
-    Resume,
-    Restored,
-    Saved,
+    Delivery = 1,
+    Number = 2,
+    Acknowledgement = 3,
+    Ask = 4,
+    Told = 5,
+    Resume = 6,
+    Restored = 7,
+    Saved = 8,
 }
 
 impl PacketKind {
@@ -21,16 +21,7 @@ impl PacketKind {
     pub fn number(self) -> u8
         ensures { result ≡ kind_number self }
     {
-        match self {
-            PacketKind::Delivery => 1,
-            PacketKind::Number => 2,
-            PacketKind::Acknowledgement => 3,
-            PacketKind::Ask => 4,
-            PacketKind::Told => 5,
-            PacketKind::Resume => 6,
-            PacketKind::Restored => 7,
-            PacketKind::Saved => 8,
-        }
+        self as u8
     }
 
     /// The kind with this byte, if there is one.

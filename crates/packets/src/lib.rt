@@ -30,11 +30,11 @@
 
 mod checksum;
 mod fault;
+mod field;
 mod fields;
 mod head;
 mod kept;
 mod kept_fault;
-mod kept_fields;
 mod kept_reader;
 mod kept_writer;
 mod kind;
@@ -49,12 +49,13 @@ mod writer;
 
 pub use checksum::crc32c;
 pub use fault::{PacketError, PacketFault};
+pub use field::{Readable, Spelled, all_of, many_of, put_many};
 pub use fields::{byte_of, payload_of, u32_of, u64_of};
-pub use head::{CHECKSUM_LEN, HEAD_LEN};
+pub use head::{CHECKSUM_LEN, HEAD_LEN, fields_under};
 pub use kept::{Kept, KeptLog};
 pub use kept_fault::{KeptError, KeptFault};
 pub use kept_reader::decode_kept;
-pub use kept_writer::{encode_kept, put_u32};
+pub use kept_writer::encode_kept;
 pub use kind::PacketKind;
 pub use laws::{
     back_and_there, kept_again, one_kept, one_packet, same_bytes_again, there_and_back,
@@ -64,4 +65,4 @@ pub use outbox::{OUTBOX, PacketQueue};
 pub use packet::{Body, NUMBER_LIMIT, NodePacket};
 pub use page::{Flags, LoggedMessage, Page, Pair};
 pub use reader::decode;
-pub use writer::{encode, put_checksum, put_payload, put_u64};
+pub use writer::{encode, put_checksum, put_payload, put_u32, put_u64};

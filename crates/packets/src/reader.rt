@@ -5,14 +5,15 @@ ghost use Rattle.packets.specs.declared.packet.NodePacket.{NodePacket};
 ghost use Rattle.packets.specs.declared.kind.PacketKind.TheVariants as kinds;
 ghost use Rattle.packets.specs.Format.{IsPacket};
 ghost use Rattle.packets.specs.Faults.{IsReason, Reads};
-ghost use Rattle.packets.specs.Inside.Reader.{Gives, byte_at, number_at, page_at, entry_at, pair_at, both, whole, body_at, reading};
+ghost use Rattle.packets.specs.Inside.Reader.{Gives, byte_at, number_at, counted_at, both, whole, body_at, reading};
 
 use crate::fault::{PacketError, PacketFault};
-use crate::fields::{byte_of, entries_of, pairs_of, payload_of, three_of, two_of, u64_of};
+use crate::field::{Readable, many_of};
+use crate::fields::{byte_of, payload_of, three_of, two_of, u16_of, u64_of};
 use crate::head::{fields_of, head_of};
 use crate::kind::PacketKind;
 use crate::packet::{Body, NodePacket};
-use crate::page::{Flags, LoggedMessage, Page, Pair};
+use crate::page::{Flags, Page};
 use byteorder::{ByteOrder, LittleEndian};
 use helpers::Payload;
 use std::alloc::Global;
@@ -95,28 +96,18 @@ fn three_alone(bytes: &[u8]) -> Result<(u64, u64, u64), PacketError>
     Ok((a, b, c))
 }
 
-/// Flags and a page of entries, with nothing after them.
-fn entries_alone(alloc: Global, bytes: &[u8]) -> Result<(u8, Page<LoggedMessage>), PacketError>
-    ensures { Gives (λ x. x) result (whole (both byte_at (page_at entry_at)) bytes.now) }
+/// Flags and a page, with nothing after them.
+#[tactic(auto, unfolding(crate::specs::Inside::Reader::counted_at))]
+fn page_alone<T: Readable>(alloc: Global, bytes: &[u8]) -> Result<(u8, Page<T>), PacketError>
+    ensures { Gives (λ x. x) result (whole (both byte_at (counted_at 2 T.reader)) bytes.now) }
 {
     let (bits, rest) = byte_of(bytes)?;
-    let (entries, rest) = entries_of(alloc, rest)?;
+    let (count, rest) = u16_of(rest)?;
+    let (items, rest) = many_of(alloc, u64::from(count), rest)?;
     if !rest.is_empty() {
         return Err(PacketError::Fault(PacketFault::Fields));
     }
-    Ok((bits, entries))
-}
-
-/// Flags and a page of pairs, with nothing after them.
-fn pairs_alone(alloc: Global, bytes: &[u8]) -> Result<(u8, Page<Pair>), PacketError>
-    ensures { Gives (λ x. x) result (whole (both byte_at (page_at pair_at)) bytes.now) }
-{
-    let (bits, rest) = byte_of(bytes)?;
-    let (pairs, rest) = pairs_of(alloc, rest)?;
-    if !rest.is_empty() {
-        return Err(PacketError::Fault(PacketFault::Fields));
-    }
-    Ok((bits, pairs))
+    Ok((bits, items))
 }
 
 #[tactic(auto, unfolding(crate::specs::Inside::Reader::body_at))]
@@ -176,7 +167,7 @@ fn read_told(alloc: Global, bytes: &[u8], body: &mut Body) -> Result<(), PacketE
     ensures { Gives (λ _. body.new) result (body_at kinds.Told bytes.now) }
 {
     let (incarnation, teller, above, rest) = three_of(bytes)?;
-    let (bits, entries) = entries_alone(alloc, rest)?;
+    let (bits, entries) = page_alone(alloc, rest)?;
     *body = Body::Told {
         incarnation,
         teller,
@@ -206,7 +197,7 @@ fn read_restored(alloc: Global, bytes: &[u8], body: &mut Body) -> Result<(), Pac
 {
     let (incarnation, teller, covered, rest) = three_of(bytes)?;
     let (above, rest) = u64_of(rest)?;
-    let (bits, pairs) = pairs_alone(alloc, rest)?;
+    let (bits, pairs) = page_alone(alloc, rest)?;
     *body = Body::Restored {
         incarnation,
         teller,

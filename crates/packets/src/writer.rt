@@ -1,14 +1,16 @@
 //! Writes a packet.
 
-ghost use Rattle.std.specs.Prelude.{◌≡◌, ◌++◌, ◌∷◌, [], ◌<◌, ◌≤◌, ◌^◌, length, IfOk, OnOk};
-ghost use Rattle.std.specs.List.{flat_map, AllByRecursion};
-ghost use Rattle.packets.specs.Format.{short_bytes, long_bytes, payload_bytes, entry_bytes, pair_bytes, page_bytes, body_bytes, unsealed, sealed, packet_bytes, HasRoom, IsEntry, IsPage, Fits, IsPacket};
+ghost use Rattle.std.specs.Prelude.{◌≡◌, ◌++◌, ◌∷◌, [], ◌<◌, ◌≤◌, ◌^◌, ℕ, Some, length, slice_get, IfOk, OnOk};
+ghost use Rattle.packets.specs.Format.{short_bytes, long_bytes, payload_bytes, page_bytes, body_bytes, unsealed, sealed, HasRoom, Fits, IsPacket};
+ghost use Rattle.packets.specs.Kept.{word_bytes};
 
 use crate::checksum::crc32c;
+use crate::field::{Spelled, put_many};
 use crate::head::MAGIC;
 use crate::packet::{Body, NodePacket};
 use crate::page::{Flags, LoggedMessage, Pair};
 use byteorder::{ByteOrder, LittleEndian};
+use helpers::Payload;
 use limits::PAYLOAD_BYTES;
 use std::alloc::{AllocError, Global};
 
@@ -85,14 +87,10 @@ fn put_body(out: &mut Vec<u8>, body: &Body) -> Result<(), AllocError>
             above,
             flags,
             entries,
-        } => put_told(
-            out,
-            *incarnation,
-            *teller,
-            *above,
-            *flags,
-            entries.as_slice(),
-        ),
+        } => {
+            put_three(out, *incarnation, *teller, *above)?;
+            put_page(out, *flags, entries.as_slice())
+        }
         Body::Restored {
             incarnation,
             teller,
@@ -100,15 +98,11 @@ fn put_body(out: &mut Vec<u8>, body: &Body) -> Result<(), AllocError>
             above,
             flags,
             pairs,
-        } => put_restored(
-            out,
-            *incarnation,
-            *teller,
-            *covered,
-            *above,
-            *flags,
-            pairs.as_slice(),
-        ),
+        } => {
+            put_three(out, *incarnation, *teller, *covered)?;
+            put_u64(out, *above)?;
+            put_page(out, *flags, pairs.as_slice())
+        }
         Body::Saved { covered } => put_u64(out, *covered),
     }
 }
@@ -141,40 +135,15 @@ fn put_message(out: &mut Vec<u8>, a: u64, b: u64, payload: &[u8]) -> Result<(), 
     put_payload(out, payload)
 }
 
-/// Appends the fields of a Told.
-fn put_told(
-    out: &mut Vec<u8>,
-    incarnation: u64,
-    teller: u64,
-    above: u64,
-    flags: Flags,
-    entries: &[LoggedMessage],
-) -> Result<(), AllocError>
-    requires { length entries.now < 2 ^ 16 }
-    ensures { OnOk result (out.new.items ≡ out.old.items ++ (long_bytes incarnation ++ (long_bytes teller ++ (long_bytes above ++ (flags.bits ∷ [] ++ page_bytes entry_bytes entries.now))))) }
+/// Appends flags, the number of items, and each.
+fn put_page<T: Spelled>(out: &mut Vec<u8>, flags: Flags, items: &[T]) -> Result<(), AllocError>
+    requires few { length items.now < 2 ^ 16 }
+    requires fit { (i : ℕ) (x : _) → slice_get items.now i ≡ Some x → T.fits x }
+    ensures { OnOk result (out.new.items ≡ out.old.items ++ (flags.bits ∷ [] ++ page_bytes T.spelling items.now)) }
 {
-    put_three(out, incarnation, teller, above)?;
     out.extend_from_slice(&[flags.bits])?;
-    put_entries(out, entries)
-}
-
-/// Appends the fields of a Restored.
-fn put_restored(
-    out: &mut Vec<u8>,
-    incarnation: u64,
-    teller: u64,
-    covered: u64,
-    above: u64,
-    flags: Flags,
-    pairs: &[Pair],
-) -> Result<(), AllocError>
-    requires { length pairs.now < 2 ^ 16 }
-    ensures { OnOk result (out.new.items ≡ out.old.items ++ (long_bytes incarnation ++ (long_bytes teller ++ (long_bytes covered ++ (long_bytes above ++ (flags.bits ∷ [] ++ page_bytes pair_bytes pairs.now)))))) }
-{
-    put_three(out, incarnation, teller, covered)?;
-    put_u64(out, above)?;
-    out.extend_from_slice(&[flags.bits])?;
-    put_pairs(out, pairs)
+    put_u16(out, items.len() as u16)?;
+    put_many(out, items)
 }
 
 /// Appends a number of two bytes.
@@ -216,40 +185,52 @@ pub fn put_payload(out: &mut Vec<u8>, payload: &[u8]) -> Result<(), AllocError>
     out.extend_from_slice(payload)
 }
 
-/// Appends the RSN, the SSN and the payload of an entry.
-fn put_entry(out: &mut Vec<u8>, entry: &LoggedMessage) -> Result<(), AllocError>
-    ensures { OnOk result (out.new.items ≡ out.old.items ++ entry_bytes entry.now) }
+/// Appends a number of four bytes.
+#[tactic(auto, unfolding(crate::specs::Kept::word_bytes))]
+pub fn put_u32(out: &mut Vec<u8>, n: u32) -> Result<(), AllocError>
+    ensures { OnOk result (out.new.items ≡ out.old.items ++ word_bytes n) }
 {
-    put_message(out, entry.number, entry.ssn, entry.payload.as_slice())
+    let mut bytes = [0; 4];
+    LittleEndian::write_u32(&mut bytes, n);
+    out.extend_from_slice(&bytes)
 }
 
-/// Appends the number of entries, and each.
-fn put_entries(out: &mut Vec<u8>, entries: &[LoggedMessage]) -> Result<(), AllocError>
-    requires { length entries.now < 2 ^ 16 }
-    ensures { OnOk result (out.new.items ≡ out.old.items ++ page_bytes entry_bytes entries.now) }
-{
-    put_u16(out, entries.len() as u16)?;
-    for entry in entries {
-        put_entry(out, entry)?;
+impl Spelled for u64 {
+    ghost use Rattle.packets.specs.Format.{long_bytes};
+
+    ghost spelling = { long_bytes };
+
+    fn put(&self, out: &mut Vec<u8>) -> Result<(), AllocError> {
+        put_u64(out, *self)
     }
-    Ok(())
 }
 
-/// Appends the SSN and the RSN of a pair.
-fn put_pair(out: &mut Vec<u8>, pair: &Pair) -> Result<(), AllocError>
-    ensures { OnOk result (out.new.items ≡ out.old.items ++ pair_bytes pair.now) }
-{
-    put_two(out, pair.ssn, pair.number)
-}
+impl Spelled for Payload {
+    ghost use Rattle.packets.specs.Format.{payload_bytes};
 
-/// Appends the number of pairs, and each.
-fn put_pairs(out: &mut Vec<u8>, pairs: &[Pair]) -> Result<(), AllocError>
-    requires { length pairs.now < 2 ^ 16 }
-    ensures { OnOk result (out.new.items ≡ out.old.items ++ page_bytes pair_bytes pairs.now) }
-{
-    put_u16(out, pairs.len() as u16)?;
-    for pair in pairs {
-        put_pair(out, pair)?;
+    ghost spelling = { payload_bytes };
+
+    fn put(&self, out: &mut Vec<u8>) -> Result<(), AllocError> {
+        put_payload(out, self.as_slice())
     }
-    Ok(())
+}
+
+impl Spelled for LoggedMessage {
+    ghost use Rattle.packets.specs.Format.{entry_bytes};
+
+    ghost spelling = { entry_bytes };
+
+    fn put(&self, out: &mut Vec<u8>) -> Result<(), AllocError> {
+        put_message(out, self.number, self.ssn, self.payload.as_slice())
+    }
+}
+
+impl Spelled for Pair {
+    ghost use Rattle.packets.specs.Format.{pair_bytes};
+
+    ghost spelling = { pair_bytes };
+
+    fn put(&self, out: &mut Vec<u8>) -> Result<(), AllocError> {
+        put_two(out, self.ssn, self.number)
+    }
 }

@@ -3,8 +3,8 @@ use Rattle.std.proofs.Common.{◌≡◌, ℕ, ◌<◌, ◌^◌, List, [], ◌∷
 use Rattle.std.specs.List.{flat_map, AllByRecursion}
 use Rattle.packets.specs.Format.{long_bytes, payload_bytes, IsLong, IsPayload}
 use Rattle.packets.specs.Kept.{word_bytes}
-use Rattle.packets.specs.Inside.Reader.{◌>>=◌, Reader, byte_at, number_at, payload_at, both, times, whole}
-use Rattle.packets.proofs.Codecs.{IsBytes, bind_ok, ok_is, Codec, back_4, number_codec, byte_codec, payload_codec, mapped_codec, both_codec, word_then, times_codec, counted_codec, whole_found, whole_again}
+use Rattle.packets.specs.Inside.Reader.{◌>>=◌, Reader, byte_at, number_at, payload_at, both, counted_at, times, whole}
+use Rattle.packets.proofs.Codecs.{IsBytes, bind_ok, ok_is, Codec, byte_codec, payload_codec, mapped_codec, both_codec, word_then, times_codec, quads_codec, whole_found, whole_again}
 use Rattle.stores.specs.declared.change.Output.{Output}
 use Rattle.stores.specs.declared.stored.StoredEntry.{StoredEntry}
 use Rattle.stores.specs.declared.stored.StoredHead.{StoredHead}
@@ -12,12 +12,7 @@ use Rattle.stores.specs.declared.stored.StoredLog.{StoredLog}
 use Rattle.stores.specs.declared.stored.StoredStore.{StoredStore}
 use Rattle.stores.specs.Format.{head_bytes, entry_bytes, log_bytes, output_bytes, stored_bytes}
 use Rattle.stores.specs.Faults.{IsHead, IsEntry, IsLog, IsOutputRoom, StoredHasRoom}
-use Rattle.stores.specs.Inside.Reader.{head_at, entry_at, entries_at, log_at, output_at, outputs_at, stored_of, stored_at}
-
--- a number of four bytes
-pub quad_codec : Codec ℕ (λ n. n < 256 ^ 4) (λ n. word_bytes n) (number_at 4)
-unfolding word_bytes
-quad_codec = number_codec 4 back_4
+use Rattle.stores.specs.Inside.Reader.{head_at, entry_at, log_at, output_at, stored_of, stored_at}
 
 head_codec : Codec StoredHead (λ h. IsHead h) (λ h. head_bytes h) head_at
 unfolding head_at
@@ -37,15 +32,11 @@ IsEntries xs = (length xs < 2 ^ 32) × AllByRecursion IsEntry xs
 abbrev entries_bytes : List StoredEntry → List ℕ
 entries_bytes xs = word_bytes (length xs) ++ flat_map entry_bytes xs
 
-entries_codec : Codec (List StoredEntry) (λ xs. IsEntries xs) (λ xs. entries_bytes xs) entries_at
-unfolding entries_at
-entries_codec = counted_codec 4 (λ n. word_bytes n) quad_codec StoredEntry (λ e. IsEntry e) (λ e. entry_bytes e) entry_at entry_codec
-
 log_codec : Codec StoredLog (λ l. IsLog l) (λ l. log_bytes l) log_at
 unfolding log_at
-log_codec = mapped_codec (ℕ × List StoredEntry) StoredLog (λ x. IsLong x.0 × IsEntries x.1) (λ x. long_bytes x.0 ++ entries_bytes x.1) (both (number_at 8) entries_at)
+log_codec = mapped_codec (ℕ × List StoredEntry) StoredLog (λ x. IsLong x.0 × IsEntries x.1) (λ x. long_bytes x.0 ++ entries_bytes x.1) (both (number_at 8) (counted_at 4 entry_at))
     (λ x. record { first = x.0; entries = x.1 }) (λ l. (l.first, l.entries)) (λ x. refl) (λ l. refl)
-    (word_then (List StoredEntry) (λ xs. IsEntries xs) (λ xs. entries_bytes xs) entries_at entries_codec)
+    (word_then (List StoredEntry) (λ xs. IsEntries xs) (λ xs. entries_bytes xs) (counted_at 4 entry_at) (quads_codec StoredEntry (λ e. IsEntry e) (λ e. entry_bytes e) entry_at entry_codec))
 
 -- an output: its process, its SSN and its payload
 pub output_codec : Codec Output (λ o. IsOutputRoom o) (λ o. output_bytes o) output_at
@@ -61,10 +52,6 @@ AreOutputs xs = (length xs < 2 ^ 32) × AllByRecursion IsOutputRoom xs
 abbrev outputs_bytes : List Output → List ℕ
 outputs_bytes xs = word_bytes (length xs) ++ flat_map output_bytes xs
 
-outputs_codec : Codec (List Output) (λ xs. AreOutputs xs) (λ xs. outputs_bytes xs) outputs_at
-unfolding outputs_at
-outputs_codec = counted_codec 4 (λ n. word_bytes n) quad_codec Output (λ o. IsOutputRoom o) (λ o. output_bytes o) output_at output_codec
-
 abbrev Parts : Type 0
 Parts = List StoredHead × (List StoredLog × List Output)
 
@@ -76,15 +63,15 @@ abbrev parts_bytes : Parts → List ℕ
 parts_bytes x = flat_map head_bytes x.0 ++ (flat_map log_bytes x.1.0 ++ outputs_bytes x.1.1)
 
 abbrev parts_at : ℕ → Reader Parts
-parts_at n = both (times head_at n) (both (times log_at n) outputs_at)
+parts_at n = both (times head_at n) (both (times log_at n) (counted_at 4 output_at))
 
 parts_codec : (n : ℕ) → Codec Parts (λ x. HasParts n x) (λ x. parts_bytes x) (parts_at n)
 parts_codec n =
     both_codec (List StoredHead) (List StoredLog × List Output) (λ xs. (length xs ≡ n) × AllByRecursion IsHead xs) (λ x. ((length x.0 ≡ n) × AllByRecursion IsLog x.0) × AreOutputs x.1)
-    (λ xs. flat_map head_bytes xs) (λ x. flat_map log_bytes x.0 ++ outputs_bytes x.1) (times head_at n) (both (times log_at n) outputs_at)
+    (λ xs. flat_map head_bytes xs) (λ x. flat_map log_bytes x.0 ++ outputs_bytes x.1) (times head_at n) (both (times log_at n) (counted_at 4 output_at))
     (times_codec n StoredHead (λ h. IsHead h) (λ h. head_bytes h) head_at head_codec)
-    (both_codec (List StoredLog) (List Output) (λ ls. (length ls ≡ n) × AllByRecursion IsLog ls) (λ xs. AreOutputs xs) (λ ls. flat_map log_bytes ls) (λ xs. outputs_bytes xs) (times log_at n) outputs_at
-    (times_codec n StoredLog (λ l. IsLog l) (λ l. log_bytes l) log_at log_codec) outputs_codec)
+    (both_codec (List StoredLog) (List Output) (λ ls. (length ls ≡ n) × AllByRecursion IsLog ls) (λ xs. AreOutputs xs) (λ ls. flat_map log_bytes ls) (λ xs. outputs_bytes xs) (times log_at n) (counted_at 4 output_at)
+    (times_codec n StoredLog (λ l. IsLog l) (λ l. log_bytes l) log_at log_codec) (quads_codec Output (λ o. IsOutputRoom o) (λ o. output_bytes o) output_at output_codec))
 
 -- the fields of so many processes are these
 pub record IsStoredBody (n : ℕ) (fields : List ℕ) (r : StoredStore) : Type 0 where

@@ -1,21 +1,20 @@
 //! Reads a store.
 
-ghost use Rattle.std.specs.Prelude.{◌≡◌, ◌≤◌, length, Result, IfOk, IfErr};
+ghost use Rattle.std.specs.Prelude.{◌≤◌, length, Result, IfOk, IfErr};
 ghost use Rattle.packets.specs.declared.fault.PacketFault.{PacketFault};
-ghost use Rattle.packets.specs.Inside.Reader.{Gives};
+ghost use Rattle.packets.specs.Inside.Reader.{Gives, or_fault};
+ghost use Rattle.stores.specs.declared.store_fault.StoreFault.TheVariants as faults;
 ghost use Rattle.stores.specs.declared.stored.StoredStore.{StoredStore as TheFields};
 ghost use Rattle.stores.specs.Store.{TheStore};
 ghost use Rattle.stores.specs.Format.{IsStoreBytes};
 ghost use Rattle.stores.specs.Faults.{IsStoreReason, ReadsStore};
-ghost use Rattle.stores.specs.Inside.Reader.{GivesStore, stored_at, read_stored, store_fields_at, count_at, store_reading, store_whole};
+ghost use Rattle.stores.specs.Inside.Reader.{GivesStore, stored_at, store_fields_at, count_at, store_reading, store_whole};
 
-use crate::fields::{heads_of, logs_of, outputs_of};
 use crate::store::Store;
 use crate::store_fault::{StoreError, StoreFault};
 use crate::stored::StoredStore;
-use byteorder::{ByteOrder, LittleEndian};
 use limits::PROCESSES;
-use packets::{CHECKSUM_LEN, HEAD_LEN, PacketError, PacketFault, crc32c};
+use packets::{PacketError, PacketFault, all_of, fields_under, many_of};
 use std::alloc::Global;
 
 /// `SBG1`, the first four bytes.
@@ -65,17 +64,15 @@ fn fields_of(bytes: &[u8]) -> Result<&[u8], StoreError>
     ensures exact { GivesStore (λ x. x.now) result (store_fields_at bytes.now) }
     ensures long { IfOk result (λ x. 16 ≤ length bytes.now) }
 {
-    if bytes.len() < STORE_LEN {
-        return Err(StoreError::Fault(StoreFault::Short));
-    }
-    if &bytes[..4] != STORE_MAGIC.as_slice() {
-        return Err(StoreError::Fault(StoreFault::Magic));
-    }
-    let (text, checksum) = bytes.split_at(bytes.len() - CHECKSUM_LEN);
-    if LittleEndian::read_u32(checksum) != crc32c(text) {
-        return Err(StoreError::Fault(StoreFault::Checksum));
-    }
-    Ok(&bytes[HEAD_LEN..bytes.len() - CHECKSUM_LEN])
+    fields_under(
+        StoreFault::Short,
+        StoreFault::Magic,
+        StoreFault::Checksum,
+        STORE_LEN,
+        STORE_MAGIC,
+        bytes,
+    )
+    .map_err(StoreError::Fault)
 }
 
 /// The number of processes.
@@ -100,9 +97,9 @@ fn count_of(bytes: &[u8]) -> Result<u8, StoreError>
 fn body_of(alloc: Global, count: u8, bytes: &[u8]) -> Result<StoredStore, PacketError>
     ensures { Gives (λ x. x) result (stored_at count bytes.now) }
 {
-    let (heads, rest) = heads_of(alloc, count, bytes)?;
-    let (logs, rest) = logs_of(alloc, count, rest)?;
-    let (outputs, rest) = outputs_of(alloc, rest)?;
+    let (heads, rest) = many_of(alloc, u64::from(count), bytes)?;
+    let (logs, rest) = many_of(alloc, u64::from(count), rest)?;
+    let (outputs, rest) = all_of(alloc, rest)?;
     if !rest.is_empty() {
         return Err(PacketError::Fault(PacketFault::Fields));
     }
@@ -115,7 +112,7 @@ fn body_of(alloc: Global, count: u8, bytes: &[u8]) -> Result<StoredStore, Packet
 
 /// A field that can't be read is fault 6.
 fn with_fault(read: Result<StoredStore, PacketError>) -> Result<StoredStore, StoreError>
-    ensures { (r : Result TheFields PacketFault) → Gives (λ x. x) read r → GivesStore (λ x. x) result (read_stored r) }
+    ensures { (r : Result TheFields PacketFault) → Gives (λ x. x) read r → GivesStore (λ x. x) result (or_fault faults.Fields r) }
 {
     match read {
         Ok(stored) => Ok(stored),

@@ -11,25 +11,25 @@ use thiserror::Error;
 pub enum StoreFault {
     /// 1: fewer than 16 bytes.
     #[error("fewer than 16 bytes")]
-    Short,
+    Short = 1,
     /// 2: the first four bytes are not the magic.
     #[error("no store")]
-    Magic,
+    Magic = 2,
     /// 3: the last four bytes are not the checksum of the others.
     #[error("the checksum is wrong")]
-    Checksum,
+    Checksum = 3,
     /// 4: the number of processes is out of range.
     #[error("the number of processes is out of range")]
-    Count,
+    Count = 4,
     /// 5: the three bytes after it are not zeros.
     #[error("the three bytes behind the number of processes are not zeros")]
-    Zeros,
+    Zeros = 5,
     /// 6: the fields end early or too late, or a payload is too long.
     #[error("the fields do not take just the bytes that are there")]
-    Fields,
+    Fields = 6,
     /// 7: a field is out of range.
     #[error("a field is out of range")]
-    Range,
+    Range = 7,
 }
 
 impl StoreFault {
@@ -40,15 +40,7 @@ impl StoreFault {
     pub fn number(self) -> u8
         ensures { result ≡ store_fault_number self }
     {
-        match self {
-            StoreFault::Short => 1,
-            StoreFault::Magic => 2,
-            StoreFault::Checksum => 3,
-            StoreFault::Count => 4,
-            StoreFault::Zeros => 5,
-            StoreFault::Fields => 6,
-            StoreFault::Range => 7,
-        }
+        self as u8
     }
 }
 

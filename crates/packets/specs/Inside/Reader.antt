@@ -1,6 +1,6 @@
 -- Reading a packet from left to right, up to the first fault. A reader gives a value and the bytes after it.
 use Rattle.std.specs.Prelude.{◌≡◌, ℕ, zero, suc, ◌-◌, List, [], ◌∷◌, length, take, drop, slice_index, Option, Some, None, Result, Ok, Err}
-use Rattle.std.specs.Prelude.{not, nat_lt, nat_eq, ◌==◌, ◌||◌, if◌then◌else◌}
+use Rattle.std.specs.Prelude.{Bool, not, nat_lt, nat_eq, ◌==◌, ◌||◌, if◌then◌else◌}
 use Rattle.std.specs.Cmp.Lexicographic.{pointwise}
 use Rattle.limits.specs.declared.TheConstants.{PAYLOAD_BYTES, PROCESSES}
 use Rattle.byteorder.specs.Endian.{little_number}
@@ -29,6 +29,11 @@ and_then (Err e) f = Err e
 infixl 10 ◌>>=◌
 abbrev pub ◌>>=◌ : {A B : Type 0} → Result A PacketFault → (A → Result B PacketFault) → Result B PacketFault
 r >>= f = and_then r f
+
+-- the fault d in place of any other
+abbrev pub or_fault : {F A : Type 0} → F → Result A PacketFault → Result A F
+or_fault d (Ok x) = Ok x
+or_fault d (Err f) = Err d
 
 -- an error is the one that reading gives, unless memory ran out
 abbrev pub Fails : {Y : Type 0} → PacketError → Result Y PacketFault → Type 0
@@ -72,9 +77,9 @@ unfoldable pub times : {A : Type 0} → Reader A → ℕ → Reader (List A)
 times field zero bytes = Ok ([], bytes)
 times field (suc n) bytes = field bytes >>= λ first. times field n first.1 >>= λ others. Ok (first.0 ∷ others.0, others.1)
 
--- the number of items, and each
-unfoldable pub page_at : {A : Type 0} → Reader A → Reader (List A)
-page_at field bytes = number_at 2 bytes >>= λ count. times field count.0 count.1
+-- the number of items, in w bytes, and each
+unfoldable pub counted_at : {A : Type 0} → ℕ → Reader A → Reader (List A)
+counted_at w field bytes = number_at w bytes >>= λ count. times field count.0 count.1
 
 -- an entry of a log: RSN, SSN and payload
 unfoldable pub entry_at : Reader LoggedMessage
@@ -100,11 +105,11 @@ body_at kinds.Ask bytes = whole (both (number_at 8) (number_at 8)) bytes >>= λ 
 body_at kinds.Told bytes =
     whole (both (number_at 8)
     (both (number_at 8) (both (number_at 8)
-    (both byte_at (page_at entry_at))))) bytes >>= λ x. Ok (Told x.0 x.1.0 x.1.1.0 (record { bits = x.1.1.1.0 }) x.1.1.1.1)
+    (both byte_at (counted_at 2 entry_at))))) bytes >>= λ x. Ok (Told x.0 x.1.0 x.1.1.0 (record { bits = x.1.1.1.0 }) x.1.1.1.1)
 body_at kinds.Resume bytes = whole (both (number_at 8) (both (number_at 8) (number_at 8))) bytes >>= λ x. Ok (Resume x.0 x.1.0 x.1.1)
 body_at kinds.Restored bytes =
     whole (both (number_at 8)
-    (both (number_at 8) (both (number_at 8) (both (number_at 8) (both byte_at (page_at pair_at)))))) bytes >>= λ x.
+    (both (number_at 8) (both (number_at 8) (both (number_at 8) (both byte_at (counted_at 2 pair_at)))))) bytes >>= λ x.
     Ok (Restored x.0 x.1.0 x.1.1.0 x.1.1.1.0 (record { bits = x.1.1.1.1.0 }) x.1.1.1.1.1)
 body_at kinds.Saved bytes = whole (number_at 8) bytes >>= λ c. Ok (Saved c)
 
@@ -137,12 +142,16 @@ unfoldable pub head_at : List ℕ → Result PacketHead PacketFault
 head_at bytes =
     known (kind_at (slice_index bytes 4)) >>= λ kind. head_in_range kind (slice_index bytes 5) (slice_index bytes 6) (slice_index bytes 7)
 
+-- reading in steps: the fields, the head, what the fields hold, and whether that is in range
+abbrev pub in_steps : {F H B V : Type 0} → Result (List ℕ) F → Result H F → (H → List ℕ → Result B F) → (H → B → V) → (B → Bool) → F
+    → Result V F
+in_steps text head body value fine range =
+    and_then text (λ fields. and_then head (λ h. and_then (body h fields) (λ b. if fine b then Ok (value h b) else Err range)))
+
 -- a packet of a head and a body
 abbrev pub packet_of : PacketHead → Body → NodePacket
 packet_of head body = record { count = head.count; from = head.from; to = head.to; body = body }
 
 -- a packet, or the first fault of its bytes
 unfoldable pub reading : List ℕ → Result NodePacket PacketFault
-reading bytes =
-    fields_at bytes >>= λ fields. head_at bytes >>= λ head. body_at head.kind fields >>= λ body.
-    if in_range body then Ok (packet_of head body) else Err faults.Range
+reading bytes = in_steps (fields_at bytes) (head_at bytes) (λ head. body_at head.kind) packet_of in_range faults.Range
