@@ -17,10 +17,10 @@ use Rattle.process.specs.Work.{Works}
 use Rattle.process.specs.Job.{IsAnswered, WorksAs}
 use Rattle.node_laws.specs.HostProcess.{Checkpoint, Alive, Has, Asleep, Durable}
 use Rattle.node_laws.specs.HostSystem.{System, Ticked, AnswersSo, ResumesAs, DoesIt}
-use Rattle.c_cluster.specs.declared.nodes.fault.NodeFault.{NodeFault}
-use Rattle.c_cluster.specs.declared.nodes.fault.NodeFault.TheVariants.{Memory, Handle, Image, Room, Absent, Bytes, Unready, Limit, Left}
-use Rattle.c_cluster.specs.Nodes.Answers.{OfBoth}
-use Rattle.c_cluster.specs.Nodes.Calls.{IsHeldBack}
+use Rattle.c_calls.specs.declared.nodes.fault.NodeFault.{NodeFault}
+use Rattle.c_calls.specs.declared.nodes.fault.NodeFault.TheVariants.{Memory, Handle, Image, Room, Absent, Bytes, Unready, Limit, Left}
+use Rattle.c_calls.specs.Nodes.Answers.{OfBoth}
+use Rattle.c_calls.specs.Nodes.Calls.{IsHeldBack}
 use Rattle.c_cluster.specs.Nodes.NodeJob.{state_in}
 use Rattle.c_cluster.specs.Nodes.Lifetime.{IsImageIn, limits_of}
 use Rattle.c_cluster.specs.Nodes.HostCalls.{Holds, ExportsAreCalls}

@@ -6,8 +6,8 @@ use Rattle.node.specs.Node.{IsPositive}
 use Rattle.process.specs.Process.{TheProcess}
 use Rattle.process.specs.Revival.{IsOpened, IsRevived}
 use Rattle.c_cluster.specs.declared.nodes.lifetime.NodeLimits.{NodeLimits}
-use Rattle.c_cluster.specs.declared.nodes.fault.NodeFault.{NodeFault}
-use Rattle.c_cluster.specs.declared.nodes.fault.NodeFault.TheVariants.{Memory}
+use Rattle.c_calls.specs.declared.nodes.fault.NodeFault.{NodeFault}
+use Rattle.c_calls.specs.declared.nodes.fault.NodeFault.TheVariants.{Memory}
 use Rattle.c_cluster.specs.Nodes.Lifetime.{IsImageIn, AreLimits, limits_of, IsSeat, Opens, DoesNotOpenWith, Revives, DoesNotRevive}
 
 pub put-opens : (r : Result (Unit {0}) NodeFault) (file : List ℕ) (me n : ℕ) (l : NodeLimits) (state : List ℕ) (old new : Option TheProcess) (image : AnyImage) (p : TheProcess) → OnOk r (new ≡ Some p)

@@ -5,8 +5,8 @@ use Rattle.images.specs.declared.any_image.AnyImage.{AnyImage}
 use Rattle.process.specs.Process.{TheProcess}
 use Rattle.process.specs.Suspension.{IsResumed}
 use Rattle.c_cluster.specs.declared.nodes.lifetime.NodeLimits.{NodeLimits}
-use Rattle.c_cluster.specs.declared.nodes.fault.NodeFault.{NodeFault}
-use Rattle.c_cluster.specs.declared.nodes.fault.NodeFault.TheVariants.{Memory}
+use Rattle.c_calls.specs.declared.nodes.fault.NodeFault.{NodeFault}
+use Rattle.c_calls.specs.declared.nodes.fault.NodeFault.TheVariants.{Memory}
 use Rattle.c_cluster.specs.Nodes.Lifetime.{IsImageIn, AreLimits, limits_of}
 use Rattle.c_cluster.specs.Nodes.Suspension.{Resumes, DoesNotResume}
 

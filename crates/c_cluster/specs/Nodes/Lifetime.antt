@@ -21,9 +21,9 @@ use Rattle.process.specs.declared.fault.Unrevived.{Unrevived}
 use Rattle.process.specs.declared.fault.Unrevived.TheVariants as why
 use Rattle.c_cluster.specs.declared.nodes.lifetime.NodeLimits.{NodeLimits}
 use Rattle.c_cluster.specs.declared.nodes.lifetime.TheConstants.{MOST_PAGE}
-use Rattle.c_cluster.specs.declared.nodes.fault.NodeFault.{NodeFault}
-use Rattle.c_cluster.specs.declared.nodes.fault.NodeFault.TheVariants.{Memory, Handle, Image, Bytes, Limit}
-use Rattle.c_cluster.specs.Nodes.Answers.{Answers, AnswersOfBytes}
+use Rattle.c_calls.specs.declared.nodes.fault.NodeFault.{NodeFault}
+use Rattle.c_calls.specs.declared.nodes.fault.NodeFault.TheVariants.{Memory, Handle, Image, Bytes, Limit}
+use Rattle.c_calls.specs.Nodes.Answers.{Answers, AnswersOfBytes}
 
 -- the file is that of this image, of any form, whose code is typable in it, and of no image with another form, code or length
 pub record IsImageIn (file : List ℕ) (image : AnyImage) : Type 0 where

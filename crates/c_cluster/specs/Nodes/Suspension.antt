@@ -7,9 +7,9 @@ use Rattle.process.specs.declared.suspension.ResumeError.{ResumeError}
 use Rattle.process.specs.declared.suspension.ResumeError.TheVariants as why
 use Rattle.c_handles.specs.Buffer.{IsCopied, IsUncopied, IsUntouched}
 use Rattle.c_cluster.specs.declared.nodes.lifetime.NodeLimits.{NodeLimits}
-use Rattle.c_cluster.specs.declared.nodes.fault.NodeFault.{NodeFault}
-use Rattle.c_cluster.specs.declared.nodes.fault.NodeFault.TheVariants.{Memory, Handle, Image, Room, Bytes, Unready, Limit}
-use Rattle.c_cluster.specs.Nodes.Answers.{AnswersOfBytes, OfSame, StaysClosed}
+use Rattle.c_calls.specs.declared.nodes.fault.NodeFault.{NodeFault}
+use Rattle.c_calls.specs.declared.nodes.fault.NodeFault.TheVariants.{Memory, Handle, Image, Room, Bytes, Unready, Limit}
+use Rattle.c_calls.specs.Nodes.Answers.{AnswersOfBytes, OfSame, StaysClosed}
 use Rattle.c_cluster.specs.Nodes.Lifetime.{AreLimits, limits_of, IsImageIn, IsNoImage}
 
 -- the bytes of its node are in the buffer

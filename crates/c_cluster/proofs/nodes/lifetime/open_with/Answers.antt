@@ -4,7 +4,7 @@ use Rattle.std.proofs.lemmas.Grind.{common_steps}
 use Rattle.std.specs.Arc.{arc_value}
 use Rattle.handlers.specs.Handler.{image_of}
 use Rattle.process.specs.Revival.{IsOpened}
-use Rattle.c_cluster.specs.declared.nodes.fault.NodeFault.TheVariants.{Memory}
+use Rattle.c_calls.specs.declared.nodes.fault.NodeFault.TheVariants.{Memory}
 use Rattle.c_cluster.specs.Nodes.Lifetime.{IsImageIn, IsSeat, AreLimits, limits_of}
 use Rattle.c_cluster.proofs.Opened.{put-opens}
 use Rattle.c_cluster.proofs.nodes.lifetime.open_with.Goals as goal

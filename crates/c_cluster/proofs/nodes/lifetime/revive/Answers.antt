@@ -5,7 +5,7 @@ use Rattle.std.specs.Arc.{arc_value}
 use Rattle.handlers.specs.Handler.{image_of}
 use Rattle.node.specs.Node.{IsPositive}
 use Rattle.process.specs.Revival.{IsRevived}
-use Rattle.c_cluster.specs.declared.nodes.fault.NodeFault.TheVariants.{Memory}
+use Rattle.c_calls.specs.declared.nodes.fault.NodeFault.TheVariants.{Memory}
 use Rattle.c_cluster.specs.Nodes.Lifetime.{IsImageIn, AreLimits, limits_of}
 use Rattle.c_cluster.proofs.Opened.{put-revives}
 use Rattle.c_cluster.proofs.nodes.lifetime.revive.Goals as goal

@@ -1,0 +1,11 @@
+use Rattle.std.proofs.Common.{◌≡◌, ℕ, ◌-◌, ◌<◌, List, length}
+use Rattle.c_calls.specs.Bundle.{InOrder, GivesTo}
+use Rattle.c_calls.specs.Nodes.Bundles.{Leaves}
+use Rattle.c_calls.proofs.Bundles.{Laid}
+use Rattle.c_calls.proofs.nodes.results.take_all_of.Given as goal
+
+abbrev pub invariant-loop-end : goal.invariant-loop-end
+invariant-loop-end l = (packets : List (List ℕ)) × Laid l.fn.out l.out l.size l.count packets × InOrder (GivesTo Leaves l.receiver) packets l.fn.process l.process × (0 < l.count) × (l.to ≡ l.receiver)
+
+abbrev pub decreases-loop-end : goal.decreases-loop-end
+decreases-loop-end l = length l.initial.out - l.size

@@ -1,0 +1,4 @@
+pub mod Bundle
+pub mod Inside
+pub mod Gateways
+pub mod Nodes
