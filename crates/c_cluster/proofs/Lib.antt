@@ -1,5 +1,4 @@
 mod BundleCalls
 mod HostCalls
 mod Opened
-mod Resumed
 mod Outcomes
