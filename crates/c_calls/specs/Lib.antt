@@ -2,3 +2,4 @@ pub mod Bundle
 pub mod Inside
 pub mod Gateways
 pub mod Nodes
+pub mod Outbox

@@ -15,3 +15,4 @@
 pub mod bundle;
 pub mod gateways;
 pub mod nodes;
+pub mod outbox;

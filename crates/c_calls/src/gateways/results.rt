@@ -1,21 +1,38 @@
 //! What the gateway of a handle gives: packets, outputs, its store and changes.
 
-ghost use Rattle.std.specs.Prelude.{◌≡◌, ◌+◌, ℕ, [], length, true, MatchResult, OnErr, IfOk, IfSome, IfNone};
-ghost use Rattle.operations.specs.Bytes.{overwritten};
-ghost use Rattle.gateway.specs.Written.{Waits};
-ghost use Rattle.c_calls.specs.Bundle.{part_bytes, FitsFrom, GivesTo, GivesAll, GivesNext, IsNoMore};
-ghost use Rattle.c_calls.specs.Gateways.Bundles.{AreTaken, AreUntaken, GivesNone, Leaves};
+ghost use Rattle.std.specs.Prelude.{◌≡◌, MatchResult, OnErr};
+ghost use Rattle.c_calls.specs.Gateways.Bundles.{AreTaken, AreUntaken};
 ghost use Rattle.c_calls.specs.Gateways.Answers.{Does, Results};
 ghost use Rattle.c_calls.specs.Gateways.Results.{Gives, GivesNot, IsShown, IsStored, IsTaken, IsTold, IsUnshown, IsUnstored, IsUntaken, IsUntold, Shows, ShowsNot, Spells, Tells, WritesNot};
 ghost use Rattle.stores.specs.Format.{IsStoreBytes};
 ghost use Rattle.stores.specs.Changes.{AreChanges};
 
-use crate::bundle::{LENGTH_BYTES, fits, put_part};
 use crate::gateways::fault::GatewayFault;
 use crate::gateways::handle::GatewayHandle;
+use crate::outbox::{Outbox, Ungiven, give_all};
 use c_handles::{copy, measure, write};
 use gateway::Gateway;
 use std::alloc::{AllocError, Global};
+
+impl Outbox for Gateway {
+    ghost use Rattle.std.specs.Prelude.{◌≡◌, []};
+    ghost use Rattle.gateway.specs.Written.{Waits};
+    ghost use Rattle.c_calls.specs.Gateways.Bundles.{Leaves};
+
+    ghost waits = { λ g to bytes. Waits to bytes g };
+
+    ghost is_empty = { λ g. g.out ≡ [] };
+
+    ghost leaves = { Leaves };
+
+    fn first(&self, alloc: Global) -> Result<Option<(u8, Vec<u8>)>, AllocError> {
+        self.first_bytes(alloc)
+    }
+
+    fn take_first(&mut self) {
+        let _packet = self.take();
+    }
+}
 
 /// Takes the first packet that waits: writes its bytes, their number, and its receiver.
 fn give(
@@ -57,78 +74,7 @@ pub fn take(
 }
 
 /// Takes the first packets that wait, as many as go to the same process and fit: writes them as those
-/// of a bundle, and their receiver. Answers whether these are all: if not, memory ran out for the next
-/// one.
-fn give_all(
-    alloc: Global,
-    gateway: &mut Gateway,
-    out: &mut [u8],
-    size: &mut usize,
-    to: &mut u8,
-    count: &mut u64,
-) -> Result<bool, GatewayFault>
-    ensures given { MatchResult result (λ _. GivesAll Leaves out.old out.new size.new to.new count.new gateway.old gateway.new) (λ why. GivesNone out.old out.new size.old size.new gateway.old why × (gateway.new ≡ gateway.old)) }
-    ensures all { IfOk result (λ all. all ≡ true → IsNoMore (gateway.new.out ≡ []) (λ next packet. Waits next packet gateway.new) to.new size.new (length out.old)) }
-    ensures kept { OnErr result ((to.new ≡ to.old) × (count.new ≡ count.old)) }
-{
-    let Some((receiver, first)) = gateway.first_bytes(alloc)? else {
-        return Err(GatewayFault::Absent);
-    };
-    if !fits(out, 0, &first) {
-        *size = LENGTH_BYTES + first.len();
-        return Err(GatewayFault::Room);
-    }
-    *size = give_first(gateway, out, 0, &first);
-    *to = receiver;
-    *count = 1;
-    loop {
-        match give_next(alloc, gateway, out, *size, receiver) {
-            Ok(Some(end)) => {
-                *size = end;
-                *count += 1;
-            }
-            Ok(None) => return Ok(true),
-            Err(_) => return Ok(false),
-        }
-    }
-}
-
-/// Writes the first packet that waits at `at`, if it goes to this process and fits, and takes it.
-/// Answers the place after it.
-fn give_next(
-    alloc: Global,
-    gateway: &mut Gateway,
-    out: &mut [u8],
-    at: usize,
-    to: u8,
-) -> Result<Option<usize>, AllocError>
-    ensures given { IfOk result (λ o. IfSome o (λ end. GivesNext Leaves out.old out.new at end to gateway.old gateway.new)) }
-    ensures all { IfOk result (λ o. IfNone o (IsNoMore (gateway.old.out ≡ []) (λ next packet. Waits next packet gateway.old) to at (length out.old) × (gateway.new ≡ gateway.old) × (out.new ≡ out.old))) }
-    ensures kept { OnErr result ((gateway.new ≡ gateway.old) × (out.new ≡ out.old)) }
-{
-    let Some((next, packet)) = gateway.first_bytes(alloc)? else {
-        return Ok(None);
-    };
-    if next != to || !fits(out, at, &packet) {
-        return Ok(None);
-    }
-    Ok(Some(give_first(gateway, out, at, &packet)))
-}
-
-/// Writes the first packet that waits at `at`, after its length, and takes it. Answers the place after
-/// it.
-fn give_first(gateway: &mut Gateway, out: &mut [u8], at: usize, packet: &[u8]) -> usize
-    requires { FitsFrom at (length out.old) packet.now }
-    ensures given { (to : ℕ) → Waits to packet.now gateway.old → GivesTo Leaves to packet.now gateway.old gateway.new }
-    ensures written { out.new ≡ overwritten out.old at (part_bytes packet.now) }
-    ensures end { result ≡ at + length (part_bytes packet.now) }
-{
-    let end = put_part(out, at, packet);
-    let _packet = gateway.take();
-    end
-}
-
-/// The same for the gateway of a handle.
+/// of a bundle, and their receiver.
 pub fn take_all(
     alloc: Global,
     handle: &mut GatewayHandle,
@@ -143,11 +89,13 @@ pub fn take_all(
     let Some(mut gateway) = handle.take(alloc) else {
         return Err(GatewayFault::Handle);
     };
-    let given = give_all(alloc, &mut gateway, out, size, to, count);
+    let given = give_all(alloc, &mut *gateway, out, size, to, count);
     handle.put(gateway);
     match given {
         Ok(_all) => Ok(()),
-        Err(why) => Err(why),
+        Err(Ungiven::Memory) => Err(GatewayFault::Memory),
+        Err(Ungiven::Absent) => Err(GatewayFault::Absent),
+        Err(Ungiven::Room) => Err(GatewayFault::Room),
     }
 }
 

@@ -1,20 +1,43 @@
 //! What the process of a handle gives: packets, checkpoints, its state.
 
-ghost use Rattle.std.specs.Prelude.{◌≡◌, ◌⊎◌, ◌+◌, ℕ, [], length, true, MatchResult, OnErr, IfOk, IfSome, IfNone};
-ghost use Rattle.operations.specs.Bytes.{overwritten};
-ghost use Rattle.process.specs.Process.{out_of};
-ghost use Rattle.c_calls.specs.declared.nodes.fault.NodeFault.TheVariants.{Memory, Absent};
-ghost use Rattle.c_calls.specs.Bundle.{part_bytes, FitsFrom, GivesTo, GivesAll, GivesNext, IsNoMore};
-ghost use Rattle.c_calls.specs.Nodes.Bundles.{Waits, Leaves, AreTaken, LeavesAllIn, AreUntaken};
+ghost use Rattle.std.specs.Prelude.{◌≡◌, MatchResult, OnErr};
+ghost use Rattle.c_calls.specs.Nodes.Bundles.{AreTaken, AreUntaken};
 ghost use Rattle.c_calls.specs.Nodes.Answers.{Results};
 ghost use Rattle.c_calls.specs.Nodes.Results.{IsTaken, IsUntaken, IsMade, IsUnmade, IsRead, IsUnread, TakesOut, LeavesIn, Makes, DoesNotMake};
 
-use crate::bundle::{LENGTH_BYTES, fits, put_part};
 use crate::nodes::fault::NodeFault;
 use crate::nodes::handle::NodeHandle;
+use crate::outbox::{Outbox, Ungiven, give_all};
 use c_handles::copy;
 use process::Member;
-use std::alloc::Global;
+use std::alloc::{AllocError, Global};
+
+impl Outbox for Member {
+    ghost use Rattle.std.specs.Prelude.{◌≡◌, []};
+    ghost use Rattle.process.specs.Process.{out_of};
+    ghost use Rattle.c_calls.specs.Nodes.Bundles.{Waits, Leaves};
+
+    ghost waits = { λ p to bytes. Waits to bytes p };
+
+    ghost is_empty = { λ p. out_of p.lifecycle ≡ [] };
+
+    ghost leaves = { Leaves };
+
+    fn first(&self, alloc: Global) -> Result<Option<(u8, Vec<u8>)>, AllocError> {
+        let Some(packet) = self.front() else {
+            return Ok(None);
+        };
+        let to = packet.to;
+        match self.front_bytes(alloc)? {
+            Some(bytes) => Ok(Some((to, bytes))),
+            None => Ok(None),
+        }
+    }
+
+    fn take_first(&mut self) {
+        let _packet = self.take();
+    }
+}
 
 /// Writes the first packet that waits, and its receiver. If the buffer is long enough, the packet
 /// is taken.
@@ -74,97 +97,14 @@ pub fn take_all(
     let Some(mut process) = handle.take(alloc) else {
         return Err(NodeFault::Handle);
     };
-    let taken = take_all_of(alloc, &mut process, out, size, to, count);
+    let given = give_all(alloc, &mut *process, out, size, to, count);
     handle.put(process);
-    match taken {
+    match given {
         Ok(_all) => Ok(()),
-        Err(why) => Err(why),
+        Err(Ungiven::Memory) => Err(NodeFault::Memory),
+        Err(Ungiven::Absent) => Err(NodeFault::Absent),
+        Err(Ungiven::Room) => Err(NodeFault::Room),
     }
-}
-
-/// Answers whether these are all: if not, memory ran out for the next one.
-fn take_all_of(
-    alloc: Global,
-    process: &mut Member,
-    out: &mut [u8],
-    size: &mut usize,
-    to: &mut u8,
-    count: &mut u64,
-) -> Result<bool, NodeFault>
-    ensures taken { MatchResult result (λ _. GivesAll Leaves out.old out.new size.new to.new count.new process.old process.new) (LeavesAllIn out.old out.new size.old size.new process.old process.new) }
-    ensures all { IfOk result (λ all. all ≡ true → IsNoMore (out_of process.new.lifecycle ≡ []) (λ next packet. Waits next packet process.new) to.new size.new (length out.old)) }
-    ensures kept { OnErr result ((to.new ≡ to.old) × (count.new ≡ count.old)) }
-{
-    let (receiver, first) = waiting(alloc, process)?;
-    if !fits(out, 0, &first) {
-        *size = LENGTH_BYTES + first.len();
-        return Err(NodeFault::Room);
-    }
-    *size = give(process, out, 0, &first);
-    *to = receiver;
-    *count = 1;
-    loop {
-        match give_next(alloc, process, out, *size, receiver) {
-            Ok(Some(end)) => {
-                *size = end;
-                *count += 1;
-            }
-            Ok(None) => return Ok(true),
-            Err(_) => return Ok(false),
-        }
-    }
-}
-
-/// Writes the first packet that waits at `at`, if it goes to this process and fits, and takes it.
-/// Answers the place after it.
-fn give_next(
-    alloc: Global,
-    process: &mut Member,
-    out: &mut [u8],
-    at: usize,
-    to: u8,
-) -> Result<Option<usize>, NodeFault>
-    ensures given { IfOk result (λ o. IfSome o (λ end. GivesNext Leaves out.old out.new at end to process.old process.new)) }
-    ensures all { IfOk result (λ o. IfNone o (IsNoMore (out_of process.old.lifecycle ≡ []) (λ next packet. Waits next packet process.old) to at (length out.old) × (process.new ≡ process.old) × (out.new ≡ out.old))) }
-    ensures kept { OnErr result ((process.new ≡ process.old) × (out.new ≡ out.old)) }
-{
-    let (next, packet) = match waiting(alloc, process) {
-        Ok(first) => first,
-        Err(NodeFault::Absent) => return Ok(None),
-        Err(why) => return Err(why),
-    };
-    if next != to || !fits(out, at, &packet) {
-        return Ok(None);
-    }
-    Ok(Some(give(process, out, at, &packet)))
-}
-
-/// The first packet that waits: its receiver and its bytes.
-fn waiting(alloc: Global, process: &Member) -> Result<(u8, Vec<u8>), NodeFault>
-    ensures { MatchResult result (λ v. Waits v.0 v.1.items process.now) (λ why. (why ≡ Memory) ⊎ ((why ≡ Absent) × (out_of process.now.lifecycle ≡ []))) }
-{
-    let Some(packet) = process.front() else {
-        return Err(NodeFault::Absent);
-    };
-    let to = packet.to;
-    match process.front_bytes(alloc) {
-        Ok(Some(bytes)) => Ok((to, bytes)),
-        Ok(None) => Err(NodeFault::Absent),
-        Err(_) => Err(NodeFault::Memory),
-    }
-}
-
-/// Writes the first packet that waits at `at`, after its length, and takes it. Answers the place after
-/// it.
-fn give(process: &mut Member, out: &mut [u8], at: usize, packet: &[u8]) -> usize
-    requires { FitsFrom at (length out.old) packet.now }
-    ensures given { (to : ℕ) → Waits to packet.now process.old → GivesTo Leaves to packet.now process.old process.new }
-    ensures written { out.new ≡ overwritten out.old at (part_bytes packet.now) }
-    ensures end { result ≡ at + length (part_bytes packet.now) }
-{
-    let end = put_part(out, at, packet);
-    let _packet = process.take();
-    end
 }
 
 /// Writes the bytes of a checkpoint. If the buffer is long enough, the process waits until they are
