@@ -15,12 +15,12 @@ use Rattle.node_laws.specs.Together.{IsFirst}
 use Rattle.node_laws.specs.HostProcess.{Checkpoint, Runs, Alive, goes_on}
 use Rattle.node_laws.specs.HostSystem.{System, HostCall, GaveBytes, HandedBytes, Worked, DoesIt, after_call}
 use Rattle.node_laws.proofs.Sound.{raised-here}
-use Rattle.c_cluster.specs.declared.bundle.BundleTally.{BundleTally}
-use Rattle.c_cluster.specs.declared.nodes.fault.NodeFault.{NodeFault}
-use Rattle.c_cluster.specs.declared.nodes.fault.NodeFault.TheVariants.{Memory, Handle, Image, Room, Absent, Bytes, Unready, Limit, Left}
-use Rattle.c_cluster.specs.Bundle.{IsBundle, InOrder, none_counted, Counting, GivesTo, GivesAll}
-use Rattle.c_cluster.specs.Nodes.Bundles.{Serves, IsToWork, Leaves}
-use Rattle.c_cluster.specs.Nodes.Calls.{IsUnreceived, HasNotWorked}
+use Rattle.c_calls.specs.declared.bundle.BundleTally.{BundleTally}
+use Rattle.c_calls.specs.declared.nodes.fault.NodeFault.{NodeFault}
+use Rattle.c_calls.specs.declared.nodes.fault.NodeFault.TheVariants.{Memory, Handle, Image, Room, Absent, Bytes, Unready, Limit, Left}
+use Rattle.c_calls.specs.Bundle.{IsBundle, InOrder, none_counted, Counting, GivesTo, GivesAll}
+use Rattle.c_calls.specs.Nodes.Bundles.{Serves, IsToWork, Leaves}
+use Rattle.c_calls.specs.Nodes.Calls.{IsUnreceived, HasNotWorked}
 use Rattle.c_cluster.specs.Nodes.HostCalls.{IsToServe, IsToTake, bytes_taken, AreMade, WereGiven, AreGiven}
 
 -- ---- what a handle holds

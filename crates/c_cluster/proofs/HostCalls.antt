@@ -17,10 +17,10 @@ use Rattle.process.specs.Work.{Works}
 use Rattle.process.specs.Job.{IsAnswered, WorksAs}
 use Rattle.node_laws.specs.HostProcess.{Checkpoint, Alive, Has, Asleep, Durable}
 use Rattle.node_laws.specs.HostSystem.{System, Ticked, AnswersSo, ResumesAs, DoesIt}
-use Rattle.c_cluster.specs.declared.nodes.fault.NodeFault.{NodeFault}
-use Rattle.c_cluster.specs.declared.nodes.fault.NodeFault.TheVariants.{Memory, Handle, Image, Room, Absent, Bytes, Unready, Limit, Left}
-use Rattle.c_cluster.specs.Nodes.Answers.{OfBoth}
-use Rattle.c_cluster.specs.Nodes.Calls.{IsHeldBack}
+use Rattle.c_calls.specs.declared.nodes.fault.NodeFault.{NodeFault}
+use Rattle.c_calls.specs.declared.nodes.fault.NodeFault.TheVariants.{Memory, Handle, Image, Room, Absent, Bytes, Unready, Limit, Left}
+use Rattle.c_calls.specs.Nodes.Answers.{OfBoth}
+use Rattle.c_calls.specs.Nodes.Calls.{IsHeldBack}
 use Rattle.c_cluster.specs.Nodes.NodeJob.{state_in}
 use Rattle.c_cluster.specs.Nodes.Lifetime.{IsImageIn, limits_of}
 use Rattle.c_cluster.specs.Nodes.HostCalls.{Holds, ExportsAreCalls}
@@ -60,12 +60,12 @@ exports-are-calls =
     record {
       opened = λ file me n l state new o.
           let is : o.process ≡ new = held new o.process (o.is) in
-          let opened : IsOpened o.image (limits_of l) me n (state o.image) new = subst (λ p. IsOpened o.image (limits_of l) me n (state o.image) p) is o.opened in
+          let opened : IsOpened o.image (limits_of l) me n (state o.image) new = subst (λ p. IsOpened o.image (limits_of l) me n (state o.image) p) is o.begun in
           let image : o.image ≡ new.image = sym opened.image_is in
           (subst (IsImageIn file) image o.image_is, subst (λ i. IsOpened i (limits_of l) me n (state i) new) image opened);
       revived = λ images n s p file life l new first dead above is r.
           let e : r.process ≡ new = held new r.process (r.is) in
-          (first, (dead, (above, (r.image, (same-image file r.image (images p) r.image_is is, subst (λ q. IsRevived r.image (limits_of l) (s.stored p) life q) e r.revived)))));
+          (first, (dead, (above, (r.image, (same-image file r.image (images p) r.image_is is, subst (λ q. IsRevived r.image (limits_of l) (s.stored p) life q) e r.begun)))));
       received = λ images n s p w old new x bytes h one is r.
           let both = of-both old new _ r in
           let all : (y : NodePacket) → IsPacket y bytes → Calls (IsHanded y) old new = λ y other. subst (λ z. Calls (IsHanded z) old new) (one_packet both.0 y bytes both.1 other) both.2 in
@@ -111,7 +111,7 @@ exports-are-calls =
           };
       resumed = λ images n s p file bytes l old new first sleeps is r.
           let e : r.process ≡ new = held new r.process (r.is) in
-          let resumed : ResumesAs (images p) (limits_of l) bytes new = (r.image, (same-image file r.image (images p) r.image_is is, subst (λ q. IsResumed r.image (limits_of l) bytes q) e r.resumed)) in
+          let resumed : ResumesAs (images p) (limits_of l) bytes new = (r.image, (same-image file r.image (images p) r.image_is is, subst (λ q. IsResumed r.image (limits_of l) bytes q) e r.begun)) in
           (first, subst (Asleep (λ bs. ResumesAs (images p) (limits_of l) bs new)) (sym sleeps) resumed);
       received_all = λ images n s p w old new bundle tally h given k. all-received images n p h.first w bundle tally s old new h.runs given k.0 k.1 k.2;
       taken_all = λ images n s p w old new out out' size to count h k. all-taken images n p h.first w out out' size to count s old new h.runs (of-both old new _ k);

@@ -1,5 +1,1 @@
-pub mod Answers
 pub mod Lifetime
-pub mod Calls
-pub mod Results
-pub mod Bundles

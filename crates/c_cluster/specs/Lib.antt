@@ -1,4 +1,2 @@
-pub mod Bundle
-pub mod Inside
 pub mod Gateways
 pub mod Nodes

@@ -1,11 +1,5 @@
-pub mod Answers
-pub mod Calls
-pub mod Results
 pub mod Lifetime
-pub mod Status
 pub mod Outcome
 pub mod NodeJob
 pub mod HostCalls
-pub mod Label
-pub mod Bundles
 pub mod Suspension

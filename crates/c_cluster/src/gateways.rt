@@ -1,9 +1,4 @@
 //! A gateway of a cluster.
 
-mod calls;
 pub mod exports;
-mod fault;
-pub mod handle;
 mod lifetime;
-mod loose;
-mod results;

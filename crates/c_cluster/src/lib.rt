@@ -35,6 +35,5 @@
 //! ```
 #![tactic(auto)]
 
-mod bundle;
 mod gateways;
 mod nodes;

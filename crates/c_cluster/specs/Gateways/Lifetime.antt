@@ -14,9 +14,9 @@ use Rattle.gateway.specs.Gateway.{TheGateway, new_gateway}
 use Rattle.gateway.specs.Since.{StandsFor, revived}
 use Rattle.gateway.specs.Stands.{Stands}
 use Rattle.c_cluster.specs.declared.gateways.lifetime.TheConstants.{MOST_PAGE, NOT_CHANGES, UNFIT}
-use Rattle.c_cluster.specs.declared.gateways.fault.GatewayFault.{GatewayFault}
-use Rattle.c_cluster.specs.declared.gateways.fault.GatewayFault.TheVariants.{Memory, Handle, Bytes, Early, Range}
-use Rattle.c_cluster.specs.Gateways.Answers.{OfOpen, Calls, Refuses}
+use Rattle.c_calls.specs.declared.gateways.fault.GatewayFault.{GatewayFault}
+use Rattle.c_calls.specs.declared.gateways.fault.GatewayFault.TheVariants.{Memory, Handle, Bytes, Early, Range}
+use Rattle.c_calls.specs.Gateways.Answers.{OfOpen, Calls, Refuses}
 
 -- the limits are in range
 abbrev pub AreLimits : ℕ → ℕ → Type 0
@@ -83,11 +83,3 @@ IsUnlater changes g was fault other = ⊥
 -- the changes were refused, and the gateway stays; a fault of their bytes is told
 abbrev pub IsUnapplied : List ℕ → ℕ → ℕ → Option TheGateway → GatewayFault → Type 0
 IsUnapplied changes was fault old why = Refuses old (fault ≡ was) (λ g w. IsUnlater changes g was fault w) why
-
--- an open handle was closed
-abbrev pub IsClosed : Option TheGateway → Option TheGateway → Type 0
-IsClosed old new = OfOpen old (λ g. Unit {0}) × (new ≡ None)
-
--- the handle was closed before
-abbrev pub WasClosed : Option TheGateway → GatewayFault → Type 0
-WasClosed old why = (why ≡ Handle) × (old ≡ None)

@@ -15,13 +15,13 @@ use Rattle.node_laws.specs.HostProcess.{Checkpoint, Durable, Runs, Sleeps, Kille
 use Rattle.node_laws.specs.HostSystem.{System, HostCall, GaveBytes, HandedBytes, Worked, Answered, Ticked, Froze, Saved, Suspended}
 use Rattle.node_laws.specs.HostSystem.{Resumed, Revived, AnswersSo, DoesIt, AreCalls, after_calls}
 use Rattle.c_cluster.specs.declared.nodes.lifetime.NodeLimits.{NodeLimits}
-use Rattle.c_cluster.specs.declared.nodes.fault.NodeFault.{NodeFault}
-use Rattle.c_cluster.specs.declared.bundle.BundleTally.{BundleTally}
+use Rattle.c_calls.specs.declared.nodes.fault.NodeFault.{NodeFault}
+use Rattle.c_calls.specs.declared.bundle.BundleTally.{BundleTally}
 use Rattle.c_handles.specs.Buffer.{IsCopied}
-use Rattle.c_cluster.specs.Bundle.{IsBundle}
-use Rattle.c_cluster.specs.Nodes.Bundles.{AreReceived, AreTaken}
-use Rattle.c_cluster.specs.Nodes.Calls.{IsReceived, HasWorked, HasTicked, IsHeldBack, HasSaved}
-use Rattle.c_cluster.specs.Nodes.Results.{IsTaken, IsMade}
+use Rattle.c_calls.specs.Bundle.{IsBundle}
+use Rattle.c_calls.specs.Nodes.Bundles.{AreReceived, AreTaken}
+use Rattle.c_calls.specs.Nodes.Calls.{IsReceived, HasWorked, HasTicked, IsHeldBack, HasSaved}
+use Rattle.c_calls.specs.Nodes.Results.{IsTaken, IsMade}
 use Rattle.c_cluster.specs.Nodes.NodeJob.{IsDone, IsLeftBy, state_in}
 use Rattle.c_cluster.specs.Nodes.Lifetime.{limits_of, IsImageIn, Opens, Revives}
 use Rattle.c_cluster.specs.Nodes.Suspension.{IsWritten, Resumes}

@@ -21,9 +21,9 @@ use Rattle.process.specs.declared.fault.Unrevived.{Unrevived}
 use Rattle.process.specs.declared.fault.Unrevived.TheVariants as why
 use Rattle.c_cluster.specs.declared.nodes.lifetime.NodeLimits.{NodeLimits}
 use Rattle.c_cluster.specs.declared.nodes.lifetime.TheConstants.{MOST_PAGE}
-use Rattle.c_cluster.specs.declared.nodes.fault.NodeFault.{NodeFault}
-use Rattle.c_cluster.specs.declared.nodes.fault.NodeFault.TheVariants.{Memory, Handle, Image, Bytes, Limit}
-use Rattle.c_cluster.specs.Nodes.Answers.{Answers, AnswersOfBytes}
+use Rattle.c_calls.specs.declared.nodes.fault.NodeFault.{NodeFault}
+use Rattle.c_calls.specs.declared.nodes.fault.NodeFault.TheVariants.{Memory, Handle, Image, Bytes, Limit}
+use Rattle.c_calls.specs.Nodes.Answers.{Answers, AnswersOfBytes}
 
 -- the file is that of this image, of any form, whose code is typable in it, and of no image with another form, code or length
 pub record IsImageIn (file : List ℕ) (image : AnyImage) : Type 0 where
@@ -72,41 +72,44 @@ pub record IsSeat (me n : ℕ) : Type 0 where
   pub within : me ≤ n
   pub few : n ≤ PROCESSES
 
--- a handle that was closed holds the process of an image, which received nothing, with the opening state for that image
-pub record Opens (file : List ℕ) (me n : ℕ) (l : NodeLimits) (state : AnyImage → List ℕ) (old new : Option TheProcess) : Type 0 where
+-- a handle that was closed holds the process of a file's image; what was asked was so, and this holds of image and process
+pub record Starts (file : List ℕ) (asked : Type 0) (Begins : AnyImage → TheProcess → Type 0) (old new : Option TheProcess) : Type 0 where
   pub was : old ≡ None
-  pub seat : IsSeat me n
-  pub limits : AreLimits l
+  pub right : asked
   pub image : AnyImage
   pub image_is : IsImageIn file image
   pub process : TheProcess
   pub is : new ≡ Some process
-  pub opened : IsOpened image (limits_of l) me n (state image) process
+  pub begun : Begins image process
 
--- why it doesn't: the first of these: the handle is open, a limit is out of range, the file is not that of an image, or memory ran out. The
--- handle stays as it was
+-- why it doesn't: the first of these: the handle is open, what was asked is out of range, the file is not that of an image, bytes are
+-- refused with this fault, or memory ran out. The handle stays as it was
+abbrev pub DoesNotStart : List ℕ → Type 0 → (ℕ → Type 0) → Option TheProcess → Option TheProcess → NodeFault → Type 0
+DoesNotStart file asked refused old new Handle = ((p : TheProcess) × (old ≡ Some p)) × (new ≡ old)
+DoesNotStart file asked refused old new Limit = (old ≡ None) × (new ≡ None) × ¬ asked
+DoesNotStart file asked refused old new Image = (old ≡ None) × (new ≡ None) × asked × IsNoImage file
+DoesNotStart file asked refused old new (Bytes f) = (old ≡ None) × (new ≡ None) × asked × refused f
+DoesNotStart file asked refused old new Memory = (old ≡ None) × (new ≡ None) × asked
+DoesNotStart file asked refused old new other = ⊥
+
+-- it is process `me` of `n`, received nothing, and has the opening state for its image
+abbrev pub Opens : List ℕ → ℕ → ℕ → NodeLimits → (AnyImage → List ℕ) → Option TheProcess → Option TheProcess → Type 0
+Opens file me n l state old new =
+    Starts file (IsSeat me n × AreLimits l) (λ image p. IsOpened image (limits_of l) me n (state image) p) old new
+
 abbrev pub DoesNotOpen : List ℕ → ℕ → ℕ → NodeLimits → Option TheProcess → Option TheProcess → NodeFault → Type 0
-DoesNotOpen file me n l old new Handle = ((p : TheProcess) × (old ≡ Some p)) × (new ≡ old)
-DoesNotOpen file me n l old new Limit = (old ≡ None) × (new ≡ None) × ¬ (IsSeat me n × AreLimits l)
-DoesNotOpen file me n l old new Image = (old ≡ None) × (new ≡ None) × (IsSeat me n × AreLimits l) × IsNoImage file
-DoesNotOpen file me n l old new Memory = (old ≡ None) × (new ≡ None) × (IsSeat me n × AreLimits l)
-DoesNotOpen file me n l old new other = ⊥
+DoesNotOpen file me n l old new why = DoesNotStart file (IsSeat me n × AreLimits l) (λ _. ⊥) old new why
 
--- the same of a process with this opening state; after the file and before memory comes that the state isn't as long as the image's
+-- with this opening state, it is also refused if the state isn't as long as the image's
 abbrev pub DoesNotOpenWith : List ℕ → ℕ → ℕ → NodeLimits → List ℕ → Option TheProcess → Option TheProcess → NodeFault → Type 0
-DoesNotOpenWith file me n l state old new (Bytes f) = (old ≡ None) × (new ≡ None) × (IsSeat me n × AreLimits l)
-    × ((f ≡ 9) × ((image : AnyImage) × IsImageIn file image × (length state ≢ state_of image)))
-DoesNotOpenWith file me n l state old new other = DoesNotOpen file me n l old new other
+DoesNotOpenWith file me n l state old new why =
+    DoesNotStart file (IsSeat me n × AreLimits l) (λ f. (f ≡ 9) × ((image : AnyImage) × IsImageIn file image × (length state ≢ state_of image)))
+    old new why
 
--- a handle that was closed holds the process of an image that comes back from these bytes in this incarnation
-pub record Revives (file kept : List ℕ) (life : ℕ) (l : NodeLimits) (old new : Option TheProcess) : Type 0 where
-  pub was : old ≡ None
-  pub limits : AreLimits l
-  pub image : AnyImage
-  pub image_is : IsImageIn file image
-  pub process : TheProcess
-  pub is : new ≡ Some process
-  pub revived : IsRevived image (limits_of l) kept life process
+-- it comes back from these bytes in this incarnation
+abbrev pub Revives : List ℕ → List ℕ → ℕ → NodeLimits → Option TheProcess → Option TheProcess → Type 0
+Revives file kept life l old new =
+    Starts file (AreLimits l × IsPositive life) (λ image p. IsRevived image (limits_of l) kept life p) old new
 
 -- why the bytes are refused for the process of an image: they are not the kept state of a process, or its state isn't as long as the
 -- image's
@@ -116,16 +119,8 @@ AreRefused file kept life f =
     × ((((e : KeptFault) × (f ≡ kept_fault_number e) × IsUnrevived image kept life (why.Kept e)))
     ⊎ ((f ≡ 9) × IsUnrevived image kept life why.State))
 
--- why no process comes back: the first of these: the handle is open, a limit or the incarnation is out of range, the file is not that of an
--- image, the bytes are refused, or memory ran out. The handle stays as it was
 abbrev pub DoesNotRevive : List ℕ → List ℕ → ℕ → NodeLimits → Option TheProcess → Option TheProcess → NodeFault → Type 0
-DoesNotRevive file kept life l old new Handle = ((p : TheProcess) × (old ≡ Some p)) × (new ≡ old)
-DoesNotRevive file kept life l old new Limit = (old ≡ None) × (new ≡ None) × ¬ (AreLimits l × IsPositive life)
-DoesNotRevive file kept life l old new Image = (old ≡ None) × (new ≡ None) × (AreLimits l × IsPositive life) × IsNoImage file
-DoesNotRevive file kept life l old new (Bytes f) = (old ≡ None) × (new ≡ None) × (AreLimits l × IsPositive life)
-    × AreRefused file kept life f
-DoesNotRevive file kept life l old new Memory = (old ≡ None) × (new ≡ None) × (AreLimits l × IsPositive life)
-DoesNotRevive file kept life l old new other = ⊥
+DoesNotRevive file kept life l old new why = DoesNotStart file (AreLimits l × IsPositive life) (λ f. AreRefused file kept life f) old new why
 
 -- the meaning of a code when a process is opened, by its image file, its number, the number of processes and its limits
 abbrev pub AnswersOpening : List ℕ → ℕ → ℕ → NodeLimits → ℕ → Option TheProcess → Option TheProcess → Type 0

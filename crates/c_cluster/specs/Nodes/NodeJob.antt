@@ -12,9 +12,9 @@ use Rattle.process.specs.Work.{Rests}
 use Rattle.process.specs.Job.{TheJob, array_size, shown_by, ticket_at, HasNext, IsJobOf, IsLaid, IsNext, IsAnswered, WorksAs}
 use Rattle.c_cluster.specs.declared.nodes.node_job.NodeJob.{NodeJob}
 use Rattle.c_cluster.specs.declared.nodes.node_job.TheConstants.{STATE_AT, SPAN_STATE_AT}
-use Rattle.c_cluster.specs.declared.nodes.fault.NodeFault.{NodeFault}
-use Rattle.c_cluster.specs.declared.nodes.fault.NodeFault.TheVariants.{Memory, Handle, Room, Absent, Unready, Left}
-use Rattle.c_cluster.specs.Nodes.Answers.{OfBoth, OfSame, StaysClosed}
+use Rattle.c_calls.specs.declared.nodes.fault.NodeFault.{NodeFault}
+use Rattle.c_calls.specs.declared.nodes.fault.NodeFault.TheVariants.{Memory, Handle, Room, Absent, Unready, Left}
+use Rattle.c_calls.specs.Nodes.Answers.{OfBoth, OfSame, StaysClosed}
 use Rattle.c_handles.specs.Buffer.{IsCopied, IsUntouched}
 use Rattle.c_cluster.specs.Nodes.Outcome.{IsLeft}
 

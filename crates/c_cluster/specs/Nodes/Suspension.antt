@@ -1,5 +1,5 @@
 -- Nodes that are suspended and resumed
-use Rattle.std.specs.Prelude.{◌≡◌, ◌⊎◌, ℕ, List, Option, Some, None}
+use Rattle.std.specs.Prelude.{◌≡◌, ◌⊎◌, ℕ, List, Option}
 use Rattle.images.specs.declared.any_image.AnyImage.{AnyImage}
 use Rattle.process.specs.Process.{TheProcess}
 use Rattle.process.specs.Suspension.{MaySuspend, Suspends, IsResumed, IsUnresumed}
@@ -7,10 +7,10 @@ use Rattle.process.specs.declared.suspension.ResumeError.{ResumeError}
 use Rattle.process.specs.declared.suspension.ResumeError.TheVariants as why
 use Rattle.c_handles.specs.Buffer.{IsCopied, IsUncopied, IsUntouched}
 use Rattle.c_cluster.specs.declared.nodes.lifetime.NodeLimits.{NodeLimits}
-use Rattle.c_cluster.specs.declared.nodes.fault.NodeFault.{NodeFault}
-use Rattle.c_cluster.specs.declared.nodes.fault.NodeFault.TheVariants.{Memory, Handle, Image, Room, Bytes, Unready, Limit}
-use Rattle.c_cluster.specs.Nodes.Answers.{AnswersOfBytes, OfSame, StaysClosed}
-use Rattle.c_cluster.specs.Nodes.Lifetime.{AreLimits, limits_of, IsImageIn, IsNoImage}
+use Rattle.c_calls.specs.declared.nodes.fault.NodeFault.{NodeFault}
+use Rattle.c_calls.specs.declared.nodes.fault.NodeFault.TheVariants.{Memory, Handle, Room, Bytes, Unready}
+use Rattle.c_calls.specs.Nodes.Answers.{AnswersOfBytes, OfSame, StaysClosed}
+use Rattle.c_cluster.specs.Nodes.Lifetime.{AreLimits, limits_of, IsImageIn, Starts, DoesNotStart}
 
 -- the bytes of its node are in the buffer
 abbrev pub IsWritten : List ℕ → List ℕ → ℕ → Option TheProcess → Option TheProcess → Type 0
@@ -26,15 +26,9 @@ IsUnwritten out out' was size old new Memory = OfSame old new (λ p. IsUntouched
 IsUnwritten out out' was size old new Handle = StaysClosed old new × IsUntouched out out' was size
 IsUnwritten out out' was size old new other = ⊥
 
--- a handle that was closed holds the process of an image that is resumed from these bytes
-pub record Resumes (file bytes : List ℕ) (l : NodeLimits) (old new : Option TheProcess) : Type 0 where
-  pub was : old ≡ None
-  pub limits : AreLimits l
-  pub image : AnyImage
-  pub image_is : IsImageIn file image
-  pub process : TheProcess
-  pub is : new ≡ Some process
-  pub resumed : IsResumed image (limits_of l) bytes process
+-- it is resumed from these bytes
+abbrev pub Resumes : List ℕ → List ℕ → NodeLimits → Option TheProcess → Option TheProcess → Type 0
+Resumes file bytes l old new = Starts file (AreLimits l) (λ image p. IsResumed image (limits_of l) bytes p) old new
 
 -- why the bytes are refused: they are those of no suspended node, or its state isn't as long as the image's
 abbrev pub AreNoNode : List ℕ → List ℕ → ℕ → Type 0
@@ -48,15 +42,8 @@ IsToldSo why.Memory fault = fault ≡ Memory
 IsToldSo why.Bytes fault = fault ≡ Bytes 1
 IsToldSo why.State fault = fault ≡ Bytes 2
 
--- why no process is resumed, the first of these: the handle is open, a limit is out of range, the file is no image, the bytes are refused,
--- memory ran out. The handle stays as it was
 abbrev pub DoesNotResume : List ℕ → List ℕ → NodeLimits → Option TheProcess → Option TheProcess → NodeFault → Type 0
-DoesNotResume file bytes l old new Handle = ((p : TheProcess) × (old ≡ Some p)) × (new ≡ old)
-DoesNotResume file bytes l old new Limit = (old ≡ None) × (new ≡ None) × ¬ AreLimits l
-DoesNotResume file bytes l old new Image = (old ≡ None) × (new ≡ None) × AreLimits l × IsNoImage file
-DoesNotResume file bytes l old new (Bytes f) = (old ≡ None) × (new ≡ None) × AreLimits l × AreNoNode file bytes f
-DoesNotResume file bytes l old new Memory = (old ≡ None) × (new ≡ None) × AreLimits l
-DoesNotResume file bytes l old new other = ⊥
+DoesNotResume file bytes l old new why = DoesNotStart file (AreLimits l) (λ f. AreNoNode file bytes f) old new why
 
 -- the meaning of a code when a process is resumed, by its image file, its bytes and its limits, with the fault's number before and after
 abbrev pub AnswersResume : List ℕ → List ℕ → NodeLimits → ℕ → Option TheProcess → Option TheProcess → ℕ → ℕ → Type 0

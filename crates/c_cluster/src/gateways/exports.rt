@@ -2,17 +2,18 @@
 //! say what that means for handle and buffers.
 
 ghost use Rattle.std.specs.Prelude.{◌≡◌};
-ghost use Rattle.c_cluster.specs.Gateways.Answers.{Answers};
+ghost use Rattle.c_calls.specs.Gateways.Answers.{Answers};
 ghost use Rattle.c_handles.specs.Buffer.{OnFault};
-ghost use Rattle.c_cluster.specs.Gateways.Lifetime.{IsApplied, IsClosed, IsOpened, IsRevived, IsUnapplied, IsUnopened, IsUnrevived, WasClosed};
-ghost use Rattle.c_cluster.specs.Gateways.Bundles.{AreReceived, AreUnreceived, AreTaken, AreUntaken};
-ghost use Rattle.c_cluster.specs.Gateways.Calls.{IsLogged, IsReceived, IsTicked, IsUnlogged, IsUnreceived};
-ghost use Rattle.c_cluster.specs.Gateways.Results.{IsShown, IsStored, IsTaken, IsTold, IsUnshown, IsUnstored, IsUntaken, IsUntold};
+ghost use Rattle.c_cluster.specs.Gateways.Lifetime.{IsApplied, IsOpened, IsRevived, IsUnapplied, IsUnopened, IsUnrevived};
+ghost use Rattle.c_calls.specs.Gateways.Bundles.{AreReceived, AreUnreceived, AreTaken, AreUntaken};
+ghost use Rattle.c_calls.specs.Gateways.Calls.{IsClosed, WasClosed, IsLogged, IsReceived, IsTicked, IsUnlogged, IsUnreceived};
+ghost use Rattle.c_calls.specs.Gateways.Results.{IsShown, IsStored, IsTaken, IsTold, IsUnshown, IsUnstored, IsUntaken, IsUntold};
 
-use crate::bundle::BundleTally;
-use crate::gateways::fault::code;
-use crate::gateways::handle::GatewayHandle;
-use crate::gateways::{calls, lifetime, results};
+use crate::gateways::lifetime;
+use c_calls::bundle::BundleTally;
+use c_calls::gateways::fault::code;
+use c_calls::gateways::handle::GatewayHandle;
+use c_calls::gateways::{calls, results};
 use std::alloc::Global;
 
 /// Opens the gateway of a new cluster of 1 to 15 processes. A packet has at most `page` bytes, 512
@@ -65,7 +66,7 @@ pub extern "C" fn sblog_gateway_apply(
 pub extern "C" fn sblog_gateway_close(alloc: Global, handle: &mut GatewayHandle) -> u32
     ensures { Answers result handle.old.gateway.value handle.new.gateway.value IsClosed WasClosed }
 {
-    code(lifetime::close(alloc, handle))
+    code(calls::close(alloc, handle))
 }
 
 /// Takes a message of 0 to 256 bytes from outside for a process. Writes its SSN.

@@ -1,12 +1,12 @@
 //! Gateways that are opened, come back, and are closed.
 
 ghost use Rattle.std.specs.Prelude.{◌≡◌, ◌↔◌, IsTrue, MatchResult, Some};
-ghost use Rattle.c_cluster.specs.declared.gateways.fault.GatewayFault.TheVariants.{Memory};
-ghost use Rattle.c_cluster.specs.Gateways.Answers.{Does, Results};
-ghost use Rattle.c_cluster.specs.Gateways.Lifetime.{AreInside, AreLimits, IsApplied, IsClosed, IsLater, IsOpened, IsRevived, IsUnapplied, IsUnlater, IsUnopened, IsUnrevived, WasClosed};
+ghost use Rattle.c_calls.specs.declared.gateways.fault.GatewayFault.TheVariants.{Memory};
+ghost use Rattle.c_calls.specs.Gateways.Answers.{Does, Results};
+ghost use Rattle.c_cluster.specs.Gateways.Lifetime.{AreInside, AreLimits, IsApplied, IsLater, IsOpened, IsRevived, IsUnapplied, IsUnlater, IsUnopened, IsUnrevived};
 
-use crate::gateways::fault::GatewayFault;
-use crate::gateways::handle::GatewayHandle;
+use c_calls::gateways::fault::GatewayFault;
+use c_calls::gateways::handle::GatewayHandle;
 use gateway::Gateway;
 use limits::PROCESSES;
 use packets::LEAST_PAGE;
@@ -142,14 +142,4 @@ pub(crate) fn apply(
     let done = bring_up(alloc, &mut gateway, changes, fault);
     handle.put(gateway);
     done
-}
-
-/// Closes a handle, and gives the memory of its gateway back.
-pub(crate) fn close(alloc: Global, handle: &mut GatewayHandle) -> Result<(), GatewayFault>
-    ensures { Results result handle.old.gateway.value handle.new.gateway.value IsClosed WasClosed }
-{
-    match handle.take(alloc) {
-        Some(_gateway) => Ok(()),
-        None => Err(GatewayFault::Handle),
-    }
 }

@@ -5,12 +5,12 @@ ghost use Rattle.std.specs.Arc.{arc_value};
 ghost use Rattle.handlers.specs.Handler.{image_of};
 ghost use Rattle.node.specs.Node.{IsPositive};
 ghost use Rattle.process.specs.Revival.{zero_state};
-ghost use Rattle.c_cluster.specs.declared.nodes.fault.NodeFault.TheVariants.{Memory};
-ghost use Rattle.c_cluster.specs.Nodes.Answers.{Results};
+ghost use Rattle.c_calls.specs.declared.nodes.fault.NodeFault.TheVariants.{Memory};
+ghost use Rattle.c_calls.specs.Nodes.Answers.{Results};
 ghost use Rattle.c_cluster.specs.Nodes.Lifetime.{AreLimits, limits_of, IsSeat, IsImageIn, IsNotLoaded, Opens, DoesNotOpen, DoesNotOpenWith, Revives, DoesNotRevive, IsTold};
 
-use crate::nodes::fault::NodeFault;
-use crate::nodes::handle::NodeHandle;
+use c_calls::nodes::fault::NodeFault;
+use c_calls::nodes::handle::NodeHandle;
 use handlers::Handler;
 use limits::PROCESSES;
 use packets::NUMBER_LIMIT;

@@ -3,13 +3,13 @@
 ghost use Rattle.std.specs.Prelude.{◌≡◌, ◌≤◌, ◌<◌, ◌+◌, ◌↔◌, length, IfErr, IsTrue, MatchOption, MatchResult, OnErr, OnOk};
 ghost use Rattle.handlers.specs.Handler.{image_of};
 ghost use Rattle.process.specs.Job.{array_size, ticket_at};
-ghost use Rattle.c_cluster.specs.declared.nodes.fault.NodeFault.TheVariants.{Room};
-ghost use Rattle.c_cluster.specs.Nodes.Answers.{Results};
+ghost use Rattle.c_calls.specs.declared.nodes.fault.NodeFault.TheVariants.{Room};
+ghost use Rattle.c_calls.specs.Nodes.Answers.{Results};
 ghost use Rattle.c_cluster.specs.Nodes.NodeJob.{words_of, state_place, IsStateIn, LaysOut, DoesNotLayOut, GivesJob, GivesNone, IsGiven, IsNotGiven, TakesLeft, LeavesOut, IsDone, IsNotDone};
 
-use crate::nodes::fault::NodeFault;
-use crate::nodes::handle::NodeHandle;
 use crate::nodes::outcome::left_in;
+use c_calls::nodes::fault::NodeFault;
+use c_calls::nodes::handle::NodeHandle;
 use c_handles::copy;
 use handlers::Handler;
 use limits::{STACK_BYTES, STATE_BYTES};

@@ -1,13 +1,13 @@
 //! Nodes that are suspended and resumed, for C.
 
 ghost use Rattle.std.specs.Prelude.{◌≡◌};
-ghost use Rattle.c_cluster.specs.Nodes.Answers.{Answers, Results};
+ghost use Rattle.c_calls.specs.Nodes.Answers.{Answers, Results};
 ghost use Rattle.c_cluster.specs.Nodes.Lifetime.{limits_from};
 ghost use Rattle.c_cluster.specs.Nodes.Suspension.{IsWritten, IsUnwritten, Resumes, DoesNotResume, IsToldSo, AnswersResume};
 
-use crate::nodes::fault::{NodeFault, code, code_of_bytes};
-use crate::nodes::handle::NodeHandle;
 use crate::nodes::lifetime::{NodeLimits, handler_of, put};
+use c_calls::nodes::fault::{NodeFault, code, code_of_bytes};
+use c_calls::nodes::handle::NodeHandle;
 use c_handles::copy;
 use process::{Member, ResumeError};
 use std::alloc::Global;

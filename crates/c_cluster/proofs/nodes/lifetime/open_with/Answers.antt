@@ -4,9 +4,9 @@ use Rattle.std.proofs.lemmas.Grind.{common_steps}
 use Rattle.std.specs.Arc.{arc_value}
 use Rattle.handlers.specs.Handler.{image_of}
 use Rattle.process.specs.Revival.{IsOpened}
-use Rattle.c_cluster.specs.declared.nodes.fault.NodeFault.TheVariants.{Memory}
+use Rattle.c_calls.specs.declared.nodes.fault.NodeFault.TheVariants.{Memory}
 use Rattle.c_cluster.specs.Nodes.Lifetime.{IsImageIn, IsSeat, AreLimits, limits_of}
-use Rattle.c_cluster.proofs.Opened.{put-opens}
+use Rattle.c_cluster.proofs.Opened.{put-starts}
 use Rattle.c_cluster.proofs.nodes.lifetime.open_with.Goals as goal
 
 pub returns-in-Ok : goal.returns-in-Ok
@@ -21,4 +21,4 @@ returns-in-Ok c =
     let limits : AreLimits c.args.limits = first_of (search rules, grind (arith, common_steps)) in
     let is : IsImageIn c.args.image.now image = first_of (search rules, grind (arith, common_steps)) in
     let opened : IsOpened image (limits_of c.args.limits) c.args.me c.args.n c.args.state.now c.in-Ok.process = first_of (search rules, grind (arith, common_steps)) in
-    put-opens c.put.result c.args.image.now c.args.me c.args.n c.args.limits c.args.state.now old new image c.in-Ok.process ok err was seat limits is opened
+    put-starts c.put.result c.args.image.now _ (λ i p. IsOpened i (limits_of c.args.limits) c.args.me c.args.n c.args.state.now p) _ old new image c.in-Ok.process ok err was (seat, limits) is opened

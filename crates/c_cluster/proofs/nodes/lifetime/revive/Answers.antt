@@ -5,9 +5,9 @@ use Rattle.std.specs.Arc.{arc_value}
 use Rattle.handlers.specs.Handler.{image_of}
 use Rattle.node.specs.Node.{IsPositive}
 use Rattle.process.specs.Revival.{IsRevived}
-use Rattle.c_cluster.specs.declared.nodes.fault.NodeFault.TheVariants.{Memory}
+use Rattle.c_calls.specs.declared.nodes.fault.NodeFault.TheVariants.{Memory}
 use Rattle.c_cluster.specs.Nodes.Lifetime.{IsImageIn, AreLimits, limits_of}
-use Rattle.c_cluster.proofs.Opened.{put-revives}
+use Rattle.c_cluster.proofs.Opened.{put-starts}
 use Rattle.c_cluster.proofs.nodes.lifetime.revive.Goals as goal
 
 pub returns-in-Ok : goal.returns-in-Ok
@@ -22,4 +22,4 @@ returns-in-Ok c =
     let alive : IsPositive c.args.incarnation = first_of (search rules, grind (arith, common_steps)) in
     let is : IsImageIn c.args.image.now image = first_of (search rules, grind (arith, common_steps)) in
     let revived : IsRevived image (limits_of c.args.limits) c.args.kept.now c.args.incarnation c.in-Ok.process = first_of (search rules, grind (arith, common_steps)) in
-    put-revives c.put.result c.args.image.now c.args.kept.now c.args.incarnation c.args.limits old new image c.in-Ok.process ok err was limits alive is revived
+    put-starts c.put.result c.args.image.now _ (λ i p. IsRevived i (limits_of c.args.limits) c.args.kept.now c.args.incarnation p) _ old new image c.in-Ok.process ok err was (limits, alive) is revived

@@ -4,9 +4,9 @@ use Rattle.std.proofs.lemmas.Grind.{common_steps}
 use Rattle.std.specs.Arc.{arc_value}
 use Rattle.handlers.specs.Handler.{image_of}
 use Rattle.process.specs.Suspension.{IsResumed}
-use Rattle.c_cluster.specs.declared.nodes.fault.NodeFault.TheVariants.{Memory}
+use Rattle.c_calls.specs.declared.nodes.fault.NodeFault.TheVariants.{Memory}
 use Rattle.c_cluster.specs.Nodes.Lifetime.{IsImageIn, AreLimits, limits_of}
-use Rattle.c_cluster.proofs.Resumed.{put-resumes}
+use Rattle.c_cluster.proofs.Opened.{put-starts}
 use Rattle.c_cluster.proofs.nodes.suspension.resume.Goals as goal
 
 pub returns-in-Ok : goal.returns-in-Ok
@@ -20,4 +20,4 @@ returns-in-Ok c =
     let limits : AreLimits c.args.limits = first_of (search rules, grind (arith, common_steps)) in
     let is : IsImageIn c.args.image.now image = first_of (search rules, grind (arith, common_steps)) in
     let resumed : IsResumed image (limits_of c.args.limits) c.args.suspended.now c.in-Ok.process = first_of (search rules, grind (arith, common_steps)) in
-    put-resumes c.put.result c.args.image.now c.args.suspended.now c.args.limits old new image c.in-Ok.process ok err was limits is resumed
+    put-starts c.put.result c.args.image.now _ (λ i p. IsResumed i (limits_of c.args.limits) c.args.suspended.now p) _ old new image c.in-Ok.process ok err was limits is resumed

@@ -1,0 +1,3 @@
+mod AsBox
+mod Bundles
+pub mod Called

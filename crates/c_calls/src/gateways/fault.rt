@@ -1,0 +1,76 @@
+//! Why a function did nothing.
+
+ghost use Rattle.std.specs.Prelude.{◌≡◌, IfErr, IfOk};
+ghost use Rattle.c_calls.specs.Gateways.Answers.{fault_number};
+
+use std::alloc::AllocError;
+use thiserror::Error;
+
+/// Why a function did nothing, by number.
+#[derive(Clone, Copy, Debug, PartialEq, Eq, Error)]
+pub enum GatewayFault {
+    /// 15: memory ran out.
+    #[error("out of memory")]
+    Memory,
+    /// 16: the handle is closed; or, when a function opens one, it is open.
+    #[error("the handle is closed; to open one, it is open")]
+    Handle,
+    /// 18: a payload has more than 256 bytes.
+    #[error("a payload has more than 256 bytes")]
+    Payload,
+    /// 19: the buffer is too short.
+    #[error("the buffer is too short")]
+    Room,
+    /// 20: there is none, such as no packet that waits.
+    #[error("there is none")]
+    Absent,
+    /// 21: the bytes are refused.
+    #[error("the bytes are refused")]
+    Bytes,
+    /// 22: not now, as something waits to be sent or to be made durable.
+    #[error("something waits to be sent or to be made durable")]
+    Early,
+    /// 23: a limit or a number of a process is out of range.
+    #[error("a limit or a number of a process is out of range")]
+    Range,
+}
+
+impl GatewayFault {
+    /// Its number, 15 to 23.
+    pub fn number(self) -> u32
+        ensures { result ≡ fault_number self }
+    {
+        match self {
+            GatewayFault::Memory => 15,
+            GatewayFault::Handle => 16,
+            GatewayFault::Payload => 18,
+            GatewayFault::Room => 19,
+            GatewayFault::Absent => 20,
+            GatewayFault::Bytes => 21,
+            GatewayFault::Early => 22,
+            GatewayFault::Range => 23,
+        }
+    }
+}
+
+impl From<AllocError> for GatewayFault {
+    ghost use Rattle.std.specs.Prelude.{◌≡◌};
+    ghost use Rattle.c_calls.specs.declared.gateways.fault.GatewayFault.TheVariants.{Memory};
+
+    ghost from_gives = { λ _ e. e ≡ Memory };
+
+    fn from(_e: AllocError) -> GatewayFault {
+        GatewayFault::Memory
+    }
+}
+
+/// The code of a result: 0, or the number of the fault.
+pub fn code(done: Result<(), GatewayFault>) -> u32
+    ensures done { IfOk done (λ _. result ≡ 0) }
+    ensures fault { IfErr done (λ why. result ≡ fault_number why) }
+{
+    match done {
+        Ok(()) => 0,
+        Err(fault) => fault.number(),
+    }
+}

@@ -1,0 +1,80 @@
+//! Why a function did nothing.
+
+ghost use Rattle.std.specs.Prelude.{◌≡◌, IfErr, IfOk};
+ghost use Rattle.c_calls.specs.Nodes.Answers.{fault_number, written};
+
+use thiserror::Error;
+
+/// Why a function did nothing, by number.
+#[derive(Debug, Drop, Error)]
+pub enum NodeFault {
+    /// 15: memory ran out.
+    #[error("out of memory")]
+    Memory,
+    /// 16: the handle is closed; or, when a function opens one, it is open.
+    #[error("the handle is closed; to open one, it is open")]
+    Handle,
+    /// 17: the file is not that of an image.
+    #[error("the image is none")]
+    Image,
+    /// 19: the buffer is too short.
+    #[error("the buffer is too short")]
+    Room,
+    /// 20: there is none, such as no packet that waits.
+    #[error("there is none")]
+    Absent,
+    /// 21: the bytes are refused, with a fault of this number.
+    #[error("the bytes are refused, by fault {0}")]
+    Bytes(u8),
+    /// 22: the call can't be made now.
+    #[error("not now")]
+    Unready,
+    /// 23: a limit, the number of a process or an incarnation is out of range, or there are more
+    /// messages than a process takes.
+    #[error("a limit is out of its range")]
+    Limit,
+    /// 24: no call of the handler leaves this array and record.
+    #[error("no call leaves this array and record")]
+    Left,
+}
+
+impl NodeFault {
+    /// Its number, 15 to 24.
+    pub fn number(&self) -> u32
+        ensures { result ≡ fault_number self.now }
+    {
+        match *self {
+            NodeFault::Memory => 15,
+            NodeFault::Handle => 16,
+            NodeFault::Image => 17,
+            NodeFault::Room => 19,
+            NodeFault::Absent => 20,
+            NodeFault::Bytes(_) => 21,
+            NodeFault::Unready => 22,
+            NodeFault::Limit => 23,
+            NodeFault::Left => 24,
+        }
+    }
+}
+
+/// The code of a result: 0, or the number of the fault.
+pub fn code(done: Result<(), NodeFault>) -> u32
+    ensures done { IfOk done (λ _. result ≡ 0) }
+    ensures fault { IfErr done (λ why. result ≡ fault_number why) }
+{
+    match done {
+        Ok(()) => 0,
+        Err(fault) => fault.number(),
+    }
+}
+
+/// The same; if bytes were refused, writes the number of their fault.
+pub fn code_of_bytes(done: Result<(), NodeFault>, number: &mut u32) -> u32
+    ensures done { IfOk done (λ _. (result ≡ 0) × (number.new ≡ number.old)) }
+    ensures fault { IfErr done (λ why. (result ≡ fault_number why) × (number.new ≡ written why number.old)) }
+{
+    if let Err(NodeFault::Bytes(fault)) = &done {
+        *number = u32::from(*fault);
+    }
+    code(done)
+}

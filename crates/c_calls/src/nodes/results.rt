@@ -1,0 +1,161 @@
+//! What the process of a handle gives: packets, checkpoints, its state.
+
+ghost use Rattle.std.specs.Prelude.{◌≡◌, MatchResult, OnErr};
+ghost use Rattle.c_calls.specs.Nodes.Bundles.{AreTaken, AreUntaken};
+ghost use Rattle.c_calls.specs.Nodes.Answers.{Results};
+ghost use Rattle.c_calls.specs.Nodes.Results.{IsTaken, IsUntaken, IsMade, IsUnmade, IsRead, IsUnread, TakesOut, LeavesIn, Makes, DoesNotMake};
+
+use crate::nodes::fault::NodeFault;
+use crate::nodes::handle::NodeHandle;
+use crate::outbox::{Outbox, Ungiven, give_all};
+use c_handles::copy;
+use process::Member;
+use std::alloc::{AllocError, Global};
+
+impl Outbox for Member {
+    ghost use Rattle.std.specs.Prelude.{◌≡◌, []};
+    ghost use Rattle.process.specs.Process.{out_of};
+    ghost use Rattle.c_calls.specs.Nodes.Bundles.{Waits, Leaves};
+
+    ghost waits = { λ p to bytes. Waits to bytes p };
+
+    ghost is_empty = { λ p. out_of p.lifecycle ≡ [] };
+
+    ghost leaves = { Leaves };
+
+    fn first(&self, alloc: Global) -> Result<Option<(u8, Vec<u8>)>, AllocError> {
+        let Some(packet) = self.front() else {
+            return Ok(None);
+        };
+        let to = packet.to;
+        match self.front_bytes(alloc)? {
+            Some(bytes) => Ok(Some((to, bytes))),
+            None => Ok(None),
+        }
+    }
+
+    fn take_first(&mut self) {
+        let _packet = self.take();
+    }
+}
+
+/// Writes the first packet that waits, and its receiver. If the buffer is long enough, the packet
+/// is taken.
+pub fn take(
+    alloc: Global,
+    handle: &mut NodeHandle,
+    out: &mut [u8],
+    size: &mut usize,
+    to: &mut u8,
+) -> Result<(), NodeFault>
+    ensures taken { Results result handle.old.process.value handle.new.process.value (IsTaken out.old out.new size.new to.new) (IsUntaken out.old out.new size.old size.new) }
+    ensures kept { OnErr result (to.new ≡ to.old) }
+{
+    let Some(mut process) = handle.take(alloc) else {
+        return Err(NodeFault::Handle);
+    };
+    let taken = take_of(alloc, &mut process, out, size, to);
+    handle.put(process);
+    taken
+}
+
+fn take_of(
+    alloc: Global,
+    process: &mut Member,
+    out: &mut [u8],
+    size: &mut usize,
+    to: &mut u8,
+) -> Result<(), NodeFault>
+    ensures taken { MatchResult result (λ _. TakesOut out.old out.new size.new to.new process.old process.new) (LeavesIn out.old out.new size.old size.new process.old process.new) }
+    ensures kept { OnErr result (to.new ≡ to.old) }
+{
+    let bytes = match process.front_bytes(alloc) {
+        Ok(Some(bytes)) => bytes,
+        Ok(None) => return Err(NodeFault::Absent),
+        Err(_) => return Err(NodeFault::Memory),
+    };
+    copy(bytes.as_slice(), out, size, NodeFault::Room)?;
+    if let Some(packet) = process.take() {
+        *to = packet.to;
+    }
+    Ok(())
+}
+
+/// Writes the first packets that wait, as those of a bundle, and their receiver: as many as go to the
+/// same process and fit. They are taken.
+pub fn take_all(
+    alloc: Global,
+    handle: &mut NodeHandle,
+    out: &mut [u8],
+    size: &mut usize,
+    to: &mut u8,
+    count: &mut u64,
+) -> Result<(), NodeFault>
+    ensures taken { Results result handle.old.process.value handle.new.process.value (AreTaken out.old out.new size.new to.new count.new) (AreUntaken out.old out.new size.old size.new) }
+    ensures kept { OnErr result ((to.new ≡ to.old) × (count.new ≡ count.old)) }
+{
+    let Some(mut process) = handle.take(alloc) else {
+        return Err(NodeFault::Handle);
+    };
+    let given = give_all(alloc, &mut *process, out, size, to, count);
+    handle.put(process);
+    match given {
+        Ok(_all) => Ok(()),
+        Err(Ungiven::Memory) => Err(NodeFault::Memory),
+        Err(Ungiven::Absent) => Err(NodeFault::Absent),
+        Err(Ungiven::Room) => Err(NodeFault::Room),
+    }
+}
+
+/// Writes the bytes of a checkpoint. If the buffer is long enough, the process waits until they are
+/// durable.
+pub fn checkpoint(
+    alloc: Global,
+    handle: &mut NodeHandle,
+    out: &mut [u8],
+    size: &mut usize,
+) -> Result<(), NodeFault>
+    ensures { Results result handle.old.process.value handle.new.process.value (IsMade out.old out.new size.new) (IsUnmade out.old out.new size.old size.new) }
+{
+    let Some(mut process) = handle.take(alloc) else {
+        return Err(NodeFault::Handle);
+    };
+    let made = checkpoint_of(alloc, &mut process, out, size);
+    handle.put(process);
+    made
+}
+
+fn checkpoint_of(
+    alloc: Global,
+    process: &mut Member,
+    out: &mut [u8],
+    size: &mut usize,
+) -> Result<(), NodeFault>
+    ensures { MatchResult result (λ _. Makes out.old out.new size.new process.old process.new) (DoesNotMake out.old out.new size.old size.new process.old process.new) }
+{
+    let bytes = match process.kept_bytes(alloc) {
+        Ok(Some(bytes)) => bytes,
+        Ok(None) => return Err(NodeFault::Unready),
+        Err(_) => return Err(NodeFault::Memory),
+    };
+    copy(bytes.as_slice(), out, size, NodeFault::Room)?;
+    let _made = process.freeze();
+    Ok(())
+}
+
+/// Writes the state that its handler left last.
+pub fn state(
+    alloc: Global,
+    handle: &mut NodeHandle,
+    out: &mut [u8],
+    size: &mut usize,
+) -> Result<(), NodeFault>
+    ensures { Results result handle.old.process.value handle.new.process.value (IsRead out.old out.new size.new) (IsUnread out.old out.new size.old size.new) }
+{
+    let Some(process) = handle.take(alloc) else {
+        return Err(NodeFault::Handle);
+    };
+    let read = copy(process.state(), out, size, NodeFault::Room);
+    handle.put(process);
+    read
+}
