@@ -9,7 +9,7 @@
                          until it is up again, of them in which its peers answered, and its length
    kept CHECKPOINTS      with states of 0 and of 1,024 bytes: the bytes of a checkpoint, KB at most, nanoseconds each */
 #define _POSIX_C_SOURCE 199309L
-#include "../handlers.h"
+#include "../../examples/service/handlers.h"
 #include "sblog.h"
 
 #include <stdio.h>

@@ -3,7 +3,7 @@
    many inputs a part has. It prints a line a part: how many calls were accepted in it, and the
    nanoseconds that they took. */
 #define _POSIX_C_SOURCE 199309L
-#include "../handlers.h"
+#include "../../examples/service/handlers.h"
 #include "sblog.h"
 
 #include <stdio.h>

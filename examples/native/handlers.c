@@ -1,22 +1,13 @@
 // Opens image files, compiles and maps them, and calls each by random messages: every answer has to be sblog_run's.
 #define _DEFAULT_SOURCE
 #define SBLOG_CALLS_CODE
+#include "processor/chance.h"
 #include "sblog.h"
 
 #include <stdio.h>
 #include <stdlib.h>
 
 enum { CALLS = 1000, MESSAGE = SBLOG_MESSAGE_SIZE };
-
-static uint64_t seed = 1;
-
-// A number below a limit, by xorshift.
-static uint64_t below(uint64_t limit) {
-    seed ^= seed << 13;
-    seed ^= seed >> 7;
-    seed ^= seed << 17;
-    return seed % limit;
-}
 
 static void demand(int holds, const char *name, const char *what) {
     if (holds) return;

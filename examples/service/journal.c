@@ -2,22 +2,13 @@
    every kind of call that the library makes; behind each step the entries that are new are read, and a
    line is written of each from its numbers. In the end these lines have to be those of the trace, and
    each input's payload the one that was handed in. */
+#include "handlers.h"
 #include "sblog.h"
 
 #include <stdarg.h>
 #include <stdio.h>
 #include <stdlib.h>
 #include <string.h>
-
-/* Sends each message on to process 2; behind it, gives each message out. */
-static const uint8_t RELAY_AND_ECHO[] = "SBI1\0\0\x04\0"
-                                        "\xbf\x12\0\0\0\0\0\0"
-                                        "\xb7\x01\0\0\x02\0\0\0"
-                                        "\x85\0\0\0\x01\0\0\0"
-                                        "\x95\0\0\0\0\0\0\0"
-                                        "SBI1\0\0\x02\0"
-                                        "\x85\0\0\0\x02\0\0\0"
-                                        "\x95\0\0\0\0\0\0\0";
 
 /* A word, and how many numbers stand behind it. */
 struct word {
@@ -170,7 +161,7 @@ static void compare(sblog_session *session) {
 }
 
 int main(int argc, char **argv) {
-    uint32_t lengths[2] = {40, 24};
+    uint32_t lengths[2] = {RELAY_SIZE, ECHO_SIZE};
     sblog_session session = {0};
     size_t none = 99;
     (void)argv;

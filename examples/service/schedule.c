@@ -3,32 +3,14 @@
    comes to a process that is down. Then the journal of a second session comes to its end: an input is
    refused while its message can still be received, and a drive tells that the end stopped it. The same
    handler is called by itself too, beside the sessions, and has to leave the same state. */
+#include "handlers.h"
 #include "sblog.h"
 
 #include <stdio.h>
 #include <stdlib.h>
 #include <string.h>
 
-/* Sends each message on to process 2; behind it, gives each message out. */
-static const uint8_t RELAY_AND_ECHO[] = "SBI1\0\0\x04\0"
-                                        "\xbf\x12\0\0\0\0\0\0"
-                                        "\xb7\x01\0\0\x02\0\0\0"
-                                        "\x85\0\0\0\x01\0\0\0"
-                                        "\x95\0\0\0\0\0\0\0"
-                                        "SBI1\0\0\x02\0"
-                                        "\x85\0\0\0\x02\0\0\0"
-                                        "\x95\0\0\0\0\0\0\0";
-
-/* r3 = message[0..8]; r4 = state[0..8]; r4 += r3; state[0..8] = r4; r0 = 0; exit */
-static const uint8_t ADDER[] = "SBI1\x08\0\x06\0"
-                               "\x79\x13\0\0\0\0\0\0"
-                               "\x79\x24\0\0\0\0\0\0"
-                               "\x0f\x34\0\0\0\0\0\0"
-                               "\x7b\x42\0\0\0\0\0\0"
-                               "\xb7\x00\0\0\0\0\0\0"
-                               "\x95\x00\0\0\0\0\0\0";
-
-enum { RELAY_SIZE = 40, ECHO_SIZE = 24, ADDER_SIZE = 56, JOURNAL = 65536, BUDGET = 1000 };
+enum { JOURNAL = 65536, BUDGET = 1000 };
 
 /* Refusals of a session by their numbers (docs/FORMATS.md). */
 enum { NOT_UP = 2, NO_PACKET = 4, SAME_PROCESS = 5, NOT_RELEASED = 6 };

@@ -45,6 +45,6 @@ pub use mistake::{Mistake, is_begun, mistake_of};
 pub use name::name_at;
 pub use order::{Allowed, Order};
 pub use process::NamedProcess;
-pub use report::{push_exact, push_output, push_process};
+pub use report::{phase_word, push_exact, push_output, push_process};
 pub use scenario::{Scenario, ScenarioError, Step, parse};
 pub use trace::trace_text;

@@ -8,7 +8,7 @@ use std::alloc::AllocError;
 use world::PhaseName;
 
 /// The word of a phase.
-fn phase_word(phase: PhaseName) -> &'static str
+pub fn phase_word(phase: PhaseName) -> &'static str
     ensures { result.now ≡ phase_text phase }
 {
     match phase {

@@ -2,27 +2,13 @@
 
 ghost use Rattle.std.specs.Prelude.{◌≡◌, ◌++◌, OnOk, string_bytes};
 ghost use Rattle.scenario.specs.Hex.{hex_text};
-ghost use Rattle.scenario.specs.Report.{phase_text};
 ghost use Rattle.styles.specs.Lines.{exact_text, output_text, process_text, quoted, counted, refused_text};
 ghost use Rattle.styles.specs.Style.{style_of};
 
 use crate::style::Style;
-use scenario::Hex;
+use scenario::{Hex, phase_word};
 use std::alloc::AllocError;
 use world::PhaseName;
-
-/// The word of a phase.
-fn phase_word(phase: PhaseName) -> &'static str
-    ensures { result.now ≡ phase_text phase }
-{
-    match phase {
-        PhaseName::Up => "up",
-        PhaseName::Busy => "busy",
-        PhaseName::Down => "down",
-        PhaseName::Replaying => "replaying",
-        PhaseName::Resync => "resync",
-    }
-}
 
 /// Writes `before`, and then a text in JSON: its key, and the text in quotes.
 #[tactic(auto, unfolding(crate::specs::Lines::quoted))]

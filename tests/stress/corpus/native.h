@@ -1,6 +1,7 @@
-/* The helpers of form 3 for the processor: sblog3.h's names, and a program that calls the handler HANDLER on the messages
+/* The helpers of form 3 for the processor, in place of sblog3.h, and a program that calls the handler HANDLER on the messages
  * of a file, one after another on one state of STATE bytes of zeros. For each it prints r0, a hash of the state, how much
  * was sent and output, and a hash of that. A message of the file is its sender, its length in two bytes, and its bytes. */
+#define SBLOG_HANDLER_H
 #include <stdio.h>
 #include <string.h>
 

@@ -1,4 +1,4 @@
-/* The handlers that are measured, as image files. */
+/* Handlers as image files. */
 #include <stdint.h>
 
 /* Sends each message on to process 2; behind it, gives each message out. */
