@@ -2,11 +2,12 @@
 """The worked rows that the tests of both bindings drive: `rows.py` prints a line for each, `TABLE CALL ARGUMENTS = CODE NUMBERS BYTES`,
 with bytes in hexadecimal after an x.
 
-Those of sessions and gateways are the tables of tests/c_sessions and tests/c_cluster, whose values a model worked out. Those
-of nodes are what the model in tests/model/calls answers to a list of calls. Left out is what bindings leave no way to ask for: a buffer
-that is too short, lengths that don't fit their files, and a handle that is opened or closed twice.
+They are the tables of tests/c_sessions and tests/c_cluster, whose values a model worked out, and of nodes also what the model in
+tests/model/calls answers to a list of calls. Left out is what bindings leave no way to ask for: a buffer that is too short, lengths
+that don't fit their files, and a handle that is opened or closed twice.
 """
 import re
+import subprocess
 import sys
 from pathlib import Path
 
@@ -17,17 +18,26 @@ import gateway as model_gateway  # noqa: E402
 import handlers  # noqa: E402
 import node as model_node  # noqa: E402
 
+# Functions of the header that bindings leave out: `run` and `entries` do their work, and no binding calls machine code.
+LEFT_OUT = {"sblog_call", "sblog_call_many", "sblog_session_entry", "sblog_native_report"}
 NOTHING, SHORT, TWICE = 99, 19, 16
-OPENING = ("open", "revive", "close")
-# Calls of a gateway that give bytes, and how many numbers with them.
-GIVING = {"take": 1, "output": 2, "store": 0, "changes": 0}
+OPENING = ("open", "revive", "resume", "close")
+# Calls of a gateway or a node that give bytes, and how many numbers with them.
+GIVING = {"take": 1, "take_all": 3, "output": 2, "store": 0, "changes": 0, "checkpoint": 0, "state": 0, "suspend": 0}
+LIMITS = (8, 256, 65_536, 0)  # of a node in those tables, after its page
+
+
+def functions():
+    """The functions of the header that each binding calls."""
+    told = subprocess.run([TOP / "tools/declarations", "exports", ""], check=True, capture_output=True, text=True)
+    return set(told.stdout.split()) - LEFT_OUT
 
 
 def constants(file):
     """What the constants of a file of tests are, in Python: bytes, and tables of rows."""
     text = re.sub(r"//.*", "", (TOP / "tests" / file).read_text())
-    known = {"Act": lambda name, *arguments: (name.lower(), arguments)}
-    for name, value in re.findall(r"(?ms)^const (\w+): &?\[[^=]*\] = &?(.*?);\n(?=\n|$)", text):
+    known = {"Act": lambda name, *arguments: (re.sub(r"\B(?=[A-Z])", "_", name).lower(), arguments)}
+    for name, value in re.findall(r"(?ms)^(?:pub\(super\) )?const (\w+): &?\[[^=]*\] = &?(.*?);\n(?=\n|$)", text):
         value = re.sub(r"\\\n\s*", "", value).replace("&", "")
         value = re.sub(r"\[(\d+); (\d+)\]", r"([\1] * \2)", value)
         value = re.sub(r"Act::(\w+)\(", r'Act("\1", ', value)
@@ -60,16 +70,30 @@ def session_rows(file, *tables):
             yield f"session.{table}", call, arguments, code, [number] if number != NOTHING else [], b""
 
 
-def gateway_rows(file, *tables):
-    """Of tables of a gateway's calls, which tell process, number and size in one."""
-    known = constants(file)
+def party_rows(file, *tables):
+    """Of tables of a gateway's or a node's calls, which tell process, number and size in one. Of a bundle they have the first bytes."""
+    known, kind = constants(file), Path(file).stem.removesuffix("s")
     for table in tables:
         for (call, arguments), code, number, data in known[table]:
             numbers = [number] if number != NOTHING else []
             if call in GIVING:
-                arguments, both = (), [number // 100_000, number // 1_000 % 100]
-                numbers = both[: GIVING[call]] if numbers else []
-            yield f"gateway.{table}", call, [as_bytes(it) for it in arguments], code, numbers, bytes(data)
+                told = [number // 100_000, number // 1_000 % 100, number % 1_000]
+                arguments, numbers = arguments if call == "take_all" else (), told[: GIVING[call]] if numbers else []
+            elif call == "receive_all":
+                bundle = b"".join(len(packet).to_bytes(2, "little") + bytes(packet) for packet in arguments[0])
+                arguments, numbers = [bundle[: len(bundle) - arguments[1]]], [int(digit) for digit in f"{number:03}"] if numbers else []
+            elif kind == "node" and call in OPENING[:3]:
+                arguments = [known["SHOWS"], *arguments, *LIMITS]
+            if call != "standing":  # rows of the model have all its numbers
+                yield f"{kind}.{table}", call, [as_bytes(it) for it in arguments], code, numbers, bytes(data)
+
+
+def label_rows(file):
+    """The packets of a table and their labels, and one that was cut off."""
+    known = constants(file)
+    for packet, words in known["LABELS"]:
+        yield "node.LABELS", "packet_label", [bytes(packet)], 0, words, b""
+    yield "node.LABELS", "packet_label", [bytes(known["SAVED"][:19])], 21, [3], b""
 
 
 class Party:
@@ -157,7 +181,9 @@ def rows():
     every = [
         *session_rows("c_sessions/tests.rattle", "ADDING", "RELAYING", "STUCK", "SCHEDULED", "ENDING", "CLOSED", "TRACED"),
         *session_rows("c_sessions/tests/ordinary_c.rattle", "DROPPING"),
-        *gateway_rows("c_cluster/tests/gateways.rattle", "CLOSED", "RUNNING", "REVIVING"),
+        *party_rows("c_cluster/tests/gateways.rattle", "CLOSED", "RUNNING", "BUNDLED", "REVIVING"),
+        *party_rows("c_cluster/tests/nodes.rattle", "BUNDLED", "SUSPENDING"),
+        *label_rows("c_cluster/tests/nodes.rattle"),
         *node_rows(),
     ]
     return [row for row in every if row[3] != SHORT and not (row[3] == TWICE and row[1] in OPENING)]

@@ -1,5 +1,6 @@
 """Tests of the module sblog: the worked rows (rows.py), images, exceptions, and what keeps a handle safe."""
 import copy
+import re
 import sys
 import threading
 import unittest
@@ -63,10 +64,12 @@ def party_call(it, call, arguments):
     match call, told:
         case ("work", bool()):
             return (0 if told else 20), [], b""
-        case ("take" | "output", None):
+        case ("take" | "take_all" | "output", None):
             return 20, [], b""
-        case ("take" | "output" | "standing", tuple()):
-            numbers, data = (told, b"") if call == "standing" else (told[:-1], told[-1])
+        case ("take_all", (to, count, data)):
+            return 0, [to, count, len(data)], data[:3]
+        case ("take" | "output" | "receive_all" | "standing", tuple()):
+            numbers, data = (told[:-1], told[-1]) if isinstance(told[-1], bytes) else (told, b"")
             return 0, [int(number) for number in numbers], data
     return 0, [told] if isinstance(told, int) else [], told if isinstance(told, bytes) else b""
 
@@ -77,6 +80,7 @@ def opened(kind, call, arguments):
         case "gateway", "open": return sblog.Gateway(*arguments)
         case "gateway", _: return sblog.Gateway.revive(*arguments)
         case _, "open": return sblog.Node(*arguments[:3], sblog.Limits(*arguments[3:]))
+        case _, "resume": return sblog.Node.resume(*arguments[:2], sblog.Limits(*arguments[2:]))
     return sblog.Node.revive(*arguments[:3], sblog.Limits(*arguments[3:]))
 
 
@@ -94,8 +98,10 @@ class Rows(unittest.TestCase):
             if name != table:
                 table, it = name, closed(kind)
             try:
-                if call in ("open", "revive"):
+                if call in ("open", "revive", "resume"):
                     it, found = opened(kind, call, arguments), (0, [], b"")
+                elif call == "packet_label":
+                    found = 0, [*map(int, sblog.packet_label(*arguments))], b""
                 elif call == "close":
                     it.close()
                     found = 0, [], b""
@@ -143,11 +149,15 @@ class Images(unittest.TestCase):
 
 
 class Numbers(unittest.TestCase):
+    def test_the_crate_declares_each_function(self):
+        declared = re.findall(r"pub fn (sblog_\w+)", (rows.TOP / "bindings/rust/src/raw.rs").read_text())
+        self.assertEqual(set(declared), rows.functions())
+
     def test_names_are_those_of_the_header(self):
         header = (rows.TOP / "include/sblog.h").read_text()
-        for kind, begin in (sblog.Phase, "SESSION"), (sblog.Stage, "NODE"), (sblog.Call, "CALL"), (sblog.Answer, "ANSWER"):
-            for it in kind:
-                self.assertRegex(header, rf"\bSBLOG_{begin}_{it.name} = {it.value}\b")
+        begins = {sblog.Phase: "SESSION", sblog.Stage: "NODE", sblog.Call: "CALL", sblog.Answer: "ANSWER", sblog.PacketKind: "PACKET"}
+        for it in (it for kind in begins for it in kind):
+            self.assertRegex(header, rf"\bSBLOG_{begins[type(it)]}_{it.name} = {it.value}\b")
 
 
 class Handles(unittest.TestCase):
@@ -193,6 +203,7 @@ class Handles(unittest.TestCase):
         with self.assertRaises(sblog.NodeError) as caught:
             node.done(job, record)
         self.assertEqual(caught.exception.code, 20)
+        self.assertEqual(gateway.receive_all(node.take_all(1).data), (1, 0, 0))  # a longer packet comes alone
 
     def test_a_node_opens_with_a_state(self):
         counter, five = (EXAMPLES / "node/counter.sbi").read_bytes(), (5).to_bytes(8, "little")
@@ -200,6 +211,12 @@ class Handles(unittest.TestCase):
         with self.assertRaises(sblog.NodeError) as caught:
             sblog.Node(counter, 1, 1, state=five[1:])
         self.assertEqual(caught.exception.code, 21)
+
+
+def tearDownModule():
+    """The module keeps each function that was called once."""
+    left = rows.functions() - vars(sblog.handle.LIBRARY).keys()
+    assert not left, f"the tests don't call {', '.join(sorted(left))}"
 
 
 if __name__ == "__main__":

@@ -1,7 +1,7 @@
 //! The gateway of a cluster.
 
 use crate::code::errors;
-use crate::node::Packet;
+use crate::packet::carries;
 use crate::raw::*;
 
 errors! {
@@ -65,29 +65,11 @@ impl Gateway {
         Ok(ssn)
     }
 
-    /// Takes the bytes of a packet that came.
-    pub fn receive(&mut self, packet: &[u8]) -> Done<()> {
-        self.0.told(|it, fault| unsafe { sblog_gateway_receive(it, packet.as_ptr(), packet.len(), fault) })?;
-        Ok(())
-    }
-
-    /// The next packet that is to be sent, if one waits.
-    pub fn take(&mut self) -> Done<Option<Packet>> {
-        let mut to = 0;
-        let bytes = self.0.some_bytes(|it, out, room, size| unsafe { sblog_gateway_take(it, out, room, size, &mut to) })?;
-        Ok(bytes.map(|bytes| Packet { to, bytes }))
-    }
-
-    /// Sends again what isn't answered.
-    pub fn tick(&mut self) -> Done<()> {
-        Ok(done(unsafe { sblog_gateway_tick(self.0.at()) })?)
-    }
-
     /// The next output, if there is one.
     pub fn output(&mut self) -> Done<Option<Output>> {
         let (mut process, mut ssn) = (0, 0);
         let output = |it, out, room, size: &mut usize| unsafe { sblog_gateway_output(it, &mut process, &mut ssn, out, room, size) };
-        let payload = self.0.some_bytes(output)?;
+        let payload = some(self.0.bytes(output))?;
         Ok(payload.map(|payload| Output { process, ssn, payload }))
     }
 
@@ -101,3 +83,5 @@ impl Gateway {
         Ok(self.0.bytes(|it, out, room, size| unsafe { sblog_gateway_changes(it, out, room, size) })?)
     }
 }
+
+carries!(Gateway: sblog_gateway_receive, sblog_gateway_receive_all, sblog_gateway_take, sblog_gateway_take_all, sblog_gateway_tick);

@@ -116,7 +116,7 @@ impl Image {
 
     /// The machine code of the handler for x86-64. To call it is beyond what this crate keeps safe.
     pub fn compile(&self) -> Result<Vec<u8>, ImageError> {
-        Ok(written(8, |out, room, size| unsafe { sblog_compile(self.0, out, room, size) })?)
+        Ok(written(1024, 8, |out, room, size| unsafe { sblog_compile(self.0, out, room, size) })?)
     }
 }
 

@@ -33,12 +33,14 @@
 //! # Ok::<(), Box<dyn std::error::Error>>(())
 //! ```
 #![warn(missing_docs)]
+#![deny(dead_code)] // each function of the library has a method
 
 mod code;
 mod gateway;
 mod image;
 mod journal;
 mod node;
+mod packet;
 mod raw;
 mod session;
 
@@ -46,5 +48,6 @@ pub use code::version;
 pub use gateway::{Gateway, GatewayError, Output};
 pub use image::{Fault, Image, ImageError, Report, Who};
 pub use journal::{Answer, Call, Entry};
-pub use node::{Job, Limits, Node, NodeError, Packet, Stage, Standing};
+pub use node::{Job, Limits, Node, NodeError, Stage, Standing};
+pub use packet::{Bundle, Label, Packet, PacketKind, Tally, packet_label};
 pub use session::{Drive, Phase, Session, SessionError, Shown};

@@ -1,6 +1,7 @@
 //! A node.
 
 use crate::code::{errors, numbers};
+use crate::packet::carries;
 use crate::raw::*;
 
 errors! {
@@ -32,14 +33,6 @@ impl Default for Limits {
     fn default() -> Limits {
         Limits { page: 60_000, tick: 8, numbers: 256, receipts: 65_536, is_durable: true }
     }
-}
-
-/// A packet, and the node that it goes to; 0 is the gateway.
-#[allow(missing_docs)]
-#[derive(Clone, Debug, PartialEq, Eq)]
-pub struct Packet {
-    pub to: u8,
-    pub bytes: Vec<u8>,
 }
 
 /// The numbers of a node, and what it does: the fields of `sblog_standing`.
@@ -121,32 +114,25 @@ impl Node {
         Ok(Node(Held::opened(sblog_node_close, open)?))
     }
 
-    /// Hands it a packet that came.
-    pub fn receive(&mut self, packet: &[u8]) -> Done<()> {
-        self.0.told(|it, fault| unsafe { sblog_node_receive(it, packet.as_ptr(), packet.len(), fault) })?;
-        Ok(())
-    }
-
-    /// The packet that waits first, if one does.
-    pub fn take(&mut self) -> Done<Option<Packet>> {
-        let mut to = 0;
-        let bytes = self.0.some_bytes(|it, out, room, size| unsafe { sblog_node_take(it, out, room, size, &mut to) })?;
-        Ok(bytes.map(|bytes| Packet { to, bytes }))
+    /// Opens it from the bytes of [`suspend`](Node::suspend) as it was, in the same incarnation: once, and only if it did nothing since.
+    pub fn resume(image: &[u8], suspended: &[u8], limits: Limits) -> Done<Node> {
+        let Limits { page, tick, numbers, receipts, is_durable } = limits;
+        let (at, len, bytes, bytes_len, durable) = (image.as_ptr(), image.len(), suspended.as_ptr(), suspended.len(), is_durable.into());
+        let open = |it, fault: &mut u32| unsafe {
+            sblog_node_resume(at, len, bytes, bytes_len, page, tick, numbers, receipts, durable, it, fault)
+        };
+        Ok(Node(Held::opened(sblog_node_close, open)?))
     }
 
     /// Runs the handler on the message that it received, or on the next one that is replayed; whether there was one.
     pub fn work(&mut self) -> Done<bool> {
-        let code = unsafe { sblog_node_work(self.0.at()) };
-        if code != 20 {
-            done(code)?;
-        }
-        Ok(code == 0)
+        Ok(some(done(unsafe { sblog_node_work(self.0.at()) }))?.is_some())
     }
 
     /// The call that [`work`](Node::work) would make, if there is one, for a host that makes it as machine code.
     pub fn job(&self) -> Done<Option<Job>> {
         let mut words = [0; 6];
-        let array = self.0.some_bytes(|it, out, room, size| unsafe { sblog_node_job(it, out, room, size, &mut words) })?;
+        let array = some(self.0.bytes(|it, out, room, size| unsafe { sblog_node_job(it, out, room, size, &mut words) }))?;
         let [incarnation, received, message_len, me, from, count] = words;
         Ok(array.map(|array| Job { incarnation, received, message_len, me, from, count, array }))
     }
@@ -158,11 +144,6 @@ impl Node {
         Ok(done(unsafe { sblog_node_done(self.0.at(), incarnation, received, at, len, record, record_len) })?)
     }
 
-    /// Sends again what isn't answered.
-    pub fn tick(&mut self) -> Done<()> {
-        Ok(done(unsafe { sblog_node_tick(self.0.at()) })?)
-    }
-
     /// The bytes that are to be kept. It drops what comes until [`saved`](Node::saved).
     pub fn checkpoint(&mut self) -> Done<Vec<u8>> {
         Ok(self.0.bytes(|it, out, room, size| unsafe { sblog_node_checkpoint(it, out, room, size) })?)
@@ -171,6 +152,12 @@ impl Node {
     /// They are kept: what waited for that goes out.
     pub fn saved(&mut self) -> Done<()> {
         Ok(done(unsafe { sblog_node_saved(self.0.at()) })?)
+    }
+
+    /// The bytes of the whole node, to be kept while its program ends: no peer will wait for it. It is refused unless the node is up,
+    /// its last checkpoint is saved, and it received nothing since. It stays open: drop it, and send nothing that it still has to give.
+    pub fn suspend(&mut self) -> Done<Vec<u8>> {
+        Ok(self.0.bytes(|it, out, room, size| unsafe { sblog_node_suspend(it, out, room, size) })?)
     }
 
     /// Its numbers, and what it does.
@@ -192,3 +179,5 @@ impl Node {
         Ok(self.0.bytes(|it, out, room, size| unsafe { sblog_node_state(it, out, room, size) })?)
     }
 }
+
+carries!(Node: sblog_node_receive, sblog_node_receive_all, sblog_node_take, sblog_node_take_all, sblog_node_tick);

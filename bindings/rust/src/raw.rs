@@ -62,13 +62,17 @@ unsafe extern "C" {
     pub fn sblog_session_journal(handle: At, count: Size) -> u32;
     pub fn sblog_session_entries(handle: At, from: usize, out: *mut Entry, out_len: usize, count: Size) -> u32;
 
+    pub fn sblog_packet_label(packet: In, packet_len: usize, label: &mut [u64; 5], fault: Number) -> u32;
+
     pub fn sblog_gateway_open(n: u8, page: u32, tick: u32, gateway: At) -> u32;
     pub fn sblog_gateway_revive(store: In, store_len: usize, page: u32, tick: u32, gateway: At, fault: Number) -> u32;
     pub fn sblog_gateway_apply(gateway: At, changes: In, changes_len: usize, fault: Number) -> u32;
     pub fn sblog_gateway_close(gateway: At) -> u32;
     pub fn sblog_gateway_input(gateway: At, process: u8, payload: In, payload_len: usize, ssn: &mut u64) -> u32;
     pub fn sblog_gateway_receive(gateway: At, packet: In, packet_len: usize, fault: Number) -> u32;
+    pub fn sblog_gateway_receive_all(gateway: At, bundle: In, bundle_len: usize, tally: &mut [u64; 3]) -> u32;
     pub fn sblog_gateway_take(gateway: At, out: Out, out_len: usize, size: Size, to: Out) -> u32;
+    pub fn sblog_gateway_take_all(gateway: At, out: Out, out_len: usize, size: Size, to: Out, count: &mut u64) -> u32;
     pub fn sblog_gateway_tick(gateway: At) -> u32;
     pub fn sblog_gateway_output(gateway: At, process: Out, ssn: &mut u64, out: Out, out_len: usize, size: Size) -> u32;
     pub fn sblog_gateway_store(gateway: At, out: Out, out_len: usize, size: Size) -> u32;
@@ -87,13 +91,20 @@ unsafe extern "C" {
     ) -> u32;
     pub fn sblog_node_close(node: At) -> u32;
     pub fn sblog_node_receive(node: At, packet: In, packet_len: usize, fault: Number) -> u32;
+    pub fn sblog_node_receive_all(node: At, bundle: In, bundle_len: usize, tally: &mut [u64; 3]) -> u32;
     pub fn sblog_node_take(node: At, out: Out, out_len: usize, size: Size, to: Out) -> u32;
+    pub fn sblog_node_take_all(node: At, out: Out, out_len: usize, size: Size, to: Out, count: &mut u64) -> u32;
     pub fn sblog_node_work(node: At) -> u32;
     pub fn sblog_node_job(node: At, array: Out, array_len: usize, size: Size, job: &mut [u64; 6]) -> u32;
     pub fn sblog_node_done(node: At, incarnation: u64, received: u64, array: In, array_len: usize, record: In, record_len: usize) -> u32;
     pub fn sblog_node_tick(node: At) -> u32;
     pub fn sblog_node_checkpoint(node: At, out: Out, out_len: usize, size: Size) -> u32;
     pub fn sblog_node_saved(node: At) -> u32;
+    pub fn sblog_node_suspend(node: At, out: Out, out_len: usize, size: Size) -> u32;
+    pub fn sblog_node_resume(
+        image: In, image_len: usize, suspended: In, suspended_len: usize, page: u32, tick: u32, numbers: u32, receipts: u32, durable: u32,
+        node: At, fault: Number,
+    ) -> u32;
     pub fn sblog_node_standing(node: At, out: &mut [u64; 10]) -> u32;
     pub fn sblog_node_refused(node: At, code: u32) -> u64;
     pub fn sblog_node_state(node: At, out: Out, out_len: usize, size: Size) -> u32;
@@ -103,7 +114,7 @@ unsafe extern "C" {
 pub struct Refused(pub u32, pub Fault);
 
 /// Of a code that isn't 0, with the number of a fault.
-fn told(code: u32, rule: u32) -> Result<(), Refused> {
+pub fn told(code: u32, rule: u32) -> Result<(), Refused> {
     if code == 0 { Ok(()) } else { Err(Refused(code, Fault { rule, slot: 0 })) }
 }
 
@@ -112,9 +123,17 @@ pub fn done(code: u32) -> Result<(), Refused> {
     told(code, 0)
 }
 
-/// The bytes that a call writes. If it answers `room` it says how many it takes, and is made again.
-pub fn written(room: u32, mut call: impl FnMut(Out, usize, Size) -> u32) -> Result<Vec<u8>, Refused> {
-    let (mut out, mut size) = (vec![0; 1024], 0);
+/// None of a call that answers 20: there is none.
+pub fn some<T>(told: Result<T, Refused>) -> Result<Option<T>, Refused> {
+    match told {
+        Err(Refused(20, _)) => Ok(None),
+        told => told.map(Some),
+    }
+}
+
+/// The bytes that a call writes, at first with a buffer of so many. If it answers `room` it says how many it takes, and is made again.
+pub fn written(first: usize, room: u32, mut call: impl FnMut(Out, usize, Size) -> u32) -> Result<Vec<u8>, Refused> {
+    let (mut out, mut size) = (vec![0; first], 0);
     loop {
         match call(out.as_mut_ptr(), out.len(), &mut size) {
             code if code == room => out.resize(size, 0),
@@ -150,15 +169,7 @@ impl Held {
 
     /// The bytes that a call writes.
     pub fn bytes(&self, mut call: impl FnMut(At, Out, usize, Size) -> u32) -> Result<Vec<u8>, Refused> {
-        written(19, |out, room, size| call(self.at(), out, room, size))
-    }
-
-    /// The same of a call that may have nothing to write: it answers 20 then.
-    pub fn some_bytes(&self, call: impl FnMut(At, Out, usize, Size) -> u32) -> Result<Option<Vec<u8>>, Refused> {
-        match self.bytes(call) {
-            Err(Refused(20, _)) => Ok(None),
-            told => told.map(Some),
-        }
+        written(1024, 19, |out, room, size| call(self.at(), out, room, size))
     }
 }
 

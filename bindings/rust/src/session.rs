@@ -145,7 +145,7 @@ impl Session {
     pub fn shown(&self, place: usize) -> Done<Option<Shown>> {
         let (mut sender, mut ssn) = (0, 0);
         let shown = |it, out, room, size: &mut usize| unsafe { sblog_session_shown(it, place, &mut sender, &mut ssn, out, room, size) };
-        let payload = self.0.some_bytes(shown)?;
+        let payload = some(self.0.bytes(shown))?;
         Ok(payload.map(|payload| Shown { sender, ssn, payload }))
     }
 

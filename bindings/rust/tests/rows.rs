@@ -53,7 +53,7 @@ fn drive<T>(kind: &str, mut call: impl FnMut(&mut Option<T>, &Row) -> Told) {
         }
         match row.words[0].as_str() {
             "close" => value = None,
-            "open" | "revive" => driven += row.check(&mut value, &mut call),
+            "open" | "revive" | "resume" | "packet_label" => driven += row.check(&mut value, &mut call),
             _ if value.is_some() => driven += row.check(&mut value, &mut call),
             _ => assert!(row.want.0 == 16 || row.want.0 == 18, "{line}"),
         }
@@ -62,14 +62,14 @@ fn drive<T>(kind: &str, mut call: impl FnMut(&mut Option<T>, &Row) -> Told) {
     assert!(driven > 10);
 }
 
-/// What a refusal tells; 20 if there is none, which the crate tells by `None` and false.
+/// What a refusal tells; 20 if there is none, which the crate tells by `None` and false. Fault 0 is none that the library wrote.
 fn refusal(error: &(dyn Error + 'static)) -> Answer {
     let told = |code, fault: Option<u32>| (code, fault.into_iter().map(u64::from).collect(), vec![]);
     if let Some(error) = error.downcast_ref::<SessionError>() {
         return told(error.code(), None);
     }
     match (error.downcast_ref(), error.downcast_ref()) {
-        (Some(GatewayError::Bytes(fault)), _) | (_, Some(NodeError::Bytes(fault))) => told(21, Some(*fault)),
+        (Some(GatewayError::Bytes(fault)), _) | (_, Some(NodeError::Bytes(fault))) => told(21, Some(*fault).filter(|it| *it != 0)),
         (Some(error), _) => told(error.code(), None),
         (_, Some(error)) => told(error.code(), None),
         _ => told(20, None),
@@ -91,6 +91,15 @@ fn given(bytes: Vec<u8>) -> Told {
 /// A packet or an output with its numbers, if there is one.
 fn sent(given: Option<(Vec<u64>, Vec<u8>)>) -> Told {
     given.map(|(numbers, bytes)| (0, numbers, bytes)).ok_or("there is none".into())
+}
+
+/// A bundle by its receiver, its count, its size and its first three bytes.
+fn bundled(bundle: Option<Bundle>) -> Told {
+    sent(bundle.map(|it| (vec![it.to.into(), it.count, it.bytes.len() as u64], it.bytes[..3].to_vec())))
+}
+
+fn tallied(Tally { taken, refused, lost }: Tally) -> Told {
+    numbers([taken, refused, lost])
 }
 
 fn entry(entry: Option<&Entry>) -> Told {
@@ -166,7 +175,9 @@ fn gateway_call(it: &mut Gateway, call: &str, row: &Row) -> Told {
         "receive" => it.receive(&row.bytes(1))?,
         "tick" => it.tick()?,
         "input" => return number(it.input(row.number(1), &row.bytes(2))?),
+        "receive_all" => return tallied(it.receive_all(&row.bytes(1))?),
         "take" => return sent(it.take()?.map(|it| (vec![it.to.into()], it.bytes))),
+        "take_all" => return bundled(it.take_all(row.number(1))?),
         "output" => return sent(it.output()?.map(|it| (vec![it.process.into(), it.ssn], it.payload))),
         "store" => return given(it.store()?),
         "changes" => return given(it.changes()?),
@@ -185,6 +196,11 @@ fn nodes() {
         match row.words[0].as_str() {
             "open" => *node = Some(Node::open(&row.bytes(1), row.number(2), row.number(3), limits(row, 4))?),
             "revive" => *node = Some(Node::revive(&row.bytes(1), &row.bytes(2), row.number(3), limits(row, 4))?),
+            "resume" => *node = Some(Node::resume(&row.bytes(1), &row.bytes(2), limits(row, 3))?),
+            "packet_label" => {
+                let Label { kind, from, to, ssn, number } = packet_label(&row.bytes(1))?;
+                return numbers([kind as u64, from, to, ssn, number]);
+            }
             call => return node_call(node.as_mut().unwrap(), call, row),
         }
         numbers([])
@@ -200,8 +216,11 @@ fn node_call(it: &mut Node, call: &str, row: &Row) -> Told {
             assert_eq!(it.job()?.is_some(), row.want.0 == 0, "{}", row.line);
             return sent(it.work()?.then_some((vec![], vec![])));
         }
+        "receive_all" => return tallied(it.receive_all(&row.bytes(1))?),
         "take" => return sent(it.take()?.map(|it| (vec![it.to.into()], it.bytes))),
+        "take_all" => return bundled(it.take_all(row.number(1))?),
         "checkpoint" => return given(it.checkpoint()?),
+        "suspend" => return given(it.suspend()?),
         "state" => return given(it.state()?),
         "standing" => {
             let Standing { length, base, incarnation, stage, is_exact, receipts, entries, packets, replays, waited_for } = it.standing()?;

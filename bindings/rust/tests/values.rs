@@ -99,7 +99,8 @@ fn a_host_makes_the_call_of_a_node() {
     assert_eq!(node.take().unwrap(), None); // it is durable: the output waits for a checkpoint
     node.checkpoint().unwrap();
     node.saved().unwrap();
-    gateway.receive(&node.take().unwrap().unwrap().bytes).unwrap();
+    let bundle = node.take_all(1).unwrap().unwrap(); // a longer packet comes alone
+    assert_eq!(gateway.receive_all(&bundle.bytes), Ok(Tally { taken: 1, refused: 0, lost: 0 }));
     assert_eq!(gateway.output().unwrap(), Some(Output { process: 1, ssn: 1, payload: message(5).to_vec() }));
 }
 
