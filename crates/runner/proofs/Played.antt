@@ -17,7 +17,7 @@ use Rattle.scenario.specs.declared.scenario.Step.{Step}
 use Rattle.runner.specs.Orders.{CarriesOut, BringsBack, HoldsJob, MakesCall, Position, beginning, held_for, with_entry, without_job, world_at}
 use Rattle.results.specs.Results.{results_text}
 use Rattle.runner.specs.Reports.{IsTelling, style_in, told_text}
-use Rattle.styles.specs.Style.{TheStyle}
+use Rattle.scenario.specs.Styles.Style.{TheStyle}
 use Rattle.runner.specs.Inside.{AreNoted, ArePlayed, ArePlayedTo, IsNoted, IsPlayed, TheNotes}
 use Rattle.runner.specs.Run.{AreCarriedOut, CutsOff, IsCut, IsRun, Passage, RunsThrough, moments_of, passage, refused_lines, refused_text}
 

@@ -4,8 +4,8 @@ use Rattle.handlers.specs.Image.{TheImage}
 use Rattle.scenario.specs.Order.{process_text}
 use Rattle.scenario.specs.declared.scenario.Step.{Step}
 use Rattle.sessions.specs.Journal.{is_exact_of}
-use Rattle.styles.specs.Lines as lines
-use Rattle.styles.specs.Style.{TheStyle}
+use Rattle.scenario.specs.Styles.Lines as lines
+use Rattle.scenario.specs.Styles.Style.{TheStyle}
 use Rattle.sessions.specs.Fold.{handlers_of}
 use Rattle.world.specs.Legal.{world_of}
 use Rattle.world.specs.Logs.{length_of}

@@ -5,8 +5,8 @@ ghost use Rattle.handlers.specs.Image.{TheImage, image_in};
 ghost use Rattle.machine.specs.Openings.{AreFew};
 ghost use Rattle.scenario.specs.Process.{names_of};
 ghost use Rattle.sessions.specs.Journal.{world_at};
-ghost use Rattle.styles.specs.Lines.{entries_text};
-ghost use Rattle.styles.specs.Style.{style_of};
+ghost use Rattle.scenario.specs.Styles.Lines.{entries_text};
+ghost use Rattle.scenario.specs.Styles.Style.{style_of};
 ghost use Rattle.results.specs.Results.{numbered};
 ghost use Rattle.runner.specs.Inside.{position_of};
 ghost use Rattle.runner.specs.Orders.{beginning};
@@ -16,11 +16,10 @@ use crate::chronicle::Moment;
 use crate::player::Player;
 use handlers::Handler;
 use indexmap::IndexMap;
-use scenario::{NamedProcess, Scenario, name_at};
+use scenario::{NamedProcess, Scenario, Style, name_at};
 use sessions::{Service, copied};
 use std::alloc::{AllocError, Global};
 use std::sync::Arc;
-use styles::Style;
 use world::Message;
 
 /// Writes the line of each refused order.

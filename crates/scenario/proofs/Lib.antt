@@ -9,3 +9,4 @@ pub mod Spellings
 pub mod OneScenario
 pub mod OneFault
 pub mod TraceLemmas
+pub mod EntryLemmas

@@ -35,6 +35,7 @@ mod report;
 mod scenario;
 mod sentence;
 mod split;
+mod styles;
 mod trace;
 mod verb;
 
@@ -47,4 +48,5 @@ pub use order::{Allowed, Order};
 pub use process::NamedProcess;
 pub use report::{phase_word, push_exact, push_output, push_process};
 pub use scenario::{Scenario, ScenarioError, Step, parse};
+pub use styles::Style;
 pub use trace::trace_text;

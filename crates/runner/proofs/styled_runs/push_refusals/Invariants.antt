@@ -1,5 +1,5 @@
 use Rattle.std.proofs.Common.{◌≡◌, ◌++◌, take, string_bytes}
-use Rattle.styles.specs.Style.{style_of}
+use Rattle.scenario.specs.Styles.Style.{style_of}
 use Rattle.runner.specs.Reports.{refusals_told}
 use Rattle.runner.proofs.styled_runs.push_refusals.Given as goal
 

@@ -1,6 +1,6 @@
 use Rattle.std.proofs.Common.{◌≡◌, ◌++◌, take, string_bytes}
 use Rattle.scenario.specs.Process.{names_of}
-use Rattle.styles.specs.Style.{style_of}
+use Rattle.scenario.specs.Styles.Style.{style_of}
 use Rattle.runner.specs.Reports.{outputs_told}
 use Rattle.runner.proofs.styled_runs.push_shown.Given as goal
 

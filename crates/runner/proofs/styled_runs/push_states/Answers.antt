@@ -2,7 +2,7 @@ use Rattle.std.proofs.Common.{◌≡◌, ◌∙◌, ◌+◌, ◌-◌, ◌<◌, �
 use Rattle.std.proofs.lemmas.List.{length-map}
 use Rattle.scenario.specs.Process.{names_of}
 use Rattle.sessions.specs.Journal.{world_at}
-use Rattle.styles.specs.Style.{style_of}
+use Rattle.scenario.specs.Styles.Style.{style_of}
 use Rattle.runner.specs.Reports.{process_told}
 use Rattle.results.proofs.ResultsLemmas.{process_more}
 use Rattle.runner.proofs.styled_runs.push_states.Goals as goal

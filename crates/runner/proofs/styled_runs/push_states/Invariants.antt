@@ -1,7 +1,7 @@
 use Rattle.std.proofs.Common.{◌≡◌, ◌++◌, take, string_bytes}
 use Rattle.scenario.specs.Process.{names_of}
 use Rattle.sessions.specs.Journal.{world_at}
-use Rattle.styles.specs.Style.{style_of}
+use Rattle.scenario.specs.Styles.Style.{style_of}
 use Rattle.results.specs.Results.{numbered}
 use Rattle.runner.specs.Reports.{process_told}
 use Rattle.runner.proofs.styled_runs.push_states.Given as goal

@@ -3,7 +3,7 @@ use Rattle.std.proofs.lemmas.Result.{IfOk-weaker}
 use Rattle.std.specs.Prelude.{option_map, string_bytes}
 use Rattle.scenario.specs.Process.{names_of}
 use Rattle.scenario.specs.declared.scenario.Step.{Step}
-use Rattle.styles.specs.Style.{TheStyle}
+use Rattle.scenario.specs.Styles.Style.{TheStyle}
 use Rattle.runner.specs.Inside.{AreNoted, notes_of, position_of}
 use Rattle.runner.specs.Orders.{Position}
 use Rattle.runner.specs.Reports.{told_text}

@@ -1,7 +1,7 @@
 -- Styles: how a run is printed.
 use Rattle.std.specs.Prelude.{ℕ, Bool, List, Option, option_map}
 use Rattle.scenario.specs.Process.{names_of}
-use Rattle.styles.specs.declared.style.Style.{Style}
+use Rattle.scenario.specs.declared.styles.style.Style.{Style}
 
 -- whether it is JSON, and the names of the processes, if they are printed in place of the numbers
 pub record TheStyle : Type 0 where

@@ -2,11 +2,11 @@
 
 ghost use Rattle.std.specs.Prelude.{◌≡◌, ◌++◌, OnOk, string_bytes};
 ghost use Rattle.scenario.specs.Hex.{hex_text};
-ghost use Rattle.styles.specs.Lines.{exact_text, output_text, process_text, quoted, counted, refused_text};
-ghost use Rattle.styles.specs.Style.{style_of};
+ghost use Rattle.scenario.specs.Styles.Lines.{exact_text, output_text, process_text, quoted, counted, refused_text};
+ghost use Rattle.scenario.specs.Styles.Style.{style_of};
 
-use crate::style::Style;
-use scenario::{Hex, phase_word};
+use crate::styles::style::Style;
+use crate::{Hex, phase_word};
 use std::alloc::AllocError;
 use world::PhaseName;
 
@@ -68,7 +68,7 @@ impl Style<'_> {
         ensures { OnOk result (string_bytes out.new ≡ string_bytes out.old ++ process_text (style_of self.entry) name.now phase length state.now) }
     {
         if !self.json {
-            return scenario::push_process(out, name, phase, length, state);
+            return crate::push_process(out, name, phase, length, state);
         }
         push_quoted(out, "{", "process", name)?;
         push_quoted(out, ",", "phase", phase_word(phase))?;
@@ -89,7 +89,7 @@ impl Style<'_> {
         ensures { OnOk result (string_bytes out.new ≡ string_bytes out.old ++ output_text (style_of self.entry) name.now ssn payload.now) }
     {
         if !self.json {
-            return scenario::push_output(out, name, ssn, payload);
+            return crate::push_output(out, name, ssn, payload);
         }
         push_quoted(out, "{", "output", name)?;
         push_counted(out, "ssn", ssn)?;
@@ -102,7 +102,7 @@ impl Style<'_> {
         ensures { OnOk result (string_bytes out.new ≡ string_bytes out.old ++ exact_text (style_of self.entry) exact) }
     {
         if !self.json {
-            return scenario::push_exact(out, exact);
+            return crate::push_exact(out, exact);
         }
         writeln!(out, "{{\"exact\":{exact}}}")
     }

@@ -1,10 +1,10 @@
 -- The fields of a call or an answer, in a style.
 use Rattle.std.specs.Prelude.{◌++◌, ℕ, Bool, List, codes, decimal, flat_map, if◌then◌else◌, Option, Some, None}
 use Rattle.scenario.specs.Order.{party_text}
-use Rattle.styles.specs.Style.{TheStyle}
-use Rattle.styles.specs.declared.field.Field.{Field}
-use Rattle.styles.specs.declared.field.Value.{Value}
-use Rattle.styles.specs.declared.field.Value.TheVariants.{Number, Party}
+use Rattle.scenario.specs.Styles.Style.{TheStyle}
+use Rattle.scenario.specs.declared.styles.field.Field.{Field}
+use Rattle.scenario.specs.declared.styles.field.Value.{Value}
+use Rattle.scenario.specs.declared.styles.field.Value.TheVariants.{Number, Party}
 
 -- a field as its label and its value
 abbrev pub field_of : Field → List ℕ × Value

@@ -3,13 +3,13 @@
 ghost use Rattle.std.specs.Prelude.{◌≡◌, ◌++◌, OnOk, map, string_bytes};
 ghost use Rattle.scenario.specs.Order.{party_text};
 ghost use Rattle.scenario.specs.Process.{names_of};
-ghost use Rattle.styles.specs.Fields.{labelled_text, field_of, field_text, fields_text, party_in, value_text};
-ghost use Rattle.styles.specs.Style.{style_of};
-ghost use Rattle.styles.specs.declared.field.Value.TheVariants.{Number, Party};
+ghost use Rattle.scenario.specs.Styles.Fields.{labelled_text, field_of, field_text, fields_text, party_in, value_text};
+ghost use Rattle.scenario.specs.Styles.Style.{style_of};
+ghost use Rattle.scenario.specs.declared.styles.field.Value.TheVariants.{Number, Party};
 
-use crate::style::Style;
+use crate::styles::style::Style;
+use crate::{NamedProcess, name_at};
 use indexmap::IndexMap;
-use scenario::{NamedProcess, name_at};
 use std::alloc::AllocError;
 
 /// The value of a field.

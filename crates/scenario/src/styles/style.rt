@@ -1,7 +1,7 @@
 //! Styles: how a run is printed.
 
+use crate::NamedProcess;
 use indexmap::IndexMap;
-use scenario::NamedProcess;
 
 /// How a run is printed.
 #[derive(Clone, Copy)]
