@@ -63,6 +63,8 @@ def without(words, *options):
 class Program:
     """How a program was called, and where; and its number in the system while it runs."""
 
+    said = None  # where those that begin write; none: where this writes
+
     def __init__(self, words, place, pid=None):
         self.words, self.place, self.pid = words, place, pid
         self.store, self.listen = value_of(words, "--store"), value_of(words, "--listen")
@@ -70,7 +72,7 @@ class Program:
     def begins(self, *more):
         """It runs on when who started it ends, and writes where that writes."""
         return subprocess.Popen([*self.words, *more], cwd=self.place, stdin=subprocess.DEVNULL, stdout=subprocess.DEVNULL,
-                                start_new_session=True)
+                                stderr=self.said, start_new_session=True)
 
     def says(self, *more):
         """Of words that start nothing: the status, and what is printed."""

@@ -1,14 +1,16 @@
 """Clusters that go on as others: states in another layout, numbers that go on, outputs that nobody took, and steps that fail."""
+import itertools
 import os
+import shutil
 import subprocess
-import sys
+import threading
 import time
 
 import lives
 import running
 from disk import preload
 from frames import INPUT, LOGGED, REFUSED, SSN, Framed, frame
-from listening import HERE, RELAY, begin, connect
+from listening import HERE, RELAY, begin, connect, tells
 from lives import Wrong
 from looks import files_of, told
 
@@ -33,9 +35,10 @@ class Heir:
 class Line:
     """Clusters that follow each other, by their files: a relay and a counter, whose sums so far are kept here."""
 
-    def __init__(self, folder, words=()):
+    def __init__(self, folder):
+        os.makedirs(folder)
         self.folder, self.number, self.sums, self.bits = folder, 1, [0], 32
-        self.cluster = begin(os.path.join(folder, "one"), [("relay", RELAY), ("counter", NARROW)], words=words)
+        self.cluster = begin(os.path.join(folder, "one"), [("relay", RELAY), ("counter", NARROW)])
         self.lines, self.file = self.cluster.lines, self.cluster.file_of(0)
 
     def next_file(self, image, state=" state=counter.state"):
@@ -96,6 +99,8 @@ def goes_on(line):
     line.works(talk, 8, takes=False)
     line.upgrades(line.next_file(WIDE), f"counter={WIDEN}")
     old, talk = running.Program(line.cluster.gateway.command(), line.folder), line.connects()
+    if "2 outputs handed out and not taken" not in line.programs[0].holds():
+        raise Wrong(f"two outputs don't go over: {line.programs[0].holds()}")
     talk.hears(line.output(3), line.output(4))
     talk.says("took counter 4")
     line.works(talk, 2 ** 40, takes=False)
@@ -120,6 +125,85 @@ def goes_on(line):
             raise Wrong(f"--inspect has no {part!r}: {text}")
 
 
+def begins_after(line, name="programs-2", *more):
+    """The words of a gateway that begins after the line's, and its program."""
+    file = os.path.join(line.folder, f"file-{name}")
+    with open(line.next_file(WIDE)) as like, open(file, "w") as made:
+        made.write(like.read().replace("programs-2", name))
+    words = ["--cluster", file, "--me", "0", "--store", os.path.join(line.folder, name), "--listen", "unix:" + line.lines]
+    return running.Program([lives.program_path(), *words], line.folder), ("--after", f"programs={line.cluster.gateway.store}", *more)
+
+
+def many(line):
+    """Inputs that their process hasn't taken hold the next cluster back. Outputs that nobody asked for go over, however many there are."""
+    talk, count = connect(line.cluster), 1500
+    words, line.sums = [f"input relay {number}" for number in range(count)], [0, *itertools.accumulate(range(count))]
+    writer = threading.Thread(target=talk.says, args=words, daemon=True)
+    writer.start()
+    talk.hears(*(f"logged relay {number + 1}" for number in range(count)))
+    tells(line.cluster.nodes[1], length=count)
+    relay = line.cluster.nodes[0]
+    relay.stop()
+    talk.says("input relay 7")
+    talk.hears(f"logged relay {count + 1}")
+    line.sums.append(line.sums[-1] + 7)
+    line.cluster.gateway.stop()
+    heir, after = begins_after(line)
+    for more in (("--check",), ()):
+        refuses(heir, 1, "1 inputs are under way to relay", *after, *more)
+    line.cluster.gateway.start()
+    relay.start()
+    line.upgrades(line.next_file(WIDE), f"counter={WIDEN}")
+    line.connects().hears(*map(line.output, range(1, count + 2)))
+
+
+def dies(line):
+    """A gateway that goes on dies before the n-th call on its disk, n = 1, 2, 3, ..: the old one goes on, or the next start does."""
+    talk, library = line.connects(), preload(line.folder)
+    line.works(talk, 3, 4)
+    line.works(talk, 5, takes=False)
+    line.cluster.stop()
+    store = line.cluster.gateway.store
+    shutil.copytree(store, store + ".before")
+    heir, after = begins_after(line)
+    old, has_died, call, seen = running.Program(line.cluster.gateway.command(), line.folder), True, 0, set()
+    while has_died:
+        call += 1
+        for place in (store, heir.store):
+            shutil.rmtree(place, ignore_errors=True)
+        shutil.copytree(store + ".before", store)
+        has_died = is_dead(subprocess.Popen(heir.words + list(after), stdin=subprocess.DEVNULL, stderr=subprocess.DEVNULL,
+                                            env={**os.environ, "LD_PRELOAD": library, "DIE_AT": str(call)}), heir)
+        is_followed = "followed by programs-2" in old.holds()
+        seen.add((has_died, is_followed))
+        if is_followed:
+            refuses(old, 7, "the cluster programs-2 goes on where this one ended", "--check")
+            refuses(begins_after(line, "programs-3")[0], 7, "the cluster programs-2 goes on", *after, "--check")
+        elif old.says("--check")[0] or "before" in heir.holds():
+            raise Wrong(f"before call {call}: {old.holds()}, {heir.holds()}")
+        if is_dead(subprocess.Popen([*heir.words, *after], stdin=subprocess.DEVNULL), heir):
+            raise Wrong(f"after call {call} it doesn't begin")
+        text = heir.holds()
+        if not all(part in text for part in ("before 1 3 0\nbefore 2 0 3\n", "1 outputs handed out and not taken")):
+            raise Wrong(f"after call {call}: {text}")
+    if seen != {(True, False), (True, True), (False, True)}:
+        raise Wrong(f"{call} calls: {seen}")
+
+
+def is_dead(child, program):
+    """Whether it died, or came so far that its store has an identity, and is stopped then."""
+    lives.running.add(child)
+    while child.poll() is None and "cluster-id" not in program.holds():
+        time.sleep(0.01)
+    while child.poll() is None and not os.path.exists(program.listen[5:]):
+        time.sleep(0.01)
+    child.terminate()
+    status = child.wait()
+    if status not in (0, -9):
+        raise Wrong(f"{program.words} ends with {status}")
+    return status == -9
+
+
 def fails(line):
     """Each step that fails goes back: the old cluster runs on, and nothing is lost."""
     good = line.next_file(NARROW)
@@ -142,7 +226,8 @@ def fails(line):
 
 
 def upgrades(folder):
-    os.makedirs(folder)
-    line = Line(folder)
+    line = Line(os.path.join(folder, "one"))
     goes_on(line)
     fails(line)
+    many(Line(os.path.join(folder, "many")))
+    dies(Line(os.path.join(folder, "dying")))
