@@ -241,8 +241,9 @@ class Line:
         """A little later than now: what runs then of both clusters, or what runs next. Those of the next one."""
         time.sleep(self.chance.random() * PAUSE)
         if victim == "upgrade":
-            command.kill()
-            self.counts["upgrade killed"] += 1
+            number = self.chance.choice((signal.SIGKILL, signal.SIGTERM))
+            command.send_signal(number)
+            self.counts[f"upgrade {number.name}"] += 1
             return {}
         dead = []
         while not dead and command.poll() is None:
