@@ -47,11 +47,16 @@ static void print_name(const char *identity, int process) {
     printf("process %d %.*s: ", process, (int)strcspn(name, " \n"), name);
 }
 
+static struct numbers read_before(const char *identity) {
+    struct numbers before = {0};
+    for (const char *end; (end = strchr(identity, '\n')); identity = end + 1) numbers_read(identity, &before);
+    return before;
+}
+
 static void print_processes(const uint8_t *whole, const char *identity) {
     struct stored all[PROCESS_LIMIT + 1];
-    struct numbers before = {0};
+    const struct numbers before = read_before(identity);
     int count = stored_read(whole, all);
-    for (const char *line = identity; line; line = strchr(line, '\n')) numbers_read(line += *line == '\n', &before);
     for (int p = 1; p <= count; p++) {
         print_name(identity, p);
         printf("%" PRIu64 " inputs logged, %" PRIu64 " of them kept, %" PRIu64 " not taken; %" PRIu64 " outputs shown; incarnation %" PRIu64

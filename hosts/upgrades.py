@@ -10,7 +10,7 @@ import lives
 import running
 from disk import preload
 from frames import INPUT, LOGGED, REFUSED, SSN, Framed, frame
-from listening import HERE, RELAY, begin, connect, tells
+from listening import ECHO, HERE, RELAY, begin, connect, payload, tells
 from lives import Wrong
 from looks import files_of, told
 
@@ -41,12 +41,12 @@ class Line:
         self.cluster = begin(os.path.join(folder, "one"), [("relay", RELAY), ("counter", NARROW)])
         self.lines, self.file = self.cluster.lines, self.cluster.file_of(0)
 
-    def next_file(self, image, state=" state=counter.state"):
-        """The next cluster has the same addresses."""
+    def next_file(self, image, more=""):
+        """The next cluster has the same addresses, and maybe one process more, which is new."""
         path, where = os.path.join(self.folder, f"cluster-{self.number + 1}"), self.cluster.address
         with open(path, "w") as file:
-            file.write(f"cluster programs-{self.number + 1}\ngateway {where(0)}\nprocess 2 counter {image} {where(2)}{state}\n"
-                       f"process 1 relay {RELAY} {where(1)} state=relay.state\n")
+            file.write(f"cluster programs-{self.number + 1}\ngateway {where(0)}\n{more and f'process 3 echo {more} {where(3)}'}\n"
+                       f"process 2 counter {image} {where(2)} state=counter.state\nprocess 1 relay {RELAY} {where(1)} state=relay.state\n")
         return path
 
     def upgrades(self, file, *images, status=0, says=""):
@@ -97,13 +97,16 @@ def goes_on(line):
     line.works(talk, 5, 6, 7, takes=False)
     talk.says("took counter 2")
     line.works(talk, 8, takes=False)
-    line.upgrades(line.next_file(WIDE), f"counter={WIDEN}")
+    line.upgrades(line.next_file(WIDE, ECHO), f"counter={WIDEN}")
     old, talk = running.Program(line.cluster.gateway.command(), line.folder), line.connects()
     if "2 outputs handed out and not taken" not in line.programs[0].holds():
         raise Wrong(f"two outputs don't go over: {line.programs[0].holds()}")
     talk.hears(line.output(3), line.output(4))
     talk.says("took counter 4")
     line.works(talk, 2 ** 40, takes=False)
+    talk.says("input echo 6")
+    talk.hears("logged echo 1", f"output echo 1 {payload(6)[:16]}{'00' * 56}")
+    talk.says("took echo 1")
     for more in ((), ("--check",)):
         refuses(old, 7, "the cluster programs-2 goes on where this one ended", *more)
     gateway = line.programs[0]
@@ -120,7 +123,7 @@ def goes_on(line):
     talk.hears("refused 2 no output has this SSN yet")
     line.works(talk, 9)
     text = gateway.holds()
-    for part in ("before 1 4 0\n", "before 2 0 4\n", "process 1 relay: 6 inputs logged", "0 not taken; 6 outputs shown"):
+    for part in ("before 1 4 0\n", "before 2 0 4\n", "process 1 relay: 6 inputs logged", "process 3 echo: 1 inputs logged", "0 not taken; 6 outputs shown"):
         if part not in text:
             raise Wrong(f"--inspect has no {part!r}: {text}")
 
