@@ -70,6 +70,7 @@ static int folder_claim(struct store *store) {
     }
     int status = store->folder < 0 ? STATUS_DONE : take_lock(store, 0);
     if (store->lock >= 0) close(store->lock);
+    store->lock = -1;
     return status;
 }
 

@@ -9,9 +9,9 @@ enum { FIGURES = 13 };
 static size_t figures(const struct gateway_host *host, struct figure out[FIGURES]) {
     uint64_t logged = 0, waiting = 0, shown = 0, clients = 0;
     for (int p = 1; p <= host->cluster->count; p++) {
-        logged += host->counts.logged[p];
         waiting += counts_waiting(&host->counts, p);
-        shown += host->counts.shown[p];
+        if (host->counts.logged[p] > 0) logged += numbers_input(&host->ids.before, p, host->counts.logged[p]);
+        if (host->counts.shown[p] > 0) shown += numbers_output(&host->ids.before, p, host->counts.shown[p]);
     }
     for (int i = 0; i < CLIENTS_LIMIT; i++) clients += host->clients.all[i].out >= 0;
     const struct figure all[FIGURES] = {

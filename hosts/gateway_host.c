@@ -28,8 +28,8 @@ static void input(struct gateway_host *host, struct client *client, const struct
     if (code != SBLOG_GATEWAY_DONE) return;
     answer->number = ssn;
     if (!is_new) return;
-    *last = ssn;
     counts_input(&host->counts, request->process, ssn);
+    *last = answer->number = numbers_input(&host->ids.before, request->process, ssn);
 }
 
 /* One program alone takes outputs, while it is there: first those that nobody has taken. */
@@ -96,9 +96,11 @@ static bool hand_out(struct gateway_host *host) {
     for (int count = 0; is_wanted; count++) {
         if (count == TURN || outputs_are_full(waiting)) return true;
         struct output *next = outputs_place(waiting);
+        if (!next) return true;
         uint32_t code = sblog_gateway_output(&host->gateway, &next->process, &next->ssn, next->payload, sizeof next->payload,
                                              &next->size);
         if (code != SBLOG_GATEWAY_DONE) return false;
+        next->ssn = numbers_output(&host->ids.before, next->process, next->ssn);
         outputs_add(waiting);
     }
     return false;

@@ -4,6 +4,7 @@
 #include "privileges.h"
 #include "report.h"
 #include "stored.h"
+#include "succession.h"
 
 #include <stdlib.h>
 #include <string.h>
@@ -34,26 +35,20 @@ static int begin_new(struct gateway_host *host, const struct owner *owner, const
     if (code != SBLOG_GATEWAY_DONE) return code_refused("open", code, 0);
     if ((code = gateway_bytes(host, sblog_gateway_store, &size)) != SBLOG_GATEWAY_DONE) return code_refused("store", code, 0);
     bool is_new = !whole->at || (whole->size == size && !memcmp(whole->at, host->bytes, size));
-    if (!is_new || changes->at || host->waiting.count > 0) {
+    if (!is_new || changes->at || (host->waiting.count > 0 && !host->options->after)) {
         report("%s: a gateway's store is there, and the file identity is missing", host->folder.path);
         return STATUS_STORE;
     }
-    int status = gateway_write_whole(host);
+    int status = host->options->after ? succession_take(host) : STATUS_DONE;
+    if (status == STATUS_DONE) status = gateway_write_whole(host);
+    outputs_are_kept(&host->waiting);
     if (status == STATUS_DONE) status = id_draw(&host->ids.cluster);
     return status == STATUS_DONE ? store_write_identity(&host->folder, owner, &host->ids) : status;
 }
 
 static int begin_again(struct gateway_host *host, const struct bytes *whole, const struct bytes *changes) {
-    uint32_t fault = 0, code;
-    if (!whole->at) {
-        report("%s: neither gateway.0 nor gateway.1 holds a whole store", host->folder.path);
-        return STATUS_STORE;
-    }
-    code = sblog_gateway_revive(whole->at, whole->size, PAGE, TICK, &host->gateway, &fault);
-    if (code != SBLOG_GATEWAY_DONE) return code_refused("the store", code, fault);
-    if (changes->size > 0) code = sblog_gateway_apply(&host->gateway, changes->at, changes->size, &fault);
-    if (code != SBLOG_GATEWAY_DONE) return code_refused("the changes since the store", code, fault);
-    return gateway_write_whole(host);
+    int status = stored_revive(&host->folder, whole, changes, &host->gateway);
+    return status == STATUS_DONE ? gateway_write_whole(host) : status;
 }
 
 struct owner gateway_owner(const struct gateway_host *host) {
@@ -63,7 +58,7 @@ struct owner gateway_owner(const struct gateway_host *host) {
 /* The store that was written tells the SSN of each process's last input. */
 static void learn_last(struct gateway_host *host) {
     struct stored all[PROCESS_LIMIT + 1];
-    for (int p = stored_read(host->bytes, all); p > 0; p--) host->last[p] = all[p].logged;
+    for (int p = stored_read(host->bytes, all); p > 0; p--) host->last[p] = numbers_input(&host->ids.before, p, all[p].logged);
 }
 
 /* Begins with what is stored. */
@@ -84,6 +79,7 @@ int gateway_begin(struct gateway_host *host) {
     const struct options *options = host->options;
     const struct owner owner = gateway_owner(host);
     int status = store_open(&host->folder, options->store, &owner, false, &host->ids, &is_new);
+    if (status == STATUS_DONE) status = succession_refuses(&host->folder);
     if (status == STATUS_DONE) status = transport_open(&host->transport, host->cluster, 0);
     if (status == STATUS_DONE) pace_begin(&host->pace, &host->transport, options->tick);
     if (status == STATUS_DONE) status = metrics_open(&host->metrics, &options->metrics);
@@ -99,6 +95,7 @@ int gateway_look(struct gateway_host *host) {
     const struct options *options = host->options;
     const struct owner owner = gateway_owner(host);
     int store = store_open(&host->folder, options->store, &owner, true, &host->ids, &is_new), status = store;
+    if (status == STATUS_DONE) status = succession_refuses(&host->folder);
     status_first(&status, transport_look(host->cluster, 0));
     status_first(&status, address_look(&options->metrics, SOCK_STREAM));
     status_first(&status, address_look(&options->listen, SOCK_STREAM));

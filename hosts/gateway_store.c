@@ -174,10 +174,11 @@ static size_t read_item(const uint8_t *item, size_t left, struct bytes *changes,
         outputs_forget(outputs);
         return TAKEN_SIZE;
     }
-    if (item[0] != OUTPUT || left < OUTPUT_HEAD || outputs_are_full(outputs)) return 0;
+    if (item[0] != OUTPUT || left < OUTPUT_HEAD) return 0;
     size = number_at(item + OUTPUT_HEAD - OUTPUT_SIZE, OUTPUT_SIZE);
     if (size > PAYLOAD_LIMIT || size > left - OUTPUT_HEAD) return 0;
     struct output *output = outputs_place(outputs);
+    if (!output) return 0;
     *output = (struct output){.process = item[1], .ssn = ssn, .size = size};
     memcpy(output->payload, item + OUTPUT_HEAD, size);
     outputs_add(outputs);
@@ -228,8 +229,7 @@ static int read_last(struct gateway_store *store, uint8_t *const all[2], const s
     store->at = BLOCK + size + items;
     bool is_read = bytes_add(whole, file + BLOCK, size) && read_items(file + BLOCK + size, items, changes, outputs) &&
                    read_records(store, file, lengths[last], changes, outputs);
-    outputs->written = outputs->count;
-    outputs_are_stored(outputs, outputs->count);
+    outputs_are_kept(outputs);
     if (is_read) return STATUS_DONE;
     report("%s/%s holds what no gateway wrote", store->folder->path, store_is_remote(store->folder) ? LOG : NAMES[last]);
     return STATUS_STORE;

@@ -2,7 +2,7 @@
 #ifndef ID_H
 #define ID_H
 
-#include "cluster.h"
+#include "numbers.h"
 
 #include <stdbool.h>
 #include <stdint.h>
@@ -15,9 +15,10 @@ struct id {
 };
 
 /* Which cluster a store is of, none if the gateway hasn't told yet; and the ids of stores: a process knows its own, the gateway that
-   of each process that it has welcomed. */
+   of each process that it has welcomed, and which numbers were given before its cluster began. */
 struct ids {
     struct id cluster, stores[PROCESS_LIMIT + 1];
+    struct numbers before;
 };
 
 /* Draws one; a status, and why is reported. */

@@ -47,34 +47,37 @@ static void print_name(const char *identity, int process) {
     printf("process %d %.*s: ", process, (int)strcspn(name, " \n"), name);
 }
 
+static struct numbers read_before(const char *identity) {
+    struct numbers before = {0};
+    for (const char *end; (end = strchr(identity, '\n')); identity = end + 1) numbers_read(identity, &before);
+    return before;
+}
+
 static void print_processes(const uint8_t *whole, const char *identity) {
     struct stored all[PROCESS_LIMIT + 1];
+    const struct numbers before = read_before(identity);
     int count = stored_read(whole, all);
     for (int p = 1; p <= count; p++) {
         print_name(identity, p);
         printf("%" PRIu64 " inputs logged, %" PRIu64 " of them kept, %" PRIu64 " not taken; %" PRIu64 " outputs shown; incarnation %" PRIu64
-               "\n", all[p].logged, all[p].kept, all[p].untaken, all[p].shown, all[p].incarnation);
+               "\n", numbers_input(&before, p, all[p].logged), all[p].kept, all[p].untaken, numbers_output(&before, p, all[p].shown),
+               all[p].incarnation);
     }
 }
 
-/* The store with all that changed since, as the library writes it; to be freed. */
-static int read_whole(const struct bytes *whole, const struct bytes *changes, uint8_t **bytes) {
-    sblog_gateway gateway = {0};
-    uint32_t fault = 0, code = sblog_gateway_revive(whole->at, whole->size, PAGE, TICK, &gateway, &fault);
-    size_t size, room = whole->size + 3 * changes->size + PAGE;
-    *bytes = NULL;
-    if (code == SBLOG_GATEWAY_DONE && changes->size > 0) code = sblog_gateway_apply(&gateway, changes->at, changes->size, &fault);
-    if (code != SBLOG_GATEWAY_DONE) return code_refused("the store", code, fault);
-    *bytes = malloc(room);
-    code = *bytes ? sblog_gateway_store(&gateway, *bytes, room, &size) : SBLOG_GATEWAY_MEMORY;
-    sblog_gateway_close(&gateway);
-    return code == SBLOG_GATEWAY_DONE ? STATUS_DONE : code_refused("the store", code, 0);
+static int print_follower(const struct store *store) {
+    char *name;
+    int status = store_read_follower(store, &name);
+    if (status == STATUS_DONE && name) printf("followed by %s\n", name);
+    free(name);
+    return status;
 }
 
 static int inspect_gateway(const struct store *folder, const char *identity) {
     static struct outputs waiting;
     struct gateway_store store;
     struct bytes whole = {0}, changes = {0};
+    sblog_gateway gateway = {0};
     uint8_t *bytes = NULL;
     int status = gateway_store_open(&store, folder, &whole, &changes, &waiting);
     if (status != STATUS_DONE) return status;
@@ -84,8 +87,10 @@ static int inspect_gateway(const struct store *folder, const char *identity) {
     }
     printf("generation %" PRIu64 ": a store of %zu bytes, and %zu bytes of changes since\n", store.generation, whole.size, changes.size);
     printf("%zu outputs handed out and not taken\n", waiting.count);
-    status = read_whole(&whole, &changes, &bytes);
+    status = stored_whole(folder, &whole, &changes, &gateway, &bytes);
     if (status == STATUS_DONE) print_processes(bytes, identity);
+    if (status == STATUS_DONE) status = print_follower(folder);
+    sblog_gateway_close(&gateway);
     free(bytes);
     bytes_end(&whole);
     bytes_end(&changes);

@@ -27,6 +27,7 @@ static const char USAGE[] =
     "  --cluster FILE         who there is, with which image, and where\n"
     "  --me N                 the process's number in the file, 1 to 15, or 0\n"
     "  --store STORE          its store: a folder, which is made where it isn't there; nats:URL/BUCKET, or postgres:CONNINFO\n"
+    "  --after NAME=STORE     a new gateway goes on where that of the cluster NAME ended, which has this store\n"
     "  --durable              what a process sends waits for a checkpoint that covers it, as it does anyway\n"
     "  --volatile             it doesn't wait: messages may be lost if two such processes are down at once\n"
     "  --checkpoint-every K   of a volatile process: a checkpoint after K messages (1 to 65536; 256)\n"
@@ -45,12 +46,12 @@ static const char USAGE[] =
     "\n"
     "SIGUSR1 prints that line once. SIGHUP reads the files of --tls again. SIGTERM and SIGINT end a gateway, and suspend a process:\n"
     "its next start goes on. A second one ends it as SIGKILL does, and so does a disk that takes over 10 seconds.\n"
-    "Statuses: 0; 1 --export, while messages are under way; 2 the command line; 3 a refused image; 4 a refused cluster file;\n"
+    "Statuses: 0; 1 --export or --after, while messages are under way; 2 the command line; 3 a refused image; 4 a refused cluster file;\n"
     "5 want of memory; 6 input and output; 7 a store that isn't this process's or its cluster's, is in use, isn't suspended where\n"
     "that is needed, or was claimed by another life.\n";
 
 enum { CLUSTER = 1, ME, STORE, CHECKPOINT_EVERY, DURABLE, VOLATILE, EVERY_TICK, LISTEN, METRICS, STATUS, LOG, TLS, USER, SANDBOX, CHECK,
-       INSPECT, EXPORT, HELP, VERSION };
+       INSPECT, EXPORT, AFTER, HELP, VERSION };
 
 static const struct option OPTIONS[] = {
     {"cluster", required_argument, NULL, CLUSTER}, {"me", required_argument, NULL, ME},
@@ -62,7 +63,8 @@ static const struct option OPTIONS[] = {
     {"check", no_argument, NULL, CHECK},           {"inspect", required_argument, NULL, INSPECT},
     {"log", required_argument, NULL, LOG},         {"user", required_argument, NULL, USER},
     {"sandbox", no_argument, NULL, SANDBOX},       {"tls", required_argument, NULL, TLS},
-    {"export", required_argument, NULL, EXPORT},   {NULL, 0, NULL, 0},
+    {"export", required_argument, NULL, EXPORT},   {"after", required_argument, NULL, AFTER},
+    {NULL, 0, NULL, 0},
 };
 
 /* A number in its range. */
@@ -83,6 +85,12 @@ static bool read_form(const char *text, enum log_form *form) {
     return *form == LOG_JSON || !strcmp(text, "pairs");
 }
 
+/* NAME=STORE */
+static bool is_place(const char *text) {
+    size_t size = strcspn(text, "=");
+    return size > 0 && size <= NAME_LIMIT && text[size] && text[size + 1];
+}
+
 static bool read_option(int option, const char *text, struct options *options) {
     uint64_t number = 0;
     bool is_taken = true;
@@ -100,6 +108,7 @@ static bool read_option(int option, const char *text, struct options *options) {
     case CHECK: options->looks = true; break;
     case INSPECT: options->inspected = text; break;
     case EXPORT: options->exported = text; return *text;
+    case AFTER: options->after = text; return is_place(text);
     case TLS: options->tls = text; break;
     case LISTEN: return read_address(text, CARRIER_TLS, &options->listen);
     case METRICS: return read_address(text, CARRIER_TCP, &options->metrics);
@@ -125,6 +134,7 @@ static int judge(const struct options *options) {
     if (!options->cluster || options->me < 0 || !options->store) report("--cluster, --me and --store are needed; see --help");
     else if (options->listen.where && options->me != 0) report("--listen is of the gateway alone");
     else if (options->listen.carrier == CARRIER_TLS && !options->tls) report("--tls is needed by --listen tls:");
+    else if (options->after && options->me != 0) report("--after is of the gateway alone");
     else if (options->me == 0 && options->exported) report("--export is of processes alone: a gateway has no state");
     else if (options->looks && options->exported) report("--check and --export exclude each other");
     else if (options->me == 0 && (options->says_durable || !options->durable))

@@ -9,7 +9,7 @@
 #include <stdint.h>
 
 struct options {
-    const char *cluster, *store, *inspected, *exported, *user, *tls;
+    const char *cluster, *store, *after, *inspected, *exported, *user, *tls;
     struct address listen, metrics; /* without a place if they weren't asked for */
     int me;
     uint32_t checkpoint_every; /* messages */

@@ -1,14 +1,27 @@
 #include "outputs.h"
 
+#include <stdlib.h>
 #include <string.h>
 
-bool outputs_are_full(const struct outputs *outputs) { return outputs->count == OUTPUTS_LIMIT; }
+bool outputs_are_full(const struct outputs *outputs) { return outputs->count >= OUTPUTS_LIMIT; }
+
+/* They are at the front of twice as many places. */
+static bool make_room(struct outputs *outputs) {
+    size_t room = outputs->count < OUTPUTS_LIMIT ? 2 * OUTPUTS_LIMIT : 2 * outputs->count;
+    struct output *places = room > outputs->room ? malloc(room * sizeof *places) : outputs->places;
+    if (!places) return false;
+    if (outputs->count > 0) memmove(places, outputs->all, outputs->count * sizeof *places);
+    if (places != outputs->places) {
+        free(outputs->places);
+        outputs->room = room;
+    }
+    outputs->all = outputs->places = places;
+    return true;
+}
 
 struct output *outputs_place(struct outputs *outputs) {
-    struct output *end = outputs->places + 2 * OUTPUTS_LIMIT;
-    if (outputs->all && outputs->all + outputs->count == end) memcpy(outputs->places, outputs->all, outputs->count * sizeof *end);
-    if (!outputs->all || outputs->all + outputs->count == end) outputs->all = outputs->places;
-    return &outputs->all[outputs->count];
+    bool is_at_end = outputs->all + outputs->count == outputs->places + outputs->room;
+    return is_at_end && !make_room(outputs) ? NULL : &outputs->all[outputs->count];
 }
 
 void outputs_add(struct outputs *outputs) { outputs->count++; }
@@ -18,6 +31,11 @@ void outputs_are_stored(struct outputs *outputs, size_t count) {
         const struct output *output = &outputs->all[outputs->stored++];
         outputs->given[output->process] = output->ssn;
     }
+}
+
+void outputs_are_kept(struct outputs *outputs) {
+    outputs->written = outputs->count;
+    outputs_are_stored(outputs, outputs->count - outputs->stored);
 }
 
 bool outputs_take(struct outputs *outputs, int process, uint64_t ssn) {

@@ -9,7 +9,7 @@
 #include <stddef.h>
 #include <stdint.h>
 
-enum { OUTPUTS_LIMIT = 1024 };
+enum { OUTPUTS_LIMIT = 1024 }; /* from so many on, none is handed out */
 
 struct output {
     uint8_t process, payload[PAYLOAD_LIMIT];
@@ -18,7 +18,8 @@ struct output {
 };
 
 struct outputs {
-    struct output places[2 * OUTPUTS_LIMIT], *all; /* from which of these on they are; null before the first one */
+    struct output *places, *all; /* from which of these on they are */
+    size_t room;
     size_t count, written, stored, printed; /* of these are in the log, are durable, and were printed for the program that takes them */
     uint64_t given[PROCESS_LIMIT + 1]; /* SSN of the last output of each process that is durable in this life, 0 for none */
     uint64_t taken[PROCESS_LIMIT + 1]; /* up to which SSN those of each process are taken, and still to be forgotten; 0 for none */
@@ -26,12 +27,13 @@ struct outputs {
 
 bool outputs_are_full(const struct outputs *outputs);
 
-/* The place of the next one, if there is room; and that it was filled. */
+/* The place of the next one, null without memory; and that it was filled. */
 struct output *outputs_place(struct outputs *outputs);
 void outputs_add(struct outputs *outputs);
 
-/* So many more are durable. */
+/* So many more are durable; and all are, in a log that was written whole. */
 void outputs_are_stored(struct outputs *outputs, size_t count);
+void outputs_are_kept(struct outputs *outputs);
 
 /* Those of a process are taken up to an SSN; false if none that is durable has it. */
 bool outputs_take(struct outputs *outputs, int process, uint64_t ssn);

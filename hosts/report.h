@@ -8,7 +8,7 @@
 
 enum status {
     STATUS_DONE = 0,
-    STATUS_UNDER_WAY = 1, /* a state was exported, and messages of its process are under way */
+    STATUS_UNDER_WAY = 1, /* a state was exported, or another cluster is to go on, and messages are under way */
     STATUS_COMMAND = 2, /* a command line that isn't taken */
     STATUS_IMAGE = 3,   /* a refused image */
     STATUS_CLUSTER = 4, /* a refused cluster file */

@@ -24,9 +24,9 @@ def lives_on(node, incarnation, is_resumed):
     said, node.status = len(node.said), None
     node.start()
     node.wait_up()
-    tells(node, incarnation=incarnation, exact="yes")
     if any("resumed in incarnation" in line for line in node.said[said:]) != is_resumed:
         raise Wrong(f"{node.name} is up in incarnation {incarnation}: {node.said[said:]}")
+    tells(node, incarnation=incarnation, exact="yes")
 
 
 def ends(program, status):

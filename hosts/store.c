@@ -11,6 +11,7 @@
 enum { IDENTITY_LIMIT = 1024, NUMBER_TEXT = 32 };
 
 static const char *const IDENTITY = "identity", *const INCARNATION = "incarnation", *const INEXACT = "inexact";
+static const char *const FOLLOWER = "follower";
 static const char *const CLUSTER_ID = "cluster-id", *const STORE_ID = "store-id";
 
 /* The first lines of the file `identity`, in their order, and what another one means. The ids are after them. */
@@ -57,10 +58,11 @@ static int compare(const struct store *store, const struct owner *owner, char *s
     return STATUS_DONE;
 }
 
-/* A line of an id; false for another one. */
+/* A line of an id, or of numbers; false for another one. */
 static bool read_id_line(char *line, struct ids *ids) {
     char text[ID_TEXT], word[ID_TEXT];
     int process;
+    if (numbers_read(line, &ids->before)) return true;
     if (sscanf(line, "cluster-id %32s", text) == 1) return !strcmp(text, "none") || id_read(text, &ids->cluster);
     if (sscanf(line, "store-id %d %32s", &process, word) != 2 || process < 1 || process > PROCESS_LIMIT) return false;
     return id_read(word, &ids->stores[process]);
@@ -88,7 +90,7 @@ static char *write_ids(char *at, const struct ids *ids) {
         id_text(&ids->stores[p], text);
         at += sprintf(at, "%s %d %s\n", STORE_ID, p, text);
     }
-    return at;
+    return numbers_write(&ids->before, at);
 }
 
 int store_write_identity(const struct store *store, const struct owner *owner, const struct ids *ids) {
@@ -108,7 +110,7 @@ int store_read_identity(const struct store *store, char **text) {
     return status;
 }
 
-static int judge(const struct store *store, const struct owner *owner, struct ids *ids, bool *is_new) {
+int store_judge(const struct store *store, const struct owner *owner, struct ids *ids, bool *is_new) {
     char *stored, *rest = NULL;
     int status = store_read_identity(store, &stored);
     *is_new = !stored;
@@ -145,7 +147,7 @@ int store_open(struct store *store, const char *where, const struct owner *owner
     *is_new = true;
     int status = store_find(store, where, owner->cluster->name, owner->me, looks);
     if (status == STATUS_DONE) status = store->storage->claim(store);
-    return status == STATUS_DONE ? judge(store, owner, ids, is_new) : status;
+    return status == STATUS_DONE ? store_judge(store, owner, ids, is_new) : status;
 }
 
 int store_write(const struct store *store, const char *name, const void *bytes, size_t size) {
@@ -201,3 +203,13 @@ int store_write_incarnation(const struct store *store, uint64_t incarnation) { r
 int store_read_inexact(const struct store *store, uint64_t *incarnation) { return read_number(store, INEXACT, incarnation); }
 
 int store_write_inexact(const struct store *store, uint64_t incarnation) { return write_number(store, INEXACT, incarnation); }
+
+int store_read_follower(const struct store *store, char **name) {
+    uint8_t *text;
+    size_t size;
+    int status = store_read(store, FOLLOWER, &text, &size);
+    *name = (char *)text;
+    return status;
+}
+
+int store_write_follower(const struct store *store, const char *name) { return store_write(store, FOLLOWER, name, strlen(name)); }

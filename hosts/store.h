@@ -38,6 +38,9 @@ bool store_is_remote(const struct store *store);
    its ids are read. With looks nothing is made or kept claimed. */
 int store_open(struct store *store, const char *where, const struct owner *owner, bool looks, struct ids *ids, bool *is_new);
 
+/* The last of that: of a store that was claimed, whose it is. */
+int store_judge(const struct store *store, const struct owner *owner, struct ids *ids, bool *is_new);
+
 /* Whose the store is, as its file says, to be freed; null if nobody's name is in it. */
 int store_read_identity(const struct store *store, char **text);
 
@@ -62,6 +65,10 @@ int store_write_incarnation(const struct store *store, uint64_t incarnation);
 /* The first life that wasn't exact, 0 for none. */
 int store_read_inexact(const struct store *store, uint64_t *incarnation);
 int store_write_inexact(const struct store *store, uint64_t incarnation);
+
+/* Of a gateway: the name of the cluster that goes on where this one ended, to be freed; null for none. */
+int store_read_follower(const struct store *store, char **name);
+int store_write_follower(const struct store *store, const char *name);
 
 void store_close(struct store *store);
 

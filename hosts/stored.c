@@ -1,11 +1,35 @@
 #include "stored.h"
 
-#include "bytes.h"
+#include "limits.h"
+#include "report.h"
 
 #include <stddef.h>
+#include <stdlib.h>
 
 /* Places in a store, and bytes of its numbers. */
 enum { COUNT = 4, HEAD = 8, PROCESS_SIZE = 17, WORD = 8, HALF = 4, LENGTH = 2 };
+
+int stored_revive(const struct store *store, const struct bytes *whole, const struct bytes *changes, sblog_gateway *gateway) {
+    uint32_t fault = 0, code;
+    if (!whole->at) {
+        report("%s: neither gateway.0 nor gateway.1 holds a whole store", store->path);
+        return STATUS_STORE;
+    }
+    code = sblog_gateway_revive(whole->at, whole->size, PAGE, TICK, gateway, &fault);
+    if (code != SBLOG_GATEWAY_DONE) return code_refused("the store", code, fault);
+    if (changes->size > 0) code = sblog_gateway_apply(gateway, changes->at, changes->size, &fault);
+    return code == SBLOG_GATEWAY_DONE ? STATUS_DONE : code_refused("the changes since the store", code, fault);
+}
+
+int stored_whole(const struct store *store, const struct bytes *whole, const struct bytes *changes, sblog_gateway *gateway,
+                 uint8_t **bytes) {
+    size_t size, room = whole->size + 3 * changes->size + PAGE;
+    int status = stored_revive(store, whole, changes, gateway);
+    if (status != STATUS_DONE) return status;
+    *bytes = malloc(room);
+    uint32_t code = *bytes ? sblog_gateway_store(gateway, *bytes, room, &size) : SBLOG_GATEWAY_MEMORY;
+    return code == SBLOG_GATEWAY_DONE ? STATUS_DONE : code_refused("the store", code, 0);
+}
 
 int stored_read(const uint8_t *store, struct stored all[PROCESS_LIMIT + 1]) {
     int count = store[COUNT];

@@ -1,13 +1,5 @@
 /* Makes the state of a counter whose numbers have 64 bits of that of one whose numbers have 32. State 16. */
-#include "sblog_handler.h"
-
-struct narrow {
-	u32 sum, count;
-};
-
-struct wide {
-	u64 sum, count;
-};
+#include "counter.h"
 
 u64 widen(const struct narrow *old, struct wide *state, u64 length)
 {

@@ -11,7 +11,7 @@ import lives
 from disk import preload, read
 from lives import Wrong
 from server import Server
-from storage import Bucket, Table
+from storage import with_each
 
 VOLATILE = ["--volatile", "--checkpoint-every", "64"]
 FLOW = 100  # transfers that are through before the next stop
@@ -184,17 +184,13 @@ KINDS = {
 
 def elsewhere(folder, rounds, seed, port, begin):
     """Half of the rounds with each kind of storage, and one kill at a time, at random."""
-    rows, right = {}, True
-    for kind in (kind for kind in (Bucket, Table) if kind.is_here()):
-        name, faults = kind.__name__.lower(), itertools.cycle(AT_RANDOM)
-        os.makedirs(os.path.join(folder, name))
-        with kind(os.path.join(folder, name), "127.0.0.1", port) as storage:
-            campaign = begin(os.path.join(folder, name, "cluster"), seed, words=VOLATILE, storage=storage)
+    def one(place, kind):
+        faults = itertools.cycle(AT_RANDOM)
+        with kind(place, "127.0.0.1", port) as storage:
+            campaign = begin(os.path.join(place, "cluster"), seed, words=VOLATILE, storage=storage)
             Stops(campaign, None, [alone(campaign.cluster.nodes, campaign.chance, faults) for _ in range(rounds // 2)]).run()
-            row, is_right = campaign.finish()
-        rows.update({f"{name} {key}": value for key, value in row.items()})
-        right = right and is_right
-    return rows, right
+            return campaign.finish()
+    return with_each(folder, one)
 
 
 def part(folder, rounds, seed, port, begin):

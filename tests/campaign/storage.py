@@ -183,3 +183,15 @@ class Table(Storage):
     def kept(self, number):
         text = self.query(f"SELECT encode(bytes, 'hex') FROM sblog WHERE store = 'bank.{number}' AND name = 'kept'")
         return bytes.fromhex(text)
+
+
+def with_each(folder, one, kinds=(Bucket, Table)):
+    """What comes of one campaign with each kind of storage."""
+    rows, right = {}, True
+    for kind in (kind for kind in kinds if kind.is_here()):
+        place = os.path.join(folder, kind.__name__.lower())
+        os.makedirs(place)
+        row, is_right = one(place, kind)
+        rows.update({f"{kind.__name__.lower()} {key}": value for key, value in row.items()})
+        right = right and is_right
+    return rows, right

@@ -128,6 +128,7 @@ static struct bytes log_holds(void) {
     }
     bytes_end(&whole);
     bytes_end(&changes);
+    free(outputs.places);
     gateway_store_rest(&store);
     gateway_store_close(&store);
     return all;
