@@ -10,7 +10,7 @@ use crate::bundle::{LENGTH_BYTES, fits, put_part};
 use std::alloc::{AllocError, Global};
 
 /// Who has packets that wait to be sent.
-pub trait Outbox {
+pub trait Outgoing {
     /// The first packet that waits goes to this process, and these are its bytes.
     ghost waits: { Self → ℕ → List ℕ → Type 0 };
 
@@ -43,7 +43,7 @@ pub enum Ungiven {
 /// Takes the first packets that wait, as many as go to the same process and fit: writes them as those
 /// of a bundle, their length in bytes, their receiver, and their number. Answers whether these are
 /// all: if not, memory ran out for the next one.
-pub fn give_all<S: Outbox>(
+pub fn give_all<S: Outgoing>(
     alloc: Global,
     sender: &mut S,
     out: &mut [u8],
@@ -81,7 +81,7 @@ pub fn give_all<S: Outbox>(
 
 /// Writes the first packet that waits at `at`, if it goes to this process and fits, and takes it.
 /// Answers the place after it.
-fn give_next<S: Outbox>(
+fn give_next<S: Outgoing>(
     alloc: Global,
     sender: &mut S,
     out: &mut [u8],
@@ -103,7 +103,7 @@ fn give_next<S: Outbox>(
 
 /// Writes the first packet that waits at `at`, after its length, and takes it. Answers the place after
 /// it.
-fn give<S: Outbox>(sender: &mut S, out: &mut [u8], at: usize, packet: &[u8]) -> usize
+fn give<S: Outgoing>(sender: &mut S, out: &mut [u8], at: usize, packet: &[u8]) -> usize
     requires { FitsFrom at (length out.old) packet.now }
     ensures given { (to : ℕ) → S.waits sender.old to packet.now → GivesTo S.leaves to packet.now sender.old sender.new }
     ensures written { out.new ≡ overwritten out.old at (part_bytes packet.now) }

@@ -9,12 +9,12 @@ ghost use Rattle.stores.specs.Changes.{AreChanges};
 
 use crate::gateways::fault::GatewayFault;
 use crate::gateways::handle::GatewayHandle;
-use crate::outbox::{Outbox, Ungiven, give_all};
+use crate::outbox::{Outgoing, Ungiven, give_all};
 use c_handles::{copy, measure, write};
 use gateway::Gateway;
 use std::alloc::{AllocError, Global};
 
-impl Outbox for Gateway {
+impl Outgoing for Gateway {
     ghost use Rattle.std.specs.Prelude.{◌≡◌, []};
     ghost use Rattle.gateway.specs.Written.{Waits};
     ghost use Rattle.c_calls.specs.Gateways.Bundles.{Leaves};

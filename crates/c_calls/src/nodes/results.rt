@@ -7,12 +7,12 @@ ghost use Rattle.c_calls.specs.Nodes.Results.{IsTaken, IsUntaken, IsMade, IsUnma
 
 use crate::nodes::fault::NodeFault;
 use crate::nodes::handle::NodeHandle;
-use crate::outbox::{Outbox, Ungiven, give_all};
+use crate::outbox::{Outgoing, Ungiven, give_all};
 use c_handles::copy;
 use process::Member;
 use std::alloc::{AllocError, Global};
 
-impl Outbox for Member {
+impl Outgoing for Member {
     ghost use Rattle.std.specs.Prelude.{◌≡◌, []};
     ghost use Rattle.process.specs.Process.{out_of};
     ghost use Rattle.c_calls.specs.Nodes.Bundles.{Waits, Leaves};

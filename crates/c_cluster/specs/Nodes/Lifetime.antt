@@ -103,8 +103,8 @@ DoesNotOpen file me n l old new why = DoesNotStart file (IsSeat me n × AreLimit
 -- with this opening state, it is also refused if the state isn't as long as the image's
 abbrev pub DoesNotOpenWith : List ℕ → ℕ → ℕ → NodeLimits → List ℕ → Option TheProcess → Option TheProcess → NodeFault → Type 0
 DoesNotOpenWith file me n l state old new why =
-    DoesNotStart file (IsSeat me n × AreLimits l) (λ f. (f ≡ 9) × ((image : AnyImage) × IsImageIn file image × (length state ≢ state_of image)))
-    old new why
+    DoesNotStart file (IsSeat me n × AreLimits l)
+    (λ f. (f ≡ 9) × ((image : AnyImage) × IsImageIn file image × (length state ≢ state_of image))) old new why
 
 -- it comes back from these bytes in this incarnation
 abbrev pub Revives : List ℕ → List ℕ → ℕ → NodeLimits → Option TheProcess → Option TheProcess → Type 0
@@ -120,7 +120,8 @@ AreRefused file kept life f =
     ⊎ ((f ≡ 9) × IsUnrevived image kept life why.State))
 
 abbrev pub DoesNotRevive : List ℕ → List ℕ → ℕ → NodeLimits → Option TheProcess → Option TheProcess → NodeFault → Type 0
-DoesNotRevive file kept life l old new why = DoesNotStart file (AreLimits l × IsPositive life) (λ f. AreRefused file kept life f) old new why
+DoesNotRevive file kept life l old new why =
+    DoesNotStart file (AreLimits l × IsPositive life) (λ f. AreRefused file kept life f) old new why
 
 -- the meaning of a code when a process is opened, by its image file, its number, the number of processes and its limits
 abbrev pub AnswersOpening : List ℕ → ℕ → ℕ → NodeLimits → ℕ → Option TheProcess → Option TheProcess → Type 0

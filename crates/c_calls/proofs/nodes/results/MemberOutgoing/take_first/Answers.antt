@@ -1,5 +1,5 @@
 use Rattle.process.proofs.Fronts.{stays-front}
-use Rattle.c_calls.proofs.nodes.results.MemberOutbox.take_first.Goals as goal
+use Rattle.c_calls.proofs.nodes.results.MemberOutgoing.take_first.Goals as goal
 
 pub returns : goal.returns
 returns c = λ to packet waits.
