@@ -104,7 +104,7 @@ impl Style<'_> {
     }
 
     /// Writes a call or an answer: its word, and its fields.
-    #[tactic(auto, unfolding(crate::specs::Fields::labelled_text))]
+    #[tactic(auto, unfolding(crate::specs::Styles::Fields::labelled_text))]
     pub(crate) fn say(
         self,
         out: &mut String,

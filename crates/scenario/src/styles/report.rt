@@ -11,7 +11,7 @@ use std::alloc::AllocError;
 use world::PhaseName;
 
 /// Writes `before`, and then a text in JSON: its key, and the text in quotes.
-#[tactic(auto, unfolding(crate::specs::Lines::quoted))]
+#[tactic(auto, unfolding(crate::specs::Styles::Lines::quoted))]
 fn push_quoted(out: &mut String, before: &str, key: &str, text: &str) -> Result<(), AllocError>
     ensures { OnOk result (string_bytes out.new ≡ string_bytes out.old ++ quoted before.now key.now text.now) }
 {
@@ -19,7 +19,7 @@ fn push_quoted(out: &mut String, before: &str, key: &str, text: &str) -> Result<
 }
 
 /// Writes `before`, and then bytes in JSON.
-#[tactic(auto, unfolding(crate::specs::Lines::quoted))]
+#[tactic(auto, unfolding(crate::specs::Styles::Lines::quoted))]
 fn push_bytes(out: &mut String, before: &str, key: &str, bytes: &[u8]) -> Result<(), AllocError>
     ensures { OnOk result (string_bytes out.new ≡ string_bytes out.old ++ quoted before.now key.now (hex_text bytes.now)) }
 {
@@ -28,7 +28,7 @@ fn push_bytes(out: &mut String, before: &str, key: &str, bytes: &[u8]) -> Result
 }
 
 /// Writes a number in JSON.
-#[tactic(auto, unfolding(crate::specs::Lines::counted))]
+#[tactic(auto, unfolding(crate::specs::Styles::Lines::counted))]
 fn push_counted(out: &mut String, key: &str, count: u32) -> Result<(), AllocError>
     ensures { OnOk result (string_bytes out.new ≡ string_bytes out.old ++ counted key.now count) }
 {
