@@ -87,10 +87,10 @@ class Program:
         return Program(words, self.place).says("--inspect", self.store)[1]
 
     def is_there(self):
-        """Whether that process hasn't ended."""
+        """Whether that process hasn't ended, with each of its threads: one that still syncs holds the store."""
         try:
             with open(f"/proc/{self.pid}/stat") as file:
-                return file.read().rsplit(")", 1)[1].split()[0] != "Z"
+                return file.read().rsplit(")", 1)[1].split()[0] != "Z" or len(os.listdir(f"/proc/{self.pid}/task")) > 1
         except OSError:
             return False
 

@@ -1,6 +1,7 @@
 """Clusters that go on as others: states in another layout, numbers that go on, outputs that nobody took, and steps that fail."""
 import itertools
 import os
+import re
 import shutil
 import subprocess
 import threading
@@ -51,13 +52,16 @@ class Line:
 
     def upgrades(self, file, *images, status=0, says=""):
         """hosts/upgrade ends so, and says this."""
-        with open(os.path.join(self.folder, "said"), "a") as said:
+        path = os.path.join(self.folder, "said")
+        with open(path, "a") as said:
+            begin = said.tell()
             done = subprocess.run([os.path.join(HERE, "upgrade"), self.file, file, *images], stdin=subprocess.DEVNULL,
                                   stdout=subprocess.PIPE, stderr=said, text=True, timeout=120)
         self.adopts(file if status == 0 else self.file)
-        with open(os.path.join(self.folder, "said")) as said:
+        with open(path) as said:
+            said.seek(begin)
             text = done.stdout + said.read()
-        if done.returncode != status or says not in text:
+        if done.returncode != status or not re.search(says, text):
             raise Wrong(f"hosts/upgrade {images}: status {done.returncode}, {text}, not {status} and {says!r}")
         if status == 0:
             self.file, self.number, self.bits = file, self.number + 1, 32 if f"counter={SHRINK}" in images else 64
@@ -216,7 +220,7 @@ def fails(line):
     for old, new, images, status, says in (
             ("state=counter.state", "", (), 2, "have no state=FILE: counter"), ("programs-", "pro grams-", (), 2, "such a line is: cluster NAME"),
             ("", "", (f"echo={SHRINK}",), 2, "no process is called so in both: echo"),
-            ("", "", (), 1, "the state has 16 bytes, and that of the image 8"), ("", "", ("counter=none.sbi",), 1, "counter: "),
+            ("", "", (), 1, "upgrade: checking: .*, line 4: the state has 16 bytes, and that of the image 8: "), ("", "", ("counter=none.sbi",), 1, "upgrade: converting: counter: "),
             (NARROW, "/none.sbi", (f"counter={SHRINK}",), 1, "/none.sbi: No such file")):
         with open(bad, "w") as file:
             file.write(text.replace(old, new) if old else text)

@@ -102,7 +102,7 @@ class Client(threading.Thread):
             one.socket.sendall(frame(INPUT, RELAY, sent, self.words[sent].to_bytes(8, "little")))
         return sent
 
-    def flows(self, count=FLOW, seconds=60):
+    def flows(self, count, seconds=60):
         """So many outputs more come."""
         until, wanted = time.monotonic() + seconds, self.out + count
         while self.out < wanted:
@@ -125,7 +125,7 @@ class Line:
             running.Program([*words, *(() if number else ("--listen", "unix:" + self.path("lines")))], self.home()).begins()
         self.waits()
         self.client.start()
-        self.client.flows()
+        self.flows(FLOW)
 
     def path(self, name):
         return os.path.join(self.folder, name)
@@ -157,6 +157,12 @@ class Line:
     def tail(self):
         with open(self.path("said"), "rb") as file:
             return file.read()[-1500:].decode(errors="replace")
+
+    def flows(self, count):
+        try:
+            self.client.flows(count)
+        except Wrong as wrong:
+            raise Wrong(f"{wrong}; {self.counts}; of line-{self.number} run {sorted(self.programs())}: {self.tail()}") from wrong
 
     def kills(self, programs):
         for program in programs:
@@ -282,7 +288,7 @@ def part(folder, count, seed):
         faults = [(None, None), *itertools.product(VICTIMS, PLACES)]
         for number in range(count):
             line.upgrades(*faults[number % len(faults)])
-            line.client.flows()
+            line.flows(FLOW)
         return line.finish()
     finally:
         line.ends()
@@ -299,7 +305,7 @@ def at_random(folder, seconds, seed, storage=None):
                 line.upgrades(line.chance.choice(VICTIMS), line.chance.choice(list(PLACES)))
             else:
                 what()
-            line.client.flows(line.chance.randrange(FLOW))
+            line.flows(line.chance.randrange(FLOW))
         return line.finish()
     finally:
         line.ends()
