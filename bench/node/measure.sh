@@ -16,7 +16,9 @@ shortest speed 50000
 for size in 8 100; do
     shortest batches 50000 $size
 done
-shortest restart 1000
+for replays in 1000 10000 20000; do
+    shortest restart $replays
+done
 shortest kept 20000
 "$work/measured" memory 10000000
 cat /proc/loadavg
