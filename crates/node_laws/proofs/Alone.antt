@@ -26,8 +26,8 @@ use Rattle.recovery.specs.RestorationStands.{StandsRestoring}
 use Rattle.recovery.proofs.Fits.{pages-fit}
 use Rattle.gateway.specs.Gateway.{TheGateway}
 use Rattle.node_laws.specs.Together.{IsFirst}
-use Rattle.node_laws.specs.Process.{Process, Up, Covered, Collects, Replays, Replayed, Restores, Killed, StandsAs, IsKilled, IsStoredOf, ComesFrom, covered}
-use Rattle.node_laws.specs.System.{System, new_system, AreStoredOf, Call, Gave, Handed, Worked, Did, Stored, Saved, Resumed, Died, Revived, GaveOut, HandedOut, DidOut, StoredOut, StoredBut, RevivedOut, DoesIt, after_call, Calls, AreExact, StayExact}
+use Rattle.node_laws.specs.Process.{Process, Up, Covered, Collects, Replays, Restores, Killed, StandsAs, IsKilled, IsStoredOf, ComesFrom, covered}
+use Rattle.node_laws.specs.System.{System, new_system, AreStoredOf, Call, Gave, Handed, Worked, Did, Stored, Saved, Resumed, Died, Revived, GaveOut, HandedOut, DidOut, RevivedOut, DoesIt, after_call, Calls, AreExact, StayExact}
 use Rattle.node_laws.specs.Alone.{is_up, FailsAlone, OneAtATime, LoneFailuresStayExact, LoneLivesRun, NothingIsLostAlone, RecoversExactlyAlone}
 use Rattle.node_laws.proofs.Lives.{WasPut, lives-run}
 use Rattle.node_laws.proofs.Lives as runs
@@ -77,33 +77,19 @@ module _ (f : Answering) (states : ℕ → List ℕ) (n : ℕ) (s : System) (act
 
   fits-here : (x : NodePacket) (process : Process) (p : ℕ) → WasPut c x → StandsAs process c p → Fits x process
   fits-here x (Restores m) p was st = page-fits x m p was st
-  fits-here x (Up m) p was st = tt
-  fits-here x (Covered m) p was st = tt
-  fits-here x (Collects m) p was st = tt
-  fits-here x (Replays m) p was st = tt
-  fits-here x (Replayed m) p was st = tt
-  fits-here x Killed p was st = tt
+  fits-here x other p was st = tt
 
 -- ---- calls
 
 killed-down : (process : Process) → IsKilled process → is_up process ≡ false
 killed-down (Up m) d = absurd d
 killed-down (Covered m) d = absurd d
-killed-down (Collects m) d = refl
-killed-down (Replays m) d = refl
-killed-down (Replayed m) d = refl
-killed-down (Restores m) d = refl
-killed-down Killed d = refl
+killed-down other d = refl
 
 -- what is stored of one that is dead is what is kept of it
 kept-dead : (k : Kept) (process : Process) (c : Cluster) (p : ℕ) → IsKilled process → IsStoredOf k process c p → IsKeptOf k c p
-kept-dead k (Up m) c p d s = absurd d
-kept-dead k (Covered m) c p d s = absurd d
-kept-dead k (Collects m) c p d s = absurd d
-kept-dead k (Replays m) c p d s = absurd d
-kept-dead k (Replayed m) c p d s = absurd d
-kept-dead k (Restores m) c p d s = absurd d
 kept-dead k Killed c p d s = s
+kept-dead k other c p d s = absurd d
 
 -- one more packet was given
 with-given : (n : ℕ) (processes : ℕ → Process) (lives : ℕ → ℕ) (given out : List NodePacket) (x : NodePacket) → IsSound lives (Back n processes) x → Lone n processes lives given out → Lone n processes lives (x ∷ given) out
@@ -176,12 +162,11 @@ module _ (f : Answering) (states : ℕ → List ℕ) (n : ℕ) (s : System) (act
       let k : gateways.Keeps s.lives back s.gateway new = subst (gateways.Keeps s.lives back s.gateway) (sym m.1.0) (gateways.hands s.lives back x s.gateway h.outside (sound-given x m.0)) in
       with-out n s.processes s.lives s.given s.gateway.out new.out (k.out h.out) h
   call-alone (DidOut new) m a = let k = gateways.deals s.lives back s.gateway new m.0 in with-out n s.processes s.lives s.given s.gateway.out new.out (k.out h.out) h
-  call-alone StoredOut m a = h
-  call-alone (StoredBut k) m a = h
   call-alone (RevivedOut new) m a =
       let P : TheGateway → Type 0 = λ z. AreSound s.lives back z.out in
       let out : AreSound s.lives back new.out = subst P (sym m.0) tt in
       with-out n s.processes s.lives s.given s.gateway.out new.out out h
+  call-alone other m a = h
 
 -- ---- lists of calls
 

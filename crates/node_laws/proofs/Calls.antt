@@ -40,36 +40,12 @@ Is Does w c d = (is_settled d ≡ true) × (Fits w d × Does (seen w c) (seen w 
 
 handed-absent : (x : NodePacket) (c d : Lifecycle) → is_settled c ≡ true → IsHanded x c d → Is (Hears x) Absent c d
 handed-absent x (Up n) (Up m) s g = (refl, (tt, (m, (refl, g))))
-handed-absent x (Up n) (Collecting m) s g = absurd g
-handed-absent x (Up n) (Replaying m) s g = absurd g
-handed-absent x (Up n) (Replayed m) s g = absurd g
-handed-absent x (Up n) (Restoring m) s g = absurd g
-handed-absent x (Up n) Passing s g = absurd g
-handed-absent x (Collecting n) (Up m) s g = absurd g
 handed-absent x (Collecting n) (Collecting m) s g = (refl, (tt, (m, (refl, g))))
-handed-absent x (Collecting n) (Replaying m) s g = absurd g
-handed-absent x (Collecting n) (Replayed m) s g = absurd g
-handed-absent x (Collecting n) (Restoring m) s g = absurd g
-handed-absent x (Collecting n) Passing s g = absurd g
-handed-absent x (Replaying n) (Up m) s g = absurd g
-handed-absent x (Replaying n) (Collecting m) s g = absurd g
 handed-absent x (Replaying n) (Replaying m) s g = (refl, (tt, (m, (refl, g))))
-handed-absent x (Replaying n) (Replayed m) s g = absurd g
-handed-absent x (Replaying n) (Restoring m) s g = absurd g
-handed-absent x (Replaying n) Passing s g = absurd g
-handed-absent x (Replayed n) (Up m) s g = absurd g
-handed-absent x (Replayed n) (Collecting m) s g = absurd g
-handed-absent x (Replayed n) (Replaying m) s g = absurd g
 handed-absent x (Replayed n) (Replayed m) s g = (refl, (tt, (m, (refl, g))))
-handed-absent x (Replayed n) (Restoring m) s g = absurd g
-handed-absent x (Replayed n) Passing s g = absurd g
-handed-absent x (Restoring n) (Up m) s g = absurd g
-handed-absent x (Restoring n) (Collecting m) s g = absurd g
-handed-absent x (Restoring n) (Replaying m) s g = absurd g
-handed-absent x (Restoring n) (Replayed m) s g = absurd g
 handed-absent x (Restoring n) (Restoring m) s g = (refl, (tt, (m, (refl, g))))
-handed-absent x (Restoring n) Passing s g = absurd g
 handed-absent x Passing d s g = unsettled s
+handed-absent x other d s g = absurd g
 
 handed-rests : (x : NodePacket) (n : TheNode) → n.frozen ≡ true → handed x n ≡ n
 handed-rests x n e = rw e refl
@@ -80,88 +56,30 @@ handed-frozen x n m f e = e ∙ handed-rests x n f
 pub handed-is : (x : NodePacket) (w : Checkpoint) (c d : Lifecycle) → is_settled c ≡ true → Fits w c → IsHanded x c d → Is (Hears x) w c d
 handed-is x Absent c d s f g = handed-absent x c d s g
 handed-is x (Pending bytes) (Up n) (Up m) s f g = (refl, (subst (λ (z : TheNode). (z.frozen ≡ true) × AreOf bytes z) (sym (handed-frozen x n m f.0 g.0)) f, (m, (refl, g))))
-handed-is x (Pending bytes) (Up n) (Collecting m) s f g = absurd g
-handed-is x (Pending bytes) (Up n) (Replaying m) s f g = absurd g
-handed-is x (Pending bytes) (Up n) (Replayed m) s f g = absurd g
-handed-is x (Pending bytes) (Up n) (Restoring m) s f g = absurd g
-handed-is x (Pending bytes) (Up n) Passing s f g = absurd g
-handed-is x (Pending bytes) (Collecting n) d s f g = absurd f
-handed-is x (Pending bytes) (Replaying n) d s f g = absurd f
-handed-is x (Pending bytes) (Replayed n) d s f g = absurd f
-handed-is x (Pending bytes) (Restoring n) d s f g = absurd f
-handed-is x (Pending bytes) Passing d s f g = absurd f
+handed-is x (Pending bytes) (Up n) other s f g = absurd g
 handed-is x Durable (Up n) (Up m) s f g = (refl, (subst (λ (z : TheNode). z.frozen ≡ true) (sym (handed-frozen x n m f g.0)) f, (m, (refl, g.0))))
-handed-is x Durable (Up n) (Collecting m) s f g = absurd g
-handed-is x Durable (Up n) (Replaying m) s f g = absurd g
-handed-is x Durable (Up n) (Replayed m) s f g = absurd g
-handed-is x Durable (Up n) (Restoring m) s f g = absurd g
-handed-is x Durable (Up n) Passing s f g = absurd g
-handed-is x Durable (Collecting n) d s f g = absurd f
-handed-is x Durable (Replaying n) d s f g = absurd f
-handed-is x Durable (Replayed n) d s f g = absurd f
-handed-is x Durable (Restoring n) d s f g = absurd f
-handed-is x Durable Passing d s f g = absurd f
+handed-is x Durable (Up n) other s f g = absurd g
+handed-is x w c d s f g = absurd f
 
 -- ---- a packet is taken
 
 taken-absent : (x : NodePacket) (c d : Lifecycle) → is_settled c ≡ true → Takes (Some x) c d → Is (Gives x) Absent c d
 taken-absent x (Up n) (Up m) s g = (refl, (tt, (m, (refl, g))))
-taken-absent x (Up n) (Collecting m) s g = absurd g
-taken-absent x (Up n) (Replaying m) s g = absurd g
-taken-absent x (Up n) (Replayed m) s g = absurd g
-taken-absent x (Up n) (Restoring m) s g = absurd g
-taken-absent x (Up n) Passing s g = absurd g
-taken-absent x (Collecting n) (Up m) s g = absurd g
 taken-absent x (Collecting n) (Collecting m) s g = (refl, (tt, (m, (refl, g))))
-taken-absent x (Collecting n) (Replaying m) s g = absurd g
-taken-absent x (Collecting n) (Replayed m) s g = absurd g
-taken-absent x (Collecting n) (Restoring m) s g = absurd g
-taken-absent x (Collecting n) Passing s g = absurd g
-taken-absent x (Replaying n) (Up m) s g = absurd g
-taken-absent x (Replaying n) (Collecting m) s g = absurd g
 taken-absent x (Replaying n) (Replaying m) s g = (refl, (tt, (m, (refl, g))))
-taken-absent x (Replaying n) (Replayed m) s g = absurd g
-taken-absent x (Replaying n) (Restoring m) s g = absurd g
-taken-absent x (Replaying n) Passing s g = absurd g
-taken-absent x (Replayed n) (Up m) s g = absurd g
-taken-absent x (Replayed n) (Collecting m) s g = absurd g
-taken-absent x (Replayed n) (Replaying m) s g = absurd g
 taken-absent x (Replayed n) (Replayed m) s g =
     (refl, (tt, (m, (refl, (ap (λ (z : TheReplayed). z.own.out) g, sym (ap (λ (z : TheReplayed). record z { own = record z.own { out = m.own.out } }) g))))))
-taken-absent x (Replayed n) (Restoring m) s g = absurd g
-taken-absent x (Replayed n) Passing s g = absurd g
-taken-absent x (Restoring n) (Up m) s g = absurd g
-taken-absent x (Restoring n) (Collecting m) s g = absurd g
-taken-absent x (Restoring n) (Replaying m) s g = absurd g
-taken-absent x (Restoring n) (Replayed m) s g = absurd g
 taken-absent x (Restoring n) (Restoring m) s g = (refl, (tt, (m, (refl, g))))
-taken-absent x (Restoring n) Passing s g = absurd g
 taken-absent x Passing d s g = unsettled s
+taken-absent x other d s g = absurd g
 
 pub taken-is : (x : NodePacket) (w : Checkpoint) (c d : Lifecycle) → is_settled c ≡ true → Fits w c → Takes (Some x) c d → Is (Gives x) w c d
 taken-is x Absent c d s f g = taken-absent x c d s g
 taken-is x (Pending bytes) (Up n) (Up m) s f g = (refl, (subst (λ (z : TheNode). (z.frozen ≡ true) × AreOf bytes z) g.0 f, (m, (refl, g))))
-taken-is x (Pending bytes) (Up n) (Collecting m) s f g = absurd g
-taken-is x (Pending bytes) (Up n) (Replaying m) s f g = absurd g
-taken-is x (Pending bytes) (Up n) (Replayed m) s f g = absurd g
-taken-is x (Pending bytes) (Up n) (Restoring m) s f g = absurd g
-taken-is x (Pending bytes) (Up n) Passing s f g = absurd g
-taken-is x (Pending bytes) (Collecting n) d s f g = absurd f
-taken-is x (Pending bytes) (Replaying n) d s f g = absurd f
-taken-is x (Pending bytes) (Replayed n) d s f g = absurd f
-taken-is x (Pending bytes) (Restoring n) d s f g = absurd f
-taken-is x (Pending bytes) Passing d s f g = absurd f
+taken-is x (Pending bytes) (Up n) other s f g = absurd g
 taken-is x Durable (Up n) (Up m) s f g = (refl, (subst (λ (z : TheNode). z.frozen ≡ true) g.0 f, (m, (refl, g))))
-taken-is x Durable (Up n) (Collecting m) s f g = absurd g
-taken-is x Durable (Up n) (Replaying m) s f g = absurd g
-taken-is x Durable (Up n) (Replayed m) s f g = absurd g
-taken-is x Durable (Up n) (Restoring m) s f g = absurd g
-taken-is x Durable (Up n) Passing s f g = absurd g
-taken-is x Durable (Collecting n) d s f g = absurd f
-taken-is x Durable (Replaying n) d s f g = absurd f
-taken-is x Durable (Replayed n) d s f g = absurd f
-taken-is x Durable (Restoring n) d s f g = absurd f
-taken-is x Durable Passing d s f g = absurd f
+taken-is x Durable (Up n) other s f g = absurd g
+taken-is x w c d s f g = absurd f
 
 -- ---- what isn't answered is sent again
 
@@ -170,48 +88,17 @@ ticked-rests n e = rw e refl
 
 pub ticks-is : (w : Checkpoint) (c d : Lifecycle) → is_settled c ≡ true → Fits w c → Ticks c d → GoesOn w c d
 ticks-is Absent (Up n) (Up m) s f g = (refl, (tt, (lives.Up m ∷ [], ((m, (refl, (inl g.0, g.1))), (tt, (ap (λ (z : TheNode). z.exact) g.0 ∙ ticked-exact n, refl))))))
-ticks-is Absent (Up n) (Collecting m) s f g = absurd g
-ticks-is Absent (Up n) (Replaying m) s f g = absurd g
-ticks-is Absent (Up n) (Replayed m) s f g = absurd g
-ticks-is Absent (Up n) (Restoring m) s f g = absurd g
-ticks-is Absent (Up n) Passing s f g = absurd g
-ticks-is Absent (Collecting n) (Up m) s f g = absurd g
 ticks-is Absent (Collecting n) (Collecting m) s f g = (refl, (tt, (lives.Collects m ∷ [], (inl (m, (refl, g)), (tt, (ap (λ (z : TheCollecting). z.own.exact) g.0 ∙ asked-exact n, refl))))))
-ticks-is Absent (Collecting n) (Replaying m) s f g = absurd g
-ticks-is Absent (Collecting n) (Replayed m) s f g = absurd g
-ticks-is Absent (Collecting n) (Restoring m) s f g = absurd g
-ticks-is Absent (Collecting n) Passing s f g = absurd g
 ticks-is Absent (Replaying n) d s f g = on Absent (Replaying n) d s f g
 ticks-is Absent (Replayed n) d s f g = on Absent (Replayed n) d s f g
-ticks-is Absent (Restoring n) (Up m) s f g = absurd g
-ticks-is Absent (Restoring n) (Collecting m) s f g = absurd g
-ticks-is Absent (Restoring n) (Replaying m) s f g = absurd g
-ticks-is Absent (Restoring n) (Replayed m) s f g = absurd g
 ticks-is Absent (Restoring n) (Restoring m) s f g = (refl, (tt, (lives.Restores m ∷ [], (inl (m, (refl, g)), (tt, (ap (λ (z : TheRestoring). z.own.exact) g.0 ∙ restores-exact n, refl))))))
-ticks-is Absent (Restoring n) Passing s f g = absurd g
 ticks-is Absent Passing d s f g = unsettled s
+ticks-is Absent c d s f g = absurd g
 ticks-is (Pending bytes) (Up n) (Up m) s f g = on (Pending bytes) (Up n) (Up m) s f (ap Up (g.0 ∙ ticked-rests n f.0))
-ticks-is (Pending bytes) (Up n) (Collecting m) s f g = absurd g
-ticks-is (Pending bytes) (Up n) (Replaying m) s f g = absurd g
-ticks-is (Pending bytes) (Up n) (Replayed m) s f g = absurd g
-ticks-is (Pending bytes) (Up n) (Restoring m) s f g = absurd g
-ticks-is (Pending bytes) (Up n) Passing s f g = absurd g
-ticks-is (Pending bytes) (Collecting n) d s f g = absurd f
-ticks-is (Pending bytes) (Replaying n) d s f g = absurd f
-ticks-is (Pending bytes) (Replayed n) d s f g = absurd f
-ticks-is (Pending bytes) (Restoring n) d s f g = absurd f
-ticks-is (Pending bytes) Passing d s f g = absurd f
+ticks-is (Pending bytes) (Up n) other s f g = absurd g
 ticks-is Durable (Up n) (Up m) s f g = on Durable (Up n) (Up m) s f (ap Up (g.0 ∙ ticked-rests n f))
-ticks-is Durable (Up n) (Collecting m) s f g = absurd g
-ticks-is Durable (Up n) (Replaying m) s f g = absurd g
-ticks-is Durable (Up n) (Replayed m) s f g = absurd g
-ticks-is Durable (Up n) (Restoring m) s f g = absurd g
-ticks-is Durable (Up n) Passing s f g = absurd g
-ticks-is Durable (Collecting n) d s f g = absurd f
-ticks-is Durable (Replaying n) d s f g = absurd f
-ticks-is Durable (Replayed n) d s f g = absurd f
-ticks-is Durable (Restoring n) d s f g = absurd f
-ticks-is Durable Passing d s f g = absurd f
+ticks-is Durable (Up n) other s f g = absurd g
+ticks-is w c d s f g = absurd f
 
 -- ---- its handler runs
 
@@ -257,34 +144,16 @@ pub works-is : (images : ℕ → AnyImage) (image : AnyImage) (count p : ℕ) (w
     → answer_to image who (state_of c) j ≡ Some h → TakesIn h.state (given_of who h.effects) c d → Is (Works (answering count images) p (answered who h)) w c d
 works-is images image count p Absent (Up n) (Up m) j who h same s f here next answers g =
     (refl, (tt, (answer-is images image count p n.me n.count n.working n.state j who h same here.0 here.1.0 next answers, (m, (refl, g)))))
-works-is images image count p Absent (Up n) (Collecting m) j who h same s f here next answers g = absurd g
-works-is images image count p Absent (Up n) (Replaying m) j who h same s f here next answers g = absurd g
-works-is images image count p Absent (Up n) (Replayed m) j who h same s f here next answers g = absurd g
-works-is images image count p Absent (Up n) (Restoring m) j who h same s f here next answers g = absurd g
-works-is images image count p Absent (Up n) Passing j who h same s f here next answers g = absurd g
-works-is images image count p Absent (Replaying n) (Up m) j who h same s f here next answers g = absurd g
-works-is images image count p Absent (Replaying n) (Collecting m) j who h same s f here next answers g = absurd g
 works-is images image count p Absent (Replaying n) (Replaying m) j who h same s f here next answers g =
     (refl, (tt, (answer-is images image count p n.own.me n.own.count (next_job n) n.own.state j who h same here.0 here.1 next answers, (m, (refl, g)))))
-works-is images image count p Absent (Replaying n) (Replayed m) j who h same s f here next answers g = absurd g
-works-is images image count p Absent (Replaying n) (Restoring m) j who h same s f here next answers g = absurd g
-works-is images image count p Absent (Replaying n) Passing j who h same s f here next answers g = absurd g
 works-is images image count p Absent (Collecting n) d j who h same s f here next answers g = absurd (cc (next))
 works-is images image count p Absent (Replayed n) d j who h same s f here next answers g = absurd (cc (next))
 works-is images image count p Absent (Restoring n) d j who h same s f here next answers g = absurd (cc (next))
 works-is images image count p Absent Passing d j who h same s f here next answers g = unsettled s
+works-is images image count p Absent c d j who h same s f here next answers g = absurd g
 works-is images image count p (Pending bytes) (Up n) d j who h same s f here next answers g = none-next n.me n.count n.working j who (here.1.1 f.0) next
-works-is images image count p (Pending bytes) (Collecting n) d j who h same s f here next answers g = absurd f
-works-is images image count p (Pending bytes) (Replaying n) d j who h same s f here next answers g = absurd f
-works-is images image count p (Pending bytes) (Replayed n) d j who h same s f here next answers g = absurd f
-works-is images image count p (Pending bytes) (Restoring n) d j who h same s f here next answers g = absurd f
-works-is images image count p (Pending bytes) Passing d j who h same s f here next answers g = absurd f
 works-is images image count p Durable (Up n) d j who h same s f here next answers g = none-next n.me n.count n.working j who (here.1.1 f) next
-works-is images image count p Durable (Collecting n) d j who h same s f here next answers g = absurd f
-works-is images image count p Durable (Replaying n) d j who h same s f here next answers g = absurd f
-works-is images image count p Durable (Replayed n) d j who h same s f here next answers g = absurd f
-works-is images image count p Durable (Restoring n) d j who h same s f here next answers g = absurd f
-works-is images image count p Durable Passing d j who h same s f here next answers g = absurd f
+works-is images image count p w c d j who h same s f here next answers g = absurd f
 
 -- ---- checkpoints
 
@@ -308,28 +177,11 @@ froze-is bytes Absent (Up n) (Up m) f may keeps g =
     let made = subst (λ b. FreezesAs b n m) can.1 g in
     let is : m ≡ record n { frozen = true } = made.0 ∙ frozen-now n can.0 in
     (refl, (subst (λ (z : TheNode). (z.frozen ≡ true) × AreOf bytes z) (sym is) (refl, keeps), (lives.Up m ∷ [], ((m, (refl, (inr made.0, made.1))), (tt, (ap (λ (z : TheNode). z.exact) made.0 ∙ froze-exact n, refl))))))
-froze-is bytes Absent (Up n) (Collecting m) f may keeps g = absurd g
-froze-is bytes Absent (Up n) (Replaying m) f may keeps g = absurd g
-froze-is bytes Absent (Up n) (Replayed m) f may keeps g = absurd g
-froze-is bytes Absent (Up n) (Restoring m) f may keeps g = absurd g
-froze-is bytes Absent (Up n) Passing f may keeps g = absurd g
-froze-is bytes Absent (Collecting n) d f may keeps g = absurd keeps
-froze-is bytes Absent (Replaying n) d f may keeps g = absurd keeps
-froze-is bytes Absent (Replayed n) d f may keeps g = absurd keeps
-froze-is bytes Absent (Restoring n) d f may keeps g = absurd keeps
-froze-is bytes Absent Passing d f may keeps g = absurd keeps
+froze-is bytes Absent (Up n) other f may keeps g = absurd g
+froze-is bytes Absent c d f may keeps g = absurd keeps
 froze-is bytes (Pending others) (Up n) d f may keeps g = not-frozen n.frozen (is_none n.working) (both (may_freeze n) (is_storable n) may.may).0 f.0
-froze-is bytes (Pending others) (Collecting n) d f may keeps g = absurd f
-froze-is bytes (Pending others) (Replaying n) d f may keeps g = absurd f
-froze-is bytes (Pending others) (Replayed n) d f may keeps g = absurd f
-froze-is bytes (Pending others) (Restoring n) d f may keeps g = absurd f
-froze-is bytes (Pending others) Passing d f may keeps g = absurd f
 froze-is bytes Durable (Up n) d f may keeps g = not-frozen n.frozen (is_none n.working) (both (may_freeze n) (is_storable n) may.may).0 f
-froze-is bytes Durable (Collecting n) d f may keeps g = absurd f
-froze-is bytes Durable (Replaying n) d f may keeps g = absurd f
-froze-is bytes Durable (Replayed n) d f may keeps g = absurd f
-froze-is bytes Durable (Restoring n) d f may keeps g = absurd f
-froze-is bytes Durable Passing d f may keeps g = absurd f
+froze-is bytes w c d f may keeps g = absurd f
 
 -- it waits, and its host has no bytes of it
 froze-rests : (n : TheNode) → n.frozen ≡ true → froze n ≡ n
@@ -345,58 +197,22 @@ rests-as false n m f g = g
 
 pub paused-is : (w : Checkpoint) (c d : Lifecycle) → is_settled c ≡ true → Fits w c → Freezes c d → GoesOn w c d
 paused-is Absent (Up n) (Up m) s f g = pauses-as (is_storable n) n m g
-paused-is Absent (Up n) (Collecting m) s f g = absurd g
-paused-is Absent (Up n) (Replaying m) s f g = absurd g
-paused-is Absent (Up n) (Replayed m) s f g = absurd g
-paused-is Absent (Up n) (Restoring m) s f g = absurd g
-paused-is Absent (Up n) Passing s f g = absurd g
-paused-is Absent (Collecting n) d s f g = on Absent (Collecting n) d s f g
-paused-is Absent (Replaying n) d s f g = on Absent (Replaying n) d s f g
-paused-is Absent (Replayed n) d s f g = on Absent (Replayed n) d s f g
-paused-is Absent (Restoring n) d s f g = on Absent (Restoring n) d s f g
+paused-is Absent (Up n) other s f g = absurd g
 paused-is Absent Passing d s f g = unsettled s
+paused-is Absent c d s f g = on Absent c d s f g
 paused-is (Pending bytes) (Up n) (Up m) s f g = on (Pending bytes) (Up n) (Up m) s f (ap Up (rests-as (is_storable n) n m f.0 g))
-paused-is (Pending bytes) (Up n) (Collecting m) s f g = absurd g
-paused-is (Pending bytes) (Up n) (Replaying m) s f g = absurd g
-paused-is (Pending bytes) (Up n) (Replayed m) s f g = absurd g
-paused-is (Pending bytes) (Up n) (Restoring m) s f g = absurd g
-paused-is (Pending bytes) (Up n) Passing s f g = absurd g
-paused-is (Pending bytes) (Collecting n) d s f g = absurd f
-paused-is (Pending bytes) (Replaying n) d s f g = absurd f
-paused-is (Pending bytes) (Replayed n) d s f g = absurd f
-paused-is (Pending bytes) (Restoring n) d s f g = absurd f
-paused-is (Pending bytes) Passing d s f g = absurd f
+paused-is (Pending bytes) (Up n) other s f g = absurd g
 paused-is Durable (Up n) (Up m) s f g = on Durable (Up n) (Up m) s f (ap Up (rests-as (is_storable n) n m f g))
-paused-is Durable (Up n) (Collecting m) s f g = absurd g
-paused-is Durable (Up n) (Replaying m) s f g = absurd g
-paused-is Durable (Up n) (Replayed m) s f g = absurd g
-paused-is Durable (Up n) (Restoring m) s f g = absurd g
-paused-is Durable (Up n) Passing s f g = absurd g
-paused-is Durable (Collecting n) d s f g = absurd f
-paused-is Durable (Replaying n) d s f g = absurd f
-paused-is Durable (Replayed n) d s f g = absurd f
-paused-is Durable (Restoring n) d s f g = absurd f
-paused-is Durable Passing d s f g = absurd f
+paused-is Durable (Up n) other s f g = absurd g
+paused-is w c d s f g = absurd f
 
 -- what is pending is stored
 pub stored-is : (bytes : List ℕ) (c : Lifecycle) → Fits (Pending bytes) c → Fits Durable c
 stored-is bytes (Up n) f = f.0
-stored-is bytes (Collecting n) f = absurd f
-stored-is bytes (Replaying n) f = absurd f
-stored-is bytes (Replayed n) f = absurd f
-stored-is bytes (Restoring n) f = absurd f
-stored-is bytes Passing f = absurd f
+stored-is bytes other f = absurd f
 
 -- and it is told so
 pub saved-is : (c d : Lifecycle) → Fits Durable c → Thaws c d → (is_settled d ≡ true) × IsTold (seen Durable c) (stage_of d)
 saved-is (Up n) (Up m) f g = (refl, (m, (refl, g)))
-saved-is (Up n) (Collecting m) f g = absurd g
-saved-is (Up n) (Replaying m) f g = absurd g
-saved-is (Up n) (Replayed m) f g = absurd g
-saved-is (Up n) (Restoring m) f g = absurd g
-saved-is (Up n) Passing f g = absurd g
-saved-is (Collecting n) d f g = absurd f
-saved-is (Replaying n) d f g = absurd f
-saved-is (Replayed n) d f g = absurd f
-saved-is (Restoring n) d f g = absurd f
-saved-is Passing d f g = absurd f
+saved-is (Up n) other f g = absurd g
+saved-is c d f g = absurd f

@@ -166,12 +166,7 @@ module _ (lives : ℕ → ℕ) (back : ℕ → Type 0) (top : ℕ) where
       page from j flags entries n a low good.0 good.1.0 good.1.1)
       (λ e. same n)
   says from to (packets.Ask i k) n a here low other s = by-if (On n) (in_range (packets.Ask i k)) (asked_by from i k n) n (λ e. asking from i k n a other s) (λ e. same n)
-  says from to (packets.Delivery i ssn y) n a here low other s = same n
-  says from to (packets.Number i ssn k) n a here low other s = same n
-  says from to (packets.Acknowledgement i k) n a here low other s = same n
-  says from to (packets.Saved k) n a here low other s = same n
-  says from to (packets.Resume i k r) n a here low other s = same n
-  says from to (packets.Restored i j c r flags pairs) n a here low other s = same n
+  says from to x n a here low other s = same n
 
   pub hands : (x : NodePacket) (n : TheCollecting) → IsAlone lives back top n.own → IsSound lives back x → On n (handed x n)
   hands x n a s =

@@ -35,9 +35,9 @@ use Rattle.node_laws.specs.Durable.{IsAfter, ReplaysAll}
 use Rattle.recovery.specs.Plan.{IsCovered, Plans, told_under}
 use Rattle.node_laws.proofs.Taken.{IsFair, IsSent, IsIn, HasTaken, sender_of, taken-plan, told-good, taken-more}
 use Rattle.node_laws.proofs.HeldNode as nodes
-use Rattle.node_laws.proofs.HeldNode.{IsGiven, OfNode, given-still, node-more}
+use Rattle.node_laws.proofs.HeldState.{IsGiven, OfNode, given-still, node-more}
 use Rattle.node_laws.proofs.HeldOwn as owns
-use Rattle.node_laws.proofs.HeldOwn.{OfOwn, OnCollecting, OnRestoring, Fair, planning, own-more, told-later, none-were-told}
+use Rattle.node_laws.proofs.HeldOwn.{OfOwn, OnCollecting, OnRestoring, planning, own-more, told-later, none-were-told}
 
 handed-rests : (x : NodePacket) (n : TheNode) → n.frozen ≡ true → handed x n ≡ n
 handed-rests x n e = rw e refl
@@ -162,10 +162,7 @@ module _ (f : Answering) (states : ℕ → List ℕ) (top p : ℕ) (durable tell
   working h a (Covered n) new g s =
       subst (IsFor h) (sym (g.1.0 ∙ ap Covered (g.1.1 ∙ ap (λ o. did_work a.state a.given o n) (s.1.0.rests s.1.1)))) s
   working h a (Replays n) new g s = subst (IsFor h) (sym (g.1.1.0 ∙ ap Replays g.1.1.1.0)) (worked-again h n a (next_job n) refl g.0 s)
-  working h a (Collects n) new g s = absurd g
-  working h a (Replayed n) new g s = absurd g
-  working h a (Restores n) new g s = absurd g
-  working h a Killed new g s = absurd g
+  working h a other new g s = absurd g
 
   -- all is replayed
   ended : (h : List Message) (n : TheReplaying) → is_over n ≡ true → IsFor h (Replays n) → IsFor h (Replayed (replayed_of n))
@@ -221,50 +218,22 @@ module _ (f : Answering) (states : ℕ → List ℕ) (top p : ℕ) (durable tell
       (s.0, ((s.1.more, s.1.begins), ((kept_of n, (g.1.0, (nodes.keeping top F p durable tells D In h s.0 n low s.1, nodes.counting-again top F p durable tells D In h s.0 n low s.1))), (h, (s.1, g.0)))))
   storing h bytes (Covered n) g s =
       (h, (begins-self h, ((kept_of n, (g.0, (nodes.keeping top F p durable tells D In s.0 h n low s.1.0, nodes.counting-again top F p durable tells D In s.0 h n low s.1.0))), s)))
-  storing h bytes (Collects n) g s = absurd g
-  storing h bytes (Replays n) g s = absurd g
-  storing h bytes (Replayed n) g s = absurd g
-  storing h bytes (Restores n) g s = absurd g
-  storing h bytes Killed g s = absurd g
+  storing h bytes other g s = absurd g
 
   -- and it was told so
   pub telling : (h : List Message) (old new : Process) → IsTold old new → IsFor h old → IsFor h new
   telling h (Up n) new g s = subst (IsFor h) (sym (g.1.1.0 ∙ ap Up (g.1.1.1.0 g.0))) s
   telling h (Covered n) new g s = subst (IsFor h) (sym (g.1.0 ∙ ap Up g.1.1.0)) (h, nodes.saving top F gr p durable tells D In s.0 h n s.1.1 s.1.0)
-  telling h (Collects n) new g s = absurd g
-  telling h (Replays n) new g s = absurd g
-  telling h (Replayed n) new g s = absurd g
-  telling h (Restores n) new g s = absurd g
-  telling h Killed new g s = absurd g
+  telling h other new g s = absurd g
 
   -- it was suspended, and is resumed
   woken-on : (h g : List Message) (limits : Limits) (n : TheNode) → (durable ≡ true → limits.durable ≡ true) → Node h g n → Node h g (woken limits n)
   woken-on h g limits n lasting s =
-      record {
-        me = s.me;
-        count = s.count;
-        wide = s.wide;
-        base = s.base;
-        more = s.more;
-        begins = s.begins;
-        many = s.many;
-        taken = s.taken;
-        job = s.job;
-        state = s.state;
-        logs = s.logs;
-        out = tt;
-        rests = s.rests;
-        is_durable = lasting;
-      }
+      record { at = record { me = s.me; count = s.count; base = s.base; more = s.more; begins = s.begins; state = s.state; is_durable = lasting }; many = s.many; taken = s.taken; job = s.job; wide = s.wide; logs = s.logs; out = tt; rests = s.rests }
 
   pub waking : (h : List Message) (limits : Limits) (old new : Process) → Wakes limits old new → (durable ≡ true → limits.durable ≡ true) → IsFor h old → IsFor h new
   waking h limits (Up n) new g lasting s = subst (IsFor h) (sym (g.1.1.0 ∙ ap Up g.1.1.1)) (s.0, woken-on h s.0 limits n lasting s.1)
-  waking h limits (Covered n) new g lasting s = absurd g
-  waking h limits (Collects n) new g lasting s = absurd g
-  waking h limits (Replays n) new g lasting s = absurd g
-  waking h limits (Replayed n) new g lasting s = absurd g
-  waking h limits (Restores n) new g lasting s = absurd g
-  waking h limits Killed new g lasting s = absurd g
+  waking h limits other new g lasting s = absurd g
 
 -- the limits of one that comes back are those that it was given
 limits-below : (me d : ℕ) (n : TheCollecting) → (asks_below me d n).own.limits ≡ n.own.limits

@@ -21,10 +21,11 @@ use Rattle.node.proofs.Lists.{all-more}
 use Rattle.gateway.proofs.Steps.{by-if}
 use Rattle.node_laws.specs.Together.{IsFirst}
 use Rattle.node_laws.specs.Process.{Process, Up, Collects, Killed, Gives, Hears, Works, Acts, WaitsFor, covered, IsTold, Wakes, ComesFrom}
-use Rattle.node_laws.specs.System.{System, new_system, AreStored, Call, Gave, Handed, Worked, Did, Stored, Saved, Resumed, Died, Revived, GaveOut, HandedOut, DidOut, StoredOut, StoredBut, RevivedOut, DoesIt, after_call, Calls, after_calls}
+use Rattle.node_laws.specs.System.{System, new_system, AreStored, Call, Gave, Handed, Worked, Did, Stored, Saved, Resumed, Died, Revived, DoesIt, after_call, Calls, after_calls}
 use Rattle.node_laws.specs.Durable.{AreAfter, IsSentBy, given_by, ReplaysAll, ReplaysWhole, ReplayWhole, KeepsDurable, StaysDurable, HasAfter, StoredStays, DurableLast}
 use Rattle.node_laws.proofs.Held.{Holds}
-use Rattle.node_laws.proofs.HeldNode.{IsGiven, OfNode, keeping, counting-again}
+use Rattle.node_laws.proofs.HeldNode.{keeping, counting-again}
+use Rattle.node_laws.proofs.HeldState.{IsGiven, OfNode}
 use Rattle.node_laws.proofs.Taken.{fair-none, fair-of}
 use Rattle.node_laws.proofs.Durability.{IsStored, IsFor, IsFairHere, gave-later, giving, hearing, working, acting, storing, telling, waking, reviving}
 
@@ -180,12 +181,7 @@ module _ (f : Answering) (states : ℕ → List ℕ) (top p : ℕ) (durable tell
         };
         gives = λ ks late b a. a;
       }
-  step h s (GaveOut x new) now m v w fair = record { to = h; begins = begins-self h; still = λ e. refl; now = record { holds = now.holds; stored = now.stored }; gives = λ ks late b a. a }
-  step h s (HandedOut x new) now m v w fair = record { to = h; begins = begins-self h; still = λ e. refl; now = record { holds = now.holds; stored = now.stored }; gives = λ ks late b a. a }
-  step h s (DidOut new) now m v w fair = record { to = h; begins = begins-self h; still = λ e. refl; now = record { holds = now.holds; stored = now.stored }; gives = λ ks late b a. a }
-  step h s StoredOut now m v w fair = record { to = h; begins = begins-self h; still = λ e. refl; now = record { holds = now.holds; stored = now.stored }; gives = λ ks late b a. a }
-  step h s (StoredBut k) now m v w fair = record { to = h; begins = begins-self h; still = λ e. refl; now = record { holds = now.holds; stored = now.stored }; gives = λ ks late b a. a }
-  step h s (RevivedOut new) now m v w fair = record { to = h; begins = begins-self h; still = λ e. refl; now = record { holds = now.holds; stored = now.stored }; gives = λ ks late b a. a }
+  step h s other now m v w fair = record { to = h; begins = begins-self h; still = λ e. refl; now = record { holds = now.holds; stored = now.stored }; gives = λ ks late b a. a }
 
   -- call after call, from the second moment on
   last : (h : List Message) (s : System) (more : List Call) → Now f states top p durable tells D In low h s → Calls f top s more → ReplayWhole s more → (durable ≡ true → StaysDurable p s more) → ((g : List Message) (k : Call) → IsFairCall g k) → Both f states top p durable tells D In low h s [] more
@@ -228,21 +224,8 @@ abbrev pub nothing : ℕ → List Payload
 nothing q = []
 
 pub all-fair : (f : Answering) (states : ℕ → List ℕ) (top p : ℕ) (durable : Bool) (low : p ≤ top) (h : List Message) (k : Call) → IsFairCall f states top p durable false (λ q. false) nothing low h k
-all-fair f states top p durable low h (Gave q x new) = tt
 all-fair f states top p durable low h (Handed q x new) = λ e to. fair-none [] ((handlers_of f states).sends p h x.from) x.body
-all-fair f states top p durable low h (Worked q a new) = tt
-all-fair f states top p durable low h (Did q new) = tt
-all-fair f states top p durable low h (Stored q bytes) = tt
-all-fair f states top p durable low h (Saved q new) = tt
-all-fair f states top p durable low h (Resumed q limits new) = tt
-all-fair f states top p durable low h (Died q) = tt
-all-fair f states top p durable low h (Revived q life new) = tt
-all-fair f states top p durable low h (GaveOut x new) = tt
-all-fair f states top p durable low h (HandedOut x new) = tt
-all-fair f states top p durable low h (DidOut new) = tt
-all-fair f states top p durable low h StoredOut = tt
-all-fair f states top p durable low h (StoredBut k) = tt
-all-fair f states top p durable low h (RevivedOut new) = tt
+all-fair f states top p durable low h other = tt
 
 -- ---- the opening
 
@@ -262,31 +245,15 @@ none-counted (suc k) (suc q) = none-counted k q
 opened : (f : Answering) (states : ℕ → List ℕ) (top p : ℕ) (durable tells : Bool) (D : ℕ → Bool) (In : ℕ → List Payload) (limits : Limits) → (durable ≡ true → limits.durable ≡ true) → OfNode top (handlers_of f states) p durable tells D In [] [] (new_node limits p top (states p))
 opened f states top p durable tells D In limits lasting =
     record {
-      me = refl;
-      count = refl;
-      wide = omega (arith, length-replicate (top + 1) no_queue);
-      base = refl;
-      more = [];
-      begins = refl;
+      at = record { me = refl; count = refl; base = refl; more = []; begins = refl; state = refl; is_durable = lasting };
       many = omega arith;
-      taken = record {
-        wide = omega (arith, length-replicate {A = ℕ} (top + 1) 0);
-        counts = λ q l. none-counted (top + 1) q;
-        more = [];
-        begins = refl;
-        are = refl;
-        ordered = tt;
-        none = refl;
-        known = tt;
-        few = λ q d. omega arith;
-      };
+      taken = record { wide = omega (arith, length-replicate {A = ℕ} (top + 1) 0); counts = λ q l. none-counted (top + 1) q; more = []; begins = refl; are = refl; ordered = tt; none = refl; known = tt; few = λ q d. omega arith };
       job = tt;
-      state = refl;
+      wide = omega (arith, length-replicate (top + 1) no_queue);
       logs = λ d l o. subst (λ q. Holds durable tells 0 0 q []) (sym (none-logged (top + 1) d))
           (record { rest = record { within = omega arith; rest = refl }; within = omega arith; shut = λ t. omega arith; numbered = λ t i l. refl });
       out = tt;
       rests = λ e. refl;
-      is_durable = lasting;
     }
 
 pub begins-now : (f : Answering) (states : ℕ → List ℕ) (n p page tick : ℕ) (durable tells : Bool) (D : ℕ → Bool) (In : ℕ → List Payload) (low : p ≤ n) (limits : ℕ → Limits) (bytes : ℕ → List ℕ) → AreStored n states bytes → IsFirst n p

@@ -96,9 +96,7 @@ module _ (lives : ℕ → ℕ) (back : ℕ → Type 0) where
   told-on from to (packets.Saved k) g one h = drops from k g
   told-on from to (packets.Ask i k) g one h = asking from i k g one h
   told-on from to (packets.Resume i k s) g one h = resuming from i k s g one h
-  told-on from to (packets.Acknowledgement i k) g one h = stays g
-  told-on from to (packets.Told i j k flags entries) g one h = stays g
-  told-on from to (packets.Restored i j n s flags pairs) g one h = stays g
+  told-on from to other g one h = stays g
 
   pub hands : (x : NodePacket) (g : TheGateway) → lives 0 ≡ 1 → IsSound lives back x → On g (handed x g)
   hands x g one h = by-if (On g) (is_for g x) (told x.from x.body g) g (λ e. told-on x.from x.to x.body g one h) (λ e. stays g)

@@ -1,16 +1,13 @@
 -- The gateway, as it is durable and as it is
-use Rattle.std.proofs.Common.{◌≡◌, ◌++◌, length, sym, subst}
+use Rattle.std.proofs.Common.{◌≡◌, sym, subst}
 use Rattle.std.specs.List.{AllByRecursion}
-use Rattle.world.specs.History.{count_of}
 use Rattle.cluster.specs.Parcels.{Parcel, In}
 use Rattle.cluster.specs.Cluster.{Cluster}
 use Rattle.cluster.specs.Rules.{after_run}
-use Rattle.stores.specs.Store.{TheStore, peer_at}
-use Rattle.gateway.specs.Acts.{IsByGateway}
+use Rattle.stores.specs.Store.{TheStore}
 use Rattle.gateway.specs.Gateway.{TheGateway}
-use Rattle.gateway.specs.Stands.{Stands, PutOut, KeepsOf, EndsWith, Goes, Owes}
-use Rattle.gateway.proofs.Steps.{stays, put-still, all-more, all-append}
-use Rattle.node.proofs.Steps.{run-on}
+use Rattle.gateway.specs.Stands.{Stands, PutOut, Goes, Owes}
+use Rattle.gateway.proofs.Steps.{stays, stands-waiting, goes-behind, put-still, all-more}
 use Rattle.node.proofs.Runs.{parcels-stay}
 
 -- all that was put out in the one was put out in the other
@@ -28,17 +25,6 @@ ahead-none g c d s more = stays g d s
 pub ahead-still : (durable now : TheGateway) (b c : Cluster) → PutsMore b c → Ahead durable now b → Ahead durable now c
 ahead-still durable now b c more h d s all = h d s (λ x i. all x (more x i))
 
--- it goes on from where it went
-goes-behind : (mid new : TheGateway) (c : Cluster) → (g : Goes mid c) → Goes new (after_run c g.acts) → Goes new c
-goes-behind mid new c g m =
-    let both = run-on c g.acts m.acts g.run m.run in
-    record {
-      acts = g.acts ++ m.acts;
-      run = both.0;
-      by = all-append IsByGateway g.acts m.acts g.by m.by;
-      stands = subst (Stands new) (sym both.1) m.stands;
-    }
-
 -- after a call, where what it is given holds wherever all this was put out
 pub ahead-acts : (given : Cluster → Type 0) (durable now new : TheGateway) (c : Cluster) → ((d : Cluster) → PutsMore c d → given d) → Owes given now new → Ahead durable now c → Ahead durable new c
 ahead-acts given durable now new c holds owed h d s all =
@@ -53,18 +39,4 @@ out-more g c d many more out = all-more (PutOut c.count c.parcels) (PutOut d.cou
 
 -- with what was put out, the one stands where the other does
 pub stands-as : (old new : TheGateway) (c : Cluster) → new.store ≡ old.store → AllByRecursion (PutOut c.count c.parcels) new.out → Stands old c → Stands new c
-stands-as old new c e out s =
-    record {
-      count = subst (λ (z : TheStore). length z.peers ≡ c.count) (sym e) s.count;
-      stage = s.stage;
-      greeted = s.greeted;
-      phase = s.phase;
-      life = s.life;
-      history = s.history;
-      logs = λ p i. subst (λ (z : TheStore). KeepsOf (peer_at p z) (c.trims 0 p) (c.inputs p) (c.numbers 0 p)) (sym e) (s.logs p i);
-      shown = λ p i. subst (λ (z : TheStore). (peer_at p z).shown ≡ count_of p c.shown) (sym e) (s.shown p i);
-      outputs = subst (λ (z : TheStore). EndsWith z.outputs c.shown) (sym e) s.outputs;
-      heard = λ p i. subst (λ (z : TheStore). c.heard 0 p ≡ (peer_at p z).heard) (sym e) (s.heard p i);
-      resumed = λ p i. subst (λ (z : TheStore). c.resumed 0 p ≡ (peer_at p z).resumed) (sym e) (s.resumed p i);
-      out = out;
-    }
+stands-as old new c e out s = subst (λ (t : TheStore). Stands (record new { store = t }) c) (sym e) (stands-waiting old c s out)

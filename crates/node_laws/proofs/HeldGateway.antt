@@ -176,9 +176,7 @@ module _ (Q : TheStore → Type 0) (steady : Steady Q) where
   told-on from (packets.Saved k) g good s = drops from k g s
   told-on from (packets.Ask i k) g good s = asking from i k g s
   told-on from (packets.Resume i k r) g good s = resuming from i k r g s
-  told-on from (packets.Acknowledgement i k) g good s = s
-  told-on from (packets.Told i j k flags entries) g good s = s
-  told-on from (packets.Restored i j n r flags pairs) g good s = s
+  told-on from other g good s = s
 
   pub hands : (x : NodePacket) (g : TheGateway) → TakesOutput Q x g → On g → On (handed x g)
   hands x g good s = by-if On (is_for g x) (told x.from x.body g) g (λ e. let h = here e in told-on x.from x.body g (good h.0 h.1) s) (λ e. s)

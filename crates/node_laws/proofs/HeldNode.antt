@@ -1,11 +1,11 @@
 -- What a node that is up gives, and what is kept of it
-use Rattle.std.proofs.Common.{◌≡◌, ◌≢◌, ℕ, zero, suc, ◌+◌, ◌-◌, ◌<◌, ◌≤◌, List, [], ◌∷◌, ◌++◌, length, map, take, drop, max, min, Bool, true, false, refl, sym, ap, ◌∙◌, subst, arith, append_assoc, append-nil}
-use Rattle.std.specs.Prelude.{Option, Some, None, is_none, is_some, not, ◌&&◌, ◌||◌, ◌==◌, nat_lt, nat_le, slice_index_or, slice_set}
+use Rattle.std.proofs.Common.{◌≡◌, ◌≢◌, ℕ, zero, suc, ◌+◌, ◌-◌, ◌<◌, ◌≤◌, List, [], ◌∷◌, ◌++◌, length, map, take, drop, max, min, Bool, true, false, refl, sym, ap, ◌∙◌, subst, arith, append-nil}
+use Rattle.std.specs.Prelude.{Some, None, is_none, is_some, not, ◌&&◌, ◌||◌, ◌==◌, nat_lt, nat_le, slice_index_or, slice_set}
 use Rattle.std.proofs.lemmas.Bool.Decides.{nat_tests}
 use Rattle.std.proofs.lemmas.List.{length-set, length-map, get_or-map}
 use Rattle.theorems.specs.Growth.{Begins, Grows}
 use Rattle.theorems.proofs.Tests.{both}
-use Rattle.theorems.proofs.ListLemmas.{begins-self, begins-trans, begins-length, nth-within}
+use Rattle.theorems.proofs.ListLemmas.{begins-length, nth-within}
 use Rattle.rsn.specs.Receipts.{numbers_of, acknowledged_of, run_of}
 use Rattle.world.specs.declared.message.Message.{Message}
 use Rattle.world.specs.History.{Payload, nth, count_of}
@@ -32,67 +32,14 @@ use Rattle.node.proofs.Logs.{length-push, given-length}
 use Rattle.node.proofs.Steps.{by-if}
 use Rattle.recovery.proofs.Preservation.{each-take, each-drop}
 use Rattle.node_laws.specs.Durable.{IsRest, IsAfter}
-use Rattle.node_laws.proofs.Held.{Holds, payload-sent, held-recorded, held-forgotten, held-released, held-dropped, changed-within, given-held, held-covered}
-use Rattle.node_laws.proofs.Taken.{IsSent, IsLow, IsFair, IsIn, HasTaken, fair-more, in-more, page-sent, pairs-low, taken-many, taken-next, taken-covered, taken-more}
-
--- ---- what a history sends
-
--- what it sends its first messages sent first
-pub grown : (f : Handlers) → Grows f → (p d : ℕ) (h more : List Message) → Begins (f.sends p h d) (f.sends p (h ++ more) d)
-grown f gr p d h [] = subst (λ z. Begins (f.sends p h d) (f.sends p z d)) (sym (append-nil h)) (begins-self (f.sends p h d))
-grown f gr p d h (m ∷ ms) =
-    subst (λ z. Begins (f.sends p h d) (f.sends p z d)) (append_assoc h (m ∷ []) ms)
-    (begins-trans (f.sends p h d) (f.sends p (h ++ m ∷ []) d) (f.sends p ((h ++ m ∷ []) ++ ms) d) (gr p h m d) (grown f gr p d (h ++ m ∷ []) ms))
-
--- a packet of p's, which these messages make it send, and which names what others sent it
-abbrev pub IsGiven : Handlers → ℕ → Bool → Bool → (ℕ → Bool) → (ℕ → List Payload) → List Message → NodePacket → Type 0
-IsGiven f p durable tells D In h x = (x.from ≡ p) × IsFair durable tells (f.sends p h x.to) (D x.to) (In x.to) x.body
-
--- it is that where more was sent
-pub given-more : (f : Handlers) → Grows f → (p : ℕ) (durable tells : Bool) (D : ℕ → Bool) (In In2 : ℕ → List Payload) (h more : List Message) (x : NodePacket) → ((q : ℕ) → Begins (In q) (In2 q)) → IsGiven f p durable tells D In h x
-    → IsGiven f p durable tells D In2 (h ++ more) x
-given-more f gr p durable tells D In In2 h more x b o =
-    (o.0, fair-more durable tells (f.sends p h x.to) (f.sends p (h ++ more) x.to) (D x.to) (In x.to) (In2 x.to) x.body (grown f gr p x.to h more) (b x.to) o.1)
-
-pub given-still : (f : Handlers) → Grows f → (p : ℕ) (durable tells : Bool) (D : ℕ → Bool) (In : ℕ → List Payload) (h more : List Message) (x : NodePacket) → IsGiven f p durable tells D In h x → IsGiven f p durable tells D In (h ++ more) x
-given-still f gr p durable tells D In h more x o = given-more f gr p durable tells D In In h more x (λ q. begins-self (In q)) o
-
--- the job that is open is on the next message of another, and of a durable one that was sent
-abbrev pub IsJob : (ℕ → Bool) → (ℕ → List Payload) → ℕ → List Message → Option OpenJob → Type 0
-IsJob D In p g None = Unit {0}
-IsJob D In p g (Some j) = (j.ssn ≡ suc (count_of j.sender g)) × ((j.sender ≢ p) × IsIn D In (job_of j))
-
--- ---- a node
-
--- the node p of so many has what it has after the messages g, of which its checkpoint covers the first, h
-pub record OfNode (top : ℕ) (f : Handlers) (p : ℕ) (durable tells : Bool) (D : ℕ → Bool) (In : ℕ → List Payload) (h g : List Message) (n : TheNode) : Type 0 where
-  pub me : n.me ≡ p
-  pub count : n.count ≡ top
-  pub wide : length n.logs ≡ suc top
-  pub base : n.base ≡ length h
-  pub more : List Message
-  pub begins : h ++ more ≡ g
-  pub many : length g ≡ n.base + length n.receipts.senders
-  pub taken : HasTaken D In top p h g n.covered n.receipts.senders
-  pub job : IsJob D In p g n.working
-  pub state : f.state p g ≡ n.state
-  pub logs : (d : ℕ) → d ≤ top → d ≢ p → Holds durable tells n.base (length (f.sends p h d)) (log_at n.logs d) (f.sends p g d)
-  pub out : Each (IsGiven f p durable tells D In h) n.out
-  pub rests : n.frozen ≡ true → n.working ≡ None
-  pub is_durable : durable ≡ true → n.limits.durable ≡ true
+use Rattle.node_laws.proofs.Held.{Holds, payload-sent, held-recorded, held-forgotten, held-released, held-dropped, given-held, held-covered}
+use Rattle.node_laws.proofs.Taken.{IsSent, IsLow, IsFair, HasTaken, page-sent, pairs-low, taken-many, taken-next, taken-covered}
+use Rattle.node_laws.proofs.HeldState.{grown, IsGiven, given-still, IsJob, relogs, OfNode, at-next, off, none-is}
 
 by-number : (q : TheQueue) (sent : List Payload) {tells : Bool} → (tells ≡ true → (i : ℕ) → length sent ≤ q.dropped + i → slice_index_or q.numbers i None ≡ None) → (i m : ℕ) → slice_index_or q.numbers i None ≡ Some m → tells ≡ true → (b : Bool)
     → nat_le (length sent) (q.dropped + i) ≡ b → q.dropped + i < length sent
 by-number q sent none i m e t true u = absurd (let f : None ≡ Some m = sym (none t i (let l : length sent ≤ q.dropped + i = grind (arith, nat_tests) in l)) ∙ e in cc (f))
 by-number q sent none i m e t false u = let l : q.dropped + i < length sent = grind (arith, nat_tests) in l
-
-pub off : (b : Bool) → not b ≡ true → b ≡ false
-off true e = absurd (cc (e))
-off false e = refl
-
-none-is : (o : Option OpenJob) → is_none o ≡ true → o ≡ None
-none-is None e = refl
-none-is (Some j) e = absurd (cc (e))
 
 module _ (top : ℕ) (f : Handlers) (gr : Grows f) (p : ℕ) (durable tells : Bool) (D : ℕ → Bool) (In : ℕ → List Payload) (h g : List Message) where
   abbrev On : TheNode → Type 0
@@ -112,44 +59,15 @@ module _ (top : ℕ) (f : Handlers) (gr : Grows f) (p : ℕ) (durable tells : Bo
   -- one packet more
   posting : (to : ℕ) (x : bodies.Body) (n : TheNode) → IsFair durable tells (f.sends p h to) (D to) (In to) x → On n → On (posts to x n)
   posting to x n o s =
-      record {
-        me = s.me;
-        count = s.count;
-        wide = s.wide;
-        base = s.base;
-        more = s.more;
-        begins = s.begins;
-        many = s.many;
-        taken = s.taken;
-        job = s.job;
-        state = s.state;
-        logs = s.logs;
-        out = all-pushed (IsGiven f p durable tells D In h) n.out (packet_of n to x) s.out (s.me, o);
-        rests = s.rests;
-        is_durable = s.is_durable;
-      }
+      let out = all-pushed (IsGiven f p durable tells D In h) n.out (packet_of n to x) s.out (s.me, o) in
+      record { at = s.at; many = s.many; taken = s.taken; job = s.job; wide = s.wide; logs = s.logs; out = out; rests = s.rests }
 
   -- the log for one is another, and holds what it held
   relogged : (r : ℕ) (new : TheQueue) (n : TheNode)
       → ((d : ℕ) → d ≡ r → Holds durable tells n.base (length (f.sends p h d)) (log_at n.logs r) (f.sends p g d) → Holds durable tells n.base (length (f.sends p h d)) new (f.sends p g d)) → On n → On (record n { logs = slice_set n.logs r new })
   relogged r new n kept s =
-      record {
-        me = s.me;
-        count = s.count;
-        wide = length-set n.logs r new ∙ s.wide;
-        base = s.base;
-        more = s.more;
-        begins = s.begins;
-        many = s.many;
-        taken = s.taken;
-        job = s.job;
-        state = s.state;
-        logs = λ d l o. (let P : TheQueue → Type 0 = λ q. Holds durable tells n.base (length (f.sends p h d)) q (f.sends p g d) in
-            changed-within durable tells n.base (length (f.sends p h d)) P n.logs r new d (omega (arith, s.wide, l)) (λ same. let Q : ℕ → Type 0 = λ z. P (log_at n.logs z) in kept d same (subst Q same (s.logs d l o))) (λ apart. s.logs d l o));
-        out = s.out;
-        rests = s.rests;
-        is_durable = s.is_durable;
-      }
+      let logs = relogs top f p durable tells h g n.base n.logs r new s.wide kept s.logs in
+      record { at = s.at; many = s.many; taken = s.taken; job = s.job; wide = length-set n.logs r new ∙ s.wide; logs = logs; out = s.out; rests = s.rests }
 
   -- ---- messages
 
@@ -253,22 +171,7 @@ module _ (top : ℕ) (f : Handlers) (gr : Grows f) (p : ℕ) (durable tells : Bo
       waits : may_freeze n ≡ true → On (record n { frozen = true })
       waits e =
           let none : n.working ≡ None = none-is n.working (both (not n.frozen) (is_none n.working) e).1 in
-          record {
-            me = s.me;
-            count = s.count;
-            wide = s.wide;
-            base = s.base;
-            more = s.more;
-            begins = s.begins;
-            many = s.many;
-            taken = s.taken;
-            job = s.job;
-            state = s.state;
-            logs = s.logs;
-            out = s.out;
-            rests = λ t. none;
-            is_durable = s.is_durable;
-          }
+          record { at = s.at; many = s.many; taken = s.taken; job = s.job; wide = s.wide; logs = s.logs; out = s.out; rests = λ t. none }
 
   says-one : (to : ℕ) (n : TheNode) → On n → On (says_covered to n)
   says-one to n s = by-if On (nat_lt 0 (covered_of to n)) (posts to (packets.Saved (covered_of to n)) n) n (λ e. posting to (packets.Saved (covered_of to n)) n tt s) (λ e. s)
@@ -293,22 +196,8 @@ module _ (top : ℕ) (f : Handlers) (gr : Grows f) (p : ℕ) (durable tells : Bo
       let known : ℕ = length (numbers_of from n.receipts) in
       let many : covered + known ≡ count_of from g = known-many from n low s in
       let opened : TheNode = record n { working = Some (record { sender = from; ssn = ssn; payload = x }) } in
-      let opens : ssn ≡ suc (count_of from g) → On opened = λ next. record {
-        me = s.me;
-        count = s.count;
-        wide = s.wide;
-        base = s.base;
-        more = s.more;
-        begins = s.begins;
-        many = s.many;
-        taken = s.taken;
-        job = (next, (other, sent));
-        state = s.state;
-        logs = s.logs;
-        out = s.out;
-        rests = λ e. absurd (cc (live, e));
-        is_durable = s.is_durable;
-      } in
+      let opens : ssn ≡ suc (count_of from g) → On opened = λ next.
+      record { at = s.at; many = s.many; taken = s.taken; job = (next, (other, sent)); wide = s.wide; logs = s.logs; out = s.out; rests = λ e. absurd (cc (live, e)) } in
       by-if On (is_some n.working || not (life == slice_index_or n.heard from 0)) n _ (λ e. s)
       (λ e. by-if On (nat_le ssn covered) (posts from (packets.Saved covered) n) _ (λ k. posting from (packets.Saved covered) n tt s)
       (λ k. let above : covered < ssn = grind (arith, nat_tests) in
@@ -333,23 +222,7 @@ module _ (top : ℕ) (f : Handlers) (gr : Grows f) (p : ℕ) (durable tells : Bo
       (λ e. s)
 
   counting : (k : ℕ) (n : TheNode) → On n → On (counted k n)
-  counting k n s =
-      record {
-        me = s.me;
-        count = s.count;
-        wide = s.wide;
-        base = s.base;
-        more = s.more;
-        begins = s.begins;
-        many = s.many;
-        taken = s.taken;
-        job = s.job;
-        state = s.state;
-        logs = s.logs;
-        out = s.out;
-        rests = s.rests;
-        is_durable = s.is_durable;
-      }
+  counting k n s = record { at = s.at; many = s.many; taken = s.taken; job = s.job; wide = s.wide; logs = s.logs; out = s.out; rests = s.rests }
 
   acknowledgement : (life k : ℕ) (n : TheNode) → On n → On (acknowledged_by life k n)
   acknowledgement life k n s =
@@ -359,23 +232,7 @@ module _ (top : ℕ) (f : Handlers) (gr : Grows f) (p : ℕ) (durable tells : Bo
 
   -- its incarnations, and whom it obeyed, may change
   aside : (heard : List ℕ) (resumed : List Bool) (n : TheNode) → On n → On (record n { heard = heard; resumed = resumed })
-  aside heard resumed n s =
-      record {
-        me = s.me;
-        count = s.count;
-        wide = s.wide;
-        base = s.base;
-        more = s.more;
-        begins = s.begins;
-        many = s.many;
-        taken = s.taken;
-        job = s.job;
-        state = s.state;
-        logs = s.logs;
-        out = s.out;
-        rests = s.rests;
-        is_durable = s.is_durable;
-      }
+  aside heard resumed n s = record { at = s.at; many = s.many; taken = s.taken; job = s.job; wide = s.wide; logs = s.logs; out = s.out; rests = s.rests }
 
   -- a page of its log
   page-is : (d k : ℕ) (n : TheNode) → d ≤ top → d ≢ p → On n → tells ≡ true → Each (IsSent (f.sends p h d)) (told_page d k n)
@@ -423,8 +280,7 @@ module _ (top : ℕ) (f : Handlers) (gr : Grows f) (p : ℕ) (durable tells : Bo
   told-on from (packets.Saved k) n live low other fair s = dropping from k n s
   told-on from (packets.Ask i k) n live low other fair s = asking from i k n low other s
   told-on from (packets.Resume i k r) n live low other fair s = resuming from i k r n low s
-  told-on from (packets.Told i j k flags entries) n live low other fair s = s
-  told-on from (packets.Restored i j c r flags pairs) n live low other fair s = s
+  told-on from x n live low other fair s = s
 
   pub handing : (x : NodePacket) (n : TheNode) → (x.to ≡ p → IsFair (D x.from) (D x.from) (In x.from) tells (f.sends p h x.from) x.body) → On n → On (handed x n)
   handing x n fair s = by-if On (is_for n x) (told x.from x.body n) n takes (λ e. s)
@@ -444,51 +300,7 @@ module _ (top : ℕ) (f : Handlers) (gr : Grows f) (p : ℕ) (durable tells : Bo
   -- ---- the first packet is taken
 
   pub taking : (x : NodePacket) (m : TheNode) → On (record m { out = x ∷ m.out }) → IsGiven f p durable tells D In h x × On m
-  taking x m s = (
-    s.out.0,
-    record {
-      me = s.me;
-      count = s.count;
-      wide = s.wide;
-      base = s.base;
-      more = s.more;
-      begins = s.begins;
-      many = s.many;
-      taken = s.taken;
-      job = s.job;
-      state = s.state;
-      logs = s.logs;
-      out = s.out.1;
-      rests = s.rests;
-      is_durable = s.is_durable;
-    },
-  )
-
--- ---- where more was sent to it
-
-pub node-more : (top : ℕ) (f : Handlers) → Grows f → (p : ℕ) (durable tells : Bool) (D : ℕ → Bool) (In In2 : ℕ → List Payload) (h g : List Message) (n : TheNode) → ((q : ℕ) → Begins (In q) (In2 q)) → OfNode top f p durable tells D In h g n
-    → OfNode top f p durable tells D In2 h g n
-node-more top f gr p durable tells D In In2 h g n b s =
-    record {
-      me = s.me;
-      count = s.count;
-      wide = s.wide;
-      base = s.base;
-      more = s.more;
-      begins = s.begins;
-      many = s.many;
-      taken = taken-more D In In2 top p h g n.covered n.receipts.senders b s.taken;
-      job = job-more n.working s.job;
-      state = s.state;
-      logs = s.logs;
-      out = all-more (IsGiven f p durable tells D In h) (IsGiven f p durable tells D In2 h) n.out (λ x o. (o.0, fair-more durable tells (f.sends p h x.to) (f.sends p h x.to) (D x.to) (In x.to) (In2 x.to) x.body (begins-self (f.sends p h x.to)) (b x.to) o.1)) s.out;
-      rests = s.rests;
-      is_durable = s.is_durable;
-    }
-  where
-    job-more : (o : Option OpenJob) → IsJob D In p g o → IsJob D In2 p g o
-    job-more None j = tt
-    job-more (Some k) j = (j.0, (j.1.0, in-more D In In2 (job_of k) b j.1.1))
+  taking x m s = (s.out.0, record { at = s.at; many = s.many; taken = s.taken; job = s.job; wide = s.wide; logs = s.logs; out = s.out.1; rests = s.rests })
 
 -- ---- all that it received is covered
 
@@ -500,22 +312,16 @@ saving top f gr p durable tells D In h g n frozen s =
     thawing : OfNode top f p durable tells D In g g (thawed n)
     thawing =
         record {
-          me = s.me;
-          count = s.count;
-          wide = s.wide;
-          base = sym s.many;
-          more = [];
-          begins = append-nil g;
+          at = record { me = s.me; count = s.count; base = sym s.many; more = []; begins = append-nil g; state = s.state; is_durable = s.is_durable };
           many = omega (arith, s.many);
           taken = taken-covered D In top p h g n.covered n.receipts s.taken;
           job = s.job;
-          state = s.state;
+          wide = s.wide;
           logs = λ d l o. held-covered durable tells n.base (length (f.sends p h d)) (n.base + length n.receipts.senders) (log_at n.logs d) (f.sends p g d)
               (begins-length (f.sends p h d) (f.sends p g d) (sent-first top f gr p durable tells D In h g d n s)) (s.logs d l o);
           out = subst (λ z. Each (IsGiven f p durable tells D In z) n.out) s.begins
               (all-more (IsGiven f p durable tells D In h) (IsGiven f p durable tells D In (h ++ s.more)) n.out (given-still f gr p durable tells D In h s.more) s.out);
           rests = λ e. absurd (cc (e));
-          is_durable = s.is_durable;
         }
 
 -- ---- the handler ran
@@ -533,21 +339,15 @@ working top f gr p durable tells D In h g j state given n busy s state_is sends_
     ran : OfNode top f p durable tells D In h (g ++ job_of j ∷ []) (worked j state given n)
     ran =
         record {
-          me = s.me;
-          count = s.count;
-          wide = given-length (next_number n) given n.logs ∙ s.wide;
-          base = s.base;
-          more = s.more ++ job_of j ∷ [];
-          begins = sym (append_assoc h s.more (job_of j ∷ [])) ∙ ap (λ z. z ++ job_of j ∷ []) s.begins;
+          at = at-next top f p durable h g j n.me n.count n.base state n.limits.durable n.state s.at state_is;
           many = omega (arith, length-push g (job_of j), length-push n.receipts.senders j.sender, s.many);
           taken = taken-next D In top p h g n.covered n.receipts.senders (job_of j) job.0 job.1.0 job.1.1 s.taken;
           job = tt;
-          state = state_is;
+          wide = given-length (next_number n) given n.logs ∙ s.wide;
           logs = λ d l o. subst (Holds durable tells n.base (length (f.sends p h d)) (log_at (given_to (next_number n) given n.logs) d)) (sym (sends_are d))
               (given-held durable tells n.base (length (f.sends p h d)) (next_number n) given n.logs d (f.sends p g d) (omega arith) (omega (arith, s.wide, l)) (s.logs d l o));
           out = s.out;
           rests = λ e. refl;
-          is_durable = s.is_durable;
         }
 
 -- ---- what is kept of it

@@ -1,11 +1,11 @@
 -- What a process gives that comes back, and what it holds
-use Rattle.std.proofs.Common.{◌≡◌, ◌≢◌, ℕ, zero, suc, ◌+◌, ◌<◌, ◌≤◌, List, [], ◌∷◌, ◌++◌, length, map, take, drop, Bool, true, false, refl, sym, ap, ◌∙◌, subst, arith, append_assoc, append-nil}
+use Rattle.std.proofs.Common.{◌≡◌, ◌≢◌, ℕ, zero, suc, ◌+◌, ◌<◌, ◌≤◌, List, [], ◌∷◌, ◌++◌, length, map, take, drop, Bool, true, false, refl, sym, ap, ◌∙◌, subst, arith, append-nil}
 use Rattle.std.specs.Prelude.{Option, Some, None, not, ◌&&◌, ◌==◌, nat_lt, nat_le, slice_get, slice_index_or, slice_set, replicate, if◌then◌else◌}
 use Rattle.std.proofs.lemmas.Bool.Decides.{nat_tests}
 use Rattle.std.proofs.lemmas.List.{length-set, length-map}
 use Rattle.theorems.specs.Growth.{Begins}
 use Rattle.theorems.proofs.Tests.{both}
-use Rattle.theorems.proofs.ListLemmas.{take-next, begins-self, nth-prefix}
+use Rattle.theorems.proofs.ListLemmas.{take-next, nth-prefix}
 use Rattle.world.specs.declared.message.Message.{Message}
 use Rattle.world.specs.History.{Payload}
 use Rattle.world.specs.Handlers.{Handlers}
@@ -43,24 +43,19 @@ use Rattle.recovery.proofs.Lists.{each-append}
 use Rattle.recovery.specs.Restoration.{TheRestoring, replayed_of, above_of, has_answered, last_ssn, is_reply}
 use Rattle.recovery.specs.Restoration as restores
 use Rattle.node_laws.specs.Durable.{IsRest, IsAfter}
-use Rattle.node_laws.proofs.Held.{Holds, rest-many, held-forgotten, held-noted, held-dropped, changed-within, held-again, given-held}
-use Rattle.node_laws.proofs.HeldNode.{IsGiven, OfNode, off}
-use Rattle.node_laws.proofs.Taken.{IsSent, IsLow, IsFair, HasTaken, fair-more, taken-more, set-holds}
+use Rattle.node_laws.proofs.Held.{Holds, rest-many, held-forgotten, held-noted, held-dropped, held-again, given-held}
+use Rattle.node_laws.proofs.HeldState.{IsGiven, IsAt, Logs, OfNode, relogs, gave-more, at-next, off}
+use Rattle.node_laws.proofs.Taken.{IsSent, IsLow, IsFair, HasTaken, taken-more, set-holds}
 
 -- the process p of so many has what it has after the messages g, of which its checkpoint covers the first, h
 -- and received w in all, of these senders behind its checkpoint
 pub record OfOwn (top : ℕ) (f : Handlers) (p : ℕ) (durable tells : Bool) (D : ℕ → Bool) (In : ℕ → List Payload) (w : List Message) (senders : List ℕ) (h g : List Message) (o : TheOwn) : Type 0 where
-  pub me : o.me ≡ p
-  pub count : o.count ≡ top
-  pub wide : length o.logs ≡ suc top
-  pub base : o.base ≡ length h
-  pub more : List Message
-  pub begins : h ++ more ≡ g
+  pub at : IsAt top f p durable h g o.me o.count o.base o.state o.limits.durable
+  pub open at use *
   pub taken : HasTaken D In top p h w o.covered senders
-  pub state : f.state p g ≡ o.state
-  pub logs : (d : ℕ) → d ≤ top → d ≢ p → Holds durable tells o.base (length (f.sends p h d)) (log_at o.logs d) (f.sends p g d)
+  pub wide : length o.logs ≡ suc top
+  pub logs : Logs top f p durable tells h g o.base o.logs
   pub out : Each (IsGiven f p durable tells D In h) o.out
-  pub is_durable : durable ≡ true → o.limits.durable ≡ true
 
 module _ (top : ℕ) (f : Handlers) (p : ℕ) (durable tells : Bool) (D : ℕ → Bool) (In : ℕ → List Payload) (w : List Message) (senders : List ℕ) (h g : List Message) where
   abbrev On : TheOwn → Type 0
@@ -68,58 +63,27 @@ module _ (top : ℕ) (f : Handlers) (p : ℕ) (durable tells : Bool) (D : ℕ �
 
   -- what it knows of others may change
   pub aside : (heard : List ℕ) (lost : List Bool) (exact : Bool) (o : TheOwn) → On o → On (record o { heard = heard; lost = lost; exact = exact })
-  aside heard lost exact o s =
-      record { me = s.me; count = s.count; wide = s.wide; base = s.base; more = s.more; begins = s.begins; taken = s.taken; state = s.state; logs = s.logs; out = s.out; is_durable = s.is_durable }
+  aside heard lost exact o s = record { at = s.at; taken = s.taken; wide = s.wide; logs = s.logs; out = s.out }
 
   -- one packet more, which bears no message
   pub posting : (to : ℕ) (x : bodies.Body) (o : TheOwn) → IsFair durable tells (f.sends p h to) (D to) (In to) x → On o → On (posts to x o)
   posting to x o i s =
-      record {
-        me = s.me;
-        count = s.count;
-        wide = s.wide;
-        base = s.base;
-        more = s.more;
-        begins = s.begins;
-        taken = s.taken;
-        state = s.state;
-        logs = s.logs;
-        out = all-pushed (IsGiven f p durable tells D In h) o.out (packet_of o to x) s.out (s.me, i);
-        is_durable = s.is_durable;
-      }
+      record { at = s.at; taken = s.taken; wide = s.wide; logs = s.logs; out = all-pushed (IsGiven f p durable tells D In h) o.out (packet_of o to x) s.out (s.me, i) }
 
   -- the log for one is another, and holds what it held
   relogged : (r : ℕ) (new : TheQueue) (o : TheOwn)
       → ((d : ℕ) → d ≡ r → Holds durable tells o.base (length (f.sends p h d)) (log_at o.logs r) (f.sends p g d) → Holds durable tells o.base (length (f.sends p h d)) new (f.sends p g d)) → On o → On (record o { logs = slice_set o.logs r new })
   relogged r new o kept s =
-      record {
-        me = s.me;
-        count = s.count;
-        wide = length-set o.logs r new ∙ s.wide;
-        base = s.base;
-        more = s.more;
-        begins = s.begins;
-        taken = s.taken;
-        state = s.state;
-        logs = λ d l e. (let P : TheQueue → Type 0 = λ q. Holds durable tells o.base (length (f.sends p h d)) q (f.sends p g d) in
-            changed-within durable tells o.base (length (f.sends p h d)) P o.logs r new d (omega (arith, s.wide, l)) (λ same. let Q : ℕ → Type 0 = λ z. P (log_at o.logs z) in kept d same (subst Q same (s.logs d l e))) (λ apart. s.logs d l e));
-        out = s.out;
-        is_durable = s.is_durable;
-      }
+      record { at = s.at; taken = s.taken; wide = length-set o.logs r new ∙ s.wide; logs = relogs top f p durable tells h g o.base o.logs r new s.wide kept s.logs; out = s.out }
 
   -- the first packet is taken
   pub taking-rest : (x : NodePacket) (rest : List NodePacket) (o : TheOwn) → o.out ≡ x ∷ rest → On o → IsGiven f p durable tells D In h x × On (record o { out = rest })
   taking-rest x rest o e s =
-      let all : Each (IsGiven f p durable tells D In h) (x ∷ rest) = subst (Each (IsGiven f p durable tells D In h)) e s.out in (
-        all.0,
-        record { me = s.me; count = s.count; wide = s.wide; base = s.base; more = s.more; begins = s.begins; taken = s.taken; state = s.state; logs = s.logs; out = all.1; is_durable = s.is_durable },
-      )
+      let all : Each (IsGiven f p durable tells D In h) (x ∷ rest) = subst (Each (IsGiven f p durable tells D In h)) e s.out in
+      (all.0, record { at = s.at; taken = s.taken; wide = s.wide; logs = s.logs; out = all.1 })
 
   pub taking : (x : NodePacket) (o : TheOwn) → On (record o { out = x ∷ o.out }) → IsGiven f p durable tells D In h x × On o
-  taking x o s = (
-    s.out.0,
-    record { me = s.me; count = s.count; wide = s.wide; base = s.base; more = s.more; begins = s.begins; taken = s.taken; state = s.state; logs = s.logs; out = s.out.1; is_durable = s.is_durable },
-  )
+  taking x o s = (s.out.0, record { at = s.at; taken = s.taken; wide = s.wide; logs = s.logs; out = s.out.1 })
 
   -- ---- one that comes back too
 
@@ -138,13 +102,7 @@ module _ (top : ℕ) (f : Handlers) (p : ℕ) (durable tells : Bool) (D : ℕ �
 
   heard-on : (from : ℕ) (x : bodies.Body) (o : TheOwn) → On o → On (meeting.heard from x o)
   heard-on from (packets.Ask i k) o s = asking from i k o s
-  heard-on from (packets.Delivery i ssn x) o s = s
-  heard-on from (packets.Number i ssn k) o s = s
-  heard-on from (packets.Acknowledgement i k) o s = s
-  heard-on from (packets.Saved k) o s = s
-  heard-on from (packets.Resume i k r) o s = s
-  heard-on from (packets.Told i j k flags entries) o s = s
-  heard-on from (packets.Restored i j c r flags pairs) o s = s
+  heard-on from other o s = s
 
   pub handing : (x : NodePacket) (o : TheOwn) → On o → On (meeting.handed x o)
   handing x o s = by-if On (is_for o x && in_range x.body) (meeting.heard x.from x.body o) o (λ e. heard-on x.from x.body o s) (λ e. s)
@@ -203,12 +161,7 @@ module _ (top : ℕ) (f : Handlers) (p : ℕ) (durable tells : Bool) (D : ℕ �
   heard-collecting from (packets.Told i j k flags entries) n other fair s =
       by-if OnCollecting (in_range (packets.Told i j k flags entries) && collects.answers from i j k n) (collects.took_page from j flags entries n) n (λ e. taking-page from j flags entries n other fair s) (λ e. s)
   heard-collecting from (packets.Ask i k) n other fair s = by-if OnCollecting (in_range (packets.Ask i k)) (collects.asked_by from i k n) n (λ e. asked-collecting from i k n other s) (λ e. s)
-  heard-collecting from (packets.Delivery i ssn x) n other fair s = s
-  heard-collecting from (packets.Number i ssn k) n other fair s = s
-  heard-collecting from (packets.Acknowledgement i k) n other fair s = s
-  heard-collecting from (packets.Saved k) n other fair s = s
-  heard-collecting from (packets.Resume i k r) n other fair s = s
-  heard-collecting from (packets.Restored i j c r flags pairs) n other fair s = s
+  heard-collecting from x n other fair s = s
 
   -- whom a packet is of, and to
   from-other : (x : NodePacket) (o : TheOwn) → On o → is_for o x ≡ true → (x.to ≡ p) × (x.from ≢ p)
@@ -293,12 +246,7 @@ module _ (top : ℕ) (f : Handlers) (p : ℕ) (durable tells : Bool) (D : ℕ �
       (λ k. page from j c r flags pairs n fair s) (λ k. doubting (restores.page_of from j c r flags pairs n) (page from j c r flags pairs n fair s)))
       (λ e. s)
   heard-restoring from (packets.Ask i k) n fair s = by-if OnRestoring (in_range (packets.Ask i k)) (restores.asked_by from i k n) n (λ e. asked-restoring from i k n s) (λ e. s)
-  heard-restoring from (packets.Delivery i ssn x) n fair s = s
-  heard-restoring from (packets.Number i ssn k) n fair s = s
-  heard-restoring from (packets.Acknowledgement i k) n fair s = s
-  heard-restoring from (packets.Saved k) n fair s = s
-  heard-restoring from (packets.Resume i k r) n fair s = s
-  heard-restoring from (packets.Told i j k flags entries) n fair s = s
+  heard-restoring from other n fair s = s
 
   pub handing-restoring : (x : NodePacket) (n : TheRestoring) → Fair x → OnRestoring n → OnRestoring (restores.handed x n)
   handing-restoring x n fair s = by-if OnRestoring (is_for n.own x) (restores.heard x.from x.body n) n (λ e. heard-restoring x.from x.body n (fair (from-other x n.own s.0 e).0) s) (λ e. s)
@@ -309,47 +257,29 @@ module _ (top : ℕ) (f : Handlers) (p : ℕ) (durable tells : Bool) (D : ℕ �
       let o : TheOwn = n.own in
       let t = s.0 in
       record {
-        me = t.me;
-        count = t.count;
-        wide = length-map o.logs (released_again o.limits.durable) ∙ t.wide;
-        base = t.base;
-        more = t.more;
-        begins = t.begins;
+        at = t.at;
         many = s.1.0;
         taken = subst (λ z. HasTaken D In top p h z o.covered n.receipts.senders) s.1.1.0 (subst (λ z. HasTaken D In top p h w o.covered z) s.1.1.1 t.taken);
         job = tt;
-        state = t.state;
+        wide = length-map o.logs (released_again o.limits.durable) ∙ t.wide;
         logs = λ d l e. subst (λ q. Holds durable tells o.base (length (f.sends p h d)) q (f.sends p g d)) (sym (log-released o.limits.durable o.logs d))
             (held-again durable tells o.base (length (f.sends p h d)) (log_at o.logs d) (f.sends p g d) o.limits.durable t.is_durable (t.logs d l e));
         out = tt;
         rests = λ e. refl;
-        is_durable = t.is_durable;
       }
 
 -- it plans, and keeps more
 pub planning : (top : ℕ) (f : Handlers) (p : ℕ) (durable tells : Bool) (D : ℕ → Bool) (In : ℕ → List Payload) (v w : List Message) (some senders : List ℕ) (h g : List Message) (o : TheOwn) → OfOwn top f p durable tells D In v some h g o → HasTaken D In top p h w o.covered senders
     → OfOwn top f p durable tells D In w senders h g o
 planning top f p durable tells D In v w some senders h g o s t =
-    record { me = s.me; count = s.count; wide = s.wide; base = s.base; more = s.more; begins = s.begins; taken = t; state = s.state; logs = s.logs; out = s.out; is_durable = s.is_durable }
+    record { at = s.at; taken = t; wide = s.wide; logs = s.logs; out = s.out }
 
 -- ---- where more was sent to it
 
 pub own-more : (top : ℕ) (f : Handlers) (p : ℕ) (durable tells : Bool) (D : ℕ → Bool) (In In2 : ℕ → List Payload) (w : List Message) (senders : List ℕ) (h g : List Message) (o : TheOwn) → ((q : ℕ) → Begins (In q) (In2 q)) → OfOwn top f p durable tells D In w senders h g o
     → OfOwn top f p durable tells D In2 w senders h g o
 own-more top f p durable tells D In In2 w senders h g o b s =
-    record {
-      me = s.me;
-      count = s.count;
-      wide = s.wide;
-      base = s.base;
-      more = s.more;
-      begins = s.begins;
-      taken = taken-more D In In2 top p h w o.covered senders b s.taken;
-      state = s.state;
-      logs = s.logs;
-      out = all-more (IsGiven f p durable tells D In h) (IsGiven f p durable tells D In2 h) o.out (λ x a. (a.0, fair-more durable tells (f.sends p h x.to) (f.sends p h x.to) (D x.to) (In x.to) (In2 x.to) x.body (begins-self (f.sends p h x.to)) (b x.to) a.1)) s.out;
-      is_durable = s.is_durable;
-    }
+    record { at = s.at; taken = taken-more D In In2 top p h w o.covered senders b s.taken; wide = s.wide; logs = s.logs; out = gave-more f p durable tells D In In2 h o.out b s.out }
 
 -- ---- the handler ran again
 
@@ -358,18 +288,12 @@ pub running : (top : ℕ) (f : Handlers) (p : ℕ) (durable tells : Bool) (D : �
     → f.state p (g ++ job_of j ∷ []) ≡ state → ((d : ℕ) → f.sends p (g ++ job_of j ∷ []) d ≡ f.sends p g d ++ payloads_to d given) → OfOwn top f p durable tells D In w senders h (g ++ job_of j ∷ []) (ran k state given o)
 running top f p durable tells D In w senders h g j k state given o late s state_is sends_are =
     record {
-      me = s.me;
-      count = s.count;
-      wide = given-length k given o.logs ∙ s.wide;
-      base = s.base;
-      more = s.more ++ job_of j ∷ [];
-      begins = sym (append_assoc h s.more (job_of j ∷ [])) ∙ ap (λ z. z ++ job_of j ∷ []) s.begins;
+      at = at-next top f p durable h g j o.me o.count o.base state o.limits.durable o.state s.at state_is;
       taken = s.taken;
-      state = state_is;
+      wide = given-length k given o.logs ∙ s.wide;
       logs = λ d l e. subst (Holds durable tells o.base (length (f.sends p h d)) (log_at (given_to k given o.logs) d)) (sym (sends_are d))
           (given-held durable tells o.base (length (f.sends p h d)) k given o.logs d (f.sends p g d) late (omega (arith, s.wide, l)) (s.logs d l e));
       out = s.out;
-      is_durable = s.is_durable;
     }
 
 -- the messages of a plan up to one more
@@ -417,18 +341,12 @@ pub coming : (top : ℕ) (f : Handlers) (p : ℕ) (durable tells : Bool) (D : �
     → HasTaken D In top p h h (with_own 0 k.me k.counts) [] → (durable ≡ true → limits.durable ≡ true) → OfOwn top f p durable tells D In h [] h h (own_of limits k life)
 coming top f p durable tells D In h limits k life bytes is a taken lasting =
     record {
-      me = a.me;
-      count = a.count;
-      wide = own-long no_queue k.me (map queue_of k.logs) inside ∙ ap suc many;
-      base = a.many;
-      more = [];
-      begins = append-nil h;
+      at = record { me = a.me; count = a.count; base = a.many; more = []; begins = append-nil h; state = a.state; is_durable = lasting };
       taken = taken;
-      state = a.state;
+      wide = own-long no_queue k.me (map queue_of k.logs) inside ∙ ap suc many;
       logs = λ d l e. held-free durable tells k.length (log_at (with_own no_queue k.me (map queue_of k.logs)) d) (f.sends p h d) (free-at k.me k.logs d)
           (subst (λ z. IsRest (log_at (with_own no_queue z (map queue_of k.logs)) d) (f.sends p h d)) (sym a.me) (a.logs d l e));
       out = tt;
-      is_durable = lasting;
     }
   where
     many : length (map queue_of k.logs) ≡ top

@@ -19,14 +19,13 @@ use Rattle.gateway.specs.Since as since
 use Rattle.node_laws.specs.Together.{IsFirst}
 use Rattle.node_laws.specs.Process.{Process, Gives, Hears, Works, WaitsFor, covered, IsTold, Wakes, IsKilled, ComesFrom}
 use Rattle.node_laws.specs.Process as stages
-use Rattle.node_laws.specs.System.{System as Lived, Call, handed_out, untaken, Deals, AreExact, StayExact}
+use Rattle.node_laws.specs.System.{System as Lived, Call, handed_out, untaken, Deals}
 use Rattle.node_laws.specs.System as called
 use Rattle.node_laws.specs.Alone as lone
 use Rattle.node_laws.specs.Alone.{is_up}
 use Rattle.node_laws.specs.Durable as durables
-use Rattle.node_laws.specs.Durable.{ReplaysWhole, ReplayWhole}
+use Rattle.node_laws.specs.Durable.{ReplaysWhole}
 use Rattle.node_laws.specs.Outputs as outs
-use Rattle.node_laws.specs.Outputs.{OneLife}
 use Rattle.node_laws.proofs.Lives.{at-each}
 use Rattle.node_laws.proofs.Sound.{raised-here, raised-other}
 use Rattle.process.specs.Process.{TheProcess, is_settled}
@@ -43,37 +42,12 @@ use Rattle.node_laws.specs.HostSystem.{System, HostCall, Gave, GaveBytes, Handed
 use Rattle.node_laws.specs.HostLives.{IsAs, FailsAlone, KeepsDurable, LivesOn, gave_by, shown_by}
 use Rattle.node_laws.specs.HostBack.{has_recovered}
 use Rattle.node_laws.proofs.Chains.{Chain, chain-append, revived-limits}
-use Rattle.node_laws.proofs.Stages.{Fits, GoesOn, passes-on}
+use Rattle.node_laws.proofs.Stages.{GoesOn, passes-on}
 use Rattle.node_laws.proofs.Calls.{Is, IsHere, answered, handed-is, taken-is, ticks-is, works-is, froze-is, paused-is, stored-is, saved-is}
 use Rattle.node_laws.proofs.Acts.{dids, dids-give, Ran, ran, Beside, ends}
 use Rattle.node_laws.proofs.Wakings.{still-seen, wakes-up}
 use Rattle.node_laws.proofs.Moments.{Moment, of-acts, behind-one, dead-end, not-collecting}
-
--- it has such an image, is in some stage, and waits for what is pending; or it was suspended as its bytes say
-abbrev pub IsGood : AnyImage → Hosted → Type 0
-IsGood image (Runs old w) = (as_image old.image ≡ as_image image) × ((is_settled old.lifecycle ≡ true) × Fits w old.lifecycle)
-IsGood image (Sleeps old bytes) = Suspends old.lifecycle bytes
-IsGood image Killed = Unit {0}
-
-abbrev pub AreGood : (ℕ → AnyImage) → ℕ → System → Type 0
-AreGood images n s = (p : ℕ) → IsFirst n p → IsGood (images p) (s.processes p)
-
--- the call is these calls in all lives
-pub record Steps (images : ℕ → AnyImage) (n : ℕ) (s : System) (t : Lived) (k : HostCall) : Type 0 where
-  pub calls : List Call
-  pub are : called.Calls (answering n images) n t calls
-  pub whole : ReplayWhole t calls
-  pub stand : IsAs n (after_call s k) (called.after_calls t calls)
-  pub good : AreGood images n (after_call s k)
-  pub exact : AreExact n (called.after_calls t calls) → StayExact n t calls
-  pub alone : FailsAlone n s k → lone.OneAtATime n t calls
-  pub durable : (q : ℕ) → KeepsDurable q k → durables.StaysDurable q t calls
-  pub life : LivesOn k → OneLife calls
-  pub outputs : durables.outputs_of t calls ≡ shown_by s k
-  pub gave : (q : ℕ) → durables.given_by q calls ≡ gave_by q k
-  -- where a process collects before it, and doesn't behind it, it recovers among them
-  pub moment : (q : ℕ) → IsFirst n q → (from : TheCollecting) → t.processes q ≡ stages.Collects from → (now : TheProcess) (w : Checkpoint) → (after_call s k).processes q ≡ Runs now w → has_recovered now.lifecycle ≡ true
-      → Moment n q (after_call s k) t calls now.lifecycle
+use Rattle.node_laws.proofs.HostStep.{IsGood, AreGood, Steps}
 
 module _ (images : ℕ → AnyImage) (n : ℕ) (s : System) (t : Lived) (st : IsAs n s t) (goods : AreGood images n s) (heres : (p : ℕ) → IsFirst n p → IsHere n p (t.processes p)) where
   abbrev f : Answering
@@ -117,15 +91,7 @@ module _ (images : ℕ → AnyImage) (n : ℕ) (s : System) (t : Lived) (st : Is
   by-acts k p h ps l c e g o gave =
       let r : Ran f n p (as_process h) t (dids p ps) = ran f n p l (t.processes p) ps (as_process h) t refl c in
       let end : System = record s { processes = put s.processes p h } in
-      let b : Beside n p end t = record {
-        processes = λ q m a. st.processes q m ∙ ap as_process (sym (raised-other s.processes p q h a));
-        stored = st.stored;
-        lives = st.lives;
-        gateway = st.gateway;
-        durable = st.durable;
-        taken = st.taken;
-        given = st.given;
-      } in
+      let b : Beside n p end t = record { processes = λ q m a. st.processes q m ∙ ap as_process (sym (raised-other s.processes p q h a)); stored = st.stored; lives = st.lives; gateway = st.gateway; durable = st.durable; taken = st.taken; given = st.given } in
       record {
         calls = dids p ps;
         are = r.are;
@@ -340,155 +306,62 @@ module _ (images : ℕ → AnyImage) (n : ℕ) (s : System) (t : Lived) (st : Is
   gateways-are : (P : TheGateway → TheGateway → List Output → Type 0) → P s.gateway s.durable s.taken → P t.gateway t.durable t.taken
   gateways-are P h = subst (λ z. P z t.durable t.taken) (sym st.gateway) (subst (λ z. P s.gateway z t.taken) (sym st.durable) (subst (P s.gateway s.durable) (sym st.taken) h))
 
-  gave-out : (x : NodePacket) (new : TheGateway) → called.DoesIt f n (as_lives s) (called.GaveOut x new) → by-gateway (called.GaveOut x new)
-  gave-out x new g =
+  -- such a call is one in all lives, if that one stands for it and fails alone, and gives what this one does
+  out-by : (k : Call) → called.DoesIt f n t k → ReplaysWhole t k → IsAs n (after_call s (Outside k)) (called.after_call t k) → lone.FailsAlone n t k → ((q : ℕ) → durables.KeepsDurable q t k)
+      → durables.outputs_of t (k ∷ []) ≡ shown_by s (Outside k) → ((q : ℕ) → durables.given_by q (k ∷ []) ≡ []) → by-gateway k
+  out-by k does whole stand alone durable outputs gave =
       record {
-        calls = called.GaveOut x new ∷ [];
-        are = (gateways-are (λ z durable taken. (durable.store ≡ (untaken taken z).store) × gateways.Takes (Some x) z new) g, tt);
-        whole = (tt, tt);
-        stand = record { processes = st.processes; stored = st.stored; lives = st.lives; gateway = refl; durable = st.durable; taken = st.taken; given = ap (λ z. x ∷ z) st.given };
+        calls = k ∷ [];
+        are = (does, tt);
+        whole = (whole, tt);
+        stand = stand;
         good = goods;
         exact = λ e. (e, tt);
-        alone = λ a. (tt, tt);
-        durable = λ q d. (tt, tt);
+        alone = λ a. (alone, tt);
+        durable = λ q d. (durable q, tt);
         life = λ x. (x, tt);
-        outputs = refl;
-        gave = λ q. refl;
-        moment = λ q l from at now w is rec. unmoved q l from at now w is rec;
-      }
-
-  handed-out : (x : NodePacket) (new : TheGateway) → called.DoesIt f n (as_lives s) (called.HandedOut x new) → by-gateway (called.HandedOut x new)
-  handed-out x new g =
-      let P : TheGateway → Type 0 = λ z. (new ≡ outside.handed x z) × gateways.IsHanded x z new in
-      record {
-        calls = called.HandedOut x new ∷ [];
-        are = ((subst (IsOne x) (sym st.given) g.0, subst P (sym st.gateway) g.1), tt);
-        whole = (tt, tt);
-        stand = record { processes = st.processes; stored = st.stored; lives = st.lives; gateway = refl; durable = st.durable; taken = st.taken; given = st.given };
-        good = goods;
-        exact = λ e. (e, tt);
-        alone = λ a. (tt, tt);
-        durable = λ q d. (tt, tt);
-        life = λ x. (x, tt);
-        outputs = refl;
-        gave = λ q. refl;
-        moment = λ q l from at now w is rec. unmoved q l from at now w is rec;
-      }
-
-  did-out : (new : TheGateway) → called.DoesIt f n (as_lives s) (called.DidOut new) → by-gateway (called.DidOut new)
-  did-out new g =
-      let P : TheGateway → Type 0 = λ z. Deals z new × gateways.Acts z new in
-      record {
-        calls = called.DidOut new ∷ [];
-        are = (subst P (sym st.gateway) g, tt);
-        whole = (tt, tt);
-        stand = record { processes = st.processes; stored = st.stored; lives = st.lives; gateway = refl; durable = st.durable; taken = ap (λ z. z ++ handed_out t.gateway new) st.taken ∙ ap (λ z. s.taken ++ handed_out z new) st.gateway; given = st.given };
-        good = goods;
-        exact = λ e. (e, tt);
-        alone = λ a. (tt, tt);
-        durable = λ q d. (tt, tt);
-        life = λ x. (x, tt);
-        outputs = append-nil (handed_out t.gateway new) ∙ ap (λ z. handed_out z new) st.gateway;
-        gave = λ q. refl;
-        moment = λ q l from at now w is rec. unmoved q l from at now w is rec;
-      }
-
-  stored-out : by-gateway called.StoredOut
-  stored-out =
-      record {
-        calls = called.StoredOut ∷ [];
-        are = (tt, tt);
-        whole = (tt, tt);
-        stand = record { processes = st.processes; stored = st.stored; lives = st.lives; gateway = st.gateway; durable = st.gateway; taken = refl; given = st.given };
-        good = goods;
-        exact = λ e. (e, tt);
-        alone = λ a. (tt, tt);
-        durable = λ q d. (tt, tt);
-        life = λ x. (x, tt);
-        outputs = refl;
-        gave = λ q. refl;
-        moment = λ q l from at now w is rec. unmoved q l from at now w is rec;
-      }
-
-  stored-but : (k : ℕ) → by-gateway (called.StoredBut k)
-  stored-but k =
-      record {
-        calls = called.StoredBut k ∷ [];
-        are = (tt, tt);
-        whole = (tt, tt);
-        stand = record {
-          processes = st.processes;
-          stored = st.stored;
-          lives = st.lives;
-          gateway = st.gateway;
-          durable = ap (λ z. untaken (drop k z) t.gateway) st.taken ∙ ap (untaken (drop k s.taken)) st.gateway;
-          taken = ap (drop k) st.taken;
-          given = st.given;
-        };
-        good = goods;
-        exact = λ e. (e, tt);
-        alone = λ a. (tt, tt);
-        durable = λ q d. (tt, tt);
-        life = λ x. (x, tt);
-        outputs = refl;
-        gave = λ q. refl;
-        moment = λ q l from at now w is rec. unmoved q l from at now w is rec;
-      }
-
-  revived-out : (new : TheGateway) → called.DoesIt f n (as_lives s) (called.RevivedOut new) → by-gateway (called.RevivedOut new)
-  revived-out new g =
-      let P : TheGateway → Type 0 = λ z. (new ≡ since.revived new.page new.tick z.store) × since.StandsFor z.store new in
-      record {
-        calls = called.RevivedOut new ∷ [];
-        are = (subst P (sym st.durable) g, tt);
-        whole = (tt, tt);
-        stand = record { processes = st.processes; stored = st.stored; lives = st.lives; gateway = refl; durable = refl; taken = refl; given = st.given };
-        good = goods;
-        exact = λ e. (e, tt);
-        alone = λ a. (tt, tt);
-        durable = λ q d. (tt, tt);
-        life = λ x. (x, tt);
-        outputs = refl;
-        gave = λ q. refl;
+        outputs = outputs;
+        gave = gave;
         moment = λ q l from at now w is rec. unmoved q l from at now w is rec;
       }
 
   outwards : (k : Call) → IsOutside k → called.DoesIt f n (as_lives s) k → by-gateway k
-  outwards (called.GaveOut x new) i g = gave-out x new g
-  outwards (called.HandedOut x new) i g = handed-out x new g
-  outwards (called.DidOut new) i g = did-out new g
-  outwards called.StoredOut i g = stored-out
-  outwards (called.StoredBut k) i g = stored-but k
-  outwards (called.RevivedOut new) i g = revived-out new g
-  outwards (called.Gave p x new) i g = absurd i
-  outwards (called.Handed p x new) i g = absurd i
-  outwards (called.Worked p a new) i g = absurd i
-  outwards (called.Did p new) i g = absurd i
-  outwards (called.Stored p bytes) i g = absurd i
-  outwards (called.Saved p new) i g = absurd i
-  outwards (called.Resumed p limits new) i g = absurd i
-  outwards (called.Died p) i g = absurd i
-  outwards (called.Revived p life new) i g = absurd i
+  outwards (called.GaveOut x new) i g =
+      out-by (called.GaveOut x new) (gateways-are (λ z durable taken. (durable.store ≡ (untaken taken z).store) × gateways.Takes (Some x) z new) g) tt
+      (record { processes = st.processes; stored = st.stored; lives = st.lives; gateway = refl; durable = st.durable; taken = st.taken; given = ap (λ z. x ∷ z) st.given }) tt (λ q. tt) refl (λ q. refl)
+  outwards (called.HandedOut x new) i g =
+      out-by (called.HandedOut x new) (subst (IsOne x) (sym st.given) g.0, subst (λ z. (new ≡ outside.handed x z) × gateways.IsHanded x z new) (sym st.gateway) g.1) tt
+      (record { processes = st.processes; stored = st.stored; lives = st.lives; gateway = refl; durable = st.durable; taken = st.taken; given = st.given }) tt (λ q. tt) refl (λ q. refl)
+  outwards (called.DidOut new) i g =
+      let taken : t.taken ++ handed_out t.gateway new ≡ s.taken ++ handed_out s.gateway new = ap (λ z. z ++ handed_out t.gateway new) st.taken ∙ ap (λ z. s.taken ++ handed_out z new) st.gateway in
+      out-by (called.DidOut new) (subst (λ z. Deals z new × gateways.Acts z new) (sym st.gateway) g) tt
+      (record { processes = st.processes; stored = st.stored; lives = st.lives; gateway = refl; durable = st.durable; taken = taken; given = st.given }) tt (λ q. tt) (append-nil (handed_out t.gateway new) ∙ ap (λ z. handed_out z new) st.gateway) (λ q. refl)
+  outwards called.StoredOut i g =
+      out-by called.StoredOut tt tt (record { processes = st.processes; stored = st.stored; lives = st.lives; gateway = st.gateway; durable = st.gateway; taken = refl; given = st.given }) tt (λ q. tt) refl (λ q. refl)
+  outwards (called.StoredBut k) i g =
+      let durable : untaken (drop k t.taken) t.gateway ≡ untaken (drop k s.taken) s.gateway = ap (λ z. untaken (drop k z) t.gateway) st.taken ∙ ap (untaken (drop k s.taken)) st.gateway in
+      out-by (called.StoredBut k) tt tt (record { processes = st.processes; stored = st.stored; lives = st.lives; gateway = st.gateway; durable = durable; taken = ap (drop k) st.taken; given = st.given }) tt (λ q. tt) refl (λ q. refl)
+  outwards (called.RevivedOut new) i g =
+      out-by (called.RevivedOut new) (subst (λ z. (new ≡ since.revived new.page new.tick z.store) × since.StandsFor z.store new) (sym st.durable) g) tt
+      (record { processes = st.processes; stored = st.stored; lives = st.lives; gateway = refl; durable = refl; taken = refl; given = st.given }) tt (λ q. tt) refl (λ q. refl)
+  outwards other i g = absurd i
 
   -- ---- each call
 
   -- of a process that runs
   alive : (P : TheProcess → Type 0) (k : HostCall) (h : Hosted) (p : ℕ) → s.processes p ≡ h → Alive P h → ((old : TheProcess) (w : Checkpoint) → s.processes p ≡ Runs old w → P old → Steps images n s t k) → Steps images n s t k
   alive P k (Runs old w) p e g goes = goes old w e g
-  alive P k (Sleeps old bytes) p e g goes = absurd g
-  alive P k Killed p e g goes = absurd g
+  alive P k other p e g goes = absurd g
 
   -- and whose checkpoint is so far
   has : (w : Checkpoint) (h : Hosted) (p : ℕ) → s.processes p ≡ h → Has (λ checkpoint. checkpoint ≡ w) h → (old : TheProcess) × (s.processes p ≡ Runs old w)
   has w (Runs old v) p e g = (old, e ∙ ap (Runs old) g)
-  has w (Sleeps old bytes) p e g = absurd g
-  has w Killed p e g = absurd g
+  has w other p e g = absurd g
 
   -- of one that was suspended
   asleep : (P : List ℕ → Type 0) (h : Hosted) (p : ℕ) → s.processes p ≡ h → Asleep P h → (old : TheProcess) × (bytes : List ℕ) × (s.processes p ≡ Sleeps old bytes) × P bytes
   asleep P (Sleeps old bytes) p e g = (old, bytes, e, g)
-  asleep P (Runs old w) p e g = absurd g
-  asleep P Killed p e g = absurd g
+  asleep P other p e g = absurd g
 
   pub steps : (k : HostCall) → DoesIt images n s k → Steps images n s t k
   steps (Gave p x new) g = alive (λ old. Stays (Takes (Some x)) old new) (Gave p x new) (s.processes p) p refl g.1

@@ -1,5 +1,5 @@
 -- The gateway beside nodes
-use Rattle.std.proofs.Common.{◌≡◌, ℕ, ◌<◌, ◌≤◌, List, [], ◌∷◌, refl, sym, ◌∙◌, subst, arith}
+use Rattle.std.proofs.Common.{◌≡◌, ℕ, ◌<◌, ◌≤◌, List, [], ◌∷◌, refl, sym, ◌∙◌, subst}
 use Rattle.std.specs.List.{AllByRecursion}
 use Rattle.cluster.specs.Parcels.{Delivery, Number, Ask, Resume, Saved, parcel}
 use Rattle.cluster.specs.Cluster.{Cluster}

@@ -22,12 +22,14 @@ pub mod LoneCalls
 pub mod Alone
 pub mod Taken
 pub mod Held
+pub mod HeldState
 pub mod HeldNode
 pub mod HeldOwn
 pub mod Durability
 pub mod Durable
 pub mod Preservation
 pub mod Overlap
+pub mod Turns
 pub mod Outputs
 pub mod Messages
 pub mod Chains
@@ -36,6 +38,7 @@ pub mod Wakings
 pub mod Calls
 pub mod Acts
 pub mod Moments
+pub mod HostStep
 pub mod HostSteps
 pub mod Lists
 pub mod Promised

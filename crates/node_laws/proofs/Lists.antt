@@ -5,7 +5,7 @@ use Rattle.images.specs.declared.any_image.AnyImage.{AnyImage}
 use Rattle.world.specs.declared.message.Message.{Message}
 use Rattle.node.specs.Runs.{Answering}
 use Rattle.node_laws.specs.Together.{IsFirst}
-use Rattle.node_laws.specs.Process.{Process, Up, Covered, Collects, Replays, Replayed, Restores, Killed, is_exact}
+use Rattle.node_laws.specs.Process.{Process, Up, Covered, Replays, is_exact}
 use Rattle.node_laws.specs.System.{System as Lived, Call, Gave, Handed, Worked, Did, Stored, Saved, Resumed, Died, Revived, GaveOut, HandedOut, DidOut, StoredOut, StoredBut, RevivedOut, handed_out, Calls, after_call, after_calls, AreExact, StayExact}
 use Rattle.node_laws.specs.Alone.{OneAtATime}
 use Rattle.node_laws.specs.Durable.{ReplayWhole, StaysDurable, given_by, outputs_of}
@@ -19,7 +19,8 @@ use Rattle.node_laws.specs.HostReplies.{answering}
 use Rattle.node_laws.specs.HostLives.{IsAs}
 use Rattle.node_laws.specs.HostLives as laws
 use Rattle.node_laws.proofs.Calls.{IsHere}
-use Rattle.node_laws.proofs.HostSteps.{AreGood, Steps, steps}
+use Rattle.node_laws.proofs.HostStep.{AreGood, Steps}
+use Rattle.node_laws.proofs.HostSteps.{steps}
 
 -- ---- calls in all lives behind others
 
@@ -117,10 +118,7 @@ here-of : (f : Answering) (states : ℕ → List ℕ) (n p : ℕ) (low : p ≤ n
 here-of f states n p low h (Up m) s = (s.1.me, (s.1.count, s.1.rests))
 here-of f states n p low h (Covered m) s = (s.1.0.me, (s.1.0.count, s.1.0.rests))
 here-of f states n p low h (Replays m) s = (s.me, s.count)
-here-of f states n p low h (Collects m) s = tt
-here-of f states n p low h (Replayed m) s = tt
-here-of f states n p low h (Restores m) s = tt
-here-of f states n p low h Killed s = tt
+here-of f states n p low h other s = tt
 
 -- one is as exact as the other
 exact-here : (n : ℕ) (s : System) (t : Lived) → IsAs n s t → AreExact n t → AreExact n (as_lives s)
@@ -154,12 +152,7 @@ one-goes images n s t k st g =
     let one : Steps images n s t k = steps images n s t st.stand st.good (λ p l. here-of (answering n images) st.states n p l.1 (st.now p l).0 (t.processes p) (st.now p l).1.holds) k g in
     record {
       steps = one;
-      state = record {
-        states = st.states;
-        stand = one.stand;
-        good = one.good;
-        now = λ p l. now-goes (answering n images) st.states n p l.1 (st.now p l).0 t one.calls (st.now p l).1 one.are one.whole;
-      };
+      state = record { states = st.states; stand = one.stand; good = one.good; now = λ p l. now-goes (answering n images) st.states n p l.1 (st.now p l).0 t one.calls (st.now p l).1 one.are one.whole };
     }
 
 pub are-go : (images : ℕ → AnyImage) (n : ℕ) (s : System) (t : Lived) (ks : List HostCall) → State images n s t → AreCalls images n s ks → Are images n s t ks

@@ -156,18 +156,7 @@ given-there f n c s x w o =
     record {
       acts = w.acts;
       run = w.run;
-      holds = record {
-        count = h.count;
-        few = h.few;
-        believed = h.believed;
-        processes = h.processes;
-        stored = h.stored;
-        lives = h.lives;
-        durable = h.durable;
-        ahead = h.ahead;
-        given = (o, h.given);
-        handlers = h.handlers;
-      };
+      holds = record { count = h.count; few = h.few; believed = h.believed; processes = h.processes; stored = h.stored; lives = h.lives; durable = h.durable; ahead = h.ahead; given = (o, h.given); handlers = h.handlers };
     }
 
 -- or had been before

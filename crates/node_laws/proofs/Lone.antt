@@ -65,20 +65,14 @@ IsOf p top Killed = Unit {0}
 pub stands-of : (process : Process) (c : Cluster) (p : ℕ) → StandsAs process c p → IsOf p c.count process
 stands-of (Up n) c p s = s.me
 stands-of (Covered n) c p s = s.1.me
-stands-of (Collects n) c p s = (s.own.me, s.own.count)
-stands-of (Replays n) c p s = (s.own.me, s.own.count)
-stands-of (Replayed n) c p s = (s.own.me, s.own.count)
-stands-of (Restores n) c p s = (s.own.me, s.own.count)
 stands-of Killed c p s = tt
+stands-of other c p s = (s.own.me, s.own.count)
 
 pub returns-down : (process : Process) → Returns process → is_up process ≡ false
 returns-down (Up n) r = absurd r
 returns-down (Covered n) r = absurd r
-returns-down (Collects n) r = refl
-returns-down (Replays n) r = refl
-returns-down (Replayed n) r = refl
-returns-down (Restores n) r = refl
 returns-down Killed r = absurd r
+returns-down other r = refl
 
 -- of process p: it is exact, in its life of now, knows the others', and what it has to send is sound
 pub record Good (lives : ℕ → ℕ) (back : ℕ → Type 0) (top p : ℕ) (process : Process) : Type 0 where
@@ -218,11 +212,8 @@ module _ (n : ℕ) (processes : ℕ → Process) (lives : ℕ → ℕ) (given ou
       up-knows : (process : Process) → is_up process ≡ true → Knows (put lives p life) n process
       up-knows (Up m) e = tt
       up-knows (Covered m) e = tt
-      up-knows (Collects m) e = absurd (cc (e))
-      up-knows (Replays m) e = absurd (cc (e))
-      up-knows (Replayed m) e = absurd (cc (e))
-      up-knows (Restores m) e = absurd (cc (e))
       up-knows Killed e = tt
+      up-knows other e = absurd (cc (e))
 
       other : (q : ℕ) → IsFirst n q → q ≢ p → Good (put lives p life) (Back n changed) n q (processes q)
       other q l o =

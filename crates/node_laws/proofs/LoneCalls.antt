@@ -158,10 +158,7 @@ module _ (lives : ℕ → ℕ) (back : ℕ → Type 0) (top p : ℕ) where
       let m : TheReplaying = did_replay a.state a.given (next_job n) n in
       let k = replaying a.state a.given (next_job n) n h.knows in
       becomes (Replays n) (Replays m) new (g.1.1.0 ∙ ap Replays g.1.1.1.0) (replays-goes n m k.0 k.1 h)
-  working f a (Collects n) new g h = absurd g
-  working f a (Replayed n) new g h = absurd g
-  working f a (Restores n) new g h = absurd g
-  working f a Killed new g h = absurd g
+  working f a other new g h = absurd g
 
   -- ---- it acts, or goes on to its next stage
 
@@ -200,31 +197,18 @@ module _ (lives : ℕ → ℕ) (back : ℕ → Type 0) (top p : ℕ) where
   pub storing : (bytes : List ℕ) (old : Process) → WaitsFor bytes old → IsGood old → On old (covered old)
   storing bytes (Up n) g h = record { good = record { exact = h.exact; life = h.life; knows = tt; out = h.out }; up = λ e. e; returns = λ r. r }
   storing bytes (Covered n) g h = record { good = h; up = λ e. e; returns = λ r. r }
-  storing bytes (Collects n) g h = absurd g
-  storing bytes (Replays n) g h = absurd g
-  storing bytes (Replayed n) g h = absurd g
-  storing bytes (Restores n) g h = absurd g
-  storing bytes Killed g h = absurd g
+  storing bytes other g h = absurd g
 
   pub telling : (old new : Process) → IsTold old new → IsGood old → On old new
   telling (Up n) new g h = becomes (Up n) (Up n) new (g.1.1.0 ∙ ap Up (g.1.1.1.0 g.0)) (record { good = h; up = λ e. e; returns = λ r. r })
   telling (Covered n) new g h =
       let k : nodes.Keeps lives back n g.0 = subst (nodes.Keeps lives back n) (sym g.1.1.0) (nodes.saves lives back n) in
       becomes (Covered n) (Up g.0) new g.1.0 (record { good = record { exact = k.exact ∙ h.exact; life = k.life ∙ h.life; knows = tt; out = k.out h.out }; up = λ e. e; returns = λ r. r })
-  telling (Collects n) new g h = absurd g
-  telling (Replays n) new g h = absurd g
-  telling (Replayed n) new g h = absurd g
-  telling (Restores n) new g h = absurd g
-  telling Killed new g h = absurd g
+  telling other new g h = absurd g
 
   -- it was suspended, and is resumed
   pub waking : (limits : Limits) (old new : Process) → Wakes limits old new → IsGood old → On old new
   waking limits (Up n) new g h =
       let to : Process = Up (woken limits n) in
       becomes (Up n) to new (g.1.1.0 ∙ ap Up g.1.1.1) (record { good = record { exact = h.exact; life = h.life; knows = tt; out = tt }; up = λ e. e; returns = λ r. r })
-  waking limits (Covered n) new g h = absurd g
-  waking limits (Collects n) new g h = absurd g
-  waking limits (Replays n) new g h = absurd g
-  waking limits (Replayed n) new g h = absurd g
-  waking limits (Restores n) new g h = absurd g
-  waking limits Killed new g h = absurd g
+  waking limits other new g h = absurd g

@@ -18,22 +18,13 @@ either false x y e = refl
 told-node : (from : ℕ) (b : bodies.Body) (n : TheNode) → is_loss b ≡ true → nodes.told from b n ≡ n
 told-node from (packets.Told i j k flags entries) n e = refl
 told-node from (packets.Restored i j k s flags pairs) n e = refl
-told-node from (packets.Delivery i ssn x) n e = absurd (let z : false ≡ true = e in cc)
-told-node from (packets.Number i ssn k) n e = absurd (let z : false ≡ true = e in cc)
-told-node from (packets.Acknowledgement i k) n e = absurd (let z : false ≡ true = e in cc)
-told-node from (packets.Ask i k) n e = absurd (let z : false ≡ true = e in cc)
-told-node from (packets.Resume i k s) n e = absurd (let z : false ≡ true = e in cc)
-told-node from (packets.Saved k) n e = absurd (let z : false ≡ true = e in cc)
+told-node from other n e = absurd (let z : false ≡ true = e in cc)
 
 told-gateway : (from : ℕ) (b : bodies.Body) (g : TheGateway) → is_loss b ≡ true → outside.told from b g ≡ g
 told-gateway from (packets.Told i j k flags entries) g e = refl
 told-gateway from (packets.Restored i j k s flags pairs) g e = refl
 told-gateway from (packets.Acknowledgement i k) g e = refl
-told-gateway from (packets.Delivery i ssn x) g e = absurd (let z : false ≡ true = e in cc)
-told-gateway from (packets.Number i ssn k) g e = absurd (let z : false ≡ true = e in cc)
-told-gateway from (packets.Ask i k) g e = absurd (let z : false ≡ true = e in cc)
-told-gateway from (packets.Resume i k s) g e = absurd (let z : false ≡ true = e in cc)
-told-gateway from (packets.Saved k) g e = absurd (let z : false ≡ true = e in cc)
+told-gateway from other g e = absurd (let z : false ≡ true = e in cc)
 
 pub loss-is-dropped : LossIsDropped
 loss-is-dropped = (λ x n e. either (nodes.is_for n x) (nodes.told x.from x.body n) n (told-node x.from x.body n e), λ x g e. either (outside.is_for g x) (outside.told x.from x.body g) g (told-gateway x.from x.body g e))

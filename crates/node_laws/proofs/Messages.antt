@@ -1,6 +1,6 @@
 -- The worked list of calls with messages
 use Rattle.std.proofs.Common.{◌≡◌, inl, inr, ℕ, zero, suc, ◌+◌, ◌<◌, ◌≤◌, List, [], ◌∷◌, ◌++◌, length, Bool, true, false, refl, sym, ap, ◌∙◌, arith, length-append}
-use Rattle.std.specs.Prelude.{Option, Some, None, slice_index_or, ◌==◌, if◌then◌else◌}
+use Rattle.std.specs.Prelude.{Option, Some, None, is_some, slice_index_or, ◌==◌, if◌then◌else◌}
 use Rattle.std.specs.List.{AllByRecursion}
 use Rattle.std.proofs.lemmas.Bool.Decides.{nat_tests}
 use Rattle.packets.specs.Format.{short_bytes, long_bytes, checksum_bytes, IsLong}
@@ -15,7 +15,7 @@ use Rattle.node.specs.declared.job.OpenJob.{OpenJob}
 use Rattle.node.specs.declared.limit.TheConstants.{PAGE, TICK}
 use Rattle.node.specs.Limit.{usual}
 use Rattle.node.specs.Queue.{TheQueue, no_queue}
-use Rattle.node.specs.Node.{TheNode, IsWithin, Within, IsPeer, MaySend, log_at}
+use Rattle.node.specs.Node.{TheNode, IsWithin, Within, IsPeer, OfPeer, HasSsn, MaySend, log_at}
 use Rattle.node.specs.Kept.{kept_of}
 use Rattle.node.specs.Suspension.{suspended_bytes, IsWhole, CanSuspend, IsSuspended}
 use Rattle.node.specs.Runs.{Answer}
@@ -68,33 +68,9 @@ module _ (base : ℕ) (acknowledged : List Bool) (waiting : ℕ) (senders : List
   abbrev receipts : Received
   receipts = record { senders = senders; acknowledged = acknowledged }
 
-  rests : (frozen : Bool) → IsWithin usual 1 1 base (base ∷ 0 ∷ []) (1 ∷ 1 ∷ []) (true ∷ true ∷ []) receipts logs None frozen waiting 1 []
-  rests frozen =
-      record {
-        allowed = usual-allowed;
-        inside = omega arith;
-        within = omega arith;
-        few = omega arith;
-        wide = refl;
-        heard_wide = refl;
-        resumed_wide = refl;
-        logs_wide = refl;
-        counts = at-most base;
-        peers = record { total = omega arith; none_own = refl; behind = peers };
-        young = omega arith;
-        bound = omega arith;
-        room = λ e. absurd (cc (e));
-        waits = many;
-        own = tt;
-        numbered = tt;
-        rests = λ e. refl;
-        short = λ d. none-at _ d;
-        alive = (omega arith, omega arith);
-        fit = tt;
-      }
-
-  works-on : (k : ℕ) → 0 < k → k ≤ 3 → IsWithin usual 1 1 base (base ∷ 0 ∷ []) (1 ∷ 1 ∷ []) (true ∷ true ∷ []) receipts logs (Some (job k)) false waiting 1 []
-  works-on k some within =
+  is-within : (working : Option OpenJob) (frozen : Bool) → OfPeer 1 1 working → HasSsn working → (frozen ≡ true → is_some working ≡ false)
+      → IsWithin usual 1 1 base (base ∷ 0 ∷ []) (1 ∷ 1 ∷ []) (true ∷ true ∷ []) receipts logs working frozen waiting 1 []
+  is-within working frozen own numbered rests =
       record {
         allowed = usual-allowed;
         inside = omega arith;
@@ -110,13 +86,19 @@ module _ (base : ℕ) (acknowledged : List Bool) (waiting : ℕ) (senders : List
         bound = omega arith;
         room = λ e. (omega arith, omega arith);
         waits = many;
-        own = (omega arith, λ e. absurd (omega (arith, e)));
-        numbered = (some, omega arith);
-        rests = λ e. absurd (cc (e));
+        own = own;
+        numbered = numbered;
+        rests = rests;
         short = λ d. none-at _ d;
         alive = (omega arith, omega arith);
         fit = tt;
       }
+
+  rests : (frozen : Bool) → IsWithin usual 1 1 base (base ∷ 0 ∷ []) (1 ∷ 1 ∷ []) (true ∷ true ∷ []) receipts logs None frozen waiting 1 []
+  rests frozen = is-within None frozen tt tt (λ e. refl)
+
+  works-on : (k : ℕ) → 0 < k → k ≤ 3 → IsWithin usual 1 1 base (base ∷ 0 ∷ []) (1 ∷ 1 ∷ []) (true ∷ true ∷ []) receipts logs (Some (job k)) false waiting 1 []
+  works-on k some within = is-within (Some (job k)) false (omega arith, λ e. absurd (omega (arith, e))) (some, omega arith) (λ e. absurd (cc (e)))
 
 of-gateway : IsPeer 1 1 0
 of-gateway = (omega arith, λ e. absurd (omega (arith, e)))
@@ -236,12 +218,7 @@ small-5 = let long : length (kept_bytes (kept_of (quiet n5))) ≡ 41 = refl in o
 can-suspend : CanSuspend (quiet n5)
 unfolding entries_in_range
 can-suspend =
-    record {
-      live = refl;
-      idle = refl;
-      covered = refl;
-      fits = record { kept = fits-5; small = small-5; flags = refl; heard = (omega arith, (omega arith, tt)); logs = (unused-whole, (unused-whole, tt)) };
-    }
+    record { live = refl; idle = refl; covered = refl; fits = record { kept = fits-5; small = small-5; flags = refl; heard = (omega arith, (omega arith, tt)); logs = (unused-whole, (unused-whole, tt)) } }
 
 -- these are its bytes
 pub suspended-5 : IsSuspended (quiet n5) (suspended_bytes (quiet n5))

@@ -15,7 +15,7 @@ use Rattle.recovery.specs.Intake.{keeps as keeps_of}
 use Rattle.recovery.specs.Collection.{TheCollecting}
 use Rattle.recovery.specs.Replays.{TheReplaying, is_over}
 use Rattle.recovery.specs.Replayed.{TheReplayed}
-use Rattle.recovery.specs.Restoration.{TheRestoring, has_answered, begun}
+use Rattle.recovery.specs.Restoration.{TheRestoring, has_answered}
 use Rattle.recovery.specs.Restoration as restores
 use Rattle.node_laws.specs.Together.{IsFirst}
 use Rattle.node_laws.specs.Process.{Process, Up, Covered, Collects, Replays, Replayed, Restores, Killed, covered, Acts}
@@ -25,7 +25,7 @@ use Rattle.node_laws.specs.Durable.{ReplaysAll}
 use Rattle.process.specs.declared.lifecycle.Lifecycle.{Lifecycle}
 use Rattle.process.specs.declared.lifecycle.Lifecycle.TheVariants as lifecycle
 use Rattle.process.proofs.Bounds.{ticked-stay}
-use Rattle.node_laws.specs.HostProcess.{Checkpoint, Absent, Pending, Durable, stage_of, seen}
+use Rattle.node_laws.specs.HostProcess.{Checkpoint, Durable, stage_of, seen}
 use Rattle.node_laws.specs.HostSystem.{System}
 use Rattle.node_laws.specs.HostBack.{has_recovered, plan_of, keeps}
 use Rattle.node_laws.proofs.Chains.{Chain}
@@ -57,26 +57,16 @@ record Reads (c : Lifecycle) (process : Process) : Type 0 where
   kept : keeps c ≡ keeps_in process
 
 stage-reads : (c : Lifecycle) → Reads c (stage_of c)
-stage-reads (lifecycle.Up n) = record { recovered = refl; plan = refl; kept = omega arith }
-stage-reads (lifecycle.Collecting n) = record { recovered = refl; plan = refl; kept = omega arith }
-stage-reads (lifecycle.Replaying n) = record { recovered = refl; plan = refl; kept = omega arith }
-stage-reads (lifecycle.Replayed n) = record { recovered = refl; plan = refl; kept = omega arith }
-stage-reads (lifecycle.Restoring n) = record { recovered = refl; plan = refl; kept = omega arith }
 stage-reads lifecycle.Passing = record { recovered = refl; plan = refl; kept = refl }
+stage-reads other = record { recovered = refl; plan = refl; kept = omega arith }
 
 covered-reads : (c : Lifecycle) (process : Process) → Reads c process → Reads c (covered process)
 covered-reads c (Up n) r = record { recovered = r.recovered; plan = r.plan; kept = r.kept }
-covered-reads c (Covered n) r = r
-covered-reads c (Collects n) r = r
-covered-reads c (Replays n) r = r
-covered-reads c (Replayed n) r = r
-covered-reads c (Restores n) r = r
-covered-reads c Killed r = r
+covered-reads c other r = r
 
 reads : (w : Checkpoint) (c : Lifecycle) → Reads c (seen w c)
-reads Absent c = stage-reads c
-reads (Pending bytes) c = stage-reads c
 reads Durable c = covered-reads c (stage_of c) (stage-reads c)
+reads other c = stage-reads c
 
 -- it isn't one that collects, nor one that was killed
 pub not-collecting : {P : Type 0} (w : Checkpoint) (c : Lifecycle) (n : TheCollecting) → seen w c ≡ Collects n → has_recovered c ≡ true → P
@@ -130,18 +120,13 @@ act-keeps (Covered n) new l a = record { later = ap is_later a.1.0; kept = ap ke
 act-keeps (Replayed n) new l a = record { later = ap is_later a.1.0; kept = ap keeps_in a.1.0 ∙ ap long a.1.1.0 ∙ asked-keeps (restores.begins n) }
 act-keeps (Restores n) new l (inl a) = record { later = ap is_later a.1.0; kept = ap keeps_in a.1.0 ∙ ap long a.1.1.0 ∙ asked-keeps n }
 act-keeps (Restores n) new l (inr a) = record { later = ap is_later a.1.0; kept = ap keeps_in a.1.0 ∙ ap length_of a.1.1.0 }
-act-keeps (Collects n) new l a = absurd (cc)
-act-keeps (Replays n) new l a = absurd (cc)
-act-keeps Killed new l a = absurd (cc)
+act-keeps other new l a = absurd (cc)
 
 later-plan : (process : Process) → is_later process ≡ true → plan_in process ≡ []
-later-plan (Up n) l = refl
-later-plan (Covered n) l = refl
-later-plan (Replayed n) l = refl
-later-plan (Restores n) l = refl
 later-plan (Collects n) l = absurd (cc)
 later-plan (Replays n) l = absurd (cc)
 later-plan Killed l = absurd (cc)
+later-plan other l = refl
 
 later-end : (old : Process) (ps : List Process) (new : Process) → is_later old ≡ true → Chain old ps new → Later old new
 later-end old [] new l c = record { later = ap is_later c ∙ l; kept = ap keeps_in c }
@@ -254,17 +239,7 @@ of-acts f n p l s t from ps w c is b r chain =
 -- one call more, before these
 pub behind-one : (n p : ℕ) (s : System) (t : Lived) (one : Call) (ks : List Call) (c : Lifecycle) → Moment n p s (after_call t one) ks c → Moment n p s t (one ∷ ks) c
 behind-one n p s t one ks c m =
-    record {
-      before = one ∷ m.before;
-      behind = m.behind;
-      collected = m.collected;
-      replays = m.replays;
-      is = ap (λ z. one ∷ z) m.is;
-      here = m.here;
-      beside = m.beside;
-      plan = m.plan;
-      kept = m.kept;
-    }
+    record { before = one ∷ m.before; behind = m.behind; collected = m.collected; replays = m.replays; is = ap (λ z. one ∷ z) m.is; here = m.here; beside = m.beside; plan = m.plan; kept = m.kept }
 
 -- one that was killed does nothing
 pub dead-end : {P : Type 0} (ps : List Process) (w : Checkpoint) (c : Lifecycle) → Chain Killed ps (seen w c) → has_recovered c ≡ true → P

@@ -61,13 +61,8 @@ stands-still Killed p q acts c other by s = along (λ d. StandsAs Killed d p) p 
 
 -- and what is stored of it is what it was
 is-stored-still : (k : Kept) (process : Process) (p q : ℕ) (acts : List Act) (c : Cluster) → q ≢ p → Each (λ (a : Act). actor a ≡ q) acts → IsStoredOf k process c p → IsStoredOf k process (after_run c acts) p
-is-stored-still k (Up n) p q acts c other by s = along (λ d. IsKeptOf k d p) p q acts c (λ a b e h. kept-same k a b p e h) other by s
 is-stored-still k (Covered n) p q acts c other by s = along (λ d. IsStoredOf k (Covered n) d p) p q acts c (λ a b e h. (((h.0.0.0, subst (λ m. p ≤ m) e.count h.0.0.1), sym e.stage ∙ h.0.1), keeping-same k a b p e h.1)) other by s
-is-stored-still k (Collects n) p q acts c other by s = along (λ d. IsKeptOf k d p) p q acts c (λ a b e h. kept-same k a b p e h) other by s
-is-stored-still k (Replays n) p q acts c other by s = along (λ d. IsKeptOf k d p) p q acts c (λ a b e h. kept-same k a b p e h) other by s
-is-stored-still k (Replayed n) p q acts c other by s = along (λ d. IsKeptOf k d p) p q acts c (λ a b e h. kept-same k a b p e h) other by s
-is-stored-still k (Restores n) p q acts c other by s = along (λ d. IsKeptOf k d p) p q acts c (λ a b e h. kept-same k a b p e h) other by s
-is-stored-still k Killed p q acts c other by s = along (λ d. IsKeptOf k d p) p q acts c (λ a b e h. kept-same k a b p e h) other by s
+is-stored-still k x p q acts c other by s = along (λ d. IsKeptOf k d p) p q acts c (λ a b e h. kept-same k a b p e h) other by s
 
 pub stored-still : (bytes : List ℕ) (process : Process) (p q : ℕ) (acts : List Act) (c : Cluster) → q ≢ p → Each (λ (a : Act). actor a ≡ q) acts → AreStoredOf bytes process c p → AreStoredOf bytes process (after_run c acts) p
 stored-still bytes process p q acts c other by s = (s.0, (s.1.0, is-stored-still s.0 process p q acts c other by s.1.1))

@@ -188,8 +188,7 @@ module _ (lives : ℕ → ℕ) (back : ℕ → Type 0) where
   told-on from to (packets.Saved k) n exact life h = record { me = refl; life = refl; exact = refl; out = λ o. o }
   told-on from to (packets.Ask i k) n exact life h = asking from i k n exact life h
   told-on from to (packets.Resume i k s) n exact life h = resuming from i k s n exact life h
-  told-on from to (packets.Told i j k flags entries) n exact life h = stays n
-  told-on from to (packets.Restored i j c s flags pairs) n exact life h = stays n
+  told-on from to other n exact life h = stays n
 
   pub hands : (x : NodePacket) (n : TheNode) → n.exact ≡ true → n.life ≡ lives n.me → IsSound lives back x → On n (handed x n)
   hands x n exact life h = by-if (On n) (is_for n x) (told x.from x.body n) n (λ e. told-on x.from x.to x.body n exact life h) (λ e. stays n)

@@ -128,10 +128,4 @@ module _ (lives : ℕ → ℕ) (back : ℕ → Type 0) where
 
       says : (from to : ℕ) (b : bodies.Body) → from ≤ top → from ≢ o.me → Says lives back from to b → Q (heard from b o)
       says from to (packets.Ask i k) low other s = asking top from i k o h known low other s
-      says from to (packets.Delivery i ssn y) low other s = (stays o, known)
-      says from to (packets.Number i ssn k) low other s = (stays o, known)
-      says from to (packets.Acknowledgement i k) low other s = (stays o, known)
-      says from to (packets.Saved k) low other s = (stays o, known)
-      says from to (packets.Resume i k s2) low other s = (stays o, known)
-      says from to (packets.Told i j k flags entries) low other s = (stays o, known)
-      says from to (packets.Restored i j n s2 flags pairs) low other s = (stays o, known)
+      says from to x low other s = (stays o, known)

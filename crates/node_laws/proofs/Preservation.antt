@@ -24,10 +24,10 @@ use Rattle.recovery.proofs.Preservation.{each-drop}
 use Rattle.recovery.proofs.Lists.{each-append}
 use Rattle.node_laws.specs.Together.{IsFirst}
 use Rattle.node_laws.specs.Process.{Process, Up, Gives, WaitsFor, covered}
-use Rattle.node_laws.specs.System.{System, new_system, Call, Gave, Handed, Worked, Did, Stored, Saved, Resumed, Died, Revived, GaveOut, HandedOut, DidOut, StoredOut, StoredBut, RevivedOut, handed_out, untaken, DoesIt, after_call, Calls, after_calls}
+use Rattle.node_laws.specs.System.{System, new_system, Call, Gave, Handed, Stored, GaveOut, HandedOut, DidOut, StoredOut, StoredBut, RevivedOut, handed_out, untaken, DoesIt, after_call, Calls, after_calls}
 use Rattle.node_laws.specs.Durable.{ReplaysWhole, ReplayWhole, KeepsDurable, StaysDurable, HasAfter, IsSentBy, outputs_of, Knows, DurableKeep}
 use Rattle.node_laws.proofs.Taken.{IsFair, fair-more, fair-of}
-use Rattle.node_laws.proofs.HeldNode.{grown}
+use Rattle.node_laws.proofs.HeldState.{grown}
 use Rattle.node_laws.proofs.HeldGateway.{IsQuiet, OfGateway, EachOutput, each-deals, each-hands}
 use Rattle.node_laws.proofs.Durability.{IsStored, IsFor, giving, storing, for-more, stored-more}
 use Rattle.node_laws.proofs.Durable.{Now, is_store, step, IsFairCall, at-place, begins-now, after-of}
@@ -107,10 +107,7 @@ module _ (f : Answering) (states : ℕ → List ℕ) (n : ℕ) (D : ℕ → Bool
   quiet-true sent b back (packets.Number i ssn k) q = absurd q
   quiet-true sent b back (packets.Told i j k flags entries) q = λ e. absurd (outside e)
   quiet-true sent b back (packets.Restored i j c s flags pairs) q = λ e. subst (Each (λ x. x.ssn ≤ length back)) (sym q) tt
-  quiet-true sent b back (packets.Acknowledgement i k) q = tt
-  quiet-true sent b back (packets.Ask i k) q = tt
-  quiet-true sent b back (packets.Resume i k s) q = tt
-  quiet-true sent b back (packets.Saved k) q = tt
+  quiet-true sent b back other q = tt
 
   -- had these not been taken
   shown-untaken : (H : ℕ → List Message) (outputs : List Output) (g : TheGateway) → Each (IsShown F D H) outputs → OfGateway (AreShown F D H) g → OfGateway (AreShown F D H) (untaken outputs g)
@@ -225,13 +222,7 @@ module _ (f : Answering) (states : ℕ → List ℕ) (n : ℕ) (D : ℕ → Bool
   goes H s (Handed q x new) a m v w =
       let t : IsTrue F D H x = one-was (IsTrue F D H) x s.given a.given m.1.0 in
       stays H s (Handed q x new) refl a m v w (λ p l e. handed-true H x p t) a.given a.gateway a.durable a.taken (λ ks G b o. o)
-  goes H s (Worked q x new) a m v w = stays H s (Worked q x new) refl a m v w (λ p l. tt) a.given a.gateway a.durable a.taken (λ ks G b o. o)
-  goes H s (Did q new) a m v w = stays H s (Did q new) refl a m v w (λ p l. tt) a.given a.gateway a.durable a.taken (λ ks G b o. o)
   goes H s (Stored q bytes) a m v w = stores H s q bytes a m.0 m.1
-  goes H s (Saved q new) a m v w = stays H s (Saved q new) refl a m v w (λ p l. tt) a.given a.gateway a.durable a.taken (λ ks G b o. o)
-  goes H s (Resumed q limits new) a m v w = stays H s (Resumed q limits new) refl a m v w (λ p l. tt) a.given a.gateway a.durable a.taken (λ ks G b o. o)
-  goes H s (Died q) a m v w = stays H s (Died q) refl a m v w (λ p l. tt) a.given a.gateway a.durable a.taken (λ ks G b o. o)
-  goes H s (Revived q life new) a m v w = stays H s (Revived q life new) refl a m v w (λ p l. tt) a.given a.gateway a.durable a.taken (λ ks G b o. o)
   goes H s (GaveOut x new) a m v w =
       let t = gave-out H x s.gateway new m.1.0 a.gateway in
       stays H s (GaveOut x new) refl a m v w (λ p l. tt) (t.0, a.given) t.1 a.durable a.taken (λ ks G b o. o)
@@ -249,18 +240,14 @@ module _ (f : Answering) (states : ℕ → List ℕ) (n : ℕ) (D : ℕ → Bool
   goes H s (RevivedOut new) a m v w =
       let t : OfGateway (AreShown F D H) new = subst (OfGateway (AreShown F D H)) (sym m.0) (record { out = tt; store = a.durable.store }) in
       stays H s (RevivedOut new) refl a m v w (λ p l. tt) a.given t t tt (λ ks G b o. o)
+  goes H s other a m v w = stays H s other refl a m v w (λ p l. tt) a.given a.gateway a.durable a.taken (λ ks G b o. o)
 
   pub goes-on : (H : ℕ → List Message) (s : System) (ks : List Call) → All f states n D H s → Calls f n s ks → ReplayWhole s ks → ((p : ℕ) → D p ≡ true → StaysDurable p s ks) → Ends f states n D H s ks
   goes-on H s [] a m v w = record { messages = H; later = λ q. begins-self (H q); all = a; shown = tt }
   goes-on H s (k ∷ ks) a m v w =
       let one = goes H s k a m.0 v.0 (λ p d. (w p d).0) in
       let rest = goes-on one.messages (after_call s k) ks one.all m.1 v.1 (λ p d. (w p d).1) in
-      record {
-        messages = rest.messages;
-        later = λ q. begins-trans (H q) (one.messages q) (rest.messages q) (one.later q) (rest.later q);
-        all = rest.all;
-        shown = one.shows ks rest.messages rest.later rest.shown;
-      }
+      record { messages = rest.messages; later = λ q. begins-trans (H q) (one.messages q) (rest.messages q) (one.later q) (rest.later q); all = rest.all; shown = one.shows ks rest.messages rest.later rest.shown }
 
   -- what a node that is up received
   up-knows : (H : ℕ → List Message) (p : ℕ) (l : IsFirst n p) (process : Process) (m : TheNode) → IsFor f states n p (D p) (D p) D (In H p) l.1 (H p) process → process ≡ Up m → (has : HasAfter F p (H p) m) × Knows F D H p (H p ++ has.rest)

@@ -44,15 +44,7 @@ pub opened : (images : ℕ → AnyImage) (n page tick : ℕ) (limits : ℕ → L
 opened images n page tick limits processes states bytes o =
     record {
       states = states;
-      stand = record {
-        processes = λ p l. sym (ap stage_of (o.opened p l).lifecycle_is);
-        stored = λ p l. refl;
-        lives = λ p l. refl;
-        gateway = refl;
-        durable = refl;
-        taken = refl;
-        given = refl;
-      };
+      stand = record { processes = λ p l. sym (ap stage_of (o.opened p l).lifecycle_is); stored = λ p l. refl; lives = λ p l. refl; gateway = refl; durable = refl; taken = refl; given = refl };
       good = λ p l. (ap as_image (o.opened p l).image_is, (ap is_settled (o.opened p l).lifecycle_is, tt));
       now = λ p l. ([], begins-now (answering n images) states n p page tick false false (λ q. false) nothing l.1 limits bytes (are-stored images n limits processes states bytes o) l (λ e. absurd (cc (e))));
     }
@@ -72,14 +64,7 @@ all-stand n s t c st a =
 
 run-of : (n : ℕ) (f : Handlers) (s : System) (t : Lived) → IsAs n s t → IsRunOf n f t → IsRunOf n f (as_lives s)
 run-of n f s t st r =
-    record {
-      acts = r.acts;
-      run = r.run;
-      stand = all-stand n s t (after_run (opening n f) r.acts) st r.stand;
-      no_orphan = r.no_orphan;
-      output_once = r.output_once;
-      received_once = r.received_once;
-    }
+    record { acts = r.acts; run = r.run; stand = all-stand n s t (after_run (opening n f) r.acts) st r.stand; no_orphan = r.no_orphan; output_once = r.output_once; received_once = r.received_once }
 
 keep-of : (n : ℕ) (f : Handlers) (durable : ℕ → Bool) (s : System) (t : Lived) (xs ys : List Output) → IsAs n s t → xs ≡ ys → Keep n f durable t xs → Keep n f durable (as_lives s) ys
 keep-of n f durable s t xs ys st same k =

@@ -101,12 +101,7 @@ module _ (lives : ℕ → ℕ) (back : ℕ → Type 0) (top : ℕ) where
       (λ f. absurd (let z : true ≡ false = sym (fits i j c s flags pairs refl t.0 t.1) ∙ f in cc (z))))
       (λ e. same n)
   says from to (packets.Ask i k) n known a here low other fits h = by-if (On n) (in_range (packets.Ask i k)) (asked_by from i k n) n (λ e. asking from i k n known a low other h) (λ e. same n)
-  says from to (packets.Delivery i ssn y) n known a here low other fits h = same n
-  says from to (packets.Number i ssn k) n known a here low other fits h = same n
-  says from to (packets.Acknowledgement i k) n known a here low other fits h = same n
-  says from to (packets.Saved k) n known a here low other fits h = same n
-  says from to (packets.Resume i k r) n known a here low other fits h = same n
-  says from to (packets.Told i j k flags entries) n known a here low other fits h = same n
+  says from to x n known a here low other fits h = same n
 
   pub hands : (x : NodePacket) (n : TheRestoring) → HasHeard lives top n.own → IsAlone lives back top n.own → Fits x n → IsSound lives back x → On n (handed x n)
   hands x n known a fits h =

@@ -5,7 +5,7 @@ use Rattle.std.proofs.lemmas.Bool.Decides.{nat_tests}
 use Rattle.world.specs.World.{put}
 use Rattle.theorems.proofs.Changes.{at-itself}
 use Rattle.packets.specs.declared.packet.Body.{Body}
-use Rattle.packets.specs.declared.packet.Body.TheVariants.{Delivery, Number, Acknowledgement, Ask, Told, Resume, Restored, Saved}
+use Rattle.packets.specs.declared.packet.Body.TheVariants.{Ask, Told, Resume, Restored}
 use Rattle.packets.specs.declared.packet.NodePacket.{NodePacket}
 use Rattle.packets.specs.Packet.{is_lost, is_exact, flags_of}
 use Rattle.node.specs.Stands.{Each}
@@ -32,10 +32,7 @@ says-still lives b d less from to (Ask i k) h = h
 says-still lives b d less from to (Resume i k s) h = h
 says-still lives b d less from to (Told i j k flags entries) h = (h.0, λ w e. h.1 (less to w) e)
 says-still lives b d less from to (Restored i j n s flags pairs) h = (h.0, λ w e. h.1 (less to w) e)
-says-still lives b d less from to (Delivery i ssn x) h = tt
-says-still lives b d less from to (Number i ssn k) h = tt
-says-still lives b d less from to (Acknowledgement i k) h = tt
-says-still lives b d less from to (Saved k) h = tt
+says-still lives b d less from to other h = tt
 
 pub sound-still : (lives : ℕ → ℕ) (b d : ℕ → Type 0) → ((q : ℕ) → d q → b q) → (xs : List NodePacket) → AreSound lives b xs → AreSound lives d xs
 sound-still lives b d less xs h = all-more (IsSound lives b) (IsSound lives d) xs (λ x s. says-still lives b d less x.from x.to x.body s) h
@@ -74,10 +71,7 @@ says-anew lives b d p life above only from to (Ask i k) h = more lives p life fr
 says-anew lives b d p life above only from to (Resume i k s) h = more lives p life from i above h
 says-anew lives b d p life above only from to (Told i j k flags entries) h = (more lives p life to i above h.0, λ w e. absurd (no-old lives p life to i above (only to w) h.0 e))
 says-anew lives b d p life above only from to (Restored i j n s flags pairs) h = (more lives p life to i above h.0, λ w e. absurd (no-old lives p life to i above (only to w) h.0 e))
-says-anew lives b d p life above only from to (Delivery i ssn x) h = tt
-says-anew lives b d p life above only from to (Number i ssn k) h = tt
-says-anew lives b d p life above only from to (Acknowledgement i k) h = tt
-says-anew lives b d p life above only from to (Saved k) h = tt
+says-anew lives b d p life above only from to other h = tt
 
 pub sound-anew : (lives : ℕ → ℕ) (b d : ℕ → Type 0) (p life : ℕ) → lives p < life → ((q : ℕ) → d q → q ≡ p) → (xs : List NodePacket) → AreSound lives b xs → AreSound (put lives p life) d xs
 sound-anew lives b d p life above only xs h = all-more (IsSound lives b) (IsSound (put lives p life) d) xs (λ x s. says-anew lives b d p life above only x.from x.to x.body s) h

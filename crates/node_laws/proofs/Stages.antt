@@ -26,60 +26,30 @@ pub unsettled : {P : Type 0} → is_settled Passing ≡ true → P
 unsettled {P} s = absurd (cc (s))
 
 recovers : (c d : Lifecycle) → is_settled c ≡ true → Recovers c d → Goes c d
-recovers (Up n) d s g = same (Up n) d s g
-recovers (Collecting n) (Up m) s g = same (Collecting n) (Up m) s g
-recovers (Collecting n) (Collecting m) s g = same (Collecting n) (Collecting m) s g
 recovers (Collecting n) (Replaying m) s g = (refl, (lives.Replays m ∷ [], (inr (m, (refl, record { all = g.0; is = g.1; acts = g.2 })), (tt, (ap (λ z. z.exact) g.1.own, refl)))))
-recovers (Collecting n) (Replayed m) s g = same (Collecting n) (Replayed m) s g
-recovers (Collecting n) (Restoring m) s g = same (Collecting n) (Restoring m) s g
-recovers (Collecting n) Passing s g = same (Collecting n) Passing s g
-recovers (Replaying n) d s g = same (Replaying n) d s g
-recovers (Replayed n) d s g = same (Replayed n) d s g
-recovers (Restoring n) d s g = same (Restoring n) d s g
 recovers Passing d s g = unsettled s
+recovers other d s g = same other d s g
 
 finishes : (c d : Lifecycle) → is_settled c ≡ true → Finishes c d → Goes c d
-finishes (Up n) d s g = same (Up n) d s g
-finishes (Collecting n) d s g = same (Collecting n) d s g
-finishes (Replaying n) (Up m) s g = same (Replaying n) (Up m) s g.1
-finishes (Replaying n) (Collecting m) s g = same (Replaying n) (Collecting m) s g.1
-finishes (Replaying n) (Replaying m) s g = same (Replaying n) (Replaying m) s g.1
 finishes (Replaying n) (Replayed m) s g = (refl, (lives.Replayed m ∷ [], ((m, (refl, (g.1, g.2))), (g.0, (ap (λ z. z.own.exact) g.1, refl)))))
-finishes (Replaying n) (Restoring m) s g = same (Replaying n) (Restoring m) s g.1
-finishes (Replaying n) Passing s g = same (Replaying n) Passing s g.1
-finishes (Replayed n) d s g = same (Replayed n) d s g
-finishes (Restoring n) d s g = same (Restoring n) d s g
 finishes Passing d s g = unsettled s
+finishes (Replaying n) other s g = same (Replaying n) other s g.1
+finishes other d s g = same other d s g
 
 begins : (c d : Lifecycle) → is_settled c ≡ true → Begun c d → Goes c d
-begins (Up n) d s g = same (Up n) d s g
-begins (Collecting n) d s g = same (Collecting n) d s g
-begins (Replaying n) d s g = same (Replaying n) d s g
-begins (Replayed n) (Up m) s g = same (Replayed n) (Up m) s g
-begins (Replayed n) (Collecting m) s g = same (Replayed n) (Collecting m) s g
-begins (Replayed n) (Replaying m) s g = same (Replayed n) (Replaying m) s g
-begins (Replayed n) (Replayed m) s g = same (Replayed n) (Replayed m) s g
 begins (Replayed n) (Restoring m) s g = (refl, (lives.Restores m ∷ [], ((m, (refl, g)), (tt, (ap (λ z. z.own.exact) g.0 ∙ begun-exact n, refl)))))
-begins (Replayed n) Passing s g = same (Replayed n) Passing s g
-begins (Restoring n) d s g = same (Restoring n) d s g
 begins Passing d s g = unsettled s
+begins other d s g = same other d s g
 
 returns : (c d : Lifecycle) → is_settled c ≡ true → Returns c d → Goes c d
-returns (Up n) d s g = same (Up n) d s g
-returns (Collecting n) d s g = same (Collecting n) d s g
-returns (Replaying n) d s g = same (Replaying n) d s g
-returns (Replayed n) d s g = same (Replayed n) d s g
 returns (Restoring n) (Up m) s g =
     let first : TheNode = g.1.0 in
     let is : first ≡ up n = g.1.1.0 in
     let ticks : m ≡ ticked first = g.1.1.2 in
     (refl, (lives.Up first ∷ lives.Up m ∷ [], (inr (first, (refl, (is, g.1.1.1))), (tt, (ap (λ z. z.exact) is, ((m, (refl, (inl ticks, g.1.1.3))), (tt, (ap (λ z. z.exact) ticks ∙ ticked-exact first, refl))))))))
-returns (Restoring n) (Collecting m) s g = same (Restoring n) (Collecting m) s g.1
-returns (Restoring n) (Replaying m) s g = same (Restoring n) (Replaying m) s g.1
-returns (Restoring n) (Replayed m) s g = same (Restoring n) (Replayed m) s g.1
-returns (Restoring n) (Restoring m) s g = same (Restoring n) (Restoring m) s g.1
-returns (Restoring n) Passing s g = same (Restoring n) Passing s g.1
 returns Passing d s g = unsettled s
+returns (Restoring n) other s g = same (Restoring n) other s g.1
+returns other d s g = same other d s g
 
 pub passes : (c d : Lifecycle) → is_settled c ≡ true → Passes c d → Goes c d
 passes c d s g =
@@ -114,15 +84,5 @@ on w c d s f e = (subst (λ z. is_settled z ≡ true) (sym e) s, (subst (Fits w)
 
 pub passes-on : (w : Checkpoint) (c d : Lifecycle) → is_settled c ≡ true → Fits w c → Passes c d → GoesOn w c d
 passes-on Absent c d s f g = let t : Goes c d = passes c d s g in (t.0, (tt, t.1))
-passes-on (Pending bytes) (Up n) d s f g = on (Pending bytes) (Up n) d s f (passes-up n d g)
-passes-on (Pending bytes) (Collecting n) d s f g = absurd f
-passes-on (Pending bytes) (Replaying n) d s f g = absurd f
-passes-on (Pending bytes) (Replayed n) d s f g = absurd f
-passes-on (Pending bytes) (Restoring n) d s f g = absurd f
-passes-on (Pending bytes) Passing d s f g = absurd f
-passes-on Durable (Up n) d s f g = on Durable (Up n) d s f (passes-up n d g)
-passes-on Durable (Collecting n) d s f g = absurd f
-passes-on Durable (Replaying n) d s f g = absurd f
-passes-on Durable (Replayed n) d s f g = absurd f
-passes-on Durable (Restoring n) d s f g = absurd f
-passes-on Durable Passing d s f g = absurd f
+passes-on w (Up n) d s f g = on w (Up n) d s f (passes-up n d g)
+passes-on w c d s f g = absurd f

@@ -161,10 +161,7 @@ module _ (c : Cluster) (p : ℕ) (bytes : List ℕ) (life : ℕ) (low : c.stored
       let P : ℕ → Type 0 = λ q. GoesTo q (λ d. StandsReplaying g.1.0 d q) c in
       becomes p (Replays g.1.0) new bytes life c g.1.1.0
       (own (Replays g.1.0) are.0 (λ k d z. z) are.1 (subst P s.own.me (g.1.1.1.1 c (subst (StandsReplaying n c) (sym s.own.me) s) (answers-again f states n c p a handlers s g.0))))
-  working f states a (Collects n) new g handlers h s are = absurd g
-  working f states a (Replayed n) new g handlers h s are = absurd g
-  working f states a (Restores n) new g handlers h s are = absurd g
-  working f states a Killed new g handlers h s are = absurd g
+  working f states a other new g handlers h s are = absurd g
 
   -- it acts, or goes on to its next stage
   pub acting : (old new : Process) → Acts old new → worlds.Holds c → StandsAs old c p → AreStoredOf bytes old c p → Goes new
@@ -203,11 +200,7 @@ module _ (c : Cluster) (p : ℕ) (bytes : List ℕ) (life : ℕ) (low : c.stored
   storing others (Covered n) g s are =
       let P : ℕ → Type 0 = λ q. May c (Keeps q) × IsKeptOf (kept_of n) (does c (Keeps q)) q in
       moves-none p (Covered n) bytes life c s (kept_of n, (g.0, subst P s.1.me (g.1 c (resting-stands n c s.0 (subst (Stands n c) (sym s.1.me) s.1))))) low
-  storing others (Collects n) g s are = absurd g
-  storing others (Replays n) g s are = absurd g
-  storing others (Replayed n) g s are = absurd g
-  storing others (Restores n) g s are = absurd g
-  storing others Killed g s are = absurd g
+  storing others other g s are = absurd g
 
   -- and it was told so
   pub telling : (old new : Process) → IsTold old new → StandsAs old c p → AreStoredOf bytes old c p → Goes new
@@ -216,23 +209,14 @@ module _ (c : Cluster) (p : ℕ) (bytes : List ℕ) (life : ℕ) (low : c.stored
       let k = saves-at n g.0 c p g.1.1.1 s.0 s.1 in
       becomes p (Up g.0) new bytes life c g.1.0
       (moves-after p (Up g.0) bytes life c (Keeps p) k.0 refl (moves-own p (Up g.0) bytes life (does c (Keeps p)) are.0 (λ m d z. z) are.1.0 are.1.1.1 low k.1))
-  telling (Collects n) new g s are = absurd g
-  telling (Replays n) new g s are = absurd g
-  telling (Replayed n) new g s are = absurd g
-  telling (Restores n) new g s are = absurd g
-  telling Killed new g s are = absurd g
+  telling other new g s are = absurd g
 
   -- it was suspended, and is resumed
   pub waking : (limits : Limits) (old new : Process) → Wakes limits old new → StandsAs old c p → AreStoredOf bytes old c p → Goes new
   waking limits (Up n) new g s are =
       let to : Process = Up (woken limits n) in
       becomes p to new bytes life c (g.1.1.0 ∙ ap Up g.1.1.1) (moves-none p to bytes life c (woken-stands n limits c p g.0 s) are low)
-  waking limits (Covered n) new g s are = absurd g
-  waking limits (Collects n) new g s are = absurd g
-  waking limits (Replays n) new g s are = absurd g
-  waking limits (Replayed n) new g s are = absurd g
-  waking limits (Restores n) new g s are = absurd g
-  waking limits Killed new g s are = absurd g
+  waking limits other new g s are = absurd g
 
 -- it is killed
 killed : (c : Cluster) (p : ℕ) (bytes : List ℕ) (life : ℕ) (k : Kept) → c.stored p ≤ life → IsNode c p → c.stage p ≢ Dead → IsKept k bytes → IsKeptOf k c p → Moves p Killed bytes life c
@@ -250,10 +234,8 @@ dying c p bytes life (Covered n) low s are =
     moves-after p Killed bytes life c (Keeps p) are.1.1.0 refl
     (killed (does c (Keeps p)) p bytes life are.0 low s.1.inside (λ e. runs-on n.frozen (sym s.1.stage ∙ e)) are.1.0 are.1.1.1)
 dying c p bytes life (Collects n) low s are = killed c p bytes life are.0 low s.own.inside (λ e. let f : Collecting ≡ Dead = sym s.stage ∙ e in absurd (cc (f))) are.1.0 are.1.1
-dying c p bytes life (Replays n) low s are = killed c p bytes life are.0 low s.own.inside (λ e. let f : Live ≡ Dead = sym s.stage ∙ e in absurd (cc (f))) are.1.0 are.1.1
-dying c p bytes life (Replayed n) low s are = killed c p bytes life are.0 low s.own.inside (λ e. let f : Live ≡ Dead = sym s.stage ∙ e in absurd (cc (f))) are.1.0 are.1.1
-dying c p bytes life (Restores n) low s are = killed c p bytes life are.0 low s.own.inside (λ e. let f : Live ≡ Dead = sym s.stage ∙ e in absurd (cc (f))) are.1.0 are.1.1
 dying c p bytes life Killed low s are = moves-none p Killed bytes life c s are low
+dying c p bytes life other low s are = killed c p bytes life are.0 low s.own.inside (λ e. let f : Live ≡ Dead = sym s.stage ∙ e in absurd (cc (f))) are.1.0 are.1.1
 
 -- it comes back
 pub reviving : (c : Cluster) (p : ℕ) (bytes : List ℕ) (old : Process) (before life : ℕ) (n : TheCollecting) → IsKilled old → c.stored p ≤ before → before < life → ComesFrom bytes life n → StandsAs old c p → AreStoredOf bytes old c p → Moves p (Collects n) bytes life c
@@ -270,9 +252,4 @@ reviving c p bytes Killed before life n dead low above from s are =
     let stored : opened.stored p ≡ life = at-itself p (λ b. (if b then suc (r.skipped + c.stored p) else c.stored p) ≡ life) r.incarnation in
     moves-after p (Collects n) bytes life c (Opens p r.skipped) r.opens refl
     (moves-own p (Collects n) bytes life opened k (λ m d z. z) are.1.0 still (omega (arith, stored)) r.goes)
-reviving c p bytes (Up m) before life n dead low above from s are = absurd dead
-reviving c p bytes (Covered m) before life n dead low above from s are = absurd dead
-reviving c p bytes (Collects m) before life n dead low above from s are = absurd dead
-reviving c p bytes (Replays m) before life n dead low above from s are = absurd dead
-reviving c p bytes (Replayed m) before life n dead low above from s are = absurd dead
-reviving c p bytes (Restores m) before life n dead low above from s are = absurd dead
+reviving c p bytes other before life n dead low above from s are = absurd dead

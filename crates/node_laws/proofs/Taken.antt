@@ -52,32 +52,20 @@ fair-more a t sent sent2 u back back2 (Delivery i ssn x) b c h = λ e. nth-prefi
 fair-more a t sent sent2 u back back2 (Number i ssn k) b c h = λ e. let l = h e in omega (arith, l, begins-length back back2 c)
 fair-more a t sent sent2 u back back2 (Told i j k flags entries) b c h = λ e. all-more (IsSent sent) (IsSent sent2) entries (λ x s. nth-prefix sent sent2 x.ssn x.payload b s) (h e)
 fair-more a t sent sent2 u back back2 (Restored i j n s flags pairs) b c h = λ e. all-more (IsLow (length back)) (IsLow (length back2)) pairs (λ x l. omega (arith, l, begins-length back back2 c)) (h e)
-fair-more a t sent sent2 u back back2 (Acknowledgement i k) b c h = tt
-fair-more a t sent sent2 u back back2 (Ask i k) b c h = tt
-fair-more a t sent sent2 u back back2 (Resume i k s) b c h = tt
-fair-more a t sent sent2 u back back2 (Saved k) b c h = tt
+fair-more a t sent sent2 u back back2 other b c h = tt
 
 -- where nothing is asked
 pub fair-none : (sent back : List Payload) (x : Body) → IsFair false false sent false back x
-fair-none sent back (Delivery i ssn x) = λ e. absurd (cc (e))
-fair-none sent back (Number i ssn k) = λ e. absurd (cc (e))
-fair-none sent back (Told i j k flags entries) = λ e. absurd (cc (e))
-fair-none sent back (Restored i j n s flags pairs) = λ e. absurd (cc (e))
 fair-none sent back (Acknowledgement i k) = tt
 fair-none sent back (Ask i k) = tt
 fair-none sent back (Resume i k s) = tt
 fair-none sent back (Saved k) = tt
+fair-none sent back other = λ e. absurd (cc (e))
 
 -- a message is what was sent
 pub fair-of : (t : Bool) (sent : List Payload) (u : Bool) (back : List Payload) (x : Body) → IsFair true t sent u back x → IsOf sent x
 fair-of t sent u back (Delivery i ssn x) h = h refl
-fair-of t sent u back (Number i ssn k) h = tt
-fair-of t sent u back (Told i j k flags entries) h = tt
-fair-of t sent u back (Restored i j n s flags pairs) h = tt
-fair-of t sent u back (Acknowledgement i k) h = tt
-fair-of t sent u back (Ask i k) h = tt
-fair-of t sent u back (Resume i k s) h = tt
-fair-of t sent u back (Saved k) h = tt
+fair-of t sent u back other h = tt
 
 -- ---- pages
 

@@ -1,19 +1,18 @@
 -- Calls of nodes and of the gateway, one after another
-use Rattle.std.proofs.Common.{◌≡◌, ℕ, zero, suc, ◌<◌, ◌≤◌, List, [], ◌∷◌, ◌++◌, refl, sym, ◌∙◌, subst, arith}
-use Rattle.std.specs.Prelude.{Some}
+use Rattle.std.proofs.Common.{◌≡◌, ℕ, ◌<◌, ◌≤◌, List, [], ◌∷◌, ◌++◌, refl, sym, ◌∙◌, subst, arith}
 use Rattle.world.specs.Handlers.{Handlers}
 use Rattle.world.specs.World.{put}
 use Rattle.packets.specs.declared.packet.NodePacket.{NodePacket}
-use Rattle.cluster.specs.Parcels.{parcel, In}
+use Rattle.cluster.specs.Parcels.{parcel}
 use Rattle.cluster.specs.Cluster.{Cluster, opening}
 use Rattle.cluster.specs.Rules.{Act, Run, after_run}
 use Rattle.cluster.proofs.Runs.{run-handlers}
 use Rattle.cluster.proofs.Promised.{nodes-keep}
 use Rattle.node.specs.Node.{TheNode}
-use Rattle.node.specs.Stands.{Each, Stands, Goes, PutOut, Acts, Handles, Owes, actor}
+use Rattle.node.specs.Stands.{Each, Stands, Goes, PutOut, Handles}
 use Rattle.packets.specs.Says.{WasSaid}
 use Rattle.node.specs.Beside.{AllStand}
-use Rattle.node.specs.Runs.{Answering, handlers_of, IsOne}
+use Rattle.node.specs.Runs.{Answering, handlers_of}
 use Rattle.node.proofs.Beside.{all-stand, stands-still, count-after}
 use Rattle.node.proofs.Lists.{all-more}
 use Rattle.node.proofs.Puts.{put-still}
@@ -102,13 +101,7 @@ call-goes f states n s c (Gave p x new) h m =
     record {
       acts = [];
       run = tt;
-      holds = record {
-        count = h.count;
-        stand = all-stand s.nodes c p new h.stand (record { acts = []; run = tt; by = tt; stands = took.1 });
-        gateway = h.gateway;
-        given = (from-own c p x took.0, h.given);
-        handlers = h.handlers;
-      };
+      holds = record { count = h.count; stand = all-stand s.nodes c p new h.stand (record { acts = []; run = tt; by = tt; stands = took.1 }); gateway = h.gateway; given = (from-own c p x took.0, h.given); handlers = h.handlers };
     }
 call-goes f states n s c (Handed p x new) h m =
     let at : Stands (s.nodes p) c p = stands-at (handlers_of f states) n s c p m.0 h in
@@ -126,13 +119,7 @@ call-goes f states n s c (GaveOut x new) h m =
     record {
       acts = [];
       run = tt;
-      holds = record {
-        count = h.count;
-        stand = h.stand;
-        gateway = took.1;
-        given = (from-gateway c x took.0, h.given);
-        handlers = h.handlers;
-      };
+      holds = record { count = h.count; stand = h.stand; gateway = took.1; given = (from-gateway c x took.0, h.given); handlers = h.handlers };
     }
 call-goes f states n s c (HandedOut x new) h m =
     let o : WasPut c x = one-was (WasPut c) x s.given h.given m.0 in

@@ -17,7 +17,7 @@ use Rattle.gateway.specs.Calls.{is_for, is_next, says_shown, arrived, recorded_b
 use Rattle.gateway.specs.Stands.{Stands, Goes, Acts, IsHanded, shown_as}
 use Rattle.gateway.proofs.Changes.{goes-asked}
 use Rattle.gateway.proofs.Transmission.{putting-in, ticking}
-use Rattle.gateway.proofs.Steps.{stays, acts-self}
+use Rattle.gateway.proofs.Steps.{stays, acts-self, stands-with, stands-waiting}
 use Rattle.gateway.proofs.Handover.{handed-so}
 use Rattle.node_laws.specs.System.{handed_out, untaken, PutIn, Deals}
 use Rattle.node_laws.proofs.HeldGateway.{none-out, ticked-outputs}
@@ -32,20 +32,7 @@ stands-fewer xs ys g c s =
     append_assoc s.outputs.before (map shown_as xs) (map shown_as last)
     ∙ ap (λ z. s.outputs.before ++ z) (sym (map-append shown_as xs last) ∙ ap (map shown_as) (sym (append_assoc xs ys g.store.outputs)))
     ∙ s.outputs.joined in
-    record {
-      count = s.count;
-      stage = s.stage;
-      greeted = s.greeted;
-      phase = s.phase;
-      life = s.life;
-      history = s.history;
-      logs = s.logs;
-      shown = s.shown;
-      outputs = record { before = s.outputs.before ++ map shown_as xs; joined = joined };
-      heard = s.heard;
-      resumed = s.resumed;
-      out = s.out;
-    }
+    stands-with (untaken (xs ++ ys) g) c s s.count s.logs s.shown (record { before = s.outputs.before ++ map shown_as xs; joined = joined }) s.heard s.resumed s.out
 
 -- with none
 pub stands-taken : (outputs : List Output) (g : TheGateway) (c : Cluster) → Stands (untaken outputs g) c → Stands g c
@@ -57,24 +44,6 @@ goes-fewer xs ys g c w = record { acts = w.acts; run = w.run; by = w.by; stands 
 
 pub goes-taken-out : (outputs : List Output) (g : TheGateway) (c : Cluster) → Goes (untaken outputs g) c → Goes g c
 goes-taken-out outputs g c w = record { acts = w.acts; run = w.run; by = w.by; stands = stands-taken outputs g _ w.stands }
-
--- whatever is told of what happened
-stands-told : (ks : List Change) (g : TheGateway) (c : Cluster) → Stands g c → Stands (record g { changes = ks }) c
-stands-told ks g c s =
-    record {
-      count = s.count;
-      stage = s.stage;
-      greeted = s.greeted;
-      phase = s.phase;
-      life = s.life;
-      history = s.history;
-      logs = s.logs;
-      shown = s.shown;
-      outputs = s.outputs;
-      heard = s.heard;
-      resumed = s.resumed;
-      out = s.out;
-    }
 
 -- ---- what its host lets it do
 
@@ -171,9 +140,7 @@ module _ (outputs : List Output) where
   told-so p (packets.Saved k) g = dropped-so p k g
   told-so p (packets.Ask i k) g = asked-so p i k g
   told-so p (packets.Resume i k s) g = resumed-so p i k s g
-  told-so p (packets.Acknowledgement i k) g = refl
-  told-so p (packets.Told i j k flags entries) g = refl
-  told-so p (packets.Restored i j n s flags pairs) g = refl
+  told-so p other g = refl
 
   pub handed-alike : (x : NodePacket) (g : TheGateway) → handed x (U g) ≡ U (handed x g)
   handed-alike x g = both-so (is_for g x) (told x.from x.body (U g)) (U g) (told x.from x.body g) g (told-so x.from x.body g) refl
@@ -227,7 +194,7 @@ dealing outputs g new d = by (deals-so g new d)
     by : DealsSo g new → Acts (untaken outputs g) (untaken (outputs ++ handed_out g new) new)
     by (inl h) =
         let m = handing-so outputs g new h in
-        subst (Acts (untaken outputs g)) (sym m.1) (λ c s u. stays (record (untaken outputs g) { changes = m.0 }) c (stands-told m.0 (untaken outputs g) c s))
+        subst (Acts (untaken outputs g)) (sym m.1) (λ c s u. stays (record (untaken outputs g) { changes = m.0 }) c (stands-waiting (untaken outputs g) c s s.out))
     by (inr r) = rests r.0 r.1
 
 -- a packet that it is handed

@@ -7,24 +7,19 @@ use Rattle.node.specs.Node.{TheNode}
 use Rattle.node.specs.Suspension.{woken}
 use Rattle.recovery.proofs.Resumptions.{one-node}
 use Rattle.process.specs.declared.lifecycle.Lifecycle.{Lifecycle}
-use Rattle.process.specs.declared.lifecycle.Lifecycle.TheVariants.{Up, Collecting, Replaying, Replayed, Restoring, Passing}
+use Rattle.process.specs.declared.lifecycle.Lifecycle.TheVariants.{Up}
 use Rattle.process.specs.Process.{TheProcess}
 use Rattle.process.specs.Suspension.{Suspends, IsResumed}
 use Rattle.node_laws.specs.Process.{Wakes}
 use Rattle.node_laws.specs.Process as stages
-use Rattle.node_laws.specs.HostProcess.{Checkpoint, Absent, Pending, Durable, stage_of, seen}
+use Rattle.node_laws.specs.HostProcess.{Checkpoint, Durable, stage_of, seen}
 use Rattle.node_laws.proofs.Stages.{Fits}
 
 -- one that can be suspended waits for no checkpoint
 pub still-seen : (w : Checkpoint) (c : Lifecycle) (bytes : List ℕ) → Fits w c → Suspends c bytes → stage_of c ≡ seen w c
-still-seen Absent c bytes f g = refl
-still-seen (Pending stored) c bytes f g = refl
 still-seen Durable (Up n) bytes f g = absurd (let no : true ≡ false = sym f ∙ g.can.live in cc (no))
-still-seen Durable (Collecting n) bytes f g = absurd f
-still-seen Durable (Replaying n) bytes f g = absurd f
-still-seen Durable (Replayed n) bytes f g = absurd f
-still-seen Durable (Restoring n) bytes f g = absurd f
-still-seen Durable Passing bytes f g = absurd f
+still-seen Durable other bytes f g = absurd f
+still-seen other c bytes f g = refl
 
 -- with these limits, and no packet that waits, it is itself
 woken-self : (limits : Limits) (m : TheNode) → m.limits ≡ limits → m.out ≡ [] → m ≡ woken limits m
@@ -33,8 +28,4 @@ woken-self limits m a b = ap (λ (xs : List NodePacket). record m { out = xs }) 
 -- the bytes are those of one node
 pub wakes-up : (limits : Limits) (image : AnyImage) (c : Lifecycle) (bytes : List ℕ) (new : TheProcess) → Suspends c bytes → (r : IsResumed image limits bytes new) → Wakes limits (stage_of c) (stages.Up r.node)
 wakes-up limits image (Up n) bytes new g r = (g.can, (r.node, (refl, woken-self limits r.node r.limits_are r.none_waits ∙ one-node limits r.node n bytes r.suspended g)))
-wakes-up limits image (Collecting n) bytes new g r = absurd g
-wakes-up limits image (Replaying n) bytes new g r = absurd g
-wakes-up limits image (Replayed n) bytes new g r = absurd g
-wakes-up limits image (Restoring n) bytes new g r = absurd g
-wakes-up limits image Passing bytes new g r = absurd g
+wakes-up limits image other bytes new g r = absurd g

@@ -39,7 +39,7 @@ use Rattle.node_laws.specs.Process.{Becomes}
 use Rattle.node_laws.specs.System as called
 use Rattle.node_laws.specs.System.{Call, Calls}
 use Rattle.node_laws.specs.Messages as lived
-use Rattle.node_laws.specs.Messages.{last, input, delivery, number, acknowledgement, covers, ask, told, resume, restored, quiet, n0, n1, n2, n3, n4, n5, n6, n7, n8, n9, n10, job, comes, asks, has_all, replays, replays_more, replayed, begins, resumes, has_answer}
+use Rattle.node_laws.specs.Messages.{last, input, delivery, number, acknowledgement, told, quiet, n0, n1, n2, n3, n4, n5, n6, n7, n8, n9, n10, job, comes, asks, has_all, replays, replays_more, replayed, begins, resumes, has_answer}
 use Rattle.node_laws.proofs.Lives.{usual-allowed}
 use Rattle.node_laws.proofs.Worked.{first}
 use Rattle.node_laws.proofs.Messages.{suspended-5, replays-two}
@@ -169,12 +169,7 @@ works image c d e k next is takes passes =
 module _ (image : AnyImage) (is : IsCopying image) (stored bytes : List ℕ) (kept-0 : IsKept (kept_of n0) stored) (kept-4 : IsKept (kept_of n4) bytes) where
   one-process : IsOpened image usual 1 1 (0 ∷ []) (process image (Up n0))
   one-process =
-      record {
-        long = sym is.is_image.len_is;
-        image_is = refl;
-        lifecycle_is = refl;
-        stands = λ f b. stands-opened usual 1 1 (0 ∷ []) f (omega arith) (omega arith) b;
-      }
+      record { long = sym is.is_image.len_is; image_is = refl; lifecycle_is = refl; stands = λ f b. stands-opened usual 1 1 (0 ∷ []) f (omega arith) (omega arith) b }
 
   opens : Opens 1 (λ _. image) (λ _. usual) (λ _. process image (Up n0)) (λ _. 0 ∷ []) (λ _. stored)
   opens =
