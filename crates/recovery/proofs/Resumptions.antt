@@ -45,7 +45,7 @@ abbrev IsCodes : List ℕ → Type 0
 IsCodes codes = (length codes < 2 ^ 64) × AllByRecursion IsLong codes
 
 codes_codec : Codec (List ℕ) (λ codes. IsCodes codes) (λ codes. codes_bytes codes) codes_at
-unfolding codes_at
+unfolding codes_at reader.counted_at
 codes_codec = counted_codec 8 (λ n. long_bytes n) word_codec ℕ (λ n. IsLong n) (λ n. long_bytes n) (number_at 8) word_codec
 
 abbrev Pieces : Type 0
