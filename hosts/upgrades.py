@@ -17,7 +17,7 @@ from looks import files_of, told
 
 MIGRATION = os.path.join(HERE, "..", "examples", "migration")
 NARROW, WIDE, WIDEN, SHRINK = (os.path.join(MIGRATION, f"{name}.sbi") for name in ("narrow", "wide", "widen", "shrink"))
-COUNTER = 2
+COUNTER, PORT = 2, 17750
 
 
 class Heir:
@@ -36,10 +36,10 @@ class Heir:
 class Line:
     """Clusters that follow each other, by their files: a relay and a counter, whose sums so far are kept here."""
 
-    def __init__(self, folder):
+    def __init__(self, folder, **more):
         os.makedirs(folder)
         self.folder, self.number, self.sums, self.bits = folder, 1, [0], 32
-        self.cluster = begin(os.path.join(folder, "one"), [("relay", RELAY), ("counter", NARROW)])
+        self.cluster = begin(os.path.join(folder, "one"), [("relay", RELAY), ("counter", NARROW)], **more)
         self.lines, self.file = self.cluster.lines, self.cluster.file_of(0)
 
     def next_file(self, image, more=""):
@@ -211,6 +211,16 @@ def is_dead(child, program):
     return status == -9
 
 
+def sealed(line):
+    """Over TLS the certificates need the names that the next cluster gives."""
+    line.works(line.connects(), 1, 2)
+    line.upgrades(line.next_file(WIDE), f"counter={WIDEN}", status=1, says="its name isn't gateway.programs-2")
+    for number, name in enumerate(line.cluster.names):
+        line.cluster.authority.signs(line.cluster.certificate(number), f"{name}.programs,DNS:{name}.programs-2")
+    line.upgrades(line.next_file(WIDE), f"counter={WIDEN}")
+    line.works(line.connects(), 2 ** 40, 3)
+
+
 def fails(line):
     """Each step that fails goes back: the old cluster runs on, and nothing is lost."""
     good = line.next_file(NARROW)
@@ -236,5 +246,7 @@ def upgrades(folder):
     line = Line(os.path.join(folder, "one"))
     goes_on(line)
     fails(line)
+    if shutil.which("openssl"):
+        sealed(Line(os.path.join(folder, "sealed"), transport="tls", port=PORT))
     many(Line(os.path.join(folder, "many")))
     dies(Line(os.path.join(folder, "dying")))
