@@ -3,6 +3,7 @@ import itertools
 import os
 import re
 import shutil
+import socket
 import subprocess
 import threading
 import time
@@ -197,12 +198,15 @@ def dies(line):
         raise Wrong(f"{call} calls: {seen}")
 
 
+def listens(path):
+    with socket.socket(socket.AF_UNIX) as one:
+        return one.connect_ex(path) == 0
+
+
 def is_dead(child, program):
     """Whether it died, or came so far that its store has an identity, and is stopped then."""
     lives.running.add(child)
-    while child.poll() is None and "cluster-id" not in program.holds():
-        time.sleep(0.01)
-    while child.poll() is None and not os.path.exists(program.listen[5:]):
+    while child.poll() is None and not (os.path.exists(os.path.join(program.store, "identity")) and listens(program.listen[5:])):
         time.sleep(0.01)
     child.terminate()
     status = child.wait()
