@@ -33,12 +33,12 @@ def functions():
     return set(told.stdout.split()) - LEFT_OUT
 
 
-def constants(file):
-    """What the constants of a file of tests are, in Python: bytes, and tables of rows."""
-    text = re.sub(r"//.*", "", (TOP / "tests" / file).read_text())
+def constants(*files):
+    """What the constants of files of tests are, in Python: bytes, and tables of rows. A file stands behind those that it uses."""
+    text = re.sub(r"//.*", "", "\n".join((TOP / "tests" / it).read_text() for it in files))
     known = {"Act": lambda name, *arguments: (re.sub(r"\B(?=[A-Z])", "_", name).lower(), arguments)}
-    for name, value in re.findall(r"(?ms)^(?:pub\(super\) )?const (\w+): &?\[[^=]*\] = &?(.*?);\n(?=\n|$)", text):
-        value = re.sub(r"\\\n\s*", "", value).replace("&", "")
+    for name, value in re.findall(r"(?ms)^(?:pub(?:\(super\))? )?const (\w+): &?\[[^=]*\] = [&*]?(.*?);\n(?=\n|$)", text):
+        value = re.sub(r"\\\n\s*", "", value).replace("&", "").replace("\\0", "\\x00")
         value = re.sub(r"\[(\d+); (\d+)\]", r"([\1] * \2)", value)
         value = re.sub(r"Act::(\w+)\(", r'Act("\1", ', value)
         try:
@@ -52,9 +52,8 @@ def as_bytes(value):
     return bytes(value) if isinstance(value, (list, bytes)) else value
 
 
-def session_rows(file, *tables):
+def session_rows(known, *tables):
     """Of tables of a session's calls: a file's bytes in place of lengths, and no room."""
-    known = constants(file)
     for table in tables:
         for (call, arguments), code, number in known[table]:
             if call == "open":
@@ -70,9 +69,8 @@ def session_rows(file, *tables):
             yield f"session.{table}", call, arguments, code, [number] if number != NOTHING else [], b""
 
 
-def party_rows(file, *tables):
+def party_rows(kind, known, *tables):
     """Of tables of a gateway's or a node's calls, which tell process, number and size in one. Of a bundle they have the first bytes."""
-    known, kind = constants(file), Path(file).stem.removesuffix("s")
     for table in tables:
         for (call, arguments), code, number, data in known[table]:
             numbers = [number] if number != NOTHING else []
@@ -88,9 +86,8 @@ def party_rows(file, *tables):
                 yield f"{kind}.{table}", call, [as_bytes(it) for it in arguments], code, numbers, bytes(data)
 
 
-def label_rows(file):
+def label_rows(known):
     """The packets of a table and their labels, and one that was cut off."""
-    known = constants(file)
     for packet, words in known["LABELS"]:
         yield "node.LABELS", "packet_label", [bytes(packet)], 0, words, b""
     yield "node.LABELS", "packet_label", [bytes(known["SAVED"][:19])], 21, [3], b""
@@ -178,12 +175,14 @@ def node_rows():
 
 def rows():
     """All rows that bindings can ask for."""
+    sessions = constants("c_sessions/tests.rattle", "c_sessions/tests/lists.rattle", "c_sessions/tests/ordinary_c.rattle")
+    gateways = constants("c_cluster/tests/gateways.rattle")
+    nodes = constants(*(f"c_cluster/tests/nodes{it}.rattle" for it in ("", "/packets", "/lists", "/labels")))
     every = [
-        *session_rows("c_sessions/tests.rattle", "ADDING", "RELAYING", "STUCK", "SCHEDULED", "ENDING", "CLOSED", "TRACED"),
-        *session_rows("c_sessions/tests/ordinary_c.rattle", "DROPPING"),
-        *party_rows("c_cluster/tests/gateways.rattle", "CLOSED", "RUNNING", "BUNDLED", "REVIVING"),
-        *party_rows("c_cluster/tests/nodes.rattle", "BUNDLED", "SUSPENDING"),
-        *label_rows("c_cluster/tests/nodes.rattle"),
+        *session_rows(sessions, "ADDING", "RELAYING", "STUCK", "SCHEDULED", "ENDING", "CLOSED", "TRACED", "DROPPING"),
+        *party_rows("gateway", gateways, "CLOSED", "RUNNING", "BUNDLED", "REVIVING"),
+        *party_rows("node", nodes, "BUNDLED", "SUSPENDING"),
+        *label_rows(nodes),
         *node_rows(),
     ]
     return [row for row in every if row[3] != SHORT and not (row[3] == TWICE and row[1] in OPENING)]
