@@ -10,7 +10,7 @@ from looks import told
 from storage import Bucket, Table, lets_through
 
 PORT, WAIT = 17820, 30  # WAIT: seconds that a program waits
-WAITS, ANSWERS = "it doesn't answer: this program waits", "it answers, after"
+WAITS, ANSWERS, LACKS = "it doesn't answer: this program waits", "it answers, after", "the library for it isn't"
 
 
 class Line:
@@ -73,6 +73,17 @@ class Exchange:
             self.lines.append(Line(self.socket.accept()[0], self.server))
 
 
+def is_built(program):
+    """Whether it was built with the library for its kind of store; else it ends at once, and says so."""
+    until = time.monotonic() + 10
+    while not any(it in line for line in program.said for it in (WAITS, LACKS)) and time.monotonic() < until:
+        time.sleep(0.01)
+    lacks = any(LACKS in line for line in program.said)
+    if lacks:
+        print(f"not tried, since the program was built without its library: a silent server of {program.store.partition(':')[0]}")
+    return not lacks
+
+
 def ends_alone(folder):
     """A server that takes connections, and says nothing: a program ends after its wait, and says so before."""
     deaf = socket.create_server(("127.0.0.1", 0))
@@ -80,7 +91,7 @@ def ends_alone(folder):
     for program, word in zip(cluster.nodes, (f"postgres:host=127.0.0.1 port={port}", f"nats:nats://127.0.0.1:{port}/bank")):
         program.store = word
         program.start()
-    for program in cluster.nodes:
+    for program in filter(is_built, cluster.nodes):
         has_said(program, WAITS)
         status, took = program.ends(), time.monotonic() - began
         if status != 6 or not WAIT - 1 < took < 2 * WAIT:
