@@ -5,22 +5,12 @@
 
    The process is one of the session's, in this program's memory, and its loss is a call here. When this
    program ends or is killed, the session goes with it: the next run counts from 0. */
+#include "handlers.h"
 #include "sblog.h"
 
 #include <stdio.h>
 #include <stdlib.h>
 #include <string.h>
-
-/* r3 = message[0..8]; r4 = state[0..8]; r4 += r3; state[0..8] = r4; r0 = 0; exit */
-static const uint8_t ADDER[] = "SBI1\x08\0\x06\0"
-                               "\x79\x13\0\0\0\0\0\0"
-                               "\x79\x24\0\0\0\0\0\0"
-                               "\x0f\x34\0\0\0\0\0\0"
-                               "\x7b\x42\0\0\0\0\0\0"
-                               "\xb7\x00\0\0\0\0\0\0"
-                               "\x95\x00\0\0\0\0\0\0";
-
-enum { ADDER_SIZE = sizeof ADDER - 1 };
 
 /* More calls than one command leads to. */
 enum { BUDGET = 1000 };
