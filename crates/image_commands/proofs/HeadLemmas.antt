@@ -16,11 +16,11 @@ use Rattle.verifier.specs.declared.fault.HeaderFault.TheVariants.{TooShort, Magi
 use Rattle.verifier.specs.declared.fault.ImageError.{ImageError}
 use Rattle.verifier.specs.declared.fault.ImageError.TheVariants.{Memory, Header, Decode, Verify}
 use Rattle.verifier.proofs.Files.{file_has, file_header, fields_of}
-use Rattle.images.specs.SpanFile as span
-use Rattle.images.proofs.SpanFiles as spans
-use Rattle.images.specs.ImageFile as any
-use Rattle.images.specs.declared.file_form.FileForm.{FileForm}
-use Rattle.images.specs.declared.file_form.FileForm.TheVariants as form
+use Rattle.verifier.specs.Span.File as span
+use Rattle.verifier.proofs.Spans.Files as spans
+use Rattle.verifier.specs.AnyFile as any
+use Rattle.verifier.specs.declared.file_form.FileForm.{FileForm}
+use Rattle.verifier.specs.declared.file_form.FileForm.TheVariants as form
 use Rattle.image_commands.specs.declared.check.TheConstants.{IMAGE_LIMIT}
 
 file_length : (form : ImageForm) (is : List Insn) (len : ℕ) (bytes : List ℕ) → IsFile form is len bytes → length bytes ≤ 8200
