@@ -1,5 +1,5 @@
 -- A file's refusal by its own form is one by all three.
-use Rattle.std.proofs.Common.{◌≡◌, ◌≢◌, ℕ, List, [], ◌∷◌, get_or, take, refl, sym, ap, ◌∙◌, inl, inr, arith}
+use Rattle.std.proofs.Common.{◌≡◌, ◌≢◌, ℕ, List, [], ◌∷◌, get_or, length, take, refl, sym, ap, ◌∙◌, inl, inr, arith}
 use Rattle.decode.specs.declared.insn.Insn.{Insn}
 use Rattle.decode.specs.First.{IsFirst}
 use Rattle.decode.specs.Slots.{slots_of}
@@ -13,6 +13,7 @@ use Rattle.verifier.specs.declared.fault.ImageError.{ImageError}
 use Rattle.verifier.specs.declared.fault.ImageError.TheVariants.{Memory, Header, Decode, Verify}
 use Rattle.verifier.specs.Typed.{Typed}
 use Rattle.verifier.specs.Verdict as flat_verdict
+use Rattle.verifier.proofs.LeastTypings.{typing_of}
 use Rattle.verifier.specs.Span.File as span
 use Rattle.verifier.specs.Span.Typed as span_typed
 use Rattle.verifier.specs.AnyImage.{IsImageOf}
@@ -141,6 +142,11 @@ flat_loaded bytes image n only Sbi2 code len f t =
     let k = only two.Sbi2 code len t.0 f t.1 in
     (record { form_is = ap file_form_of k.0.form_is; code_is = k.0.code_is; len_is = k.0.len_is }, tt)
 flat_loaded bytes image n only Sbi3 code len f t = absurd (n (begins_3 code len bytes f))
+
+-- code with an image has a typing
+pub flat_typable : (form : ImageForm) (code : List Insn) (len : ℕ) (image : Typed) → flat_verdict.IsImageOf form code len image → IsTypable (file_form_of form) code len
+flat_typable two.Sbi1 code len image h = (image.table, typing_of two.Sbi1 len (slots_of code) (length (slots_of code)) image.table h.typing.types)
+flat_typable two.Sbi2 code len image h = (image.table, typing_of two.Sbi2 len (slots_of code) (length (slots_of code)) image.table h.typing.types)
 
 pub flat_failed : (bytes : List ℕ) (e : ImageError) → take 4 bytes ≢ span.magic_3
     → ((form : ImageForm) (code : List Insn) (len : ℕ) (t : Table) → flat.IsFile form code len bytes → IsTyping form (slots_of code) len t → Unit {0} × (e ≡ Memory))

@@ -1,9 +1,10 @@
 -- One pass gives the least typing: what a join and a slot do to it.
-use Rattle.std.proofs.Common.{◌≡◌, ◌≢◌, ℕ, ◌+◌, ◌<◌, ◌≤◌, Option, Some, None, refl, sym, ap, ◌∙◌, subst, ⊎_elim, arith}
+use Rattle.std.proofs.Common.{◌≡◌, ◌≢◌, ℕ, ◌+◌, ◌<◌, ◌≤◌, ◌++◌, List, length, take, drop, Option, Some, None, refl, sym, ap, ◌∙◌, subst, inl, inr, ⊎_elim, arith}
+use Rattle.std.proofs.Math.Seq.{take-append_seam}
 use Rattle.std.proofs.lemmas.Bool.{cases_eq, cases_lt}
 use Rattle.regtypes.specs.declared.rule.Rule.{Rule}
 use Rattle.verifier.specs.Form.{Form, TableOf, IsForm, Enters, Below}
-use Rattle.verifier.specs.Fixpoint.{TypesBelow, IsLeast, StopsAt}
+use Rattle.verifier.specs.Fixpoint.{TypesBelow, IsFault, IsLeast, IsOneRefusal, IsRefused, IsTyped, StopsAt}
 
 -- ---- frames and tables
 
@@ -169,11 +170,26 @@ module _ (form : Form) (laws : IsForm form) where
 
   -- ---- refusals
 
-  -- code at which the pass stops has no typing
-  pub no_typing : (rule : Rule) (s n : ℕ) → s < n → StopsAt form rule s → (t : TableOf form) → TypesBelow form n t → ⊥
-  no_typing rule s n lt b t h =
+  -- code at which the pass stops below slot n has no typing of the slots below n
+  none_below : (rule : Rule) (s n : ℕ) → s < n → StopsAt form rule s → (t : TableOf form) → TypesBelow form n t → ⊥
+  none_below rule s n lt b t h =
       let k = b.least.least t (types_less s n t (omega arith) h) s b.frame b.there in
       laws.refused t s b.frame rule b.breaks (laws.monotone t s b.frame k.0 (b.least.types.stands s b.frame b.there) (h.stands s k.0 k.1) k.2 (h.allowed s k.0 lt k.1))
+
+  -- the slot that the pass stops at is one of the code
+  stops_within : (rule : Rule) (s : ℕ) → StopsAt form rule s → s < form.count
+  stops_within rule s b = laws.within s b.frame (b.least.types.stands s b.frame b.there)
+
+  -- refused code has no typing
+  no_typing : (rule : Rule) (s : ℕ) → IsRefused form rule s → (t : TableOf form) → IsTyped form t → ⊥
+  no_typing rule s r t h =
+      let stops = λ (b : StopsAt form rule s). none_below rule s form.count (stops_within rule s b) b t h in
+      let first = laws.within 0 h.start.0 (h.stands 0 h.start.0 h.start.1) in
+      ⊎_elim stops (λ e. omega (arith, e.0, first)) r
+
+  -- the one verdict of code that isn't typable: where the pass stops, or V2 and slot 0 if there is no slot
+  pub fault : (rule : Rule) (s : ℕ) → IsRefused form rule s → IsFault form rule s
+  fault rule s r = (r, no_typing rule s r)
 
   -- each of two frames that break a rule at a slot says what the other says
   breaks_same : (rule rule' : Rule) (s : ℕ) → StopsAt form rule s → StopsAt form rule' s → rule ≡ rule'
@@ -185,16 +201,32 @@ module _ (form : Form) (laws : IsForm form) where
       let e = laws.antisymmetric s a.frame b.frame (a.least.types.stands s a.frame a.there) (b.least.types.stands s b.frame b.there) lx ly in
       same_some rule rule' (form.broken s b.frame) (subst (λ f. form.broken s f ≡ Some rule) e a.breaks) b.breaks
 
--- no other rule and no other slot can be named
-pub one_refusal : (form : Form) → IsForm form → (rule rule' : Rule) (s s' : ℕ) → StopsAt form rule s → StopsAt form rule' s' → (rule ≡ rule') × (s ≡ s')
-one_refusal form laws rule rule' s s' a b =
-    let first : s ≡ s' → (rule ≡ rule') × (s ≡ s') = λ q. (breaks_same form laws rule rule' s' (subst (StopsAt form rule) q a) b, q) in
-    let second : s ≢ s' → (rule ≡ rule') × (s ≡ s') = λ q. absurd (apart q) in
-    ⊎_elim first second (cases_eq s s')
-  where
-    -- no slot below breaks a rule
-    apart : s ≢ s' → ⊥
-    apart q =
-        let lower = λ (l : s < s'). no_typing form laws rule s s' l a b.table b.least.types in
-        let higher = λ (l : s' ≤ s). no_typing form laws rule' s' s (omega arith) b a.table a.least.types in
-        ⊎_elim lower higher (cases_lt s s')
+  one_stop : (rule rule' : Rule) (s s' : ℕ) → StopsAt form rule s → StopsAt form rule' s' → (rule ≡ rule') × (s ≡ s')
+  one_stop rule rule' s s' a b =
+      let first : s ≡ s' → (rule ≡ rule') × (s ≡ s') = λ q. (breaks_same rule rule' s' (subst (StopsAt form rule) q a) b, q) in
+      let second : s ≢ s' → (rule ≡ rule') × (s ≡ s') = λ q. absurd (apart q) in
+      ⊎_elim first second (cases_eq s s')
+    where
+      -- no slot below breaks a rule
+      apart : s ≢ s' → ⊥
+      apart q =
+          let lower = λ (l : s < s'). none_below rule s s' l a b.table b.least.types in
+          let higher = λ (l : s' ≤ s). none_below rule' s' s (omega arith) b a.table a.least.types in
+          ⊎_elim lower higher (cases_lt s s')
+
+  -- no other rule and no other slot can be named
+  pub one_refusal : IsOneRefusal form
+  one_refusal rule rule' s s' (inl a) (inl b) = one_stop rule rule' s s' a b
+  one_refusal rule rule' s s' (inl a) (inr b) = absurd (omega (arith, stops_within rule s a, b.0))
+  one_refusal rule rule' s s' (inr a) (inl b) = absurd (omega (arith, stops_within rule' s' b, a.0))
+  one_refusal rule rule' s s' (inr a) (inr b) = (a.1 ∙ sym b.1, a.2 ∙ sym b.2)
+
+-- ---- a table that is lent
+
+-- a table that was lent is as it came back
+pub taken_whole : {A : Type 0} (new old : List A) (n : ℕ) → n ≡ length new → take n (new ++ drop (length new) old) ≡ new
+taken_whole new old n e = ap (λ m. take m (new ++ drop (length new) old)) e ∙ take-append_seam new (drop (length new) old)
+
+-- one that was lent and not changed is the same again
+pub kept_whole : {A : Type 0} (new old : List A) (n : ℕ) → n ≡ length new → new ≡ old → take n (new ++ drop (length new) old) ≡ old
+kept_whole new old n e k = taken_whole new old n e ∙ k

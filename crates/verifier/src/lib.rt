@@ -79,7 +79,7 @@ pub use fault::{HeaderFault, ImageError, VerifyError};
 pub use file_form::FileForm;
 pub use header::{FileHeader, header_at};
 pub use image::Image;
-pub use laws::{file_refusals_are_one, refusals_are_one};
+pub use laws::{file_refusals_are_one, flat_typings_are_typings, refusals_are_one};
 pub use loader::{load, parts};
 pub use pass::{Frames, frames_of};
 pub use span::access::{is_inside, whole_word, wiped, words_rule};

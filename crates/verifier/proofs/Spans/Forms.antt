@@ -123,6 +123,7 @@ module _ (state : ℕ) (slots : List (Option Insn)) where
     reflexive = Leq-refl;
     transitive = Leq-trans;
     antisymmetric = λ s f g a b. Leq-antisym f g;
+    within = λ s f a. within slots s a.1.0 a.1.1;
     above = λ a b s f le h. (allowed_above state slots a b s f le h.0, h.1);
     monotone = λ t s f g a b le h. (allowed_weaker t s f g a.0 b.0 le h.0, h.1);
     refused = λ t s f rule e h. not_allowed t s f rule e h.0 h.1;
@@ -151,5 +152,4 @@ pub typed_calls : AreTypedCallsShown
 typed_calls state long message bytes slots table reply size typed = calls-shown state (length slots) long message bytes (insn_at slots) table reply size (typing_of state slots table typed)
 
 pub one_refusal_3 : IsOneRefusal
-one_refusal_3 state [] rule rule' s s' a b = (a.0 ∙ sym b.0, a.1 ∙ sym b.1)
-one_refusal_3 state (x ∷ xs) rule rule' s s' a b = one_refusal (span_form state (x ∷ xs)) (form_3 state (x ∷ xs)) rule rule' s s' a b
+one_refusal_3 state slots = one_refusal (span_form state slots) (form_3 state slots)

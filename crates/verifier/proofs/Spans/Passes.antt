@@ -9,7 +9,7 @@ use Rattle.regtypes.specs.Rules.{first_broken}
 use Rattle.regtypes.specs.Typing.{flow_tests}
 use Rattle.regtypes.proofs.Typings.{within}
 use Rattle.regtypes.proofs.Monotone.{both_none}
-use Rattle.spans.specs.Frame.{Frame, IsFrame, Leq, joined}
+use Rattle.spans.specs.Frame.{Frame, IsFrame, Leq, entry_frame, joined}
 use Rattle.spans.specs.Laws.{IsWay}
 use Rattle.spans.specs.Ways.{Leaves, Ways}
 use Rattle.spans.proofs.Order.{Leq-refl, is-least-join}
@@ -23,10 +23,10 @@ use Rattle.spans.specs.Typing as calls
 use Rattle.verifier.specs.Form.{Below}
 use Rattle.decode.specs.Slots.{Follows}
 use Rattle.verifier.specs.Fixpoint.{IsLeast, StopsAt}
-use Rattle.verifier.specs.Inside.SpanPass.{IsMerged, IsOpening, IsSpread, IsWayMerged, merged}
-use Rattle.verifier.specs.Span.Typing.{IsPlaced, broken_at, span_form, IsTyped}
-use Rattle.verifier.specs.Span.Verdict.{IsRefused}
-use Rattle.verifier.proofs.Passes.{Led, Merged, led_more, led_none, least_opening, least_step, no_typing}
+use Rattle.verifier.specs.Inside.Pass.{IsOpening}
+use Rattle.verifier.specs.Inside.SpanPass.{IsMerged, IsSpread, IsWayMerged, merged}
+use Rattle.verifier.specs.Span.Typing.{IsPlaced, broken_at, span_form}
+use Rattle.verifier.proofs.Passes.{Led, Merged, led_more, led_none, least_opening, least_step}
 use Rattle.verifier.proofs.Spans.Forms.{form_3, way_above}
 use Rattle.verifier.proofs.Spans.Slots.{later, next_begins, size_positive, taken_begins, target_past}
 
@@ -144,10 +144,5 @@ module _ (state : ℕ) (slots : List (Option Insn)) (n : ℕ) (old : Table) (f :
 -- ---- the table at first
 
 -- before any slot was looked at, the entry's frame alone is the least typing
-pub least_first : (state : ℕ) (slots : List (Option Insn)) (table : Table) (i : Insn) → IsOpening table → insn_at slots 0 ≡ Some i → IsLeast (span_form state slots) 0 table
+pub least_first : (state : ℕ) (slots : List (Option Insn)) (table : Table) (i : Insn) → IsOpening entry_frame table → insn_at slots 0 ≡ Some i → IsLeast (span_form state slots) 0 table
 least_first state slots table i o b = least_opening (span_form state slots) (form_3 state slots) table o.first o.none (entered.0, (i, b))
-
--- where there is a slot, the one that the pass stops at is the refusal, and there is no typing
-pub refused : (state : ℕ) (slots : List (Option Insn)) (rule : Rule) (s : ℕ) → s < length slots → StopsAt (span_form state slots) rule s → IsRefused state slots rule s × ((t : Table) → IsTyped state slots t → ⊥)
-refused state [] rule s lt b = absurd (omega arith)
-refused state (x ∷ xs) rule s lt b = (b, no_typing (span_form state (x ∷ xs)) (form_3 state (x ∷ xs)) rule s (length (x ∷ xs)) lt b)

@@ -6,7 +6,7 @@ use Rattle.decode.specs.Encoding.{Fits}
 use Rattle.decode.specs.Slots.{insn_at, size_of}
 use Rattle.regtypes.specs.declared.rule.Rule.{Rule}
 use Rattle.spans.specs.declared.cells.Cells.{Cells}
-use Rattle.spans.specs.Frame.{Frame, joined, entry_frame}
+use Rattle.spans.specs.Frame.{Frame, joined}
 use Rattle.spans.specs.Ways.{Ways}
 use Rattle.spans.specs.Typing.{Table, target}
 use Rattle.verifier.specs.declared.span.ways.SpanLeaving.{SpanLeaving}
@@ -50,11 +50,6 @@ IsLeavingAt state slots s i f (Err r) = broken_at state slots s (Some i) f ≡ S
 abbrev pub IsSlotJudged : ℕ → List (Option Insn) → ℕ → List (Option (Box Cells)) → List (Option (Box Cells)) → Option Rule → Type 0
 IsSlotJudged state slots s old new None = IsLeast (span_form state slots) (s + 1) (table_of new)
 IsSlotJudged state slots s old new (Some rule) = StopsAt (span_form state slots) rule s × (new ≡ old)
-
--- the first slot has the entry's frame, and no other has one
-pub record IsOpening (table : Table) : Type 0 where
-  pub first : table 0 ≡ Some entry_frame
-  pub none : (s : ℕ) → s ≢ 0 → table s ≡ None
 
 -- the instructions at the slots have numbers that fit their fields
 abbrev pub AreFitting : List (Option Insn) → Type 0

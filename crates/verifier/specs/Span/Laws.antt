@@ -3,15 +3,14 @@ use Rattle.std.specs.Prelude.{◌≡◌, ◌↔◌, ℕ, ◌^◌, ◌<◌, ◌�
 use Rattle.limits.specs.declared.TheConstants.{PAYLOAD_BYTES, PROCESSES}
 use Rattle.decode.specs.declared.insn.Insn.{Insn}
 use Rattle.decode.specs.Slots.{insn_at}
-use Rattle.regtypes.specs.declared.rule.Rule.{Rule}
 use Rattle.spans.specs.Frame.{Frame}
 use Rattle.spans.specs.Configuration.{entry}
 use Rattle.spans.specs.Concrete.{array_size, concrete_entry}
 use Rattle.spans.specs.Typing.{Table, IsTyping}
 use Rattle.spans.specs.Calls.{Request, Replies, call_from, concrete_call_from, ShowsLast}
 use Rattle.verifier.specs.Form.{IsForm}
+use Rattle.verifier.specs.Fixpoint as one
 use Rattle.verifier.specs.Span.Typing.{IsPlaced, IsTyped, span_form}
-use Rattle.verifier.specs.Span.Verdict.{IsRefused}
 
 -- form 3 keeps the laws that let one pass decide
 abbrev pub KeepsLaws : Type 0
@@ -37,6 +36,4 @@ AreTypedCallsShown =
 
 -- refused code has one rule and one slot that can be named
 abbrev pub IsOneRefusal : Type 0
-IsOneRefusal =
-    (state : ℕ) (slots : List (Option Insn)) (rule rule' : Rule) (s s' : ℕ) → IsRefused state slots rule s → IsRefused state slots rule' s'
-    → (rule ≡ rule') × (s ≡ s')
+IsOneRefusal = (state : ℕ) (slots : List (Option Insn)) → one.IsOneRefusal (span_form state slots)

@@ -15,7 +15,7 @@ use Rattle.verifier.specs.Span.Transfer.{frame_of}
 use Rattle.verifier.specs.Span.Rules.{frame_pointer_rule, broken_rule}
 use Rattle.spans.specs.Typing.{Table, IsAllowed}
 use Rattle.verifier.specs.Form.{Form}
-use Rattle.verifier.specs.Fixpoint.{TypesBelow}
+use Rattle.verifier.specs.Fixpoint as one
 
 -- arrays of kinds as frames, slot by slot; none after their end
 abbrev pub table_of : List (Option (Box Cells)) → Table
@@ -39,6 +39,7 @@ span_form state slots = record {
   Frame = Frame;
   Leq = Leq;
   entry = entry_frame;
+  count = length slots;
   MayStand = λ s f. IsFrame f × ((i : Insn) × (insn_at slots s ≡ Some i));
   IsAllowed = λ table s f. IsAllowed state (length slots) (insn_at slots) table s f × IsPlaced slots s;
   broken = λ s f. broken_at state slots s (insn_at slots s) f;
@@ -46,4 +47,4 @@ span_form state slots = record {
 
 -- the table is a typing of the code
 abbrev pub IsTyped : ℕ → List (Option Insn) → Table → Type 0
-IsTyped state slots table = TypesBelow (span_form state slots) (length slots) table
+IsTyped state slots table = one.IsTyped (span_form state slots) table

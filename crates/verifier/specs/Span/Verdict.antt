@@ -1,33 +1,26 @@
 -- What the verifier of form 3 answers.
-use Rattle.std.specs.Prelude.{◌≡◌, ℕ, List, [], ◌∷◌, Option, Some, None, length}
+use Rattle.std.specs.Prelude.{◌≡◌, ℕ, List, Option, None, length}
 use Rattle.decode.specs.declared.insn.Insn.{Insn}
 use Rattle.decode.specs.Slots.{slots_of}
 use Rattle.regtypes.specs.declared.rule.Rule.{Rule}
-use Rattle.regtypes.specs.declared.rule.Rule.TheVariants.{V2}
 use Rattle.spans.specs.Typing.{Table}
-use Rattle.verifier.specs.Fixpoint.{IsLeast, StopsAt}
+use Rattle.verifier.specs.Fixpoint as one
 use Rattle.verifier.specs.declared.span.fault.SpanVerifyError.{SpanVerifyError}
 use Rattle.verifier.specs.declared.span.fault.SpanVerifyError.TheVariants.{Memory, Fault}
 use Rattle.verifier.specs.declared.span.pass.SpanFrames.{SpanFrames}
-use Rattle.verifier.specs.Span.Typing.{span_form, IsTyped, table_of}
+use Rattle.verifier.specs.Span.Typing.{span_form, table_of}
 
 -- the least typing
 abbrev pub IsLeastTyping : ℕ → List (Option Insn) → Table → Type 0
-IsLeastTyping state slots table = IsLeast (span_form state slots) (length slots) table
-
--- the rule and the slot that are named; code without a slot breaks V2 at slot 0
-abbrev pub IsRefused : ℕ → List (Option Insn) → Rule → ℕ → Type 0
-IsRefused state [] rule s = (rule ≡ V2) × (s ≡ 0)
-IsRefused state (x ∷ xs) rule s = StopsAt (span_form state (x ∷ xs)) rule s
+IsLeastTyping state slots table = one.IsLeast (span_form state slots) (length slots) table
 
 -- the rule and the slot, of code that has no typing
 abbrev pub IsFault : List Insn → ℕ → Rule → ℕ → Type 0
-IsFault code state rule slot = IsRefused state (slots_of code) rule slot × ((t : Table) → IsTyped state (slots_of code) t → ⊥)
+IsFault code state rule slot = one.IsFault (span_form state (slots_of code)) rule slot
 
 -- the table is the least typing of the code; if a slot breaks a rule, it is that of the slots below
 abbrev pub IsJudged : List Insn → ℕ → Table → Option (Rule × ℕ) → Type 0
-IsJudged code state table None = IsLeastTyping state (slots_of code) table
-IsJudged code state table (Some (rule, slot)) = IsLeast (span_form state (slots_of code)) slot table × IsFault code state rule slot
+IsJudged code state table refusal = one.IsJudged (span_form state (slots_of code)) table refusal
 
 -- the code slot by slot, and its least typing
 pub record IsFramesOf (code : List Insn) (state : ℕ) (frames : SpanFrames) : Type 0 where

@@ -4,7 +4,8 @@ ghost use Rattle.std.specs.Prelude.{◌≡◌, ◌≤◌, ◌<◌, IfOk, length}
 ghost use Rattle.std.specs.List.{AllByRecursion};
 ghost use Rattle.decode.specs.Encoding.{Fits};
 ghost use Rattle.decode.specs.Slots.{slots_of};
-ghost use Rattle.verifier.specs.Inside.SpanPass.{IsOpening};
+ghost use Rattle.spans.specs.Frame.{entry_frame};
+ghost use Rattle.verifier.specs.Inside.Pass.{IsOpening};
 ghost use Rattle.verifier.specs.Span.Typing.{table_of};
 ghost use Rattle.verifier.specs.Span.Verdict.{IsJudged};
 
@@ -32,7 +33,7 @@ pub struct SpanFrames {
 fn opening(alloc: Global, slots: usize) -> Result<Vec<Option<Box<Cells>>>, AllocError>
     requires { 0 < slots }
     ensures size { IfOk result (λ table. length table.items ≡ slots) }
-    ensures only { IfOk result (λ table. IsOpening (table_of table.items)) }
+    ensures only { IfOk result (λ table. IsOpening entry_frame (table_of table.items)) }
 {
     let mut table = Vec::with_capacity(alloc, slots)?;
     table.push(Some(Box::new(alloc, entry())?))?;

@@ -1,6 +1,6 @@
 use Rattle.std.proofs.Common.{rules, ◌≡◌, ◌≢◌, take}
 use Rattle.verifier.specs.Span.File.{magic_3}
-use Rattle.verifier.proofs.AnyFiles.{flat_failed, flat_file, flat_loaded, flat_refusal, span_failed, span_loaded, span_refusal}
+use Rattle.verifier.proofs.AnyFiles.{flat_failed, flat_file, flat_loaded, flat_refusal, flat_typable, span_failed, span_loaded, span_refusal}
 use Rattle.verifier.proofs.any_loader.load_any.Goals as goal
 
 pub returns-in-Err-clause-refused : goal.returns-in-Err-clause-refused
@@ -43,3 +43,8 @@ pub returns-in-Ok-load-clause-found : goal.returns-in-Ok-load-clause-found
 returns-in-Ok-load-clause-found c =
     let image = c.in-Ok-load.image in
     flat_file image.form image.code image.len c.args.bytes.now c.in-Ok-load.ensures.found
+
+pub returns-in-Ok-load-clause-typable : goal.returns-in-Ok-load-clause-typable
+returns-in-Ok-load-clause-typable c =
+    let image = c.in-Ok-load.image in
+    flat_typable image.form image.code image.len image c.in-Ok-load.ensures.image

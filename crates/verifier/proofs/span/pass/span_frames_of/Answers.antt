@@ -1,5 +1,4 @@
-use Rattle.std.proofs.Common.{◌≡◌, ℕ, ◌+◌, ◌<◌, ◌≤◌, ◌++◌, List, Option, length, take, drop, sym, ap, ◌∙◌, subst, arith}
-use Rattle.std.proofs.Math.Seq.{take-append_seam}
+use Rattle.std.proofs.Common.{◌≡◌, ℕ, ◌+◌, ◌<◌, ◌≤◌, List, Option, length, inl, sym, ap, ◌∙◌, subst, arith}
 use Rattle.decode.specs.declared.insn.Insn.{Insn}
 use Rattle.decode.specs.Slots.{slots_of}
 use Rattle.limits.specs.declared.TheConstants.{SLOTS}
@@ -9,7 +8,9 @@ use Rattle.verifier.specs.Inside.SpanPass.{AreFitting, IsSlotJudged}
 use Rattle.verifier.specs.Span.Typing.{span_form, table_of}
 use Rattle.verifier.specs.Span.Verdict.{IsLeastTyping}
 use Rattle.decode.proofs.Layouts.{first_begins_at, laid_some}
-use Rattle.verifier.proofs.Spans.Passes.{least_first, refused}
+use Rattle.verifier.proofs.Passes.{fault, kept_whole, taken_whole}
+use Rattle.verifier.proofs.Spans.Forms.{form_3}
+use Rattle.verifier.proofs.Spans.Passes.{least_first}
 use Rattle.verifier.proofs.Spans.Slots.{are_fitting}
 use Rattle.verifier.proofs.span.pass.span_frames_of.Goals as goal
 
@@ -33,14 +34,6 @@ judge-requires-clause-follows c = subst Follows (sym c.deref.ensures.value) c.in
 pub judge-requires-clause-fits : goal.judge-requires-clause-fits
 judge-requires-clause-fits c = subst AreFitting (sym (c.deref.ensures.value ∙ c.in_ok-slots.ensures.slots)) (are_fitting c.args.code.now c.requires.fits)
 
--- a table that was lent is as it came back
-taken_whole : {A : Type 0} (new old : List A) (n : ℕ) → n ≡ length new → take n (new ++ drop (length new) old) ≡ new
-taken_whole new old n e = ap (λ m. take m (new ++ drop (length new) old)) e ∙ take-append_seam new (drop (length new) old)
-
--- a table that was lent and not changed is the same again
-kept_whole : {A : Type 0} (new old : List A) (n : ℕ) → n ≡ length new → new ≡ old → take n (new ++ drop (length new) old) ≡ old
-kept_whole new old n e k = taken_whole new old n e ∙ k
-
 pub returns-in-Some-clause-judged : goal.returns-in-Some-clause-judged
 returns-in-Some-clause-judged c =
     let slots = slots_of c.args.code.now in
@@ -50,8 +43,7 @@ returns-in-Some-clause-judged c =
     let same : c.judge.new.table ≡ c.loop-slot.table.items = j.1 ∙ c.deref_mut.ensures.value in
     let whole = kept_whole c.judge.new.table c.loop-slot.table.items c.loop-slot.table.len (sym c.deref_mut.ensures.len ∙ ap length (sym j.1)) same in
     let l = subst (λ s. IsLeast (span_form c.args.state_len s) c.loop-slot.slot (table_of c.loop-slot.table.items)) e c.loop-slot.invariant.1 in
-    let n : c.loop-slot.slot < length slots = omega (arith, ap length e, c.loop-slot-test.true, c.len-slot-end.ensures) in
-    (subst (λ t. IsLeast (span_form c.args.state_len slots) c.loop-slot.slot (table_of t)) (sym whole) l, refused c.args.state_len slots c.in-Some.rule c.loop-slot.slot n b)
+    (subst (λ t. IsLeast (span_form c.args.state_len slots) c.loop-slot.slot (table_of t)) (sym whole) l, fault (span_form c.args.state_len slots) (form_3 c.args.state_len slots) c.in-Some.rule c.loop-slot.slot (inl b))
 
 pub returns-clause-judged : goal.returns-clause-judged
 returns-clause-judged c =
