@@ -18,7 +18,7 @@ use Rattle.verifier.specs.Span.File as span
 use Rattle.verifier.specs.Span.Typed as span_typed
 use Rattle.verifier.specs.AnyImage.{IsImageOf}
 use Rattle.verifier.specs.FileForm.{file_form_of}
-use Rattle.verifier.specs.AnyFile.{HasFault, IsFile, IsRefusal, IsTypable, IsUnread}
+use Rattle.verifier.specs.AnyFile.{IsFile, IsOther, IsRefusal, IsTypable, IsUnread}
 use Rattle.verifier.specs.declared.any_image.AnyImage.TheVariants.{Flat, Span}
 use Rattle.verifier.specs.declared.file_form.FileForm.{FileForm}
 use Rattle.verifier.specs.declared.file_form.FileForm.TheVariants.{Sbi1, Sbi2, Sbi3}
@@ -42,15 +42,15 @@ by_fault P R short magic state count long FileLength h = long h
 
 -- ---- a file that begins as one of form 3
 
-spanned : (bytes : List ℕ) → take 4 bytes ≡ span.magic_3 → (q : HeaderFault) → span.HasFault bytes q → HasFault bytes q
-spanned bytes e = by_fault (span.HasFault bytes) (HasFault bytes) (λ h. h) (λ h. absurd (h e)) (λ h. h) (λ h. h) (λ h. h)
+spanned : (bytes : List ℕ) → take 4 bytes ≡ span.magic_3 → (q : HeaderFault) → flat.HasFaultIn span.IsOther bytes q → flat.HasFaultIn IsOther bytes q
+spanned bytes e = by_fault (flat.HasFaultIn span.IsOther bytes) (flat.HasFaultIn IsOther bytes) (λ h. h) (λ h. absurd (h e)) (λ h. h) (λ h. h) (λ h. h)
 
-of_spanned : (bytes : List ℕ) (q : HeaderFault) → HasFault bytes q → span.HasFault bytes q
-of_spanned bytes = by_fault (HasFault bytes) (span.HasFault bytes) (λ h. h) (λ h. h.1) (λ h. h) (λ h. h) (λ h. h)
+of_spanned : (bytes : List ℕ) (q : HeaderFault) → flat.HasFaultIn IsOther bytes q → flat.HasFaultIn span.IsOther bytes q
+of_spanned bytes = by_fault (flat.HasFaultIn IsOther bytes) (flat.HasFaultIn span.IsOther bytes) (λ h. h) (λ h. h.1) (λ h. h) (λ h. h) (λ h. h)
 
 pub span_unread : (bytes : List ℕ) (e : ImageError) → take 4 bytes ≡ span.magic_3 → span.IsUnread bytes e → IsUnread bytes e
 span_unread bytes Memory at h = tt
-span_unread bytes (Header fault) at h = same_first (span.HasFault bytes) (HasFault bytes) _ fault (spanned bytes at) (of_spanned bytes) h
+span_unread bytes (Header fault) at h = same_first (flat.HasFaultIn span.IsOther bytes) (flat.HasFaultIn IsOther bytes) _ fault (spanned bytes at) (of_spanned bytes) h
 span_unread bytes (Decode rule slot) at h = ((λ q broken. h.0 q (of_spanned bytes q broken)), h.1)
 span_unread bytes (Verify rule slot) at h = h
 
@@ -62,15 +62,15 @@ span_refusal bytes (Verify rule slot) at h = (Sbi3, h.0, h.1, h.2, h.3)
 
 -- ---- a file that doesn't
 
-flattened : (bytes : List ℕ) → take 4 bytes ≢ span.magic_3 → (q : HeaderFault) → flat.HasFault bytes q → HasFault bytes q
-flattened bytes n = by_fault (flat.HasFault bytes) (HasFault bytes) (λ h. h) (λ h. (h, n)) (λ h. h) (λ h. h) (λ h. h)
+flattened : (bytes : List ℕ) → take 4 bytes ≢ span.magic_3 → (q : HeaderFault) → flat.HasFaultIn flat.IsOther bytes q → flat.HasFaultIn IsOther bytes q
+flattened bytes n = by_fault (flat.HasFaultIn flat.IsOther bytes) (flat.HasFaultIn IsOther bytes) (λ h. h) (λ h. (h, n)) (λ h. h) (λ h. h) (λ h. h)
 
-of_flattened : (bytes : List ℕ) (q : HeaderFault) → HasFault bytes q → flat.HasFault bytes q
-of_flattened bytes = by_fault (HasFault bytes) (flat.HasFault bytes) (λ h. h) (λ h. h.0) (λ h. h) (λ h. h) (λ h. h)
+of_flattened : (bytes : List ℕ) (q : HeaderFault) → flat.HasFaultIn IsOther bytes q → flat.HasFaultIn flat.IsOther bytes q
+of_flattened bytes = by_fault (flat.HasFaultIn IsOther bytes) (flat.HasFaultIn flat.IsOther bytes) (λ h. h) (λ h. h.0) (λ h. h) (λ h. h) (λ h. h)
 
 pub flat_unread : (bytes : List ℕ) (e : ImageError) → take 4 bytes ≢ span.magic_3 → flat.IsUnread bytes e → IsUnread bytes e
 flat_unread bytes Memory at h = tt
-flat_unread bytes (Header fault) at h = same_first (flat.HasFault bytes) (HasFault bytes) _ fault (flattened bytes at) (of_flattened bytes) h
+flat_unread bytes (Header fault) at h = same_first (flat.HasFaultIn flat.IsOther bytes) (flat.HasFaultIn IsOther bytes) _ fault (flattened bytes at) (of_flattened bytes) h
 flat_unread bytes (Decode rule slot) at h = ((λ q broken. h.0 q (of_flattened bytes q broken)), h.1)
 flat_unread bytes (Verify rule slot) at h = h
 

@@ -25,8 +25,17 @@ use Rattle.verifier.specs.declared.fault.ImageError.TheVariants.{Memory, Header,
 use Rattle.verifier.specs.Typed.{Typed}
 use Rattle.verifier.specs.Verdict.{IsImageOf, IsFault}
 use Rattle.verifier.proofs.LeastTypings.{of_typing, one_refusal}
-use Rattle.verifier.specs.ImageFile.{IsOneFileRefusal, magic, IsFile, field_at, HasFault, IsHeaderFault, IsCodeFault}
+use Rattle.verifier.specs.ImageFile.{HasFaultIn, IsCodeFaultIn, IsFile, IsHeaderFaultIn, IsOneFileRefusal, IsOther, field_at, magic}
 use Rattle.verifier.specs.Inside.Header.{header_bytes, HasHeader, IsSound}
+
+abbrev pub HasFault : List ℕ → HeaderFault → Type 0
+HasFault = HasFaultIn IsOther
+
+abbrev IsHeaderFault : List ℕ → HeaderFault → Type 0
+IsHeaderFault = IsHeaderFaultIn IsOther
+
+abbrev IsCodeFault : List ℕ → EncodingRule → ℕ → Type 0
+IsCodeFault = IsCodeFaultIn IsOther
 
 -- ---- the header
 

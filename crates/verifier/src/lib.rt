@@ -27,10 +27,11 @@
 //! conditions, [`load_rule`], [`loaded`], [`store_rule`] and [`stored`] for memory, [`call_rule`] and [`answered`] for
 //! helpers. [`entry`] is the frame of the entry, and [`join`] keeps what two frames both say.
 //!
-//! The part of the pass that any form of images needs is separate, so another form can be verified the same way.
-//! `specs/Form` says what a form gives for a slot and which laws it has to keep, and `specs/Fixpoint` defines the least
-//! typing and a refusal. `proofs/Passes` has the lemmas: how a join and a slot change the least typing, and that there
-//! is only one refusal. Every form shares `decode::lay_out`, which puts instructions slot by slot, and
+//! What a verdict means is one definition for all forms. `specs/Form` says what a form gives for a slot and which laws
+//! it has to keep, and `specs/Fixpoint` defines the least typing and a refusal. `proofs/Passes` has the lemmas: how a
+//! join and a slot change the least typing, and that there is only one refusal. Forms 1 and 2 are `flat_form`
+//! (`specs/Least`; [`flat_typings_are_typings`]), form 3 is `span_form` (`specs/Span/Typing`). Each has its own pass,
+//! since its frames take memory in another way. Both share `decode::lay_out`, which puts instructions slot by slot, and
 //! `regtypes::leads`, which judges where an instruction leads, by the rules V1 and V2.
 //!
 //! Form 3 takes all that forms 1 and 2 take. A frame of theirs is read as one of form 3 (`specs/Span/FlatFrames`): a

@@ -22,8 +22,18 @@ use Rattle.verifier.proofs.Files.{Fields, fields_of, header_once}
 use Rattle.verifier.specs.Span.Verdict.{IsFault}
 use Rattle.verifier.proofs.Spans.Forms.{one_refusal_3}
 use Rattle.verifier.specs.Inside.SpanHeader.{IsSound}
-use Rattle.verifier.specs.Span.File.{HasFault, IsCodeFault, IsFile, IsHeaderFault, IsOneFileRefusal, magic_3}
+use Rattle.verifier.specs.ImageFile.{HasFaultIn, IsCodeFaultIn, IsHeaderFaultIn}
+use Rattle.verifier.specs.Span.File.{IsFile, IsOneFileRefusal, IsOther, magic_3}
 use Rattle.verifier.specs.Span.Typed.{IsTypable}
+
+abbrev pub HasFault : List ℕ → HeaderFault → Type 0
+HasFault = HasFaultIn IsOther
+
+abbrev IsHeaderFault : List ℕ → HeaderFault → Type 0
+IsHeaderFault = IsHeaderFaultIn IsOther
+
+abbrev pub IsCodeFault : List ℕ → EncodingRule → ℕ → Type 0
+IsCodeFault = IsCodeFaultIn IsOther
 
 -- ---- the first fault
 

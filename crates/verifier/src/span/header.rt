@@ -1,7 +1,8 @@
 //! The header of an image file of form 3.
 
 ghost use Rattle.std.specs.Prelude.{IfOk, IfErr};
-ghost use Rattle.verifier.specs.Span.File.{IsHeaderFault};
+ghost use Rattle.verifier.specs.ImageFile.{IsHeaderFaultIn};
+ghost use Rattle.verifier.specs.Span.File.{IsOther};
 ghost use Rattle.verifier.specs.Inside.SpanHeader.{IsSound};
 ghost use Rattle.verifier.specs.Inside.Header.{HasHeader};
 
@@ -16,7 +17,7 @@ const MAGIC_3: [u8; 4] = [0x53, 0x42, 0x49, 0x33];
 pub fn read_header(bytes: &[u8]) -> Result<(FileHeader, &[u8]), HeaderFault>
     ensures found { IfOk result (λ x. HasHeader x.0 x.1.now bytes.now) }
     ensures sound { IfOk result (λ x. IsSound x.0 x.1.now) }
-    ensures refused { IfErr result (IsHeaderFault bytes.now) }
+    ensures refused { IfErr result (IsHeaderFaultIn IsOther bytes.now) }
 {
     if bytes.len() < HEADER {
         return Err(HeaderFault::TooShort);

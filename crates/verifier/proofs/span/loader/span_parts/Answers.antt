@@ -1,8 +1,8 @@
 use Rattle.std.proofs.Common.{refl, subst}
 use Rattle.decode.specs.declared.fault.DecodeError.{DecodeError}
 use Rattle.decode.specs.Refusal as decoding
-use Rattle.verifier.specs.Span.File.{IsCodeFault, IsFile}
-use Rattle.verifier.proofs.Spans.Files.{code_fault, file_of, file_once, no_code_fault, no_header_fault}
+use Rattle.verifier.specs.Span.File.{IsFile}
+use Rattle.verifier.proofs.Spans.Files.{IsCodeFault, code_fault, file_of, file_once, no_code_fault, no_header_fault}
 use Rattle.verifier.proofs.span.loader.span_parts.Goals as goal
 
 -- what was read is written so
