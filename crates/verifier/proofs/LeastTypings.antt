@@ -1,5 +1,5 @@
 -- Forms 1 and 2 keep the laws that make one pass decide, and what a slot does to their least typing.
-use Rattle.std.proofs.Common.{◌≡◌, ◌≢◌, ℕ, zero, suc, ◌+◌, ◌<◌, ◌≤◌, ◌+ℤ◌, Bool, true, false, List, [], ◌∷◌, ◌++◌, length, get_or, Option, Some, None, ℤ, pos, refl, sym, ap, ◌∙◌, subst, arith}
+use Rattle.std.proofs.Common.{◌≡◌, ◌≢◌, ℕ, zero, suc, ◌+◌, ◌<◌, ◌≤◌, ◌+ℤ◌, true, false, List, [], ◌∷◌, ◌++◌, length, get_or, Option, Some, None, ℤ, pos, refl, sym, ap, ◌∙◌, subst, arith}
 use Rattle.std.specs.Prelude.{slice_set, is_some, not, nat_lt}
 use Rattle.std.specs.List.{AllByRecursion}
 use Rattle.std.specs.Option.{option_or}
@@ -25,7 +25,7 @@ use Rattle.regtypes.proofs.Parts.{jump_tests}
 use Rattle.regtypes.proofs.Typings.{within}
 use Rattle.regtypes.proofs.Monotone.{monotone, raised_within, none_holds, first_of_both, both_pass, not_false, Leq-refl, Leq-trans, Leq-antisym}
 use Rattle.verifier.specs.Form.{Form, Below, Enters, IsForm}
-use Rattle.verifier.specs.Fixpoint.{TypesBelow, IsLeast, IsTyped, StopsAt}
+use Rattle.verifier.specs.Fixpoint.{TypesBelow, IsLeast, StopsAt}
 use Rattle.verifier.specs.Least.{AreTypings, EntersAt, MayStand, broken_at, flat_form}
 use Rattle.verifier.specs.Verdict.{IsOneRefusal}
 use Rattle.verifier.specs.Inside.Pass.{IsOpening, Merged}

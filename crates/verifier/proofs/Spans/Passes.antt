@@ -1,5 +1,5 @@
 -- What a slot and its ways do to the least typing of form 3.
-use Rattle.std.proofs.Common.{◌≡◌, ℕ, ◌+◌, ◌<◌, List, [], ◌∷◌, length, Option, Some, None, refl, sym, subst, arith}
+use Rattle.std.proofs.Common.{◌≡◌, ℕ, ◌+◌, ◌<◌, List, length, Option, Some, None, refl, sym, subst, arith}
 use Rattle.decode.specs.declared.insn.Insn.{Insn}
 use Rattle.decode.specs.Encoding.{Fits}
 use Rattle.decode.specs.Slots.{insn_at, size_of}

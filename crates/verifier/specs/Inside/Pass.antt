@@ -1,8 +1,6 @@
 -- The steps of the pass over the slots.
-use Rattle.std.specs.Prelude.{◌≡◌, ◌≢◌, ℕ, ◌+◌, ◌<◌, ◌≤◌, List, Option, Some, None, length}
+use Rattle.std.specs.Prelude.{◌≡◌, ◌≢◌, ℕ, ◌≤◌, Option, Some, None, length}
 use Rattle.limits.specs.declared.TheConstants.{PAYLOAD_BYTES, REGISTERS}
-use Rattle.decode.specs.declared.insn.Insn.{Insn}
-use Rattle.decode.specs.Slots.{size_of, insn_at}
 use Rattle.regtypes.specs.declared.frame.Frame.{Frame}
 use Rattle.regtypes.specs.Frame.{Leq}
 use Rattle.regtypes.specs.Typing.{Table, frame_at}

@@ -1,4 +1,4 @@
-use Rattle.std.proofs.Common.{◌≡◌, ℕ, ◌<◌, length, inl, sym, ap, ◌∙◌, subst, arith}
+use Rattle.std.proofs.Common.{◌≡◌, ◌<◌, length, inl, sym, ap, ◌∙◌, subst, arith}
 use Rattle.decode.specs.Slots.{slots_of}
 use Rattle.regtypes.specs.Typing.{frame_at}
 use Rattle.decode.specs.Slots.{Follows}

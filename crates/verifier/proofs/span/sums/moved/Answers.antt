@@ -1,4 +1,4 @@
-use Rattle.std.proofs.Common.{◌≡◌, ◌≤ℤ◌, arith, subst}
+use Rattle.std.proofs.Common.{◌≤ℤ◌, arith, subst}
 use Rattle.std.proofs.lemmas.Int.{ints}
 use Rattle.spans.specs.Frame.{IsKind}
 use Rattle.verifier.proofs.span.sums.moved.Goals as goal
