@@ -1,7 +1,7 @@
 -- Why code in another order does the same, and so does the code of its file.
 use Rattle.std.specs.Prelude.{◌≡◌, ℕ, ◌+◌, ◌≤◌, List}
 use Rattle.decode.specs.declared.insn.Insn.{Insn}
-use Rattle.images.specs.declared.file_form.FileForm.{FileForm}
+use Rattle.verifier.specs.declared.file_form.FileForm.{FileForm}
 use Rattle.spans.specs.Configuration.{Configuration}
 use Rattle.spans.specs.Calls.{Last, Ended, Failed, Tired, Replies, Request, call_from}
 use Rattle.block_order.specs.Placement.{IsPlacement, Places}

@@ -2,10 +2,10 @@
 use Rattle.std.specs.Prelude.{◌≡◌, ℕ, List}
 use Rattle.decode.specs.declared.insn.Insn.{Insn}
 use Rattle.regtypes.specs.declared.rule.Rule.TheVariants.{V1}
-use Rattle.span_verifier.specs.Verdict.{IsFault}
-use Rattle.images.specs.ImageFile.{IsFile}
-use Rattle.images.specs.declared.file_form.FileForm.{FileForm}
-use Rattle.images.specs.declared.file_form.FileForm.TheVariants.{Sbi1, Sbi2, Sbi3}
+use Rattle.verifier.specs.Span.Verdict.{IsFault}
+use Rattle.verifier.specs.AnyFile.{IsFile}
+use Rattle.verifier.specs.declared.file_form.FileForm.{FileForm}
+use Rattle.verifier.specs.declared.file_form.FileForm.TheVariants.{Sbi1, Sbi2, Sbi3}
 use Rattle.block_order.specs.Order.{IsForward, IsLoop, IsMoved, code_of}
 use Rattle.block_order.specs.declared.arrangement.Placed.{Placed}
 use Rattle.block_order.specs.declared.blocks.Blocks.{Blocks}

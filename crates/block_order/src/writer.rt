@@ -4,8 +4,8 @@ ghost use Rattle.std.specs.Prelude.{◌<◌, ◌≤◌, ◌↔◌, IfErr, IfOk, 
 ghost use Rattle.std.specs.List.{AllByRecursion};
 ghost use Rattle.decode.specs.Encoding.{Fits};
 ghost use Rattle.decode.specs.Slots.{slots, slots_of};
-ghost use Rattle.images.specs.ImageFile.{IsFile};
-ghost use Rattle.images.specs.declared.file_form.FileForm.TheVariants.{Sbi3};
+ghost use Rattle.verifier.specs.AnyFile.{IsFile};
+ghost use Rattle.verifier.specs.declared.file_form.FileForm.TheVariants.{Sbi3};
 ghost use Rattle.verifier.specs.ImageFile.{IsUnwritten};
 ghost use Rattle.block_order.specs.Order.{IsForward, IsMoved, IsOrder};
 ghost use Rattle.block_order.specs.Ordered.{BreaksV1, IsOrdered};
@@ -14,12 +14,10 @@ use crate::arrangement::Placed;
 use crate::blocks::Blocks;
 use crate::order::{BlockOrder, order_blocks};
 use decode::Insn;
-use images::{FileForm, file};
 use limits::{SLOTS, STATE_BYTES};
 use regtypes::Rule;
-use span_verifier::{SpanVerifyError, verify};
 use std::alloc::{AllocError, Global};
-use verifier::ImageError;
+use verifier::{FileForm, ImageError, SpanVerifyError, any_file, span_verify};
 
 /// An image file, and what was done with the blocks of its code.
 #[derive(Debug, Drop)]
@@ -34,7 +32,7 @@ fn breaks_v1(alloc: Global, code: &[Insn], state_len: u16) -> Result<bool, Alloc
     requires fits { AllByRecursion Fits code.now }
     ensures { IfOk result (λ yes. IsTrue yes ↔ BreaksV1 code.now state_len) }
 {
-    match verify(alloc, code, state_len) {
+    match span_verify(alloc, code, state_len) {
         Ok(_) => Ok(false),
         Err(SpanVerifyError::Fault { rule, .. }) => Ok(rule == Rule::V1),
         Err(SpanVerifyError::Memory) => Err(AllocError),
@@ -57,7 +55,7 @@ fn moved_file(
     ensures written { IfOk result (IsOrdered Sbi3 code.now state_len) }
     ensures refused { IfErr result (IsUnwritten code.now) }
 {
-    match file(alloc, FileForm::Sbi3, placed.insns.as_slice(), state_len) {
+    match any_file(alloc, FileForm::Sbi3, placed.insns.as_slice(), state_len) {
         Ok(bytes) => Ok(Ordered {
             bytes,
             blocks: Blocks::Moved,
@@ -131,7 +129,7 @@ pub fn ordered_file(
     ensures written { IfOk result (IsOrdered form code.now state_len) }
     ensures refused { IfErr result (IsUnwritten code.now) }
 {
-    let bytes = file(alloc, form, code, state_len)?;
+    let bytes = any_file(alloc, form, code, state_len)?;
     match form {
         FileForm::Sbi3 => span_file(alloc, code, state_len, bytes),
         _ => Ok(Ordered {

@@ -1,7 +1,7 @@
 -- What opens, comes back or is resumed is put into the handle, or memory runs out
 use Rattle.std.proofs.Common.{◌≡◌, ◌∙◌, ℕ, List, sym, subst}
 use Rattle.std.specs.Prelude.{Option, Some, None, Result, Ok, Err, OnOk, IfErr, MatchResult}
-use Rattle.images.specs.declared.any_image.AnyImage.{AnyImage}
+use Rattle.verifier.specs.declared.any_image.AnyImage.{AnyImage}
 use Rattle.process.specs.Process.{TheProcess}
 use Rattle.c_calls.specs.declared.nodes.fault.NodeFault.{NodeFault}
 use Rattle.c_calls.specs.declared.nodes.fault.NodeFault.TheVariants.{Memory}

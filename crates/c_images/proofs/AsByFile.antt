@@ -1,7 +1,7 @@
 -- Calls by a handle are calls by its file.
 use Rattle.std.proofs.Common.{◌≡◌, ◌≢◌, refl, sym, subst, inl, inr}
-use Rattle.images.specs.declared.file_form.FileForm.{FileForm}
-use Rattle.images.specs.declared.file_form.FileForm.TheVariants.{Sbi1, Sbi2, Sbi3}
+use Rattle.verifier.specs.declared.file_form.FileForm.{FileForm}
+use Rattle.verifier.specs.declared.file_form.FileForm.TheVariants.{Sbi1, Sbi2, Sbi3}
 use Rattle.c_images.specs.declared.refusal.ImageRefusal.TheVariants.{State, Form}
 use Rattle.c_images.specs.Exports.{AreCallsRefused, IsTypable, IsCallable, IsFormRefusal, IsStateRefusal}
 use Rattle.c_images.specs.Handles.{AreDoneAsByFile, AreRefusedAsByFile}

@@ -8,10 +8,10 @@ use Rattle.regtypes.specs.declared.image_form.ImageForm.{ImageForm}
 use Rattle.regtypes.specs.declared.image_form.ImageForm.TheVariants as two
 use Rattle.verifier.specs.Typed.{Typed}
 use Rattle.interp.specs.HandlerCall.{Handled, IsHandled}
-use Rattle.images.specs.FileForm.{file_form_of}
-use Rattle.images.specs.declared.any_image.AnyImage.{AnyImage}
-use Rattle.images.specs.declared.any_image.AnyImage.TheVariants.{Flat, Span}
-use Rattle.images.specs.declared.file_form.FileForm.TheVariants.{Sbi1, Sbi2, Sbi3}
+use Rattle.verifier.specs.FileForm.{file_form_of}
+use Rattle.verifier.specs.declared.any_image.AnyImage.{AnyImage}
+use Rattle.verifier.specs.declared.any_image.AnyImage.TheVariants.{Flat, Span}
+use Rattle.verifier.specs.declared.file_form.FileForm.TheVariants.{Sbi1, Sbi2, Sbi3}
 use Rattle.handlers.specs.Answer.{shown, IsRun, HasRun, MayRunAs}
 use Rattle.c_images.specs.Arrays.{flat_image}
 use Rattle.c_images.specs.Calls.{IsCallableForm, IsSeat}

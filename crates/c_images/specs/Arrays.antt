@@ -4,8 +4,8 @@ use Rattle.helpers.specs.declared.effects.Who.{Who}
 use Rattle.regtypes.specs.declared.frame.Region.TheVariants.{Message, State}
 use Rattle.verifier.specs.Typed.{Typed}
 use Rattle.interp.specs.Flat.{part, IsSpent}
-use Rattle.images.specs.declared.any_image.AnyImage.TheVariants.{Flat as AnyFlat, Span as AnySpan}
-use Rattle.images.specs.Typed as span
+use Rattle.verifier.specs.declared.any_image.AnyImage.TheVariants.{Flat as AnyFlat, Span as AnySpan}
+use Rattle.verifier.specs.Span.Typed as span
 use Rattle.handlers.specs.CallArray as span_array
 use Rattle.handlers.specs.Image.{TheImage, as_image}
 use Rattle.handlers.specs.declared.handler.Handler.{Handler}

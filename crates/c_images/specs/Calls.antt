@@ -4,8 +4,8 @@ use Rattle.std.specs.List.{flat_map}
 use Rattle.limits.specs.declared.TheConstants.{PROCESSES}
 use Rattle.helpers.specs.declared.effects.Who.{Who}
 use Rattle.interp.specs.HandlerCall.{Handled}
-use Rattle.images.specs.declared.file_form.FileForm.TheVariants.{Sbi2}
-use Rattle.images.specs.ImageFile.{IsFile, IsTypable}
+use Rattle.verifier.specs.declared.file_form.FileForm.TheVariants.{Sbi2}
+use Rattle.verifier.specs.AnyFile.{IsFile, IsTypable}
 use Rattle.handlers.specs.Image.{TheImage}
 use Rattle.handlers.specs.Answer.{HasRun}
 use Rattle.operations.specs.Bytes.{overwritten}

@@ -6,8 +6,8 @@ use Rattle.regtypes.specs.Rules as rules
 use Rattle.verifier.specs.declared.fault.ImageError.{ImageError}
 use Rattle.verifier.specs.declared.fault.ImageError.TheVariants as error
 use Rattle.verifier.specs.FaultNumbers.{header_fault_number}
-use Rattle.images.specs.declared.file_form.FileForm.TheVariants.{Sbi2}
-use Rattle.images.specs.ImageFile.{IsRefusal}
+use Rattle.verifier.specs.declared.file_form.FileForm.TheVariants.{Sbi2}
+use Rattle.verifier.specs.AnyFile.{IsRefusal}
 use Rattle.handlers.specs.Image.{TheImage}
 use Rattle.operations.specs.Bytes.{overwritten}
 use Rattle.c_images.specs.declared.calls.TheConstants.{MESSAGE}

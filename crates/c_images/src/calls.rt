@@ -11,7 +11,7 @@ use crate::refusal::{ImageRefusal, refused_rule, refused_slot};
 use crate::report::{FAULT_SIZE, REPORT_LIMIT, put_fault};
 use handlers::Handler as AnyHandler;
 use helpers::{Effects, Who};
-use images::{FileForm, load};
+use verifier::{FileForm, load_any};
 use limits::PROCESSES;
 use std::alloc::Global;
 
@@ -25,7 +25,7 @@ pub fn check(alloc: Global, file: &[u8], out: &mut [u8]) -> Result<(), ImageRefu
     if out.len() < FAULT_SIZE {
         return Err(ImageRefusal::Room);
     }
-    match load(alloc, file) {
+    match load_any(alloc, file) {
         Ok(_image) => Ok(()),
         Err(error) => {
             put_fault(out, refused_rule(&error), refused_slot(&error));

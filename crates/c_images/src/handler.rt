@@ -11,11 +11,10 @@ use crate::report::REPORT_LIMIT;
 use crate::span_array::call_spans;
 use handlers::Handler as AnyHandler;
 use helpers::{Effects, Who};
-use images::FileForm;
 use span_native::compile_handler;
 use std::alloc::Global;
 use std::marker::Model;
-use verifier::{Image, ImageError};
+use verifier::{FileForm, Image, ImageError};
 
 /// A handler of any form, the array for calls of form 1, and memory for what a call emits. Both are
 /// kept, so a call clears only what the one before left.

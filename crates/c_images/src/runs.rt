@@ -9,7 +9,7 @@ use crate::handler::OpenHandler;
 use crate::refusal::ImageRefusal;
 use crate::report::REPORT_LIMIT;
 use helpers::Who;
-use images::FileForm;
+use verifier::FileForm;
 
 /// Calls the handler with each message of 64 bytes in turn. Writes the reports into `out`, one
 /// after another.

@@ -1,7 +1,7 @@
 -- Sessions that are opened from image files
 use Rattle.std.specs.Prelude.{◌≡◌, ◌≢◌, ◌⊎◌, ℕ, ◌<◌, ◌≤◌, List, [], ◌∷◌, length, take, drop, Option, Some, None}
 use Rattle.limits.specs.declared.TheConstants.{PROCESSES}
-use Rattle.images.specs.ImageFile.{IsFile, IsRefusal, IsTypable}
+use Rattle.verifier.specs.AnyFile.{IsFile, IsRefusal, IsTypable}
 use Rattle.verifier.specs.declared.fault.ImageError.{ImageError}
 use Rattle.verifier.specs.declared.fault.ImageError.TheVariants as error
 use Rattle.handlers.specs.Image.{TheImage}

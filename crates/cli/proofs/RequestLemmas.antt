@@ -8,9 +8,9 @@ use Rattle.clap.specs.declared.error.Error.{Error}
 use Rattle.clap.specs.declared.parser.matches.ArgMatches.{ArgMatches}
 use Rattle.clap.proofs.OnLiterals.{clap_on_literals}
 use Rattle.clap.proofs.WalkLemmas.{one_text-rows}
-use Rattle.images.specs.FileForm.{file_form_number}
-use Rattle.images.specs.declared.file_form.FileForm.{FileForm}
-use Rattle.images.specs.declared.file_form.FileForm.TheVariants.{Sbi1, Sbi2, Sbi3}
+use Rattle.verifier.specs.FileForm.{file_form_number}
+use Rattle.verifier.specs.declared.file_form.FileForm.{FileForm}
+use Rattle.verifier.specs.declared.file_form.FileForm.TheVariants.{Sbi1, Sbi2, Sbi3}
 use Rattle.cli.specs.Asks.{AsksBy, AsksIn, Explains, HasBudget, HasForm, HasNumber, HasState, HasWorkers, IsInRange, IsRefusal, MayHaveForm, MayHaveState, Order}
 use Rattle.cli.specs.Asks as order
 use Rattle.cli.specs.declared.refusal.UsageRefusal.{UsageRefusal}

@@ -23,8 +23,8 @@ use Rattle.clap.specs.declared.parser.matches.ValueSource.TheVariants.{CommandLi
 use Rattle.clap.proofs.ValueTestLemmas.{accepts-Accepts}
 use Rattle.cli.specs.Asks.{AsksBy, AsksFor, AsksIn, HasBudget, HasForm, HasImage, HasNumber, HasPath, HasScenario, HasState, HasWorkers, MayHaveForm, MayHaveState, Order, is_set}
 use Rattle.cli.specs.Asks as order
-use Rattle.images.specs.declared.file_form.FileForm.{FileForm}
-use Rattle.images.specs.declared.file_form.FileForm.TheVariants.{Sbi1, Sbi2, Sbi3}
+use Rattle.verifier.specs.declared.file_form.FileForm.{FileForm}
+use Rattle.verifier.specs.declared.file_form.FileForm.TheVariants.{Sbi1, Sbi2, Sbi3}
 use Rattle.cli.specs.Program.{sblog_app}
 use Rattle.cli.proofs.WalkLemmas.{Fills, IsFineStop, Keeps, first_none, level_filled, level_fine, no_default, second_none, some_kind}
 use Rattle.cli.specs.declared.command.TheConstants.{BUDGET}

@@ -8,9 +8,9 @@ use Rattle.limits.specs.declared.TheConstants.{STATE_BYTES, WORKERS}
 use Rattle.clap.specs.Words.{IsAmong, Row, Text, fault_of, first_of, one_of, subcommand_of}
 use Rattle.clap.specs.declared.error.kind.ErrorKind.{ErrorKind}
 use Rattle.clap.specs.declared.error.kind.ErrorKind.TheVariants.{OutOfMemory}
-use Rattle.images.specs.FileForm.{file_form_number}
-use Rattle.images.specs.declared.file_form.FileForm.{FileForm}
-use Rattle.images.specs.declared.file_form.FileForm.TheVariants.{Sbi1}
+use Rattle.verifier.specs.FileForm.{file_form_number}
+use Rattle.verifier.specs.declared.file_form.FileForm.{FileForm}
+use Rattle.verifier.specs.declared.file_form.FileForm.TheVariants.{Sbi1}
 use Rattle.cli.specs.Program.{sblog_app}
 use Rattle.cli.specs.declared.refusal.UsageRefusal.{UsageRefusal}
 use Rattle.cli.specs.declared.refusal.UsageRefusal.TheVariants as refusal

@@ -9,7 +9,7 @@ use crate::option_words::below_words;
 use crate::refusal::{Usage, UsageRefusal};
 use clap::error::ErrorKind;
 use clap::{ArgMatches, Error};
-use images::FileForm;
+use verifier::FileForm;
 use limits::{STATE_BYTES, WORKERS};
 use std::alloc::{AllocError, Global};
 use std::convert::AsStr;

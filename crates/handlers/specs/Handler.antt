@@ -1,6 +1,6 @@
 -- What a contract sees of a handler: its image.
-use Rattle.images.specs.declared.any_image.AnyImage.{AnyImage}
-use Rattle.images.specs.declared.any_image.AnyImage.TheVariants.{Flat as AnyFlat, Span as AnySpan}
+use Rattle.verifier.specs.declared.any_image.AnyImage.{AnyImage}
+use Rattle.verifier.specs.declared.any_image.AnyImage.TheVariants.{Flat as AnyFlat, Span as AnySpan}
 use Rattle.handlers.specs.declared.handler.Handler.{Handler}
 use Rattle.handlers.specs.declared.handler.Handler.TheVariants.{Flat, Span}
 

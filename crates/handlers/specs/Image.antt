@@ -3,9 +3,9 @@ use Rattle.std.specs.Prelude.{ℕ, List}
 use Rattle.std.specs.Arc.{arc_value}
 use Rattle.std.specs.declared.sync.Arc.{Arc}
 use Rattle.decode.specs.declared.insn.Insn.{Insn}
-use Rattle.images.specs.declared.any_image.AnyImage.{AnyImage}
-use Rattle.images.specs.declared.file_form.FileForm.{FileForm}
-use Rattle.images.specs.AnyImage.{code_of, form_of, state_of}
+use Rattle.verifier.specs.declared.any_image.AnyImage.{AnyImage}
+use Rattle.verifier.specs.declared.file_form.FileForm.{FileForm}
+use Rattle.verifier.specs.AnyImage.{code_of, form_of, state_of}
 use Rattle.handlers.specs.declared.handler.Handler.{Handler}
 use Rattle.handlers.specs.Handler.{image_of}
 

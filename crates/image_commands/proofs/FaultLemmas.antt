@@ -2,7 +2,7 @@
 use Rattle.std.proofs.Common.{◌≡◌, ℕ, Bool, true, IfErr, List, Some, Result, Ok, Err, take, refl, sym, subst, inl, inr}
 use Rattle.std.specs.Prelude.{◌≢◌}
 use Rattle.std.specs.Result.{IsErrAnd}
-use Rattle.images.specs.ImageFile as any
+use Rattle.verifier.specs.AnyFile as any
 use Rattle.verifier.specs.declared.fault.ImageError.{ImageError}
 use Rattle.verifier.specs.declared.fault.ImageError.TheVariants as image
 use Rattle.image_commands.specs.Fault.{FaultOf, fault_of_failure, fault_of_image}

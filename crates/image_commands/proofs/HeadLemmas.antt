@@ -1,5 +1,5 @@
 -- The first 8,201 bytes of a file decide whether it is an image, and why not: an image has fewer.
-use Rattle.std.proofs.Common.{◌≡◌, ◌≢◌, ◌≤◌, ◌<◌, ◌∙◌, ◌⊎◌, ℕ, Bool, true, false, List, [], ◌∷◌, ◌++◌, length, take, drop, nat_le, refl, sym, subst, inl, inr, arith, length-append, take_all, length-take-le, take-append-drop}
+use Rattle.std.proofs.Common.{◌≡◌, ◌≤◌, ◌<◌, ◌∙◌, ◌⊎◌, ℕ, Bool, true, false, List, [], ◌∷◌, ◌++◌, length, take, drop, nat_le, refl, sym, subst, inl, inr, arith, length-append, take_all, length-take-le, take-append-drop}
 use Rattle.std.proofs.lemmas.Bool.{leb-true, leb-false}
 use Rattle.decode.specs.declared.insn.Insn.{Insn}
 use Rattle.decode.specs.Encoding.{encoding}
@@ -10,17 +10,17 @@ use Rattle.listing.specs.SpanListing as listed
 use Rattle.listing.specs.FileListing.{IsFileExplained}
 use Rattle.regtypes.specs.declared.image_form.ImageForm.{ImageForm}
 use Rattle.regtypes.specs.declared.image_form.ImageForm.TheVariants.{Sbi1, Sbi2}
-use Rattle.verifier.specs.ImageFile.{HasFault, IsFile, field_at, magic}
+use Rattle.verifier.specs.ImageFile.{HasFaultIn, IsFile, IsHeaderFaultIn, field_at}
 use Rattle.verifier.specs.declared.fault.HeaderFault.{HeaderFault}
 use Rattle.verifier.specs.declared.fault.HeaderFault.TheVariants.{TooShort, Magic, StateLength, SlotCount, FileLength}
 use Rattle.verifier.specs.declared.fault.ImageError.{ImageError}
 use Rattle.verifier.specs.declared.fault.ImageError.TheVariants.{Memory, Header, Decode, Verify}
 use Rattle.verifier.proofs.Files.{file_has, file_header, fields_of}
-use Rattle.images.specs.SpanFile as span
-use Rattle.images.proofs.SpanFiles as spans
-use Rattle.images.specs.ImageFile as any
-use Rattle.images.specs.declared.file_form.FileForm.{FileForm}
-use Rattle.images.specs.declared.file_form.FileForm.TheVariants as form
+use Rattle.verifier.specs.Span.File as span
+use Rattle.verifier.proofs.Spans.Files as spans
+use Rattle.verifier.specs.AnyFile as any
+use Rattle.verifier.specs.declared.file_form.FileForm.{FileForm}
+use Rattle.verifier.specs.declared.file_form.FileForm.TheVariants as form
 use Rattle.image_commands.specs.declared.check.TheConstants.{IMAGE_LIMIT}
 
 file_length : (form : ImageForm) (is : List Insn) (len : ℕ) (bytes : List ℕ) → IsFile form is len bytes → length bytes ≤ 8200
@@ -101,18 +101,13 @@ same_fields (a ∷ b ∷ c ∷ d ∷ e ∷ f ∷ []) more l = absurd (omega arit
 same_fields (a ∷ b ∷ c ∷ d ∷ e ∷ f ∷ g ∷ []) more l = absurd (omega arith)
 same_fields (a ∷ b ∷ c ∷ d ∷ e ∷ f ∷ g ∷ h ∷ xs) more l = (refl, refl, refl)
 
--- what each fault finds in a file of which this is to hold of its first four bytes where they are no magic
-abbrev HasBy : (List ℕ → Type 0) → List ℕ → HeaderFault → Type 0
-HasBy NoMagic bytes Magic = NoMagic (take 4 bytes)
-HasBy NoMagic bytes fault = HasFault bytes fault
-
 -- a header's faults, in their order
 abbrev all_faults : List HeaderFault
 all_faults = TooShort ∷ Magic ∷ StateLength ∷ SlotCount ∷ FileLength ∷ []
 
 -- a header's fault stays when more follows
 still_broken : (NoMagic : List ℕ → Type 0) (fault : HeaderFault) (xs more : List ℕ) → length xs ≡ IMAGE_LIMIT
-    → IsFirst (HasBy NoMagic xs) all_faults fault → IsFirst (HasBy NoMagic (xs ++ more)) all_faults fault
+    → IsFirst (HasFaultIn NoMagic xs) all_faults fault → IsFirst (HasFaultIn NoMagic (xs ++ more)) all_faults fault
 unfolding IsFirst
 still_broken NoMagic fault xs more long (inl short) = absurd (omega (arith, short.1, long))
 still_broken NoMagic fault xs more long (inr (a, later)) = inr ((λ s. omega (arith, s, long, length-append xs more)), go later)
@@ -126,32 +121,32 @@ still_broken NoMagic fault xs more long (inr (a, later)) = inr ((λ s. omega (ar
     magic_left : NoMagic (take 4 (xs ++ more)) → NoMagic (take 4 xs)
     magic_left m = subst NoMagic same.0 m
 
-    count_more : HasFault xs SlotCount → HasFault (xs ++ more) SlotCount
+    count_more : HasFaultIn NoMagic xs SlotCount → HasFaultIn NoMagic (xs ++ more) SlotCount
     count_more (inl n) = inl (same.2 ∙ n)
     count_more (inr n) = inr (omega (arith, n, same.2))
 
-    count_left : HasFault (xs ++ more) SlotCount → HasFault xs SlotCount
+    count_left : HasFaultIn NoMagic (xs ++ more) SlotCount → HasFaultIn NoMagic xs SlotCount
     count_left (inl n) = inl (sym same.2 ∙ n)
     count_left (inr n) = inr (omega (arith, n, same.2))
 
-    go : IsFirst (HasBy NoMagic xs) (Magic ∷ StateLength ∷ SlotCount ∷ FileLength ∷ []) fault → IsFirst (HasBy NoMagic (xs ++ more)) (Magic ∷ StateLength ∷ SlotCount ∷ FileLength ∷ []) fault
+    go : IsFirst (HasFaultIn NoMagic xs) (Magic ∷ StateLength ∷ SlotCount ∷ FileLength ∷ []) fault → IsFirst (HasFaultIn NoMagic (xs ++ more)) (Magic ∷ StateLength ∷ SlotCount ∷ FileLength ∷ []) fault
     go (inl magic) = inl (magic.0, no_magic magic.1)
     go (inr (b, inl state)) = inr ((λ m. b (magic_left m)), inl (state.0, omega (arith, state.1, same.1)))
     go (inr (b, inr (c, inl count))) = inr ((λ m. b (magic_left m)), inr ((λ s. c (omega (arith, s, same.1))), inl (count.0, count_more count.1)))
     go (inr (b, inr (c, inr (d, inl size)))) =
-        let length_more : HasFault (xs ++ more) FileLength = λ e. d (inr (omega (arith, e, long, length-append xs more, same.2))) in
+        let length_more : HasFaultIn NoMagic (xs ++ more) FileLength = λ e. d (inr (omega (arith, e, long, length-append xs more, same.2))) in
         inr ((λ m. b (magic_left m)), inr ((λ s. c (omega (arith, s, same.1))), inr ((λ n. d (count_left n)), inl (size.0, length_more))))
     go (inr (b, inr (c, inr (d, inr e)))) = absurd e.1
 
 head_first : (NoMagic : List ℕ → Type 0) (bytes : List ℕ) (fault : HeaderFault) → IMAGE_LIMIT < length bytes
-    → IsFirst (HasBy NoMagic (take IMAGE_LIMIT bytes)) all_faults fault → IsFirst (HasBy NoMagic bytes) all_faults fault
+    → IsFirst (HasFaultIn NoMagic (take IMAGE_LIMIT bytes)) all_faults fault → IsFirst (HasFaultIn NoMagic bytes) all_faults fault
 head_first NoMagic bytes fault long broken =
-    subst (λ (b : List ℕ). IsFirst (HasBy NoMagic b) all_faults fault) (take-append-drop IMAGE_LIMIT bytes)
+    subst (λ (b : List ℕ). IsFirst (HasFaultIn NoMagic b) all_faults fault) (take-append-drop IMAGE_LIMIT bytes)
     (still_broken NoMagic fault (take IMAGE_LIMIT bytes) (drop IMAGE_LIMIT bytes) (cut bytes long) broken)
 
-any_header : (bytes : List ℕ) (fault : HeaderFault) → IMAGE_LIMIT < length bytes → any.IsHeaderFault (take IMAGE_LIMIT bytes) fault → any.IsHeaderFault bytes fault
+any_header : (bytes : List ℕ) (fault : HeaderFault) → IMAGE_LIMIT < length bytes → IsHeaderFaultIn any.IsOther (take IMAGE_LIMIT bytes) fault → IsHeaderFaultIn any.IsOther bytes fault
 unfolding IsFirst
-any_header bytes fault long broken = head_first (λ m. ((form : ImageForm) → m ≢ magic form) × (m ≢ span.magic_3)) bytes fault long broken
+any_header bytes fault long broken = head_first any.IsOther bytes fault long broken
 
 any_unread_of : (bytes : List ℕ) (e : ImageError) → IMAGE_LIMIT < length bytes → any.IsUnread (take IMAGE_LIMIT bytes) e → any.IsUnread bytes e
 any_unread_of bytes Memory long why = tt

@@ -1,8 +1,8 @@
 -- Why code comes to no file.
 use Rattle.std.proofs.Common.{◌≡◌, ◌<◌, ◌≤◌, ◌*◌, ◌⊎◌, ℕ, Bool, true, false, List, Option, None, Some, length, refl, sym, subst, arith, inl, inr}
 use Rattle.std.specs.Option.{unwrap_or}
-use Rattle.images.specs.declared.file_form.FileForm.{FileForm}
-use Rattle.images.specs.declared.file_form.FileForm.TheVariants.{Sbi1, Sbi3}
+use Rattle.verifier.specs.declared.file_form.FileForm.{FileForm}
+use Rattle.verifier.specs.declared.file_form.FileForm.TheVariants.{Sbi1, Sbi3}
 use Rattle.block_order.specs.declared.blocks.Blocks.{Blocks}
 use Rattle.elf.specs.Function.{IsFunction}
 use Rattle.elf.specs.Object.{is_elf}

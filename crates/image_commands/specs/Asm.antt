@@ -4,8 +4,8 @@ use Rattle.std.specs.Str.{IsUtf8}
 use Rattle.assemble.specs.Refusal as assembling
 use Rattle.assemble.specs.Text.{lines_of, spoken}
 use Rattle.decode.specs.declared.insn.Insn.{Insn}
-use Rattle.images.specs.declared.file_form.FileForm.{FileForm}
-use Rattle.images.specs.ImageFile.{IsFile}
+use Rattle.verifier.specs.declared.file_form.FileForm.{FileForm}
+use Rattle.verifier.specs.AnyFile.{IsFile}
 use Rattle.verifier.specs.declared.fault.HeaderFault.TheVariants.{SlotCount}
 use Rattle.image_commands.specs.Judged.{IsJudged}
 use Rattle.image_commands.specs.declared.fault.Fault.{Fault}

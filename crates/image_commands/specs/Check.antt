@@ -1,8 +1,8 @@
 -- The command `check` (docs/FORMATS.md, "Commands").
 use Rattle.std.specs.Prelude.{◌≡◌, ℕ, List, ◌++◌, Some, codes, decimal, length}
 use Rattle.decode.specs.declared.insn.Insn.{Insn}
-use Rattle.images.specs.declared.file_form.FileForm.{FileForm}
-use Rattle.images.specs.ImageFile as any
+use Rattle.verifier.specs.declared.file_form.FileForm.{FileForm}
+use Rattle.verifier.specs.AnyFile as any
 use Rattle.verifier.specs.declared.fault.ImageError.{ImageError}
 use Rattle.handlers.specs.Image.{TheImage}
 use Rattle.image_commands.specs.Fault.{fault_of_image}

@@ -2,8 +2,8 @@
 use Rattle.std.specs.Prelude.{◌≡◌, ℕ, List}
 use Rattle.assemble.specs.Text.{text_of}
 use Rattle.decode.specs.declared.insn.Insn.{Insn}
-use Rattle.images.specs.declared.file_form.FileForm.{FileForm}
-use Rattle.images.specs.ImageFile.{IsFile, IsUnread}
+use Rattle.verifier.specs.declared.file_form.FileForm.{FileForm}
+use Rattle.verifier.specs.AnyFile.{IsFile, IsUnread}
 use Rattle.verifier.specs.declared.fault.ImageError.{ImageError}
 use Rattle.image_commands.specs.Fault.{fault_of_image}
 use Rattle.image_commands.specs.declared.fault.Fault.{Fault}

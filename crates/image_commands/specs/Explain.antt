@@ -1,6 +1,6 @@
 -- The command `explain` (docs/FORMATS.md, "Commands"), which takes images of any form.
 use Rattle.std.specs.Prelude.{◌≡◌, ℕ, List}
-use Rattle.images.specs.ImageFile.{IsUnread}
+use Rattle.verifier.specs.AnyFile.{IsUnread}
 use Rattle.verifier.specs.declared.fault.ImageError.{ImageError}
 use Rattle.image_commands.specs.Fault.{fault_of_image}
 use Rattle.image_commands.specs.declared.fault.Fault.{Fault}

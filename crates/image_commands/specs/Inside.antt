@@ -1,7 +1,7 @@
 -- What the functions of this crate say to one another.
 use Rattle.std.specs.Prelude.{◌≡◌, ◌⊎◌, ℕ, Bool, true, List, Some, String}
 use Rattle.std.specs.declared.alloc.Global.{Global}
-use Rattle.images.specs.ImageFile as any
+use Rattle.verifier.specs.AnyFile as any
 use Rattle.verifier.specs.declared.fault.ImageError.{ImageError}
 use Rattle.scenario.specs.declared.process.NamedProcess.{NamedProcess}
 use Rattle.image_commands.specs.Fault.{fault_of_image}

@@ -2,9 +2,9 @@
 use Rattle.std.specs.Prelude.{◌≡◌, ◌<◌, ◌≤◌, ◌⊎◌, ℕ, List, [], ◌∷◌, Some, drop, length, replicate, take}
 use Rattle.limits.specs.declared.TheConstants.{FORM_1_BYTES, PAYLOAD_BYTES, STATE_BYTES}
 use Rattle.helpers.specs.declared.effects.Who.{Who}
-use Rattle.images.specs.declared.file_form.FileForm.{FileForm}
-use Rattle.images.specs.declared.file_form.FileForm.TheVariants.{Sbi1, Sbi2, Sbi3}
-use Rattle.images.specs.ImageFile.{IsFile, IsTypable}
+use Rattle.verifier.specs.declared.file_form.FileForm.{FileForm}
+use Rattle.verifier.specs.declared.file_form.FileForm.TheVariants.{Sbi1, Sbi2, Sbi3}
+use Rattle.verifier.specs.AnyFile.{IsFile, IsTypable}
 use Rattle.handlers.specs.Answer.{Handled, HasRun}
 use Rattle.handlers.specs.Image.{TheImage}
 use Rattle.verifier.specs.declared.fault.HeaderFault.TheVariants.{StateLength}

@@ -1,8 +1,8 @@
 -- The command `native` (docs/FORMATS.md, "Commands"), which takes images of any form.
 use Rattle.std.specs.Prelude.{ℕ, List}
 use Rattle.decode.specs.declared.insn.Insn.{Insn}
-use Rattle.images.specs.declared.file_form.FileForm.{FileForm}
-use Rattle.images.specs.ImageFile.{IsFile, IsTypable}
+use Rattle.verifier.specs.declared.file_form.FileForm.{FileForm}
+use Rattle.verifier.specs.AnyFile.{IsFile, IsTypable}
 use Rattle.span_native.specs.AnyForm.{IsNativeIn}
 
 -- the bytes are the file, of any form, of typable code, and the machine code does what it does, on every message and state

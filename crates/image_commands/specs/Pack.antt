@@ -11,8 +11,8 @@ use Rattle.image_commands.specs.declared.pack.TheConstants.{OBJECT_BYTES}
 use Rattle.decode.specs.Encoding.{encoding}
 use Rattle.decode.specs.Refusal as decoding
 use Rattle.decode.specs.declared.insn.Insn.{Insn}
-use Rattle.images.specs.declared.file_form.FileForm.{FileForm}
-use Rattle.images.specs.declared.file_form.FileForm.TheVariants.{Sbi1, Sbi3}
+use Rattle.verifier.specs.declared.file_form.FileForm.{FileForm}
+use Rattle.verifier.specs.declared.file_form.FileForm.TheVariants.{Sbi1, Sbi3}
 use Rattle.block_order.specs.Ordered.{IsFileOf}
 use Rattle.block_order.specs.declared.blocks.Blocks.{Blocks}
 use Rattle.verifier.specs.declared.fault.HeaderFault.TheVariants.{SlotCount}

@@ -15,10 +15,9 @@ use crate::own_input::spare;
 use crate::site::Site;
 use assemble::assemble;
 use hints::assembler_words;
-use images::{FileForm, file};
 use limits::STATE_BYTES;
 use std::alloc::{AllocError, Global};
-use verifier::HeaderFault;
+use verifier::{FileForm, HeaderFault, any_file};
 
 /// How many bytes of a source are read: as many as a text has at most, and one more.
 pub const SOURCE_LIMIT: usize = TEXT_LIMIT + 1;
@@ -40,7 +39,7 @@ pub fn asm(alloc: Global, source: &[u8], state: u16, form: FileForm) -> Result<V
     if source.len() > TEXT_LIMIT {
         return Err(Fault::Header(HeaderFault::SlotCount));
     }
-    let bytes = file(alloc, form, code.as_slice(), state)?;
+    let bytes = any_file(alloc, form, code.as_slice(), state)?;
     Ok(bytes)
 }
 

@@ -43,7 +43,7 @@ pub fn check_image<F: Files>(
     ensures fault { IfErr result (FaultOf (F.content files.old) (F.failed files.new) path.now IsUnaccepted) }
 {
     let bytes = site.read(alloc, path, Some(IMAGE_LIMIT), files)?;
-    let image = images::load(alloc, bytes.as_slice())?;
+    let image = verifier::load_any(alloc, bytes.as_slice())?;
     let count = image.count();
     Ok(Accepted { count })
 }

@@ -17,10 +17,9 @@ use crate::own_input::spare;
 use crate::site::Site;
 use handlers::Handler;
 use helpers::{Effects, Payload, Who};
-use images::FileForm;
 use limits::{FORM_1_BYTES, PAYLOAD_BYTES, STATE_BYTES};
 use std::alloc::Global;
-use verifier::HeaderFault;
+use verifier::{FileForm, HeaderFault};
 
 /// How many bytes of a state are read: as many as one has at most, and one more.
 pub const STATE_LIMIT: usize = STATE_BYTES + 1;

@@ -9,7 +9,7 @@ use crate::fault::Fault;
 use crate::files::Files;
 use crate::site::Site;
 use assemble::disassemble;
-use images::parts;
+use verifier::any_parts;
 use std::alloc::Global;
 
 /// The assembler text of the image in a file. It does not verify the code.
@@ -25,7 +25,7 @@ pub fn disassemble_image<F: Files>(
     ensures fault { IfErr result (FaultOf (F.content files.old) (F.failed files.new) path.now IsUnlisted) }
 {
     let bytes = site.read(alloc, path, Some(IMAGE_LIMIT), files)?;
-    let (code, _state, _form) = parts(alloc, bytes.as_slice())?;
+    let (code, _state, _form) = any_parts(alloc, bytes.as_slice())?;
     let text = disassemble(alloc, code.as_slice())?;
     Ok(text)
 }

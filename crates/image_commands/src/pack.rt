@@ -16,10 +16,9 @@ use block_order::{Ordered, ordered_file};
 use cli::Packing;
 use decode::decode;
 use elf::{ObjectFault, is_object, read_object};
-use images::FileForm;
 use limits::{SLOTS, STATE_BYTES};
 use std::alloc::Global;
-use verifier::HeaderFault;
+use verifier::{FileForm, HeaderFault};
 
 /// How many bytes an object file has at most.
 pub const OBJECT_BYTES: usize = 16_777_216;

@@ -7,10 +7,10 @@ use Rattle.decode.proofs.SlotLemmas.{length-slots_of}
 use Rattle.regtypes.specs.declared.image_form.ImageForm.{ImageForm}
 use Rattle.regtypes.specs.declared.image_form.ImageForm.TheVariants as two
 use Rattle.verifier.specs.ImageFile as flat
-use Rattle.images.specs.SpanFile as span
-use Rattle.images.specs.ImageFile.{IsFile}
-use Rattle.images.specs.declared.file_form.FileForm.{FileForm}
-use Rattle.images.specs.declared.file_form.FileForm.TheVariants.{Sbi1, Sbi2, Sbi3}
+use Rattle.verifier.specs.Span.File as span
+use Rattle.verifier.specs.AnyFile.{IsFile}
+use Rattle.verifier.specs.declared.file_form.FileForm.{FileForm}
+use Rattle.verifier.specs.declared.file_form.FileForm.TheVariants.{Sbi1, Sbi2, Sbi3}
 
 -- ---- a file of form 1 or 2
 

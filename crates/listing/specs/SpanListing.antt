@@ -19,7 +19,7 @@ use Rattle.spans.specs.Ways.{operand_kind}
 use Rattle.spans.specs.Narrowing.{SpanPair, opposite, shown}
 use Rattle.listing.specs.Listing.{texts_below, verdict_text}
 use Rattle.listing.specs.Reads.{is_read}
-use Rattle.images.specs.SpanFile.{IsFile}
+use Rattle.verifier.specs.Span.File.{IsFile}
 use Rattle.listing.specs.declared.span_cause.SpanCause.{SpanCause}
 use Rattle.listing.specs.declared.span_study.SpanStudy.{SpanStudy}
 use Rattle.listing.specs.SpanCause.{cause_of}

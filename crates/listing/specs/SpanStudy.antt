@@ -3,8 +3,8 @@ use Rattle.std.specs.Prelude.{◌≡◌, ℕ, List, Option, length}
 use Rattle.decode.specs.declared.insn.Insn.{Insn}
 use Rattle.decode.specs.Slots.{slots_of}
 use Rattle.spans.specs.Frame.{Frame}
-use Rattle.span_verifier.specs.Typing.{table_of}
-use Rattle.span_verifier.specs.Verdict.{IsJudged}
+use Rattle.verifier.specs.Span.Typing.{table_of}
+use Rattle.verifier.specs.Span.Verdict.{IsJudged}
 use Rattle.listing.specs.declared.span_study.SpanStudy.{SpanStudy}
 
 -- what is known at a slot, if a path reaches it

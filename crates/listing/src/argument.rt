@@ -8,7 +8,7 @@ use crate::flaw::{Flaw, flawed_word};
 use crate::span_cause::{SpanCause, WordFault};
 use decode::Insn;
 use regtypes::Region;
-use span_verifier::is_inside;
+use verifier::is_inside;
 use spans::{Cells, SpanKind};
 
 /// The cause at a payload's word that isn't known to be a number.

@@ -8,7 +8,7 @@
 //! [`explain`] does the same for forms 1 and 2 only.
 //!
 //! The text is the listing of the verifier's frames and verdict for the file's code: those of
-//! `verifier::frames_of` for forms 1 and 2, and of `span_verifier::frames_of` for form 3. So a file
+//! `verifier::frames_of` for forms 1 and 2, and of `verifier::span_frames_of` for form 3. So a file
 //! is listed as refused by a rule at a slot exactly if it is refused so when it is loaded. What the
 //! listing says of a register or a word is what the least typing says; for refused code, up to the
 //! slot that is named. A reason why a register isn't set is given only if it holds

@@ -3,7 +3,7 @@
 
 ghost use Rattle.std.specs.Prelude.{◌≡◌, ◌<◌, ◌≤◌, ◌++◌, Some, OnOk, string_bytes};
 ghost use Rattle.std.specs.Option.{option_map};
-ghost use Rattle.span_verifier.specs.Transfer.{frame_of};
+ghost use Rattle.verifier.specs.Span.Transfer.{frame_of};
 ghost use Rattle.spans.specs.Frame.{kind_at};
 ghost use Rattle.listing.specs.SpanListing.{dead_text, kept_text, known_text, read_text, register_text, stack_text, ways_known, ways_text, word_at, word_line};
 
@@ -13,7 +13,7 @@ use crate::span_kinds::{distance_of, push_kind};
 use decode::{Insn, Reg};
 use limits::REGISTERS;
 use regtypes::{ImageForm, Region, bytes_in};
-use span_verifier::{is_inside, operand_kind, opposite, shown, whole_word};
+use verifier::{is_inside, operand_kind, opposite, shown, whole_word};
 use spans::{Cells, Span, SpanKind};
 use std::alloc::AllocError;
 

@@ -5,7 +5,7 @@ ghost use Rattle.std.specs.List.{AllByRecursion};
 ghost use Rattle.std.specs.Option.{option_map};
 ghost use Rattle.decode.specs.Encoding.{Fits};
 ghost use Rattle.decode.specs.Slots.{slots_of};
-ghost use Rattle.span_verifier.specs.Transfer.{frame_of};
+ghost use Rattle.verifier.specs.Span.Transfer.{frame_of};
 ghost use Rattle.listing.specs.SpanListing.{IsListed, broken_text, listing, notes_text, refusal_text, slot_text};
 
 use crate::kinds::push_with;

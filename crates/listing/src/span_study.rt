@@ -8,7 +8,7 @@ ghost use Rattle.listing.specs.SpanStudy.{IsStudy};
 
 use decode::Insn;
 use limits::SLOTS;
-use span_verifier::{SpanFrames, frames_of};
+use verifier::{SpanFrames, span_frames_of};
 use spans::Cells;
 use std::alloc::{AllocError, Global};
 
@@ -27,7 +27,7 @@ impl SpanStudy {
     ghost use Rattle.std.specs.Prelude.{◌≡◌};
     ghost use Rattle.std.specs.Option.{option_map};
     ghost use Rattle.decode.specs.Slots.{insn_at};
-    ghost use Rattle.span_verifier.specs.Transfer.{frame_of};
+    ghost use Rattle.verifier.specs.Span.Transfer.{frame_of};
     ghost use Rattle.listing.specs.SpanStudy.{frame_at};
 
     /// The instruction that begins at a slot.
@@ -60,7 +60,7 @@ pub fn study_of(alloc: Global, code: &[Insn], state_len: u16) -> Result<SpanStud
     ensures found { IfOk result (IsStudy code.now) }
     ensures state { IfOk result (λ study. study.state_len ≡ state_len) }
 {
-    let frames = frames_of(alloc, code, state_len)?;
+    let frames = span_frames_of(alloc, code, state_len)?;
     Ok(SpanStudy {
         state_len,
         count: code.len(),

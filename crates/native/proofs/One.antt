@@ -132,17 +132,17 @@ module _ {form : ImageForm} {slots : List (Option Insn)} {len : ℕ} {t u : Tabl
     where
       by_frame : (x : Option Frame) → frame_at t s ≡ x → frame_at t s ≡ frame_at u s
       by_frame (Some g) e =
-          let (h, there, le) = a.least u b.types s g e in
-          let (k, again, ge) = b.least t a.types s h there in
+          let (h, there, le) = a.least (frame_at u) b.types s g e in
+          let (k, again, ge) = b.least (frame_at t) a.types s h there in
           let same : g ≡ k = let x : Some g ≡ Some k = sym e ∙ again in cc in
-          let q : g ≡ h = Leq-antisym g h (a.types.whole s g e ∙ sym (b.types.whole s h there)) le (subst (Leq h) (sym same) ge) in
+          let q : g ≡ h = Leq-antisym g h ((a.types.stands s g e).whole ∙ sym (b.types.stands s h there).whole) le (subst (Leq h) (sym same) ge) in
           e ∙ ap Some q ∙ sym there
       by_frame None e = e ∙ none (frame_at u s) refl
         where
           none : (y : Option Frame) → frame_at u s ≡ y → None ≡ frame_at u s
           none None f = sym f
           none (Some h) f =
-              let (k, again, ge) = b.least t a.types s h f in
+              let (k, again, ge) = b.least (frame_at t) a.types s h f in
               cc
 
   same_tasks : (n : ℕ) → tasks_in slots t len n ≡ tasks_in slots u len n

@@ -34,6 +34,7 @@ use Rattle.regtypes.specs.Attributes.{attributes_of, alu_attributes}
 use Rattle.regtypes.proofs.Parts.{jump_tests, writes_frame_pointer}
 use Rattle.regtypes.proofs.Monotone.{after_cases, none_holds}
 use Rattle.verifier.specs.Least.{IsLeastTyping}
+use Rattle.verifier.proofs.LeastTypings.{of_typing, typing_of}
 use Rattle.verifier.specs.Places.{target_of}
 use Rattle.verifier.specs.Dense.{position, payload_position, dense_of, helper_op, IsDense}
 use Rattle.regtypes.proofs.RuleLemmas.{Keeps, kept, Rules, rules_of}
@@ -101,7 +102,7 @@ module _ {form : ImageForm} {slots : List (Option Insn)} {len : ℕ} {table : Ta
   fewer = map filtered table
 
   typing : IsTyping form slots len table
-  typing = least.types
+  typing = typing_of form len slots (length slots) table least.types
 
   -- a frame of the fewer
   here : (s : ℕ) (g : Frame) → frame_at fewer s ≡ Some g → (frame_at table s ≡ Some g) × (is_num (ten g) ≡ false)
@@ -136,7 +137,7 @@ module _ {form : ImageForm} {slots : List (Option Insn)} {len : ℕ} {table : Ta
   -- the least typing knows r10 nowhere to be a number
   pub ten_is_no_number : (s : ℕ) (g : Frame) → frame_at table s ≡ Some g → is_num (ten g) ≡ false
   ten_is_no_number s g h =
-      let (f, there, leq) = least.least fewer fewer_types s g h in
+      let (f, there, leq) = least.least (frame_at fewer) (of_typing form len slots (length slots) fewer fewer_types) s g h in
       let x = here s f there in
       let e : g ≡ f = let y : Some g ≡ Some f = sym h ∙ x.0 in cc in
       ap (λ y. is_num (ten y)) e ∙ x.1
@@ -262,9 +263,9 @@ module _ (form : ImageForm) (slots : List (Option Insn)) (len : ℕ) (pool : Lis
 -- where a call may come to, there is code
 pub has_code : (form : ImageForm) (slots : List (Option Insn)) (len : ℕ) (table : Table) (ops : List Op) (pool : List ℕ) (s : ℕ) (g : Frame) (o : Op) → IsLeastTyping form slots len table → IsDense slots table len ops pool → frame_at table s ≡ Some g → slice_get ops s ≡ Some o → HasCode pool s o
 has_code form slots len table ops pool s g o least d there found =
-    let b = least.types.begins s g there in
+    let b = (least.types.stands s g there).begins in
     let i = b.0 in
     let st = d.each s g i there b.1 in
     let e : o ≡ dense_of len g.kinds s st.at i = let x : Some o ≡ Some (dense_of len g.kinds s st.at i) = sym found ∙ st.is in cc in
-    let k = kept form slots len table s i g least.types there b.1 in
+    let k = kept form slots len table s i g (typing_of form len slots (length slots) table least.types) there b.1 in
     subst (HasCode pool s) (sym e) (insn_code form slots len pool s st.at g (ten_is_no_number least s g there) i k (rules_of form len i g k.local) st.within)

@@ -63,7 +63,7 @@ module _ {form : ImageForm} {slots : List (Option Insn)} {len : ℕ} {table : Ta
   -- where a call may come to, the slot's task is its operation's
   pub is_there : (g : Frame) (o : Op) → frame_at table slot ≡ Some g → slice_get ops slot ≡ Some o → task_for pool o ≡ Some (task_there len slot (frame_at table slot) (insn_at slots slot))
   is_there g o there found =
-      let b = least.types.begins slot g there in
+      let b = (least.types.stands slot g there).begins in
       let i = b.0 in
       let st = d.each slot g i there b.1 in
       let e : o ≡ dense_of len g.kinds slot st.at i = let x : Some o ≡ Some (dense_of len g.kinds slot st.at i) = sym found ∙ st.is in cc in
@@ -73,7 +73,7 @@ module _ {form : ImageForm} {slots : List (Option Insn)} {len : ℕ} {table : Ta
   -- a slot that a call may come to has an operation, and that a task
   pub has_op : (g : Frame) → frame_at table slot ≡ Some g → (o : Op) × (slice_get ops slot ≡ Some o)
   has_op g there =
-      let b = least.types.begins slot g there in
+      let b = (least.types.stands slot g there).begins in
       let st = d.each slot g b.0 there b.1 in
       (dense_of len g.kinds slot st.at b.0, st.is)
 

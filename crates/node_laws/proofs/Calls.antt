@@ -2,7 +2,7 @@
 use Rattle.std.proofs.Common.{◌≡◌, inl, inr, ℕ, List, [], ◌∷◌, Bool, true, false, refl, sym, ap, ◌∙◌, subst}
 use Rattle.std.specs.Prelude.{Option, Some, None, not, ◌&&◌, is_none, if◌then◌else◌}
 use Rattle.helpers.specs.declared.effects.Who.{Who}
-use Rattle.images.specs.declared.any_image.AnyImage.{AnyImage}
+use Rattle.verifier.specs.declared.any_image.AnyImage.{AnyImage}
 use Rattle.interp.specs.HandlerCall.{Handled}
 use Rattle.handlers.specs.Image.{TheImage, as_image}
 use Rattle.handlers.specs.Answer.{answered as answer_in}

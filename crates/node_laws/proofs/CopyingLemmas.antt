@@ -15,7 +15,7 @@ use Rattle.regtypes.specs.Ways.{next}
 use Rattle.regtypes.specs.Flow.{exits}
 use Rattle.regtypes.specs.Typing.{Table, frame_at, broken, Enters, IsTyping}
 use Rattle.regtypes.proofs.Monotone.{Leq-refl}
-use Rattle.images.specs.declared.any_image.AnyImage.TheVariants.{Flat}
+use Rattle.verifier.specs.declared.any_image.AnyImage.TheVariants.{Flat}
 use Rattle.node_laws.specs.HostWorked.{copies, CopyingLoads}
 
 abbrev pub r0 : Reg

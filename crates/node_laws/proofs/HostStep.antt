@@ -1,6 +1,6 @@
 -- One call of a host, as calls in all lives
 use Rattle.std.proofs.Common.{◌≡◌, ℕ, List, [], true}
-use Rattle.images.specs.declared.any_image.AnyImage.{AnyImage}
+use Rattle.verifier.specs.declared.any_image.AnyImage.{AnyImage}
 use Rattle.handlers.specs.Image.{as_image}
 use Rattle.recovery.specs.Collection.{TheCollecting}
 use Rattle.node_laws.specs.Together.{IsFirst}

@@ -1,7 +1,7 @@
 -- Calls of hosts, one after another
 use Rattle.std.proofs.Common.{◌≡◌, ℕ, ◌≤◌, List, [], ◌∷◌, ◌++◌, Bool, true, false, refl, sym, ap, ◌∙◌, subst, append_assoc}
 use Rattle.std.specs.Prelude.{◌==◌, if◌then◌else◌}
-use Rattle.images.specs.declared.any_image.AnyImage.{AnyImage}
+use Rattle.verifier.specs.declared.any_image.AnyImage.{AnyImage}
 use Rattle.world.specs.declared.message.Message.{Message}
 use Rattle.node.specs.Runs.{Answering}
 use Rattle.node_laws.specs.Together.{IsFirst}

@@ -1,6 +1,6 @@
 -- A process that was suspended, and the one that is resumed from its bytes
 use Rattle.std.proofs.Common.{◌≡◌, ℕ, List, [], true, false, refl, sym, ap, ◌∙◌}
-use Rattle.images.specs.declared.any_image.AnyImage.{AnyImage}
+use Rattle.verifier.specs.declared.any_image.AnyImage.{AnyImage}
 use Rattle.packets.specs.declared.packet.NodePacket.{NodePacket}
 use Rattle.node.specs.declared.limit.Limits.{Limits}
 use Rattle.node.specs.Node.{TheNode}

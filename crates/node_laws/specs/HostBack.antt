@@ -4,7 +4,7 @@ use Rattle.world.specs.Handlers.{Handlers}
 use Rattle.world.specs.World.{put}
 use Rattle.cluster.specs.Cluster.{opening}
 use Rattle.cluster.specs.Rules.{Act, Run, after_run}
-use Rattle.images.specs.declared.any_image.AnyImage.{AnyImage}
+use Rattle.verifier.specs.declared.any_image.AnyImage.{AnyImage}
 use Rattle.node.specs.declared.limit.Limits.{Limits}
 use Rattle.node.specs.declared.job.OpenJob.{OpenJob}
 use Rattle.node.specs.Node.{TheNode}

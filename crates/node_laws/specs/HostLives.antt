@@ -1,7 +1,7 @@
 -- The calls of hosts are calls in all lives, and what is promised of them
 use Rattle.std.specs.Prelude.{◌≡◌, ◌≢◌, ℕ, ◌≤◌, List, [], ◌∷◌, ◌++◌, Bool, true, ◌==◌, if◌then◌else◌}
 use Rattle.world.specs.Handlers.{Handlers}
-use Rattle.images.specs.declared.any_image.AnyImage.{AnyImage}
+use Rattle.verifier.specs.declared.any_image.AnyImage.{AnyImage}
 use Rattle.packets.specs.declared.packet.NodePacket.{NodePacket}
 use Rattle.stores.specs.declared.change.Output.{Output}
 use Rattle.node.specs.declared.limit.Limits.{Limits}

@@ -1,7 +1,7 @@
 -- What the handlers of images answer
 use Rattle.std.specs.Prelude.{ℕ, List, [], Option, Some, None}
 use Rattle.helpers.specs.declared.effects.Who.{Who}
-use Rattle.images.specs.declared.any_image.AnyImage.{AnyImage}
+use Rattle.verifier.specs.declared.any_image.AnyImage.{AnyImage}
 use Rattle.interp.specs.HandlerCall.{Handled}
 use Rattle.handlers.specs.Answer.{answer_by}
 use Rattle.node.specs.Runs.{Answer, Answering}

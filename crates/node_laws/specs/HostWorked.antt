@@ -6,10 +6,10 @@ use Rattle.decode.specs.declared.insn.Reg.{Reg}
 use Rattle.decode.specs.declared.insn.Size.TheVariants.{Byte}
 use Rattle.decode.specs.declared.insn.Insn.{Insn}
 use Rattle.decode.specs.declared.insn.Insn.TheVariants.{Load, StoreReg, Exit}
-use Rattle.images.specs.declared.any_image.AnyImage.{AnyImage}
-use Rattle.images.specs.declared.file_form.FileForm.TheVariants.{Sbi1}
-use Rattle.images.specs.AnyImage.{IsImageOf, code_of, state_of}
-use Rattle.images.specs.ImageFile.{IsTypable}
+use Rattle.verifier.specs.declared.any_image.AnyImage.{AnyImage}
+use Rattle.verifier.specs.declared.file_form.FileForm.TheVariants.{Sbi1}
+use Rattle.verifier.specs.AnyImage.{IsImageOf, code_of, state_of}
+use Rattle.verifier.specs.AnyFile.{IsTypable}
 use Rattle.packets.specs.Kept.{kept_bytes}
 use Rattle.node.specs.declared.limit.TheConstants.{PAGE, TICK}
 use Rattle.node.specs.Limit.{usual}

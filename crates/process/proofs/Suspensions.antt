@@ -8,7 +8,7 @@ use Rattle.node.specs.Queue.{TheQueue, no_queue}
 use Rattle.node.specs.Node.{TheNode, Within}
 use Rattle.node.specs.declared.limit.Limits.{Limits}
 use Rattle.node.specs.Suspension.{CanSuspend, IsSuspended, joined_by, numbered_by, woken}
-use Rattle.images.specs.declared.any_image.AnyImage.{AnyImage}
+use Rattle.verifier.specs.declared.any_image.AnyImage.{AnyImage}
 use Rattle.recovery.specs.declared.resumption.Unresumed.{Unresumed}
 use Rattle.recovery.specs.declared.resumption.Unresumed.TheVariants as node
 use Rattle.recovery.specs.Resumption.{rest_of, Finds}

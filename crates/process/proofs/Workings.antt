@@ -4,8 +4,8 @@ use Rattle.std.specs.Prelude.{Option, Some}
 use Rattle.decode.specs.declared.insn.Insn.{Insn}
 use Rattle.helpers.specs.declared.effects.Who.{Who}
 use Rattle.helpers.specs.Effects.{Emitted}
-use Rattle.images.specs.declared.file_form.FileForm.{FileForm}
-use Rattle.images.specs.AnyImage.{form_of, code_of}
+use Rattle.verifier.specs.declared.file_form.FileForm.{FileForm}
+use Rattle.verifier.specs.AnyImage.{form_of, code_of}
 use Rattle.interp.specs.HandlerCall.{Handled}
 use Rattle.handlers.specs.Answer.{answer_by, run_of, shown}
 use Rattle.node.specs.declared.job.OpenJob.{OpenJob}

@@ -4,9 +4,9 @@ use Rattle.helpers.specs.declared.effects.Who.{Who}
 use Rattle.helpers.specs.Effects.{Emitted}
 use Rattle.limits.specs.declared.TheConstants.{MEMORY_BYTES}
 use Rattle.span_steps.specs.declared.array.TheConstants.{ARRAY_BYTES}
-use Rattle.images.specs.declared.any_image.AnyImage.{AnyImage}
-use Rattle.images.specs.declared.any_image.AnyImage.TheVariants.{Flat, Span}
-use Rattle.images.specs.AnyImage.{form_of, code_of, state_of as image_state}
+use Rattle.verifier.specs.declared.any_image.AnyImage.{AnyImage}
+use Rattle.verifier.specs.declared.any_image.AnyImage.TheVariants.{Flat, Span}
+use Rattle.verifier.specs.AnyImage.{form_of, code_of, state_of as image_state}
 use Rattle.interp.specs.HandlerCall.{Handled}
 use Rattle.interp.specs.Configuration.{entry}
 use Rattle.interp.specs.Flat.{Holds}

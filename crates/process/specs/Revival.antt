@@ -1,7 +1,7 @@
 -- Processes that are opened or come back
 use Rattle.std.specs.Prelude.{◌≡◌, ◌≢◌, ◌⊎◌, ℕ, List, length, replicate, true, false, ⊤}
-use Rattle.images.specs.declared.any_image.AnyImage.{AnyImage}
-use Rattle.images.specs.AnyImage.{state_of}
+use Rattle.verifier.specs.declared.any_image.AnyImage.{AnyImage}
+use Rattle.verifier.specs.AnyImage.{state_of}
 use Rattle.packets.specs.declared.kept.Kept.{Kept}
 use Rattle.packets.specs.declared.kept_fault.KeptFault.TheVariants.{Range}
 use Rattle.packets.specs.Kept.{IsKept}

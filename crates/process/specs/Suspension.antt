@@ -1,7 +1,7 @@
 -- Processes that are suspended and resumed
 use Rattle.std.specs.Prelude.{◌≡◌, ◌≢◌, List, ℕ, [], length, ⊤}
-use Rattle.images.specs.declared.any_image.AnyImage.{AnyImage}
-use Rattle.images.specs.AnyImage.{state_of}
+use Rattle.verifier.specs.declared.any_image.AnyImage.{AnyImage}
+use Rattle.verifier.specs.AnyImage.{state_of}
 use Rattle.node.specs.declared.limit.Limits.{Limits}
 use Rattle.node.specs.Node.{TheNode}
 use Rattle.node.specs.Suspension.{CanSuspend, IsSuspended}

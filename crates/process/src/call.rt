@@ -4,7 +4,7 @@ ghost use Rattle.std.specs.Prelude.{◌≡◌, ◌↔◌, length, IsTrue};
 ghost use Rattle.std.specs.Arc.{arc_value};
 ghost use Rattle.handlers.specs.Answer.{MayRunAs};
 ghost use Rattle.handlers.specs.Handler.{image_of};
-ghost use Rattle.images.specs.AnyImage.{state_of};
+ghost use Rattle.verifier.specs.AnyImage.{state_of};
 
 use handlers::Handler;
 use helpers::{Payload, Who};

@@ -1,8 +1,8 @@
 //! The arrays on which a handler runs.
 
 ghost use Rattle.std.specs.Prelude.{◌≡◌, length};
-ghost use Rattle.images.specs.FileForm.{file_form_of};
-ghost use Rattle.images.specs.declared.any_image.AnyImage.TheVariants.{Flat as AnyFlat, Span as AnySpan};
+ghost use Rattle.verifier.specs.FileForm.{file_form_of};
+ghost use Rattle.verifier.specs.declared.any_image.AnyImage.TheVariants.{Flat as AnyFlat, Span as AnySpan};
 ghost use Rattle.interp.specs.Configuration.{IsLong};
 ghost use Rattle.handlers.specs.Answer.{shown};
 ghost use Rattle.process.specs.Job.{IsLaid};

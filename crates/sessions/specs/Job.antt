@@ -1,7 +1,7 @@
 -- A task with its handler's image, and the handler's answer
 use Rattle.std.specs.Prelude.{◌≡◌, ◌≤◌, List, [], length, Option, Some, None}
 use Rattle.decode.specs.declared.insn.Insn.{Insn}
-use Rattle.images.specs.declared.file_form.FileForm.{FileForm}
+use Rattle.verifier.specs.declared.file_form.FileForm.{FileForm}
 use Rattle.handlers.specs.Image.{TheImage}
 use Rattle.handlers.specs.Answer.{Handled, HasRun, answered}
 use Rattle.replay.specs.Task.{TheTask, TheCompletion}

@@ -27,7 +27,7 @@ use Rattle.spans.specs.declared.kind.SpanKind.TheVariants.{Unset, Num, Place}
 use Rattle.spans.specs.declared.span.Span.{Span}
 use Rattle.spans.specs.Frame.{Frame, is_num}
 use Rattle.spans.specs.Ways.{Leaves, Ways, from_span}
-use Rattle.span_verifier.specs.Rules.{frame_pointer_rule}
+use Rattle.verifier.specs.Span.Rules.{frame_pointer_rule}
 use Rattle.native_tasks.specs.declared.task.SlotTask.TheVariants as task
 use Rattle.native_tasks.specs.Tasks.{holds_word, is_word, is_read, is_eligible}
 use Rattle.span_native.specs.SpanTasks.{operand_in, stack_at, store_imm_task, store_task, task_in}

@@ -6,10 +6,10 @@ use Rattle.regtypes.specs.declared.image_form.ImageForm.{ImageForm}
 use Rattle.regtypes.specs.declared.image_form.ImageForm.TheVariants as two
 use Rattle.regtypes.specs.Typing.{Table, IsTyping}
 use Rattle.verifier.specs.Typed.{Typed}
-use Rattle.images.specs.FileForm.{file_form_of}
-use Rattle.images.specs.declared.file_form.FileForm.TheVariants.{Sbi1, Sbi2, Sbi3}
-use Rattle.images.specs.declared.any_image.AnyImage.TheVariants.{Flat}
-use Rattle.images.specs.ImageFile.{IsTypable}
+use Rattle.verifier.specs.FileForm.{file_form_of}
+use Rattle.verifier.specs.declared.file_form.FileForm.TheVariants.{Sbi1, Sbi2, Sbi3}
+use Rattle.verifier.specs.declared.any_image.AnyImage.TheVariants.{Flat}
+use Rattle.verifier.specs.AnyFile.{IsTypable}
 use Rattle.handlers.specs.Image.{as_image}
 use Rattle.native_tasks.specs.declared.prologue.Opening.TheVariants as opening
 use Rattle.native.specs.Correct.{IsNative}

@@ -22,7 +22,7 @@ use Rattle.spans.specs.Memory.{are_numbers, index_in, is_word, load, patched_cel
 use Rattle.spans.specs.Access.{region_size}
 use Rattle.spans.specs.Step.{Outcome, Goes, Leaps, Ends, Fault, answers, branches, ends_with, from_number, gives_value, goes_on, operand_value, result_value, step, taken_by}
 use Rattle.spans.specs.Ways.{alu_form}
-use Rattle.span_verifier.specs.Rules.{frame_pointer_rule}
+use Rattle.verifier.specs.Span.Rules.{frame_pointer_rule}
 use Rattle.spans.specs.Concrete.{array_size}
 use Rattle.spans.specs.Shows.{Shows, ShowsWord}
 use Rattle.spans.specs.Typing.{Table}

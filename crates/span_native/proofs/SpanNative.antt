@@ -9,7 +9,7 @@ use Rattle.helpers.specs.Effects.{Emitted}
 use Rattle.interp.specs.Words.{AreBytes}
 use Rattle.x86.specs.Machine.{State, Runs}
 use Rattle.spans.specs.Concrete.{array_size}
-use Rattle.images.specs.Typed.{IsTypable}
+use Rattle.verifier.specs.Span.Typed.{IsTypable}
 use Rattle.native_tasks.specs.declared.prologue.Opening.TheVariants as opening
 use Rattle.native.specs.Correct.{IsCalled}
 use Rattle.native_tasks.specs.Saved.{saved_in, saved_for, may_write}

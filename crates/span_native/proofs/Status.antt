@@ -31,12 +31,12 @@ use Rattle.decode.specs.Distance.{distance}
 use Rattle.spans.proofs.Calls.{call_from-run}
 use Rattle.spans.proofs.CallEntry.{messages-kept}
 use Rattle.spans.proofs.Runs.{runs}
-use Rattle.span_verifier.specs.Typing.{IsTyped}
-use Rattle.span_verifier.proofs.Forms.{typing_of}
+use Rattle.verifier.specs.Span.Typing.{IsTyped}
+use Rattle.verifier.proofs.Spans.Forms.{typing_of}
 use Rattle.regtypes.specs.Flow.{flow_of}
 use Rattle.regtypes.specs.Rules.{first_broken}
 use Rattle.regtypes.specs.Typing.{flow_tests}
-use Rattle.span_verifier.specs.Rules.{frame_pointer_rule}
+use Rattle.verifier.specs.Span.Rules.{frame_pointer_rule}
 use Rattle.span_steps.specs.Acts.{insn_act, IsReached}
 use Rattle.span_steps.specs.Machine.{machine}
 use Rattle.span_steps.specs.Mirrors.{Mirrors}

@@ -3,8 +3,8 @@ use Rattle.std.specs.Prelude.{ℕ, List}
 use Rattle.decode.specs.declared.insn.Insn.{Insn}
 use Rattle.decode.specs.Slots.{slots_of}
 use Rattle.regtypes.specs.declared.image_form.ImageForm.TheVariants as two
-use Rattle.images.specs.declared.file_form.FileForm.{FileForm}
-use Rattle.images.specs.declared.file_form.FileForm.TheVariants.{Sbi1, Sbi2, Sbi3}
+use Rattle.verifier.specs.declared.file_form.FileForm.{FileForm}
+use Rattle.verifier.specs.declared.file_form.FileForm.TheVariants.{Sbi1, Sbi2, Sbi3}
 use Rattle.handlers.specs.Image.{TheImage}
 use Rattle.native.specs.Correct.{IsNative}
 use Rattle.span_native.specs.Correct.{IsSpanNative}

@@ -1,16 +1,15 @@
 //! Handlers of any form.
 
 ghost use Rattle.std.specs.Prelude.{◌≡◌, IfOk};
-ghost use Rattle.images.specs.declared.any_image.AnyImage.TheVariants as any;
+ghost use Rattle.verifier.specs.declared.any_image.AnyImage.TheVariants as any;
 ghost use Rattle.handlers.specs.Image.{as_image, the_image};
 ghost use Rattle.span_native.specs.Code.{IsCode};
 
 use crate::code::Code;
 use crate::image_code::compile;
 use handlers::Handler;
-use images::SpanImage;
 use std::alloc::{AllocError, Global};
-use verifier::Image;
+use verifier::{Image, SpanImage};
 
 // The code of an image of form 1 or 2.
 fn compile_flat(alloc: Global, image: &Image) -> Result<Vec<u8>, AllocError>

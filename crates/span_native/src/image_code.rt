@@ -6,7 +6,7 @@ ghost use Rattle.span_native.specs.Written.{IsCodeOf};
 
 use crate::slot_tasks::tasks_of;
 use decode::lay_out;
-use images::SpanImage;
+use verifier::SpanImage;
 use native::write_tasks;
 use native_tasks::Opening;
 use std::alloc::{AllocError, Global};

@@ -9,7 +9,7 @@
 //! instruction asks of it and leaves. The configurations of a call and its steps know of no frame:
 //! `specs/Configuration`, `specs/Memory` and `specs/Step`.
 //!
-//! In code there are the types of kinds and frames alone; `span_verifier` has their join and the rules,
+//! In code there are the types of kinds and frames alone; `verifier` has their join and the rules,
 //! and goes through a handler by them. [`Cells`] is a frame as an array. The functions without a body are
 //! there for their laws: [`rules_are_monotone`] and the laws of order and join make the least typing
 //! decide; [`steps_fit`] and [`calls_fit`] say that code with a typing never comes to a fault. No law says

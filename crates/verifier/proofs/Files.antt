@@ -17,16 +17,25 @@ use Rattle.decode.proofs.OneFault.{one_fault, no_fault}
 use Rattle.regtypes.specs.declared.image_form.ImageForm.{ImageForm}
 use Rattle.regtypes.specs.declared.image_form.ImageForm.TheVariants.{Sbi1, Sbi2}
 use Rattle.regtypes.specs.declared.rule.Rule as rules
-use Rattle.regtypes.specs.Typing.{Table, IsTyping}
+use Rattle.regtypes.specs.Typing.{Table, IsTyping, frame_at}
 use Rattle.verifier.specs.declared.header.FileHeader.{FileHeader}
 use Rattle.verifier.specs.declared.fault.HeaderFault.{HeaderFault}
 use Rattle.verifier.specs.declared.fault.HeaderFault.TheVariants.{TooShort, Magic, StateLength, SlotCount, FileLength}
 use Rattle.verifier.specs.declared.fault.ImageError.TheVariants.{Memory, Header, Decode, Verify}
 use Rattle.verifier.specs.Typed.{Typed}
 use Rattle.verifier.specs.Verdict.{IsImageOf, IsFault}
-use Rattle.verifier.proofs.LeastTypings.{one_refusal}
-use Rattle.verifier.specs.ImageFile.{IsOneFileRefusal, magic, IsFile, field_at, HasFault, IsHeaderFault, IsCodeFault}
+use Rattle.verifier.proofs.LeastTypings.{of_typing, one_refusal}
+use Rattle.verifier.specs.ImageFile.{HasFaultIn, IsCodeFaultIn, IsFile, IsHeaderFaultIn, IsOneFileRefusal, IsOther, field_at, magic}
 use Rattle.verifier.specs.Inside.Header.{header_bytes, HasHeader, IsSound}
+
+abbrev pub HasFault : List ℕ → HeaderFault → Type 0
+HasFault = HasFaultIn IsOther
+
+abbrev IsHeaderFault : List ℕ → HeaderFault → Type 0
+IsHeaderFault = IsHeaderFaultIn IsOther
+
+abbrev IsCodeFault : List ℕ → EncodingRule → ℕ → Type 0
+IsCodeFault = IsCodeFaultIn IsOther
 
 -- ---- the header
 
@@ -241,7 +250,7 @@ pub not_typable : (form form' : ImageForm) (is js : List Insn) (m n : ℕ) (byte
 not_typable form form' is js m n bytes rule slot f g h t typing =
     let k = file_once form form' is js m n bytes f g in
     let there = subst (λ (q : ImageForm). IsFault q js n rule slot) k.2 (subst (λ (x : ℕ). IsFault form js x rule slot) k.1 (subst (λ (l : List Insn). IsFault form l m rule slot) k.0 h)) in
-    there.1 t typing
+    there.1 (frame_at t) (of_typing form' n (slots_of js) (length (slots_of js)) t typing)
 
 -- ---- a refusal is the only one
 
@@ -258,7 +267,7 @@ one_rule : (form form' : ImageForm) (is js : List Insn) (l k : ℕ) (bytes : Lis
 one_rule form form' is js l k bytes q r m n f g x y =
     let e = file_once form form' is js l k bytes f g in
     let there = subst (λ (z : ImageForm). IsFault z js k q m) e.2 (subst (λ (z : ℕ). IsFault form js z q m) e.1 (subst (λ (is : List Insn). IsFault form is l q m) e.0 x)) in
-    one_refusal form' (slots_of js) k q r m n there.0 y.0
+    one_refusal form' k (slots_of js) q r m n there.0 y.0
 
 pub one_file_refusal : IsOneFileRefusal
 one_file_refusal bytes Memory e x y n n' = absurd (n refl)

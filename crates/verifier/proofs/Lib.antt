@@ -5,3 +5,6 @@ pub mod RuleLemmas
 pub mod OpsWithin
 pub mod Translated
 pub mod Spares
+pub mod Passes
+pub mod AnyFiles
+pub mod Spans

@@ -1,7 +1,7 @@
 -- What follows if an instruction breaks no rule.
 use Rattle.std.proofs.Common.{◌≡◌, ℕ, ◌<◌, true, false, List, Option, Some, None, ℤ, pos, negsuc, refl, sym, ap, subst, ◌∙◌, arith}
-use Rattle.std.specs.Prelude.{not, ◌&&◌, ◌||◌, nat_lt, is_some}
-use Rattle.std.proofs.lemmas.Bool.{or_parts, and_parts, false≢true}
+use Rattle.std.specs.Prelude.{not, ◌&&◌, nat_lt, is_some}
+use Rattle.std.proofs.lemmas.Bool.{and_parts, false≢true}
 use Rattle.std.proofs.lemmas.Bool.Decides.{nat_tests}
 use Rattle.decode.specs.declared.insn.Insn.{Insn}
 use Rattle.decode.specs.Slots.{insn_at}
@@ -13,11 +13,10 @@ use Rattle.regtypes.specs.declared.frame.Frame.{Frame}
 use Rattle.regtypes.specs.declared.attributes.Access.{Access}
 use Rattle.regtypes.specs.Frame.{kind_at, is_num}
 use Rattle.regtypes.specs.Attributes.{attributes_of}
-use Rattle.regtypes.specs.Rules.{is_unset, is_place, is_in_message, has, base_of, has_bytes, moved, reaches_out, moves_out, ends_without, first_broken, tests_of}
-use Rattle.regtypes.proofs.Parts.{jump_tests, writes_frame_pointer, stores_in_message, is_unknown, misgives}
-use Rattle.regtypes.proofs.Typings.{typing_keeps}
-use Rattle.regtypes.specs.Typing.{Table, frame_at, IsTyping, is_target}
-use Rattle.regtypes.proofs.Monotone.{none_holds, both_pass, not_false, AllSet, all_set}
+use Rattle.regtypes.specs.Rules.{is_unset, is_in_message, has, base_of, has_bytes, moved, reaches_out, first_broken, tests_of}
+use Rattle.regtypes.proofs.Parts.{stores_in_message}
+use Rattle.regtypes.specs.Typing.{is_target}
+use Rattle.regtypes.proofs.Monotone.{not_false}
 use Rattle.verifier.specs.Places.{index_of}
 use Rattle.verifier.specs.Inside.Places.{IsInside, IsWritable}
 use Rattle.regtypes.proofs.RuleLemmas.{rules_of}

@@ -47,30 +47,39 @@ LoadsTypable bytes result = (form : ImageForm) (code : List Insn) (len : ℕ) (t
 abbrev pub field_at : ℕ → List ℕ → ℕ
 field_at k bytes = from_le_bytes w16 (take 2 (drop k bytes))
 
--- what each fault finds in a file; bytes 4 and 5 are its state's length, bytes 6 and 7 the number of its slots
-abbrev pub HasFault : List ℕ → HeaderFault → Type 0
-HasFault bytes TooShort = length bytes < 8
-HasFault bytes Magic = (form : ImageForm) → take 4 bytes ≢ magic form
-HasFault bytes StateLength = STATE_BYTES < field_at 4 bytes
-HasFault bytes SlotCount = (field_at 6 bytes ≡ 0) ⊎ (SLOTS < field_at 6 bytes)
-HasFault bytes FileLength = length bytes ≢ 8 + 8 * field_at 6 bytes
+-- what each fault finds in a file, if its first four bytes tell whether it is of no form; bytes 4 and 5 are its state's
+-- length, bytes 6 and 7 the number of its slots
+abbrev pub HasFaultIn : (List ℕ → Type 0) → List ℕ → HeaderFault → Type 0
+HasFaultIn IsOther bytes TooShort = length bytes < 8
+HasFaultIn IsOther bytes Magic = IsOther (take 4 bytes)
+HasFaultIn IsOther bytes StateLength = STATE_BYTES < field_at 4 bytes
+HasFaultIn IsOther bytes SlotCount = (field_at 6 bytes ≡ 0) ⊎ (SLOTS < field_at 6 bytes)
+HasFaultIn IsOther bytes FileLength = length bytes ≢ 8 + 8 * field_at 6 bytes
 
 -- the header's fault for which bytes are refused: the first, in the order of their numbers
-abbrev pub IsHeaderFault : List ℕ → HeaderFault → Type 0
-IsHeaderFault bytes fault =
-    IsFirst (HasFault bytes) (TooShort ∷ Magic ∷ StateLength ∷ SlotCount ∷ FileLength ∷ []) fault
+abbrev pub IsHeaderFaultIn : (List ℕ → Type 0) → List ℕ → HeaderFault → Type 0
+IsHeaderFaultIn IsOther bytes fault =
+    IsFirst (HasFaultIn IsOther bytes) (TooShort ∷ Magic ∷ StateLength ∷ SlotCount ∷ FileLength ∷ []) fault
 
 -- the header has no fault, and the code after it breaks this rule of the encoding, at this slot
-abbrev pub IsCodeFault : List ℕ → EncodingRule → ℕ → Type 0
-IsCodeFault bytes rule slot =
-    ((fault : HeaderFault) → ¬ HasFault bytes fault) × decoding.IsFault (drop 8 bytes) rule slot
+abbrev pub IsCodeFaultIn : (List ℕ → Type 0) → List ℕ → EncodingRule → ℕ → Type 0
+IsCodeFaultIn IsOther bytes rule slot =
+    ((fault : HeaderFault) → ¬ HasFaultIn IsOther bytes fault) × decoding.IsFault (drop 8 bytes) rule slot
 
 -- why bytes are no image file; that memory ran out says nothing of them
+abbrev pub IsUnreadIn : (List ℕ → Type 0) → List ℕ → ImageError → Type 0
+IsUnreadIn IsOther bytes Memory = Unit {0}
+IsUnreadIn IsOther bytes (Header fault) = IsHeaderFaultIn IsOther bytes fault
+IsUnreadIn IsOther bytes (Decode rule slot) = IsCodeFaultIn IsOther bytes rule slot
+IsUnreadIn IsOther bytes (Verify rule slot) = ⊥
+
+-- the first four bytes are those of neither form
+abbrev pub IsOther : List ℕ → Type 0
+IsOther begins = (form : ImageForm) → begins ≢ magic form
+
+-- why bytes are no image file of form 1 or 2
 abbrev pub IsUnread : List ℕ → ImageError → Type 0
-IsUnread bytes Memory = Unit {0}
-IsUnread bytes (Header fault) = IsHeaderFault bytes fault
-IsUnread bytes (Decode rule slot) = IsCodeFault bytes rule slot
-IsUnread bytes (Verify rule slot) = ⊥
+IsUnread bytes error = IsUnreadIn IsOther bytes error
 
 -- why bytes are no file of typable code
 abbrev pub IsRefusal : List ℕ → ImageError → Type 0

@@ -4,3 +4,5 @@ pub mod Pass
 pub mod Places
 pub mod Dense
 pub mod Image
+pub mod SpanPass
+pub mod SpanHeader

@@ -1,38 +1,52 @@
--- The least typing, and the one slot and rule that a refusal names.
-use Rattle.std.specs.Prelude.{◌≡◌, ℕ, List, [], ◌∷◌, Option, Some, length}
+-- Forms 1 and 2 by what one pass needs of them, and their least typing.
+use Rattle.std.specs.Prelude.{◌≡◌, ◌≤◌, ◌↔◌, ℕ, ℤ, pos, List, Option, Some, None, length}
+use Rattle.std.specs.List.{AllByRecursion}
+use Rattle.limits.specs.declared.TheConstants.{PAYLOAD_BYTES, REGISTERS}
 use Rattle.decode.specs.declared.insn.Insn.{Insn}
 use Rattle.decode.specs.Slots.{insn_at}
 use Rattle.regtypes.specs.declared.frame.Frame.{Frame}
 use Rattle.regtypes.specs.declared.rule.Rule.{Rule}
-use Rattle.regtypes.specs.declared.rule.Rule.TheVariants.{V2}
 use Rattle.regtypes.specs.declared.image_form.ImageForm.{ImageForm}
-use Rattle.regtypes.specs.Frame.{Leq}
-use Rattle.regtypes.specs.Typing.{Table, frame_at, broken, TypesBelow}
+use Rattle.regtypes.specs.Flow.{exits}
+use Rattle.regtypes.specs.Frame.{entry_frame, Leq}
+use Rattle.regtypes.specs.Typing.{Table, frame_at, broken, IsTyping}
+use Rattle.verifier.specs.Form.{Form}
+use Rattle.verifier.specs.Fixpoint.{IsLeast, IsTyped}
 
--- if the first table has a frame for a slot, the second has one that says no more
-abbrev pub Below : Table → Table → Type 0
-Below a b = (s : ℕ) (g : Frame) → frame_at a s ≡ Some g → (h : Frame) × (frame_at b s ≡ Some h) × Leq g h
+-- a frame of all registers, with a length that messages have, at a slot where an instruction begins
+pub record MayStand (slots : List (Option Insn)) (s : ℕ) (f : Frame) : Type 0 where
+  pub whole : length f.kinds ≡ REGISTERS
+  pub short : f.low ≤ PAYLOAD_BYTES
+  pub begins : (i : Insn) × (insn_at slots s ≡ Some i)
 
--- the least typing of the slots below n
-pub record IsLeast (form : ImageForm) (slots : List (Option Insn)) (len n : ℕ) (table : Table) : Type 0 where
-  pub types : TypesBelow form slots len n table
-  pub least : (t : Table) → TypesBelow form slots len n t → Below table t
+-- what leaves on a way fits the frame of the slot where it leads
+abbrev pub EntersAt : (ℕ → Option Frame) → ℤ × Frame → Type 0
+EntersAt table e = (t : ℕ) × (g : Frame) × (e.0 ≡ pos t) × (table t ≡ Some g) × Leq e.1 g
+
+-- the least rule that an instruction breaks at a slot under a frame; if none begins there, none is broken
+abbrev pub broken_at : ImageForm → ℕ → List (Option Insn) → ℕ → Option Insn → Frame → Option Rule
+broken_at form len slots s None f = None
+broken_at form len slots s (Some i) f = broken form slots len s i f
+
+-- form 1 or 2, for code slot by slot with a state of `len` bytes: typings are those of `regtypes`
+abbrev pub flat_form : ImageForm → ℕ → List (Option Insn) → Form
+flat_form form len slots = record {
+  Frame = Frame;
+  Leq = Leq;
+  entry = entry_frame form;
+  count = length slots;
+  MayStand = MayStand slots;
+  IsAllowed = λ table s f. (i : Insn) → insn_at slots s ≡ Some i
+      → (broken form slots len s i f ≡ None) × AllByRecursion (EntersAt table) (exits s i f);
+  broken = λ s f. broken_at form len slots s (insn_at slots s) f;
+}
+
+-- a typing of the form, slot by slot, is a typing
+abbrev pub AreTypings : Type 0
+AreTypings =
+    (form : ImageForm) (slots : List (Option Insn)) (len : ℕ) (table : Table)
+    → IsTyped (flat_form form len slots) (frame_at table) ↔ IsTyping form slots len table
 
 -- the least typing
 abbrev pub IsLeastTyping : ImageForm → List (Option Insn) → ℕ → Table → Type 0
-IsLeastTyping form slots len table = IsLeast form slots len (length slots) table
-
--- the slot's frame, in the least typing of the slots below it, breaks this rule and no lesser one
-pub record StopsAt (form : ImageForm) (slots : List (Option Insn)) (len : ℕ) (rule : Rule) (s : ℕ) : Type 0 where
-  pub table : Table
-  pub least : IsLeast form slots len s table
-  pub frame : Frame
-  pub there : frame_at table s ≡ Some frame
-  pub insn : Insn
-  pub begins : insn_at slots s ≡ Some insn
-  pub breaks : broken form slots len s insn frame ≡ Some rule
-
--- the rule and the slot that are named; code without a slot breaks V2 at slot 0
-abbrev pub IsRefused : ImageForm → List (Option Insn) → ℕ → Rule → ℕ → Type 0
-IsRefused form [] len rule s = (rule ≡ V2) × (s ≡ 0)
-IsRefused form (x ∷ xs) len rule s = StopsAt form (x ∷ xs) len rule s
+IsLeastTyping form slots len table = IsLeast (flat_form form len slots) (length slots) (frame_at table)

@@ -1,8 +1,14 @@
 pub mod Typed
 pub mod Places
 pub mod Dense
+pub mod Form
+pub mod Fixpoint
 pub mod Least
 pub mod Verdict
 pub mod ImageFile
 pub mod FaultNumbers
+pub mod FileForm
+pub mod AnyImage
+pub mod AnyFile
+pub mod Span
 pub mod Inside

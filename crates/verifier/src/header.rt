@@ -2,7 +2,7 @@
 
 ghost use Rattle.std.specs.Prelude.{◌≡◌, ◌≢◌, MatchOption, ◌≤◌, ◌++◌, length, IfOk, IfErr};
 ghost use Rattle.regtypes.specs.declared.image_form.ImageForm.{ImageForm};
-ghost use Rattle.verifier.specs.ImageFile.{IsHeaderFault, magic};
+ghost use Rattle.verifier.specs.ImageFile.{IsHeaderFaultIn, IsOther, magic};
 ghost use Rattle.verifier.specs.Inside.Header.{HasHeader, IsSound, header_bytes};
 
 use crate::fault::HeaderFault;
@@ -61,7 +61,7 @@ fn form_of(begins: [u8; 4]) -> Option<ImageForm>
 pub fn read_header(bytes: &[u8]) -> Result<(FileHeader, ImageForm, &[u8]), HeaderFault>
     ensures found { IfOk result (λ x. HasHeader x.0 x.2.now bytes.now) }
     ensures sound { IfOk result (λ x. IsSound x.1 x.0 x.2.now) }
-    ensures refused { IfErr result (IsHeaderFault bytes.now) }
+    ensures refused { IfErr result (IsHeaderFaultIn IsOther bytes.now) }
 {
     if bytes.len() < HEADER {
         return Err(HeaderFault::TooShort);

@@ -2,8 +2,9 @@
 
 ghost use Rattle.std.specs.Prelude.{◌≡◌, ◌≤◌, ◌<◌, ◌+◌, MatchResult, OnErr, length, true, is_some, pos, ◌+ℤ◌, Some, None};
 ghost use Rattle.decode.specs.Slots.{Follows, insn_at};
-ghost use Rattle.regtypes.specs.Typing.{is_target};
-ghost use Rattle.verifier.specs.Least.{IsLeast, StopsAt};
+ghost use Rattle.regtypes.specs.Typing.{frame_at, is_target};
+ghost use Rattle.verifier.specs.Fixpoint.{IsLeast, StopsAt};
+ghost use Rattle.verifier.specs.Least.{flat_form};
 ghost use Rattle.verifier.specs.Inside.Pass.{Merged};
 
 use decode::Insn;
@@ -47,8 +48,8 @@ pub fn judge(
     requires within { slot < length slots.now }
     requires same { length table.old ≡ length slots.now }
     requires follows { Follows slots.now }
-    requires least { IsLeast form slots.now state_len slot table.old }
-    ensures judged { MatchResult result (λ _. IsLeast form slots.now state_len (slot + 1) table.new) (λ rule. StopsAt form slots.now state_len rule slot) }
+    requires least { IsLeast (flat_form form state_len slots.now) slot (frame_at table.old) }
+    ensures judged { MatchResult result (λ _. IsLeast (flat_form form state_len slots.now) (slot + 1) (frame_at table.new)) (λ rule. StopsAt (flat_form form state_len slots.now) rule slot) }
     ensures kept { OnErr result (table.new ≡ table.old) }
 {
     let frame = match table[slot] {

@@ -1,7 +1,13 @@
 //! Laws of all verdicts.
 
 ghost use Rattle.verifier.specs.ImageFile.{IsOneFileRefusal};
+ghost use Rattle.verifier.specs.Least.{AreTypings};
 ghost use Rattle.verifier.specs.Verdict.{IsOneRefusal};
+
+/// A typing by the form of the pass is a typing of forms 1 and 2.
+pub fn flat_typings_are_typings()
+    ensures { AreTypings }
+{}
 
 /// Refused code has one rule and one slot that can be named.
 pub fn refusals_are_one()

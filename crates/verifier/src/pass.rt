@@ -2,6 +2,8 @@
 
 ghost use Rattle.std.specs.Prelude.{◌≡◌, ◌≤◌, ◌<◌, IfOk, length};
 ghost use Rattle.decode.specs.Slots.{slots_of};
+ghost use Rattle.regtypes.specs.Frame.{entry_frame};
+ghost use Rattle.regtypes.specs.Typing.{frame_at};
 ghost use Rattle.verifier.specs.Inside.Pass.{IsOpening};
 ghost use Rattle.verifier.specs.Verdict.{IsJudged};
 
@@ -27,7 +29,7 @@ pub struct Frames {
 fn opening(alloc: Global, form: ImageForm, slots: usize) -> Result<Vec<Option<Frame>>, AllocError>
     requires { 0 < slots }
     ensures size { IfOk result (λ table. length table.items ≡ slots) }
-    ensures only { IfOk result (λ table. IsOpening form table.items) }
+    ensures only { IfOk result (λ table. IsOpening (entry_frame form) (frame_at table.items)) }
 {
     let mut table = Vec::with_capacity(alloc, slots)?;
     table.push(Some(Frame::entry(form)))?;

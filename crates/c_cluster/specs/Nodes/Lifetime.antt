@@ -4,11 +4,11 @@ use Rattle.limits.specs.declared.TheConstants.{PROCESSES}
 use Rattle.rsn.specs.declared.receipts.TheConstants.{LIMIT}
 use Rattle.verifier.specs.declared.fault.ImageError.{ImageError}
 use Rattle.verifier.specs.declared.fault.ImageError.TheVariants as error
-use Rattle.images.specs.declared.any_image.AnyImage.{AnyImage}
+use Rattle.verifier.specs.declared.any_image.AnyImage.{AnyImage}
 use Rattle.decode.specs.declared.insn.Insn.{Insn}
-use Rattle.images.specs.declared.file_form.FileForm.{FileForm}
-use Rattle.images.specs.AnyImage.{IsImageOf, code_of, form_of, state_of}
-use Rattle.images.specs.ImageFile.{IsFile, IsRefusal, IsTypable}
+use Rattle.verifier.specs.declared.file_form.FileForm.{FileForm}
+use Rattle.verifier.specs.AnyImage.{IsImageOf, code_of, form_of, state_of}
+use Rattle.verifier.specs.AnyFile.{IsFile, IsRefusal, IsTypable}
 use Rattle.packets.specs.declared.kept_fault.KeptFault.{KeptFault}
 use Rattle.packets.specs.KeptFaults.{kept_fault_number}
 use Rattle.packets.specs.declared.log_pages.TheConstants.{LEAST_PAGE}

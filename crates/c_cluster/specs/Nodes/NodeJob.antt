@@ -2,9 +2,9 @@
 use Rattle.std.specs.Prelude.{◌≡◌, ◌≢◌, ◌+◌, ◌≤◌, ◌<◌, ℕ, List, Option, length, slice_range}
 use Rattle.helpers.specs.declared.effects.Who.{Who}
 use Rattle.helpers.specs.Effects.{Emitted}
-use Rattle.images.specs.declared.any_image.AnyImage.{AnyImage}
-use Rattle.images.specs.declared.any_image.AnyImage.TheVariants as any
-use Rattle.images.specs.AnyImage.{state_of as image_state}
+use Rattle.verifier.specs.declared.any_image.AnyImage.{AnyImage}
+use Rattle.verifier.specs.declared.any_image.AnyImage.TheVariants as any
+use Rattle.verifier.specs.AnyImage.{state_of as image_state}
 use Rattle.node.specs.declared.job.OpenJob.{OpenJob}
 use Rattle.process.specs.declared.call.HandlerTicket.{HandlerTicket}
 use Rattle.process.specs.Process.{TheProcess}

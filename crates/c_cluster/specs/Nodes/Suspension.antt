@@ -1,6 +1,6 @@
 -- Nodes that are suspended and resumed
 use Rattle.std.specs.Prelude.{◌≡◌, ◌⊎◌, ℕ, List, Option}
-use Rattle.images.specs.declared.any_image.AnyImage.{AnyImage}
+use Rattle.verifier.specs.declared.any_image.AnyImage.{AnyImage}
 use Rattle.process.specs.Process.{TheProcess}
 use Rattle.process.specs.Suspension.{MaySuspend, Suspends, IsResumed, IsUnresumed}
 use Rattle.process.specs.declared.suspension.ResumeError.{ResumeError}

@@ -1,11 +1,8 @@
 -- The steps of the pass over the slots.
-use Rattle.std.specs.Prelude.{◌≡◌, ◌≢◌, ℕ, ◌+◌, ◌<◌, ◌≤◌, List, Option, Some, None, length}
+use Rattle.std.specs.Prelude.{◌≡◌, ◌≢◌, ℕ, ◌≤◌, Option, Some, None, length}
 use Rattle.limits.specs.declared.TheConstants.{PAYLOAD_BYTES, REGISTERS}
-use Rattle.decode.specs.declared.insn.Insn.{Insn}
-use Rattle.decode.specs.Slots.{size_of, insn_at}
-use Rattle.regtypes.specs.declared.image_form.ImageForm.{ImageForm}
 use Rattle.regtypes.specs.declared.frame.Frame.{Frame}
-use Rattle.regtypes.specs.Frame.{entry_frame, Leq}
+use Rattle.regtypes.specs.Frame.{Leq}
 use Rattle.regtypes.specs.Typing.{Table, frame_at}
 
 -- a frame joined into the frame of a slot
@@ -21,6 +18,6 @@ pub record Merged (old : Table) (to : ℕ) (f : Frame) (new : Table) : Type 0 wh
   pub least : (k : Frame) → Leq f k → ((g : Frame) → frame_at old to ≡ Some g → Leq g k) → Leq frame k
 
 -- the first slot has the entry's frame, and no other has one
-pub record IsOpening (form : ImageForm) (table : Table) : Type 0 where
-  pub first : frame_at table 0 ≡ Some (entry_frame form)
-  pub none : (s : ℕ) → s ≢ 0 → frame_at table s ≡ None
+pub record IsOpening {A : Type 0} (entry : A) (table : ℕ → Option A) : Type 0 where
+  pub first : table 0 ≡ Some entry
+  pub none : (s : ℕ) → s ≢ 0 → table s ≡ None

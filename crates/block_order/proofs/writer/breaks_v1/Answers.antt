@@ -3,10 +3,10 @@ use Rattle.decode.specs.declared.insn.Insn.{Insn}
 use Rattle.decode.specs.Slots.{slots_of}
 use Rattle.regtypes.specs.declared.rule.Rule.{Rule}
 use Rattle.regtypes.specs.declared.rule.Rule.TheVariants.{V1}
-use Rattle.span_verifier.specs.Verdict.{IsFault, IsFramesOf, IsWhy}
-use Rattle.span_verifier.specs.declared.pass.SpanFrames.{SpanFrames}
-use Rattle.span_verifier.specs.Typing.{table_of}
-use Rattle.span_verifier.proofs.Forms.{one_refusal_3}
+use Rattle.verifier.specs.Span.Verdict.{IsFault, IsFramesOf, IsWhy}
+use Rattle.verifier.specs.declared.span.pass.SpanFrames.{SpanFrames}
+use Rattle.verifier.specs.Span.Typing.{table_of}
+use Rattle.verifier.proofs.Spans.Forms.{one_refusal_3}
 use Rattle.block_order.specs.Ordered.{BreaksV1}
 use Rattle.block_order.proofs.writer.breaks_v1.Goals as goal
 use Rattle.block_order.proofs.writer.breaks_v1.Goals.{in-Ok, in-Err-Fault, in-Err-Memory}
@@ -23,7 +23,7 @@ refused code state slot rule false why same back =
     ((λ no. absurd (cc)), (λ breaks. (back (one_refusal_3 state (slots_of code) rule V1 slot breaks.0 why.0 breaks.1.0).0)))
 
 pub returns : goal.returns
-returns c = elim c.match-verify.branch [
+returns c = elim c.match-span_verify.branch [
   | in-Ok w ↦ subst (λ r. IfOk r (λ yes. IsTrue yes ↔ BreaksV1 c.args.code.now c.args.state_len)) (sym w.result-is)
       (not-refused c.args.code.now c.args.state_len w.in-Ok.field-0 w.in-Ok.ensures)
   | in-Err-Fault w ↦

@@ -2,7 +2,7 @@ use Rattle.std.proofs.Common.{◌≡◌, ◌≤◌, ◌∙◌, arith, inr, lengt
 use Rattle.assemble.specs.Refusal.{AreLines}
 use Rattle.assemble.specs.Text.{lines_of}
 use Rattle.std.specs.Str.{IsUtf8}
-use Rattle.images.specs.ImageFile.{IsFile}
+use Rattle.verifier.specs.AnyFile.{IsFile}
 use Rattle.verifier.specs.ImageFile.{IsUnwritten}
 use Rattle.image_commands.specs.Judged.{IsJudged}
 use Rattle.image_commands.proofs.AsmLemmas.{code_refused, judged_all, text_refused}

@@ -1,6 +1,6 @@
 use Rattle.std.proofs.Common.{◌∙◌, subst}
-use Rattle.images.specs.AnyImage.{code_of, form_of, state_of}
-use Rattle.images.specs.ImageFile.{IsFile, IsRefusal}
+use Rattle.verifier.specs.AnyImage.{code_of, form_of, state_of}
+use Rattle.verifier.specs.AnyFile.{IsFile, IsRefusal}
 use Rattle.image_commands.proofs.FaultLemmas.{becomes, read_fault}
 use Rattle.image_commands.proofs.HeadLemmas.{any_file, any_refusal}
 use Rattle.image_commands.proofs.check.check_image.Goals as goal

@@ -1,6 +1,6 @@
 use Rattle.std.proofs.Common.{◌≡◌, ◌∙◌, rules, subst, string_bytes}
 use Rattle.assemble.specs.Text.{text_of}
-use Rattle.images.specs.ImageFile.{IsFile, IsUnread}
+use Rattle.verifier.specs.AnyFile.{IsFile, IsUnread}
 use Rattle.image_commands.proofs.FaultLemmas.{becomes, read_fault}
 use Rattle.image_commands.proofs.HeadLemmas.{any_file, any_unread}
 use Rattle.image_commands.proofs.dis.disassemble_image.Goals as goal

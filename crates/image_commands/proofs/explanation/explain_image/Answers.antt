@@ -1,5 +1,5 @@
 use Rattle.std.proofs.Common.{◌∙◌, subst, string_bytes}
-use Rattle.images.specs.ImageFile.{IsUnread}
+use Rattle.verifier.specs.AnyFile.{IsUnread}
 use Rattle.listing.specs.FileListing.{IsFileExplained}
 use Rattle.image_commands.proofs.FaultLemmas.{becomes, read_fault}
 use Rattle.image_commands.proofs.HeadLemmas.{any_explained, any_unread}

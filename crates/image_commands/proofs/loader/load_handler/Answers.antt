@@ -1,5 +1,5 @@
 use Rattle.std.proofs.Common.{◌∙◌, inl, subst}
-use Rattle.images.specs.ImageFile.{IsFile}
+use Rattle.verifier.specs.AnyFile.{IsFile}
 use Rattle.handlers.specs.Image.{the_image}
 use Rattle.image_commands.proofs.FaultLemmas.{becomes, handler_refused, plain_of}
 use Rattle.image_commands.proofs.HeadLemmas.{any_file}

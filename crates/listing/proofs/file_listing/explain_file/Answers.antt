@@ -4,9 +4,9 @@ use Rattle.limits.specs.declared.TheConstants.{SLOTS}
 use Rattle.decode.specs.Slots.{slots_of}
 use Rattle.listing.specs.Listing as flat
 use Rattle.verifier.specs.ImageFile as file
-use Rattle.images.specs.SpanFile.{magic_3}
-use Rattle.images.specs.ImageFile.{IsUnread}
-use Rattle.images.proofs.Files.{flat_unread}
+use Rattle.verifier.specs.Span.File.{magic_3}
+use Rattle.verifier.specs.AnyFile.{IsUnread}
+use Rattle.verifier.proofs.AnyFiles.{flat_unread}
 use Rattle.listing.specs.FileListing.{IsFileExplained}
 use Rattle.listing.proofs.Forms.{begins_otherwise, flat_form, short_file, spans_file}
 use Rattle.listing.proofs.file_listing.explain_file.Goals as goal

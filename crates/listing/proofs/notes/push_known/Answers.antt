@@ -4,7 +4,7 @@ use Rattle.std.specs.Option.{option_map}
 use Rattle.std.proofs.lemmas.Result.{on_ok_weaker}
 use Rattle.limits.specs.declared.TheConstants.{REGISTERS}
 use Rattle.spans.specs.Frame.{kind_at}
-use Rattle.span_verifier.specs.Transfer.{frame_of}
+use Rattle.verifier.specs.Span.Transfer.{frame_of}
 use Rattle.listing.specs.Listing.{texts_below}
 use Rattle.listing.proofs.Texts.{joined, texts_more, texts_none}
 use Rattle.listing.specs.SpanListing.{known_text, register_text, stack_text}

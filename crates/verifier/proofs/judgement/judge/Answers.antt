@@ -4,17 +4,19 @@ use mir.Syntax.{w32}
 use Rattle.std.proofs.lemmas.Int.{to_z-of_z}
 use Rattle.decode.specs.Slots.{insn_at}
 use Rattle.regtypes.specs.Typing.{frame_at}
-use Rattle.verifier.proofs.LeastTypings.{frame_is, insn_is, leaves_short, least_skip, breaks_flow, breaks_local, step_ends, step_leaps, step_falls, step_forks}
+use Rattle.verifier.proofs.LeastTypings.{flat_laws, frame_is, insn_is, leaves_short, breaks_flow, breaks_local, step_ends, step_leaps, step_falls, step_forks}
+use Rattle.verifier.specs.Least.{flat_form}
+use Rattle.verifier.proofs.Passes.{least_skip}
 use Rattle.verifier.proofs.judgement.judge.Goals as goal
 
 pub returns-in-None-clause-judged : goal.returns-in-None-clause-judged
 returns-in-None-clause-judged c =
-    least_skip c.args.form c.args.slots.now c.args.state_len c.args.slot c.args.table.now c.requires.least (frame_is c.args.table.now c.args.slot ∙ c.in-None.is)
+    least_skip (flat_form c.args.form c.args.state_len c.args.slots.now) (flat_laws c.args.form c.args.state_len c.args.slots.now) c.args.slot (frame_at c.args.table.now) c.requires.least (frame_is c.args.table.now c.args.slot ∙ c.in-None.is)
 
 pub unreachable-requires : goal.unreachable-requires
 unreachable-requires c =
     let there : frame_at c.args.table.now c.args.slot ≡ Some c.in-Some.frame = frame_is c.args.table.now c.args.slot ∙ c.in-Some.is in
-    let b = c.requires.least.types.begins c.args.slot c.in-Some.frame there in
+    let b = (c.requires.least.types.stands c.args.slot c.in-Some.frame there).begins in
     let h : insn_at c.args.slots.now c.args.slot ≡ None = insn_is c.args.slots.now c.args.slot _ None c.requires.within c.in-None-slots.is in
     let e = b.1 in
     cc
@@ -67,22 +69,22 @@ pub merge-requires-clause-short : goal.merge-requires-clause-short
 merge-requires-clause-short c =
     let there : frame_at c.args.table.now c.args.slot ≡ Some c.in-Some.frame = frame_is c.args.table.now c.args.slot ∙ c.in-Some.is in
     let t = c.in-Ok.ensures in
-    (leaves_short c.in-Some-slots.insn c.in-Some.frame c.in-Ok.left.next c.in-Ok.left.taken (c.requires.least.types.short c.args.slot c.in-Some.frame there) t.1 t.2).1
+    (leaves_short c.in-Some-slots.insn c.in-Some.frame c.in-Ok.left.next c.in-Ok.left.taken (c.requires.least.types.stands c.args.slot c.in-Some.frame there).short t.1 t.2).1
 
 pub merge-requires-in-Falls-clause-short : goal.merge-requires-in-Falls-clause-short
 merge-requires-in-Falls-clause-short c =
     let there : frame_at c.args.table.now c.args.slot ≡ Some c.in-Some.frame = frame_is c.args.table.now c.args.slot ∙ c.in-Some.is in
     let t = c.in-Ok.ensures in
-    (leaves_short c.in-Some-slots.insn c.in-Some.frame c.in-Ok.left.next c.in-Ok.left.taken (c.requires.least.types.short c.args.slot c.in-Some.frame there) t.1 t.2).0
+    (leaves_short c.in-Some-slots.insn c.in-Some.frame c.in-Ok.left.next c.in-Ok.left.taken (c.requires.least.types.stands c.args.slot c.in-Some.frame there).short t.1 t.2).0
 
 pub merge-requires-in-Forks-clause-short : goal.merge-requires-in-Forks-clause-short
 merge-requires-in-Forks-clause-short c =
     let there : frame_at c.args.table.now c.args.slot ≡ Some c.in-Some.frame = frame_is c.args.table.now c.args.slot ∙ c.in-Some.is in
     let t = c.in-Ok.ensures in
-    (leaves_short c.in-Some-slots.insn c.in-Some.frame c.in-Ok.left.next c.in-Ok.left.taken (c.requires.least.types.short c.args.slot c.in-Some.frame there) t.1 t.2).0
+    (leaves_short c.in-Some-slots.insn c.in-Some.frame c.in-Ok.left.next c.in-Ok.left.taken (c.requires.least.types.stands c.args.slot c.in-Some.frame there).short t.1 t.2).0
 
 pub merge-requires-in-Forks-2-clause-short : goal.merge-requires-in-Forks-2-clause-short
 merge-requires-in-Forks-2-clause-short c =
     let there : frame_at c.args.table.now c.args.slot ≡ Some c.in-Some.frame = frame_is c.args.table.now c.args.slot ∙ c.in-Some.is in
     let t = c.in-Ok.ensures in
-    (leaves_short c.in-Some-slots.insn c.in-Some.frame c.in-Ok.left.next c.in-Ok.left.taken (c.requires.least.types.short c.args.slot c.in-Some.frame there) t.1 t.2).1
+    (leaves_short c.in-Some-slots.insn c.in-Some.frame c.in-Ok.left.next c.in-Ok.left.taken (c.requires.least.types.stands c.args.slot c.in-Some.frame there).short t.1 t.2).1

@@ -1,11 +1,15 @@
-use Rattle.std.proofs.Common.{◌≡◌, ℕ, List, Option, Some, None, sym, ap, ◌∙◌, subst, refl}
+use Rattle.std.proofs.Common.{rules, ◌≡◌, ℕ, List, [], ◌∷◌, Option, Some, None, length, inr, sym, ap, ◌∙◌, subst, refl, arith}
+use Rattle.std.proofs.lemmas.Grind.{common_steps}
 use Rattle.decode.specs.declared.insn.Insn.{Insn}
 use Rattle.decode.specs.Slots.{slots_of}
 use Rattle.regtypes.specs.declared.image_form.ImageForm.{ImageForm}
 use Rattle.regtypes.specs.declared.rule.Rule.{Rule}
+use Rattle.regtypes.specs.declared.rule.Rule.TheVariants.{V2}
 use Rattle.regtypes.specs.Typing.{Table, IsTyping}
 use Rattle.verifier.specs.Dense.{IsDense}
-use Rattle.verifier.specs.Least.{IsLeast, IsLeastTyping}
+use Rattle.verifier.specs.Least.{IsLeastTyping, flat_form}
+use Rattle.verifier.proofs.LeastTypings.{flat_laws, typing_of}
+use Rattle.verifier.proofs.Passes.{fault}
 use Rattle.verifier.specs.Verdict.{IsFault, IsJudged}
 use Rattle.verifier.proofs.verification.verify_encoded.Goals as goal
 
@@ -14,15 +18,25 @@ typed form code code' len table refusal n e h = subst (λ c. IsLeastTyping form 
 
 faulty : (form : ImageForm) (code code' : List Insn) (len : ℕ) (table : Table) (refusal : Option (Rule × ℕ)) (rule : Rule) (slot : ℕ) → refusal ≡ Some (rule, slot) → code ≡ code' → IsJudged form code len table refusal → IsFault form code' len rule slot
 faulty form code code' len table refusal rule slot n e h =
-    let k : IsLeast form (slots_of code) len slot table × IsFault form code len rule slot = subst (IsJudged form code len table) n h in
+    let k = subst (IsJudged form code len table) n h in
     subst (λ c. IsFault form c len rule slot) e k.1
+
+no_slot : (code : List Insn) → length code ≡ 0 → length (slots_of code) ≡ 0
+no_slot [] h = refl
+no_slot (i ∷ is) h = absurd (omega arith)
+
+pub returns-then-is_empty : goal.returns-then-is_empty
+returns-then-is_empty c =
+    let slots = slots_of c.args.code.items in
+    let empty : length c.args.code.items ≡ 0 = first_of (search rules, grind (arith, common_steps)) in
+    fault (flat_form c.args.form c.args.state_len slots) (flat_laws c.args.form c.args.state_len slots) V2 0 (inr (no_slot c.args.code.items empty, refl, refl))
 
 pub compile-requires-clause-typing : goal.compile-requires-clause-typing
 compile-requires-clause-typing c =
     let f = c.in-Ok.found in
     let l = typed c.args.form c.deref.result.now c.args.code.items c.args.state_len f.table.items f.refusal c.in_default.is c.deref.ensures.value c.in-Ok.ensures.judged in
     let e : f.slots.items ≡ slots_of c.args.code.items = c.in-Ok.ensures.slots ∙ ap slots_of c.deref.ensures.value in
-    (c.args.form, subst (λ s. IsTyping c.args.form s c.args.state_len c.deref-3.result.now) (sym (c.deref-2.ensures.value ∙ e)) (subst (λ t. IsTyping c.args.form (slots_of c.args.code.items) c.args.state_len t) (sym c.deref-3.ensures.value) l.types))
+    (c.args.form, subst (λ s. IsTyping c.args.form s c.args.state_len c.deref-3.result.now) (sym (c.deref-2.ensures.value ∙ e)) (subst (λ t. IsTyping c.args.form (slots_of c.args.code.items) c.args.state_len t) (sym c.deref-3.ensures.value) (typing_of c.args.form c.args.state_len (slots_of c.args.code.items) (length (slots_of c.args.code.items)) f.table.items l.types)))
 
 pub invariant_of-result : goal.invariant_of-result
 invariant_of-result c =

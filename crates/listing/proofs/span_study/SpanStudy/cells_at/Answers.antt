@@ -2,7 +2,7 @@ use Rattle.std.proofs.Common.{◌≡◌, ◌∙◌, ◌≤◌, ap, arith, get_or
 use Rattle.std.specs.Prelude.{None, Some, slice_get}
 use Rattle.std.specs.Option.{option_map, unwrap_or}
 use Rattle.std.proofs.lemmas.Option.{unwrap_or-slice_get}
-use Rattle.span_verifier.specs.Transfer.{frame_of}
+use Rattle.verifier.specs.Span.Transfer.{frame_of}
 use Rattle.listing.proofs.span_study.SpanStudy.cells_at.Goals as goal
 
 pub returns-in-Some-Some : goal.returns-in-Some-Some

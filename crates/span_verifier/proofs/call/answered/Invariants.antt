@@ -1,8 +1,0 @@
-use Rattle.std.proofs.Common.{◌≡◌, length}
-use Rattle.spans.specs.Frame.{kind_at}
-use Rattle.spans.specs.Ways.{behind_helper}
-use Rattle.span_verifier.proofs.KindLemmas.{Filled}
-use Rattle.span_verifier.proofs.call.answered.Given as goal
-
-abbrev pub invariant-loop-cell : goal.invariant-loop-cell
-invariant-loop-cell l = (length l.kinds ≡ 75) × Filled l.kinds (behind_helper (kind_at l.frame.kinds)) l.cell

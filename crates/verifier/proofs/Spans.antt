@@ -1,0 +1,16 @@
+pub mod KindLemmas
+pub mod Exact
+pub mod Ones
+pub mod Erasure
+pub mod Words
+pub mod Stores
+pub mod Forms
+pub mod Passes
+pub mod Slots
+pub mod AluForms
+pub mod FlatFrames
+pub mod FlatMemory
+pub mod FlatRules
+pub mod FlatTypings
+pub mod Files
+pub mod FlatFiles

@@ -1,0 +1,155 @@
+-- Form 3 keeps the laws that make one pass decide.
+use Rattle.std.proofs.Common.{◌≡◌, ℕ, ◌+◌, ◌≤◌, ◌≤ℤ◌, ℤ, List, length, Option, Some, None, refl, ap, ◌∙◌, subst, arith}
+use Rattle.std.specs.Option.{option_or}
+use Rattle.std.proofs.lemmas.Int.{ints}
+use Rattle.decode.specs.declared.insn.Insn.{Insn}
+use Rattle.decode.specs.Slots.{insn_at, size_of}
+use Rattle.regtypes.specs.declared.rule.Rule.{Rule}
+use Rattle.regtypes.specs.Flow.{flow_of}
+use Rattle.regtypes.specs.Rules.{first_broken}
+use Rattle.regtypes.specs.Typing.{flow_tests}
+use Rattle.regtypes.proofs.Typings.{within}
+use Rattle.spans.specs.declared.span.Span.{Span}
+use Rattle.spans.specs.declared.kind.Reach.{Reach}
+use Rattle.spans.specs.declared.kind.SpanKind.{SpanKind}
+use Rattle.spans.specs.declared.kind.SpanKind.TheVariants.{Unset, Num, Place}
+use Rattle.spans.specs.Frame.{Frame, IsFrame, Leq, LeqKind}
+use Rattle.spans.specs.Ways.{LeqWay}
+use Rattle.spans.proofs.Order.{Leq-refl, Leq-trans}
+use Rattle.spans.proofs.Monotone.{monotone}
+use Rattle.verifier.specs.Span.Rules.{broken_rule, frame_pointer_rule, frame_rule}
+use Rattle.verifier.proofs.Spans.Exact.{both, exact}
+use Rattle.spans.specs.Typing.{Table, IsAllowed, IsTyping, target}
+use Rattle.spans.specs.Typing as calls
+use Rattle.spans.proofs.CallEntry.{calls-shown}
+use Rattle.verifier.specs.Form.{Below, IsForm}
+use Rattle.verifier.specs.Span.Typing.{IsPlaced, broken_at, span_form, IsTyped}
+use Rattle.verifier.specs.Span.Laws.{AreTypedCallsShown, AreTypings, IsOneRefusal}
+use Rattle.verifier.proofs.Passes.{one_refusal}
+
+-- ---- order
+
+same_reach : (s t : Reach) → t.lo ≤ℤ s.lo → s.hi ≤ℤ t.hi → s.lo ≤ℤ t.lo → t.hi ≤ℤ s.hi → s ≡ t
+same_reach s t a b c d =
+    let low = meet s.lo t.lo c a in
+    let high = meet s.hi t.hi b d in
+    λ i. record { lo = low i; hi = high i }
+  where
+    meet : (x y : ℤ) → x ≤ℤ y → y ≤ℤ x → x ≡ y
+    meet x y l m = grind (arith, ints)
+
+same_span : (s t : Span) → t.lo ≤ s.lo → s.hi ≤ t.hi → s.lo ≤ t.lo → t.hi ≤ s.hi → s ≡ t
+same_span s t a b c d =
+    let low : s.lo ≡ t.lo = omega arith in
+    let high : s.hi ≡ t.hi = omega arith in
+    λ i. record { lo = low i; hi = high i }
+
+-- kinds of which each says what the other says are one
+same_kind : (a b : SpanKind) → LeqKind a b → LeqKind b a → a ≡ b
+same_kind Unset Unset l m = refl
+same_kind Unset (Num t) l m = absurd l
+same_kind Unset (Place q t) l m = absurd l
+same_kind (Num s) Unset l m = absurd m
+same_kind (Num s) (Num t) l m = ap (λ x. Num x) (same_span s t l.0 l.1 m.0 m.1)
+same_kind (Num s) (Place q t) l m = absurd l
+same_kind (Place r s) Unset l m = absurd m
+same_kind (Place r s) (Num t) l m = absurd l
+same_kind (Place r s) (Place q t) l m =
+    let regions = l.0 in
+    let reaches = same_reach s t l.1.0 l.1.1 m.1.0 m.1.1 in
+    λ i. Place (regions i) (reaches i)
+
+pub Leq-antisym : (f g : Frame) → Leq f g → Leq g f → f ≡ g
+Leq-antisym f g l m = λ i c. same_kind (f c) (g c) (l c) (m c) i
+
+-- ---- ways
+
+module _ (state : ℕ) (slots : List (Option Insn)) where
+  -- what a way leaves that fits a table fits one above it
+  pub way_above : (a b : Table) → Below (span_form state slots) a b → (t : ℕ) (w : Option Frame) → calls.Enters a t w → calls.Enters b t w
+  way_above a b le t None h = tt
+  way_above a b le t (Some g) h = let k = le t h.0 h.1 in (k.0, k.1, Leq-trans g h.0 k.0 h.2 k.2)
+
+  allowed_above : (a b : Table) (s : ℕ) (f : Frame) → Below (span_form state slots) a b → IsAllowed state (length slots) (insn_at slots) a s f → IsAllowed state (length slots) (insn_at slots) b s f
+  allowed_above a b s f le h = record {
+    insn = h.insn;
+    ways = h.ways;
+    there = h.there;
+    before = h.before;
+    later = h.later;
+    fits = h.fits;
+    frame = h.frame;
+    leaves = h.leaves;
+    goes = way_above a b le (s + size_of h.insn) h.ways.0 h.goes;
+    leaps = way_above a b le (target s h.insn) h.ways.1 h.leaps;
+  }
+
+-- a way that leaves more fits wherever one that leaves less does
+way_weaker : (table : Table) (t : ℕ) (v w : Option Frame) → LeqWay v w → calls.Enters table t w → calls.Enters table t v
+way_weaker table t None w l h = tt
+way_weaker table t (Some f) None l h = absurd l
+way_weaker table t (Some f) (Some g) l h = (h.0, h.1, Leq-trans f g h.0 l h.2)
+
+module _ (state : ℕ) (slots : List (Option Insn)) where
+  allowed_weaker : (t : Table) (s : ℕ) (f g : Frame) → IsFrame f → IsFrame g → Leq f g → IsAllowed state (length slots) (insn_at slots) t s g → IsAllowed state (length slots) (insn_at slots) t s f
+  allowed_weaker t s f g ff fg le h =
+      let k = monotone state h.insn f g h.ways ff fg le h.leaves in
+      record {
+        insn = h.insn;
+        ways = k.0;
+        there = h.there;
+        before = h.before;
+        later = h.later;
+        fits = h.fits;
+        frame = ff;
+        leaves = k.1.0;
+        goes = way_weaker t (s + size_of h.insn) k.0.0 h.ways.0 k.1.1.0 h.goes;
+        leaps = way_weaker t (target s h.insn) k.0.1 h.ways.1 k.1.1.1 h.leaps;
+      }
+
+  -- an instruction that keeps V1, V2 and V4 and breaks no rule that asks a frame breaks none
+  pub none_broken : (s : ℕ) (i : Insn) (f : Frame) → (first_broken (flow_tests slots s (flow_of i)) ≡ None) × (frame_pointer_rule i ≡ None) → frame_rule state i f ≡ None → broken_at state slots s (Some i) f ≡ None
+  none_broken s i f p r = ap (λ o. option_or o (broken_rule state i f)) p.0 ∙ both (frame_pointer_rule i) (frame_rule state i f) p.1 r
+
+  not_allowed : (t : Table) (s : ℕ) (f : Frame) (rule : Rule) → broken_at state slots s (insn_at slots s) f ≡ Some rule → IsAllowed state (length slots) (insn_at slots) t s f → IsPlaced slots s → ⊥
+  not_allowed t s f rule e a p =
+      let r = ((exact state a.insn f).1 a.ways a.leaves).0 in
+      let none = none_broken s a.insn f (p a.insn a.there) r in
+      let some : broken_at state slots s (Some a.insn) f ≡ Some rule = subst (λ o. broken_at state slots s o f ≡ Some rule) a.there e in
+      cc
+
+  pub form_3 : IsForm (span_form state slots)
+  form_3 = record {
+    reflexive = Leq-refl;
+    transitive = Leq-trans;
+    antisymmetric = λ s f g a b. Leq-antisym f g;
+    within = λ s f a. within slots s a.1.0 a.1.1;
+    above = λ a b s f le h. (allowed_above state slots a b s f le h.0, h.1);
+    monotone = λ t s f g a b le h. (allowed_weaker t s f g a.0 b.0 le h.0, h.1);
+    refused = λ t s f rule e h. not_allowed t s f rule e h.0 h.1;
+  }
+
+-- ---- laws
+
+-- a typing of form 3 is one of calls
+pub typing_of : (state : ℕ) (slots : List (Option Insn)) (table : Table) → IsTyped state slots table → IsTyping state (length slots) (insn_at slots) table
+typing_of state slots table h = record {
+  start = h.start;
+  each = λ s f e. let b = (h.stands s f e).1 in (h.allowed s f (within slots s b.0 b.1) e).0;
+}
+
+pub are_typings : AreTypings
+are_typings state slots table = (
+  (λ h. (typing_of state slots table h, (λ s f e. let b = (h.stands s f e).1 in (h.allowed s f (within slots s b.0 b.1) e).1))),
+  (λ h. record {
+    start = h.0.start;
+    stands = λ s f e. let a = h.0.each s f e in (a.frame, (a.insn, a.there));
+    allowed = λ s f lt e. (h.0.each s f e, h.1 s f e);
+  }),
+)
+
+pub typed_calls : AreTypedCallsShown
+typed_calls state long message bytes slots table reply size typed = calls-shown state (length slots) long message bytes (insn_at slots) table reply size (typing_of state slots table typed)
+
+pub one_refusal_3 : IsOneRefusal
+one_refusal_3 state slots = one_refusal (span_form state slots) (form_3 state slots)

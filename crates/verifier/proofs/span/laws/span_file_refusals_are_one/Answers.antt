@@ -1,0 +1,5 @@
+use Rattle.verifier.proofs.Spans.Files.{one_file_refusal}
+use Rattle.verifier.proofs.span.laws.span_file_refusals_are_one.Goals as goal
+
+pub returns : goal.returns
+returns c = one_file_refusal

@@ -1,0 +1,12 @@
+pub mod Rules
+pub mod Ways
+pub mod Exactness
+pub mod Transfer
+pub mod Typing
+pub mod Verdict
+pub mod Laws
+pub mod FlatFrames
+pub mod FlatLaws
+pub mod Typed
+pub mod File
+pub mod FlatFiles
