@@ -2,11 +2,11 @@
 
 ghost use Rattle.std.specs.Prelude.{◌≡◌, ◌↔◌, length, IsTrue};
 ghost use Rattle.std.specs.Arc.{arc_value};
-ghost use Rattle.handlers.specs.Answer.{MayRunAs};
-ghost use Rattle.handlers.specs.Handler.{image_of};
+ghost use Rattle.interp.specs.Answer.{MayRunAs};
+ghost use Rattle.interp.specs.Handler.{image_of};
 ghost use Rattle.images.specs.AnyImage.{state_of};
 
-use handlers::Handler;
+use interp::Handler;
 use helpers::{Payload, Who};
 use std::marker::Model;
 use std::sync::Arc;
@@ -33,7 +33,7 @@ pub struct HandlerCall {
 impl Model for HandlerCall {
     ghost use Rattle.std.specs.Prelude.{◌≡◌, length};
     ghost use Rattle.std.specs.Arc.{arc_value};
-    ghost use Rattle.handlers.specs.Handler.{image_of};
+    ghost use Rattle.interp.specs.Handler.{image_of};
     ghost use Rattle.process.specs.Job.{TheJob, IsCallable};
 
     ghost Value = { TheJob };
