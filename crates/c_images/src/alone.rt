@@ -6,8 +6,8 @@ ghost use Rattle.c_images.specs.Calls.{IsReported, IsSeat};
 
 use crate::calls::MESSAGE;
 use crate::report::{REPORT_LIMIT, put_report};
-use interp::Handler;
 use helpers::{Effects, Payload, Who};
+use interp::Handler;
 
 /// Calls the handler with one message, and writes its report at `at`. Answers the place after it.
 /// Drops what an earlier call emitted.

@@ -9,9 +9,9 @@ use crate::alone::call_alone;
 use crate::handler::OpenHandler;
 use crate::refusal::{ImageRefusal, refused_rule, refused_slot};
 use crate::report::{FAULT_SIZE, REPORT_LIMIT, put_fault};
-use interp::Handler as AnyHandler;
 use helpers::{Effects, Who};
 use images::{FileForm, load};
+use interp::Handler as AnyHandler;
 use limits::PROCESSES;
 use std::alloc::Global;
 

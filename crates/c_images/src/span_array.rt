@@ -8,8 +8,8 @@ ghost use Rattle.c_images.specs.Calls.{AreReported, IsSeat};
 use crate::calls::MESSAGE;
 use crate::message::message_at;
 use crate::report::{REPORT_LIMIT, put_report};
-use interp::{Program, span_call_flat, span_fill, span_refill, span_take};
 use helpers::{Effects, Who};
+use interp::{Program, span_call_flat, span_fill, span_refill, span_take};
 
 /// Calls the handler with the message in the array, and writes its report at `at`. Answers the
 /// place after it. Drops what an earlier call emitted.

@@ -13,11 +13,11 @@ use Rattle.decode.specs.declared.insn.Reg.{Reg}
 use Rattle.decode.specs.declared.insn.Insn.{Insn}
 use Rattle.decode.specs.declared.insn.Insn.TheVariants.{Alu, MovSx, Neg, End, Jump, JumpLong, JumpIf, Call, Exit, Load, LoadSx, StoreReg, StoreImm, Wide}
 use Rattle.decode.specs.Slots.{insn_at}
-use Rattle.regtypes.specs.declared.form.Form.{Form}
-use Rattle.regtypes.specs.declared.form.Form.TheVariants as form
-use Rattle.regtypes.specs.Form.{form_of}
-use Rattle.regtypes.specs.Attributes.{alu_attributes}
-use Rattle.regtypes.specs.Flow.{flow_of}
+use Rattle.decode.specs.declared.alu_form.Form.{Form}
+use Rattle.decode.specs.declared.alu_form.Form.TheVariants as form
+use Rattle.decode.specs.AluForm.{form_of}
+use Rattle.decode.specs.Attributes.{alu_attributes}
+use Rattle.decode.specs.Flow.{flow_of}
 use Rattle.regtypes.specs.Rules.{first_broken, is_frame_pointer}
 use Rattle.regtypes.specs.Typing.{flow_tests, is_target}
 use Rattle.regtypes.proofs.Monotone.{none_holds}

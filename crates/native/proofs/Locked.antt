@@ -12,7 +12,7 @@ use Rattle.decode.specs.Encoding.{bytes_in, loaded}
 use Rattle.operations.specs.Operations.{extension_of, negation_of, reorder_of, holds, sign_extension_of}
 use Rattle.regtypes.specs.declared.frame.Region.{Region}
 use Rattle.regtypes.specs.declared.frame.Region.TheVariants.{Message, State, Stack}
-use Rattle.regtypes.specs.Form.{form_of}
+use Rattle.decode.specs.AluForm.{form_of}
 use Rattle.regtypes.specs.Rules.{is_frame_pointer}
 use Rattle.spans.specs.declared.kind.SpanKind.{SpanKind}
 use Rattle.spans.specs.declared.kind.SpanKind.TheVariants.{Unset, Num, Place}

@@ -20,17 +20,18 @@ use Rattle.regtypes.specs.declared.image_form.ImageForm.TheVariants.{Sbi1, Sbi2}
 use Rattle.regtypes.specs.declared.frame.Kind.{Kind}
 use Rattle.regtypes.specs.declared.frame.Kind.TheVariants.{Unset, Num, Len, Place}
 use Rattle.regtypes.specs.declared.frame.Frame.{Frame}
-use Rattle.regtypes.specs.declared.flow.Flow.{Flow}
-use Rattle.regtypes.specs.declared.flow.Flow.TheVariants as flow
+use Rattle.decode.specs.declared.flow.Flow.{Flow}
+use Rattle.decode.specs.declared.flow.Flow.TheVariants as flow
 use Rattle.regtypes.specs.Frame.{kind_at, is_num, entry_frame, LeqKind}
-use Rattle.regtypes.specs.Flow.{flow_of, exits_by}
+use Rattle.decode.specs.Flow.{flow_of}
+use Rattle.regtypes.specs.Exits.{exits_by}
 use Rattle.regtypes.specs.Ways.{after, given, next, taken}
 use Rattle.regtypes.specs.Rules.{is_unset, is_place, is_frame_pointer, has}
 use Rattle.regtypes.specs.Typing.{Table, frame_at, Enters, IsTyping, is_target}
-use Rattle.regtypes.specs.declared.form.Form.{Form}
-use Rattle.regtypes.specs.declared.form.Form.TheVariants.{Copies, Moves, Sets, Computes}
-use Rattle.regtypes.specs.Form.{form_of}
-use Rattle.regtypes.specs.Attributes.{attributes_of, alu_attributes}
+use Rattle.decode.specs.declared.alu_form.Form.{Form}
+use Rattle.decode.specs.declared.alu_form.Form.TheVariants.{Copies, Moves, Sets, Computes}
+use Rattle.decode.specs.AluForm.{form_of}
+use Rattle.decode.specs.Attributes.{attributes_of, alu_attributes}
 use Rattle.regtypes.proofs.Parts.{jump_tests, writes_frame_pointer}
 use Rattle.regtypes.proofs.Monotone.{after_cases, none_holds}
 use Rattle.verifier.specs.Least.{IsLeastTyping}

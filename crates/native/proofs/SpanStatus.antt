@@ -33,7 +33,7 @@ use Rattle.spans.proofs.CallEntry.{messages-kept}
 use Rattle.spans.proofs.Runs.{runs}
 use Rattle.span_verifier.specs.Typing.{IsTyped}
 use Rattle.span_verifier.proofs.Forms.{typing_of}
-use Rattle.regtypes.specs.Flow.{flow_of}
+use Rattle.decode.specs.Flow.{flow_of}
 use Rattle.regtypes.specs.Rules.{first_broken}
 use Rattle.regtypes.specs.Typing.{flow_tests}
 use Rattle.span_verifier.specs.Rules.{frame_pointer_rule}

@@ -8,8 +8,8 @@ ghost use Rattle.native.specs.HandlerCode.{IsCode};
 use crate::handler_code::Code;
 use crate::image_code::compile;
 use crate::span_image_code::span_compile;
-use interp::Handler;
 use images::SpanImage;
+use interp::Handler;
 use std::alloc::{AllocError, Global};
 use verifier::Image;
 

@@ -6,11 +6,11 @@ ghost use Rattle.native.specs.Fusion as specs;
 ghost use Rattle.native.specs.Targets.{targets_in};
 
 use crate::body::{gpr, number};
-use decode::{AluOp, Operand, Reg, Width};
-use limits::SLOTS;
 use crate::eligibility::holds_word;
 use crate::slot_tasks::task_at;
 use crate::task::SlotTask;
+use decode::{AluOp, Operand, Reg, Width};
+use limits::SLOTS;
 use x86::Instr;
 
 fn is_target(targets: &[bool], slot: usize) -> bool

@@ -4,11 +4,11 @@ ghost use Rattle.std.specs.Prelude.{IfOk};
 ghost use Rattle.native.specs.SpanCorrect.{IsSpanNative};
 ghost use Rattle.native.specs.SpanWritten.{IsCodeOf};
 
+use crate::image_code::write_tasks;
+use crate::prologue::Opening;
 use crate::span_slot_tasks::tasks_of;
 use decode::lay_out;
 use images::SpanImage;
-use crate::image_code::write_tasks;
-use crate::prologue::Opening;
 use std::alloc::{AllocError, Global};
 
 /// The machine code of an image. It fails only if memory runs out.

@@ -6,9 +6,9 @@ ghost use Rattle.decode.specs.declared.insn.Insn.TheVariants as insn;
 ghost use Rattle.spans.specs.Concrete.{array_size};
 ghost use Rattle.native.specs.SpanTasks as specs;
 
+use crate::task::SlotTask;
 use decode::{Insn, Operand, Reg, SignedSize, Size};
 use limits::{SLOTS, STACK_BYTES, STATE_BYTES};
-use crate::task::SlotTask;
 use operations::word_of_imm;
 use std::alloc::{AllocError, Global};
 

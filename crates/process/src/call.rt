@@ -6,8 +6,8 @@ ghost use Rattle.interp.specs.Answer.{MayRunAs};
 ghost use Rattle.interp.specs.Handler.{image_of};
 ghost use Rattle.images.specs.AnyImage.{state_of};
 
-use interp::Handler;
 use helpers::{Payload, Who};
+use interp::Handler;
 use std::marker::Model;
 use std::sync::Arc;
 

@@ -7,11 +7,11 @@ ghost use Rattle.interp.specs.Configuration.{IsLong};
 ghost use Rattle.interp.specs.Answer.{shown};
 ghost use Rattle.process.specs.Job.{IsLaid};
 
-use interp::Program;
+use dense::ARRAY_BYTES;
 use helpers::Payload;
+use interp::Program;
 use limits::MEMORY_BYTES;
 use regtypes::ImageForm;
-use dense::ARRAY_BYTES;
 use verifier::Image;
 
 /// The bytes of a payload that a handler of form 1 or 2 sees.

@@ -10,8 +10,8 @@ ghost use Rattle.process.specs.Revival.{IsOpened, IsRevived, IsUnopened, IsUnrev
 
 use crate::fault::Unrevived;
 use crate::lifecycle::Lifecycle;
-use interp::Handler;
 use helpers::{Effects, Refused};
+use interp::Handler;
 use node::{Limits, Node};
 use packets::{Kept, KeptError, KeptFault, NUMBER_LIMIT, decode_kept};
 use recovery::{Collecting, comes_back};

@@ -10,8 +10,8 @@ ghost use Rattle.process.specs.Bounds.{IsBounded, waiting_of};
 
 use crate::lifecycle::Lifecycle;
 use crate::process::Member;
-use interp::Handler;
 use helpers::Refused;
+use interp::Handler;
 use limits::PROCESSES;
 use node::{MOST_GIVEN, MOST_KEPT, Stage, Standing};
 use packets::NodePacket;

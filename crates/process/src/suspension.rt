@@ -9,8 +9,8 @@ ghost use Rattle.process.specs.Suspension.{MaySuspend, Suspends, error_of, IsRes
 
 use crate::lifecycle::Lifecycle;
 use crate::process::Member;
-use interp::Handler;
 use helpers::{Effects, Refused};
+use interp::Handler;
 use limits::STATE_BYTES;
 use node::{Limits, Node, Unsuspended};
 use recovery::{Unresumed, resume};

@@ -5,8 +5,8 @@ ghost use Rattle.interp.specs.Image.{image_in, the_image};
 ghost use Rattle.machine.specs.Arrival.{Finishes};
 ghost use Rattle.sessions.specs.Job.{IsAnswer, answer_of, completed};
 
-use interp::{CallEnd, Handler};
 use helpers::Effects;
+use interp::{CallEnd, Handler};
 use limits::ENTRIES;
 use machine::{Completion, Finished, Invocation, Machine, Serial};
 use replay::Task;

@@ -10,9 +10,9 @@ ghost use Rattle.span_verifier.specs.Least.{IsLeast};
 
 use crate::propagation::spread;
 use crate::ways::{SpanLeaving, transfer};
-use decode::Insn;
+use decode::{Insn, flow_from};
 use limits::SLOTS;
-use regtypes::{Rule, flow_from, leads};
+use regtypes::{Rule, leads};
 use spans::Cells;
 use std::alloc::{AllocError, Global};
 

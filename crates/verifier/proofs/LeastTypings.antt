@@ -16,9 +16,10 @@ use Rattle.regtypes.specs.Frame.{entry_frame, Leq}
 use Rattle.regtypes.specs.Rules.{Tests, first_broken, tests_of}
 use Rattle.regtypes.specs.Ways.{shown, next, taken}
 use Rattle.decode.specs.declared.insn.Insn.TheVariants.{Alu, MovSx, Neg, End, Jump, JumpLong, JumpIf, Call, Exit, Load, LoadSx, StoreReg, StoreImm, Wide}
-use Rattle.regtypes.specs.declared.flow.Flow.{Flow}
-use Rattle.regtypes.specs.declared.flow.Flow.TheVariants.{Ends, Leaps, Forks, Falls}
-use Rattle.regtypes.specs.Flow.{flow_of, exits, exits_by}
+use Rattle.decode.specs.declared.flow.Flow.{Flow}
+use Rattle.decode.specs.declared.flow.Flow.TheVariants.{Ends, Leaps, Forks, Falls}
+use Rattle.decode.specs.Flow.{flow_of}
+use Rattle.regtypes.specs.Exits.{exits, exits_by}
 use Rattle.regtypes.specs.Typing.{Table, frame_at, Enters, broken, flow_tests, TypesBelow, IsTyping}
 use Rattle.regtypes.proofs.Parts.{jump_tests}
 use Rattle.regtypes.proofs.Typings.{within, typing_keeps, typing_leads}

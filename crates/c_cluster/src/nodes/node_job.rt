@@ -11,10 +11,10 @@ use crate::nodes::outcome::left_in;
 use c_calls::nodes::fault::NodeFault;
 use c_calls::nodes::handle::NodeHandle;
 use c_handles::copy;
+use dense::ARRAY_BYTES;
 use interp::Handler;
 use limits::{STACK_BYTES, STATE_BYTES};
 use process::{HandlerJob, HandlerTicket, Member, Undone};
-use dense::ARRAY_BYTES;
 use std::alloc::Global;
 
 /// Where the state begins in the array of forms 1 and 2.

@@ -6,8 +6,8 @@ use Rattle.decode.specs.declared.insn.Width.{Width}
 use Rattle.decode.specs.declared.insn.Width.TheVariants.{W64}
 use Rattle.decode.specs.declared.insn.Operand.{Operand}
 use Rattle.decode.specs.declared.insn.Operand.TheVariants as operand
-use Rattle.regtypes.specs.declared.form.Form.{Form}
-use Rattle.regtypes.specs.declared.form.Form.TheVariants.{Copies, Moves, Sets, Computes}
+use Rattle.decode.specs.declared.alu_form.Form.{Form}
+use Rattle.decode.specs.declared.alu_form.Form.TheVariants.{Copies, Moves, Sets, Computes}
 
 -- a 64-bit move copies a register, also a place; a 64-bit sum or difference with an immediate may move a place
 abbrev pub form_of : AluOp → Width → Operand → Form

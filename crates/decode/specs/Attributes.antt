@@ -7,10 +7,10 @@ use Rattle.decode.specs.declared.insn.Insn.{Insn}
 use Rattle.decode.specs.declared.insn.Insn.TheVariants.{Alu, MovSx, Neg, End, Jump, JumpLong, JumpIf, Call, Exit, Load, LoadSx, StoreReg}
 use Rattle.decode.specs.declared.insn.Insn.TheVariants.{StoreImm, Wide}
 use Rattle.decode.specs.Encoding.{bytes_in, loaded}
-use Rattle.regtypes.specs.declared.form.Form.{Form}
-use Rattle.regtypes.specs.declared.form.Form.TheVariants.{Copies, Moves, Sets, Computes}
-use Rattle.regtypes.specs.declared.attributes.Attributes.{Attributes}
-use Rattle.regtypes.specs.Form.{form_of}
+use Rattle.decode.specs.declared.alu_form.Form.{Form}
+use Rattle.decode.specs.declared.alu_form.Form.TheVariants.{Copies, Moves, Sets, Computes}
+use Rattle.decode.specs.declared.attributes.Attributes.{Attributes}
+use Rattle.decode.specs.AluForm.{form_of}
 
 -- the register that an operand reads; None for an immediate
 abbrev pub register_of : Operand → Option Reg

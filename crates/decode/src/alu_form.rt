@@ -1,9 +1,9 @@
 //! How arithmetic changes what is known of its destination.
 
 ghost use Rattle.std.specs.Prelude.{◌≡◌};
-ghost use Rattle.regtypes.specs.Form.{form_of};
+ghost use Rattle.decode.specs.AluForm.{form_of};
 
-use decode::{AluOp, Operand, Reg, Width};
+use crate::insn::{AluOp, Operand, Reg, Width};
 
 /// How arithmetic changes what is known of its destination.
 #[derive(Clone, Copy, Debug, PartialEq, Eq)]

@@ -1,9 +1,9 @@
 //! Where an instruction leads.
 
 ghost use Rattle.std.specs.Prelude.{◌≡◌};
-ghost use Rattle.regtypes.specs.Flow.{flow_of};
+ghost use Rattle.decode.specs.Flow.{flow_of};
 
-use decode::Insn;
+use crate::insn::Insn;
 
 /// Where an instruction leads. Distances count slots from the next slot.
 #[derive(Clone, Copy, Debug, PartialEq, Eq)]

@@ -2,10 +2,10 @@
 
 ghost use Rattle.std.specs.Prelude.{◌≡◌, ◌≤◌, Some};
 ghost use Rattle.decode.specs.Encoding.{bytes_in, loaded};
-ghost use Rattle.regtypes.specs.Attributes.{register_of, nothing, computes, loads, stores, alu_attributes, attributes_of};
+ghost use Rattle.decode.specs.Attributes.{register_of, nothing, computes, loads, stores, alu_attributes, attributes_of};
 
-use crate::form::{Form, form_from};
-use decode::{Insn, Operand, Reg, SignedSize, Size};
+use crate::alu_form::{Form, form_from};
+use crate::insn::{Insn, Operand, Reg, SignedSize, Size};
 
 /// The bytes that are read or written: at a register and an offset.
 #[derive(Clone, Copy, Debug, PartialEq, Eq)]
