@@ -319,7 +319,7 @@ shown_if x Len o le = inr (ap (λ k. cond (is_len k) o None) le)
 shown_if x (Place r k) o le = inl refl
 
 shown_kept : (met : Bool) (x : Option (Condition × Reg × ℤ)) (f g : List Kind) → LeqKinds f g → (shown_by met x g ≡ None) ⊎ (shown_by met x f ≡ shown_by met x g)
-shown_kept met (Some x) f g le = shown_if (kind_at f x.1.0.number) (kind_at g x.1.0.number) (least_shown met x.0 x.1.1) (le x.1.0.number)
+shown_kept met (Some x) f g le = shown_if (kind_at f x.1.number) (kind_at g x.1.number) (least_shown met x.0 x.2) (le x.1.number)
 shown_kept met None f g le = inl refl
 
 low_kept : (met : Bool) (i : Insn) (f g : Frame) → Leq f g → raised g.low (shown met i g.kinds) ≤ raised f.low (shown met i f.kinds)

@@ -65,7 +65,7 @@ compared i = None
 
 -- the least length of the message on a way of a comparison, if its length is compared
 abbrev pub shown_by : Bool → Option (Condition × Reg × ℤ) → List Kind → Option ℤ
-shown_by met (Some x) f = if is_len (kind_at f x.1.0.number) then least_shown met x.0 x.1.1 else None
+shown_by met (Some x) f = if is_len (kind_at f x.1.number) then least_shown met x.0 x.2 else None
 shown_by met None f = None
 
 -- the same on a way of an instruction
