@@ -13,10 +13,7 @@ use Rattle.decode.specs.declared.insn.Reg.{Reg}
 use Rattle.decode.specs.declared.insn.Insn.{Insn}
 use Rattle.decode.specs.declared.insn.Insn.TheVariants.{Alu, MovSx, Neg, End, Jump, JumpLong, JumpIf, Call, Exit, Load, LoadSx, StoreReg, StoreImm, Wide}
 use Rattle.decode.specs.Slots.{insn_at}
-use Rattle.decode.specs.declared.alu_form.Form.{Form}
-use Rattle.decode.specs.declared.alu_form.Form.TheVariants as form
 use Rattle.decode.specs.AluForm.{form_of}
-use Rattle.decode.specs.Attributes.{alu_attributes}
 use Rattle.decode.specs.Flow.{flow_of}
 use Rattle.regtypes.specs.Rules.{first_broken, is_frame_pointer}
 use Rattle.regtypes.specs.Typing.{flow_tests, is_target}
@@ -31,11 +28,8 @@ use Rattle.span_verifier.specs.Rules.{frame_pointer_rule}
 use Rattle.native.specs.declared.task.SlotTask.TheVariants as task
 use Rattle.native.specs.Tasks.{holds_word, is_word, is_read, is_eligible}
 use Rattle.native.specs.SpanTasks.{operand_in, stack_at, store_imm_task, store_task, task_in}
+use Rattle.native.proofs.Reached.{alu_written, both_true}
 use Rattle.native.proofs.SpanActs.{Lands, not_ten}
-
-both_true : (a b : Bool) → a ≡ true → b ≡ true → (a && b) ≡ true
-both_true true b e h = h
-both_true false b e h = cc
 
 -- ---- registers
 
@@ -46,12 +40,6 @@ some_none false x h = refl
 -- a register that isn't r10 holds a word
 holds : (r : Reg) → (r.number == 10) ≡ false → holds_word r.number ≡ true
 holds r h = let k = not_ten r h in grind (arith, nat_tests)
-
-pub alu_written : (f : Form) (dst : Reg) (o : Operand) → (alu_attributes f dst o).written ≡ Some dst
-alu_written (form.Copies src) dst o = refl
-alu_written (form.Moves z) dst o = refl
-alu_written form.Sets dst o = refl
-alu_written form.Computes dst o = refl
 
 -- an operand is an immediate or such a register
 operand_word : (len : ℕ) (o : Operand) → is_word (operand_in len o) ≡ true

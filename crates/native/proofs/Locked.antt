@@ -27,7 +27,8 @@ use Rattle.spans.specs.Concrete.{array_size}
 use Rattle.spans.specs.Shows.{Shows, ShowsWord}
 use Rattle.spans.specs.Typing.{Table}
 use Rattle.dense.specs.Machine.{machine}
-use Rattle.native.proofs.Allowed.{alu_written, some_none}
+use Rattle.native.proofs.Allowed.{some_none}
+use Rattle.native.proofs.Reached.{alu_written}
 
 -- ---- r10 stays where it is
 

@@ -144,7 +144,7 @@ module _ {form : ImageForm} {slots : List (Option Insn)} {len : ℕ} {table : Ta
 
 -- ---- registers that hold words
 
-both_true : (a b : Bool) → a ≡ true → b ≡ true → (a && b) ≡ true
+pub both_true : (a b : Bool) → a ≡ true → b ≡ true → (a && b) ≡ true
 both_true true b e h = h
 both_true false b e h = cc
 
@@ -172,7 +172,7 @@ written_word r h =
     let n = not_ten r h in
     ⊎_elim (λ l. grind (arith, nat_tests)) (λ l. absurd (n (omega arith))) (cases_lt r.number 10)
 
-alu_written : (f : Form) (dst : Reg) (o : Operand) → (alu_attributes f dst o).written ≡ Some dst
+pub alu_written : (f : Form) (dst : Reg) (o : Operand) → (alu_attributes f dst o).written ≡ Some dst
 alu_written (Copies src) dst o = refl
 alu_written (Moves z) dst o = refl
 alu_written Sets dst o = refl
