@@ -5,7 +5,7 @@ use Rattle.decode.specs.declared.insn.Insn.{Insn}
 use Rattle.decode.specs.declared.insn.Insn.TheVariants.{Alu, MovSx, Neg, End, Jump, JumpLong, JumpIf, Call, Exit, Load, LoadSx, StoreReg, StoreImm, Wide}
 use Rattle.decode.specs.Slots.{size_of}
 use Rattle.operations.specs.Operations.{holds}
-use Rattle.regtypes.specs.Flow.{flow_of}
+use Rattle.decode.specs.Flow.{flow_of}
 use Rattle.spans.specs.Configuration.{At, Configuration, Number, Value}
 use Rattle.spans.specs.Step.{Ends, Fault, Goes, Leaps, Outcome, answers, branches, ends_with, gives_value, goes_on, operand_value, step}
 use Rattle.spans.specs.Typing.{Code, target}

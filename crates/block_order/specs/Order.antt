@@ -4,9 +4,9 @@ use Rattle.std.specs.List.{AllByRecursion}
 use Rattle.limits.specs.declared.TheConstants.{SLOTS}
 use Rattle.decode.specs.declared.insn.Insn.{Insn}
 use Rattle.decode.specs.Slots.{insn_at, slots, slots_of}
-use Rattle.regtypes.specs.declared.flow.Flow.{Flow}
-use Rattle.regtypes.specs.declared.flow.Flow.TheVariants.{Ends, Leaps, Forks, Falls}
-use Rattle.regtypes.specs.Flow.{flow_of}
+use Rattle.decode.specs.declared.flow.Flow.{Flow}
+use Rattle.decode.specs.declared.flow.Flow.TheVariants.{Ends, Leaps, Forks, Falls}
+use Rattle.decode.specs.Flow.{flow_of}
 use Rattle.spans.specs.Typing.{Code}
 use Rattle.decode.specs.Distance.{distance}
 use Rattle.block_order.specs.Placement.{IsPlacement, place_at}

@@ -6,8 +6,7 @@ ghost use Rattle.decode.specs.Distance.{distance, with_distance};
 ghost use Rattle.block_order.specs.Placement.{Arrives, ArrivesBy, IsPlacement, Stands, WaysArrive, place_at};
 
 use crate::slots::{insn_at, place_at, target};
-use decode::{Insn, encode};
-use regtypes::{Flow, flow_from};
+use decode::{Flow, Insn, encode, flow_from};
 use std::alloc::{AllocError, Global};
 
 /// Whether a slot of the other code leads to the place of the instruction of `to`: it is that place, or has a jump to

@@ -4,8 +4,7 @@ ghost use Rattle.std.specs.Prelude.{◌≡◌, ◌+◌, ◌+ℤ◌, IfSome, pos}
 ghost use Rattle.decode.specs.Slots.{insn_at};
 ghost use Rattle.block_order.specs.Placement.{place_at};
 
-use decode::Insn;
-use regtypes::{Flow, flow_from};
+use decode::{Flow, Insn, flow_from};
 
 /// The instruction that begins at a slot.
 pub fn insn_at(slots: &[Option<Insn>], slot: usize) -> Option<Insn>

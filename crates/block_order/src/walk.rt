@@ -2,12 +2,11 @@
 
 ghost use Rattle.std.specs.Prelude.{◌≡◌, IfSome, IsTrue};
 ghost use Rattle.decode.specs.Slots.{insn_at};
-ghost use Rattle.regtypes.specs.Flow.{flow_of};
+ghost use Rattle.decode.specs.Flow.{flow_of};
 ghost use Rattle.block_order.specs.Order.{IsLoop, IsWalk, Leads, LeadsBy};
 
 use crate::slots::{insn_at, target};
-use decode::Insn;
-use regtypes::{Flow, flow_from};
+use decode::{Flow, Insn, flow_from};
 
 /// Whether a jump by this distance leads from a slot to another.
 fn jumps(from: usize, distance: i32, to: usize) -> bool

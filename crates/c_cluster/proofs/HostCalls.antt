@@ -3,7 +3,7 @@ use Rattle.std.proofs.Common.{◌≡◌, ℕ, List, refl, sym, subst}
 use Rattle.std.specs.Prelude.{Some, None}
 use Rattle.verifier.specs.declared.any_image.AnyImage.{AnyImage}
 use Rattle.verifier.specs.AnyImage.{IsImageOf, form_of, code_of, state_of}
-use Rattle.handlers.specs.Image.{as_image}
+use Rattle.interp.specs.Image.{as_image}
 use Rattle.packets.specs.declared.packet.NodePacket.{NodePacket}
 use Rattle.packets.specs.Format.{IsPacket}
 use Rattle.packets.proofs.WholeLemmas.{one_packet}

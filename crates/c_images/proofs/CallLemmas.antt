@@ -5,8 +5,8 @@ use Rattle.std.proofs.lemmas.List.{drop_at, take-append-le, drop-append-le, leng
 use Rattle.std.proofs.lemmas.List.Concat.{flat_map-append}
 use Rattle.helpers.specs.declared.effects.Who.{Who}
 use Rattle.interp.specs.HandlerCall.{Handled}
-use Rattle.handlers.specs.Image.{TheImage}
-use Rattle.handlers.specs.Answer.{HasRun}
+use Rattle.interp.specs.Image.{TheImage}
+use Rattle.interp.specs.Answer.{HasRun}
 use Rattle.operations.specs.Bytes.{overwritten}
 use Rattle.c_images.specs.Calls.{report_of, IsReported, AreHandled, AreReported}
 use Rattle.c_handles.proofs.Overwritten.{put_more, overwritten_none}

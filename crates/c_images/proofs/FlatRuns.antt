@@ -12,7 +12,7 @@ use Rattle.verifier.specs.FileForm.{file_form_of}
 use Rattle.verifier.specs.declared.any_image.AnyImage.{AnyImage}
 use Rattle.verifier.specs.declared.any_image.AnyImage.TheVariants.{Flat, Span}
 use Rattle.verifier.specs.declared.file_form.FileForm.TheVariants.{Sbi1, Sbi2, Sbi3}
-use Rattle.handlers.specs.Answer.{shown, IsRun, HasRun, MayRunAs}
+use Rattle.interp.specs.Answer.{shown, IsRun, HasRun, MayRunAs}
 use Rattle.c_images.specs.Arrays.{flat_image}
 use Rattle.c_images.specs.Calls.{IsCallableForm, IsSeat}
 

@@ -15,7 +15,7 @@ use denote.RawPtr.{Ptr, RawPtr, block_ptr, null_ptr, ptr_val}
 use denote.Steps.{nothing, owned, peeks}
 use denote.Struct.Struct.{within}
 use denote.Struct.Owning.{shape}
-use Rattle.handlers.specs.Image.{TheImage}
+use Rattle.interp.specs.Image.{TheImage}
 use Rattle.c_images.specs.Handles.{owns_image}
 use Rattle.c_images.specs.contracts.lifetime.Opened as opened
 

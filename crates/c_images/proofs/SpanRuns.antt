@@ -3,7 +3,7 @@ use Rattle.std.proofs.Common.{◌≡◌, ℕ, zero, suc, ◌+◌, ◌<◌, ◌�
 use Rattle.std.proofs.lemmas.Bool.Decides.{nat_tests}
 use Rattle.spans.specs.Concrete.{entry_array}
 use Rattle.spans.specs.Slices.{listed}
-use Rattle.handlers.specs.CallArray.{HoldsEntry, IsLeft}
+use Rattle.interp.specs.CallArray.{HoldsEntry, IsLeft}
 
 entry_first : (n : ℕ) (f g : ℕ → ℕ) (a : ℕ) → a < 512 → entry_array n f g a ≡ f a
 entry_first n f g a h = grind (arith, nat_tests)

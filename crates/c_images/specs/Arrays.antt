@@ -6,10 +6,10 @@ use Rattle.verifier.specs.Typed.{Typed}
 use Rattle.interp.specs.Flat.{part, IsSpent}
 use Rattle.verifier.specs.declared.any_image.AnyImage.TheVariants.{Flat as AnyFlat, Span as AnySpan}
 use Rattle.verifier.specs.Span.Typed as span
-use Rattle.handlers.specs.CallArray as span_array
-use Rattle.handlers.specs.Image.{TheImage, as_image}
-use Rattle.handlers.specs.declared.handler.Handler.{Handler}
-use Rattle.handlers.specs.declared.handler.Handler.TheVariants.{Flat, Span}
+use Rattle.interp.specs.CallArray as span_array
+use Rattle.interp.specs.Image.{TheImage, as_image}
+use Rattle.interp.specs.declared.handler.Handler.{Handler}
+use Rattle.interp.specs.declared.handler.Handler.TheVariants.{Flat, Span}
 use Rattle.c_images.specs.declared.calls.TheConstants.{MESSAGE}
 use Rattle.c_images.specs.Calls.{IsReported}
 

@@ -6,8 +6,8 @@ use Rattle.helpers.specs.declared.effects.Who.{Who}
 use Rattle.interp.specs.HandlerCall.{Handled}
 use Rattle.verifier.specs.declared.file_form.FileForm.TheVariants.{Sbi2}
 use Rattle.verifier.specs.AnyFile.{IsFile, IsTypable}
-use Rattle.handlers.specs.Image.{TheImage}
-use Rattle.handlers.specs.Answer.{HasRun}
+use Rattle.interp.specs.Image.{TheImage}
+use Rattle.interp.specs.Answer.{HasRun}
 use Rattle.operations.specs.Bytes.{overwritten}
 use Rattle.c_images.specs.declared.report.TheConstants.{REPORT_LIMIT}
 use Rattle.c_images.specs.declared.calls.TheConstants.{MESSAGE}

@@ -8,7 +8,7 @@ use Rattle.verifier.specs.declared.fault.ImageError.TheVariants as error
 use Rattle.verifier.specs.FaultNumbers.{header_fault_number}
 use Rattle.verifier.specs.declared.file_form.FileForm.TheVariants.{Sbi2}
 use Rattle.verifier.specs.AnyFile.{IsRefusal}
-use Rattle.handlers.specs.Image.{TheImage}
+use Rattle.interp.specs.Image.{TheImage}
 use Rattle.operations.specs.Bytes.{overwritten}
 use Rattle.c_images.specs.declared.calls.TheConstants.{MESSAGE}
 use Rattle.c_images.specs.declared.refusal.ImageRefusal.{ImageRefusal}

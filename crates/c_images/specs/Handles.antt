@@ -7,7 +7,7 @@ use Rattle.std.specs.contracts.impls.GlobalAllocator.TheImpl.{ghosts}
 use mir.Syntax.{Ty}
 use base.Fml.{Fml, feq}
 use Rattle.helpers.specs.declared.effects.Who.{Who}
-use Rattle.handlers.specs.Image.{TheImage}
+use Rattle.interp.specs.Image.{TheImage}
 use Rattle.c_images.specs.contracts.handler.OpenHandler.{the_row}
 use Rattle.c_images.specs.declared.calls.TheConstants.{MESSAGE}
 use Rattle.c_images.specs.declared.refusal.ImageRefusal.{ImageRefusal}

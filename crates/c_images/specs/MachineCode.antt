@@ -2,8 +2,8 @@
 use Rattle.std.specs.Prelude.{◌≡◌, ℕ, ◌<◌, ◌≤◌, List, Option, Some, None, length}
 use Rattle.operations.specs.Bytes.{overwritten}
 use Rattle.verifier.specs.declared.fault.ImageError.TheVariants.{Memory}
-use Rattle.span_native.specs.AnyForm.{IsNativeOf}
-use Rattle.handlers.specs.Image.{TheImage}
+use Rattle.native.specs.AnyForm.{IsNativeOf}
+use Rattle.interp.specs.Image.{TheImage}
 use Rattle.c_images.specs.declared.refusal.ImageRefusal.{ImageRefusal}
 use Rattle.c_images.specs.declared.refusal.ImageRefusal.TheVariants.{Image, Room, Handle}
 use Rattle.c_images.specs.Exports.{Answers}

@@ -1,13 +1,13 @@
 //! One call of a handler of any form.
 
 ghost use Rattle.std.specs.Prelude.{◌≡◌, ◌≤◌, ◌+◌, length};
-ghost use Rattle.handlers.specs.Image.{the_image};
+ghost use Rattle.interp.specs.Image.{the_image};
 ghost use Rattle.c_images.specs.Calls.{IsReported, IsSeat};
 
 use crate::calls::MESSAGE;
 use crate::report::{REPORT_LIMIT, put_report};
-use handlers::Handler;
 use helpers::{Effects, Payload, Who};
+use interp::Handler;
 
 /// Calls the handler with one message, and writes its report at `at`. Answers the place after it.
 /// Drops what an earlier call emitted.

@@ -1,7 +1,7 @@
 //! Checks and calls of image files.
 
 ghost use Rattle.std.specs.Prelude.{◌≡◌, ◌↔◌, IsTrue, IfOk, IfErr, MatchResult, OnErr, length};
-ghost use Rattle.handlers.specs.Image.{the_image};
+ghost use Rattle.interp.specs.Image.{the_image};
 ghost use Rattle.c_images.specs.Calls.{IsTypableFile, IsCallableForm, IsSeat};
 ghost use Rattle.c_images.specs.Exports.{IsChecked, IsUnchecked, IsUncallable, IsCalled, IsCallRefusal, AreCalled, AreCallsRefused};
 
@@ -9,9 +9,9 @@ use crate::alone::call_alone;
 use crate::handler::OpenHandler;
 use crate::refusal::{ImageRefusal, refused_rule, refused_slot};
 use crate::report::{FAULT_SIZE, REPORT_LIMIT, put_fault};
-use handlers::Handler as AnyHandler;
 use helpers::{Effects, Who};
 use verifier::{FileForm, load_any};
+use interp::Handler as AnyHandler;
 use limits::PROCESSES;
 use std::alloc::Global;
 

@@ -9,9 +9,9 @@ use crate::calls::MESSAGE;
 use crate::refusal::ImageRefusal;
 use crate::report::REPORT_LIMIT;
 use crate::span_array::call_spans;
-use handlers::Handler as AnyHandler;
 use helpers::{Effects, Who};
-use span_native::compile_handler;
+use interp::Handler as AnyHandler;
+use native::compile_handler;
 use std::alloc::Global;
 use std::marker::Model;
 use verifier::{FileForm, Image, ImageError};
@@ -26,7 +26,7 @@ pub struct OpenHandler {
 }
 
 impl Model for OpenHandler {
-    ghost use Rattle.handlers.specs.Image.{TheImage, the_image};
+    ghost use Rattle.interp.specs.Image.{TheImage, the_image};
     ghost use Rattle.c_images.specs.Arrays.{IsReady};
 
     ghost Value = { TheImage };
@@ -58,9 +58,9 @@ fn array_of(handler: &AnyHandler) -> [u8; 1792]
 
 impl OpenHandler {
     ghost use Rattle.std.specs.Prelude.{◌≡◌, ◌≤◌, ◌*◌, ◌/◌, ◌%◌, IfOk, IfErr, length};
-    ghost use Rattle.handlers.specs.Image.{the_image};
+    ghost use Rattle.interp.specs.Image.{the_image};
     ghost use Rattle.c_images.specs.Calls.{AreReported, IsCallableForm, IsSeat};
-    ghost use Rattle.span_native.specs.AnyForm.{IsNativeOf};
+    ghost use Rattle.native.specs.AnyForm.{IsNativeOf};
     ghost use Rattle.c_images.specs.MachineCode.{IsUnmade};
 
     /// A handler before its first call.

@@ -3,7 +3,7 @@
 
 ghost use Rattle.std.specs.Prelude.{◌≡◌, Option};
 ghost use Rattle.std.specs.Borrow.{sem};
-ghost use Rattle.handlers.specs.Image.{TheImage};
+ghost use Rattle.interp.specs.Image.{TheImage};
 ghost use Rattle.c_images.specs.Calls.{caller};
 ghost use Rattle.c_images.specs.Handles.{owns_image, state_len_of, Opens, Runs};
 ghost use Rattle.c_images.specs.MachineCode.{Compiles};

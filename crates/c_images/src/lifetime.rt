@@ -1,7 +1,7 @@
 //! Image files that are opened once.
 
 ghost use Rattle.std.specs.Prelude.{◌≡◌, Option, Some, None, IfOk, IfErr};
-ghost use Rattle.handlers.specs.Image.{TheImage};
+ghost use Rattle.interp.specs.Image.{TheImage};
 ghost use Rattle.c_images.specs.Calls.{IsTypableFile};
 ghost use Rattle.c_images.specs.Exports.{IsFileRefusal};
 ghost use Rattle.c_images.specs.Handles.{owns_image, Opens};
@@ -9,7 +9,7 @@ ghost use Rattle.c_images.specs.Handles.{owns_image, Opens};
 use crate::handler::OpenHandler;
 use crate::refusal::ImageRefusal;
 use c_handles::Loose;
-use handlers::Handler as AnyHandler;
+use interp::Handler as AnyHandler;
 use std::alloc::Global;
 use std::marker::Model;
 use std::ptr::null_mut;

@@ -1,15 +1,15 @@
 //! Calls of form 3, one after another in one array.
 
 ghost use Rattle.std.specs.Prelude.{◌≡◌, ◌≤◌, ◌+◌, ◌*◌, ◌/◌, ◌%◌, length, slice_range};
-ghost use Rattle.handlers.specs.CallArray.{HoldsEntry, IsLeft, state_in};
+ghost use Rattle.interp.specs.CallArray.{HoldsEntry, IsLeft, state_in};
 ghost use Rattle.c_images.specs.Arrays.{IsReportedAfter, span_image};
 ghost use Rattle.c_images.specs.Calls.{AreReported, IsSeat};
 
 use crate::calls::MESSAGE;
 use crate::message::message_at;
 use crate::report::{REPORT_LIMIT, put_report};
-use handlers::{Program, call_flat, fill, refill, take};
 use helpers::{Effects, Who};
+use interp::{Program, span_call_flat, span_fill, span_refill, span_take};
 
 /// Calls the handler with the message in the array, and writes its report at `at`. Answers the
 /// place after it. Drops what an earlier call emitted.
@@ -29,7 +29,7 @@ fn call_once(
     ensures left { IsLeft MESSAGE program.now.len mem.new }
 {
     effects.clear();
-    let end = call_flat(program, mem, MESSAGE, who, effects);
+    let end = span_call_flat(program, mem, MESSAGE, who, effects);
     put_report(out, at, end, effects)
 }
 
@@ -52,12 +52,12 @@ pub fn call_spans(
     // For the proof: the state lies in the array.
     let _len = program.state_len();
     let mut mem = [0; 2048];
-    fill(program, &mut mem, &[], state);
+    span_fill(program, &mut mem, &[], state);
     let mut end = 0;
     'calls: for i in 0..messages.len() / MESSAGE {
         let message = message_at(messages, MESSAGE * i);
-        refill(program, &mut mem, MESSAGE, message);
+        span_refill(program, &mut mem, MESSAGE, message);
         end = call_once(program, &mut mem, who, effects, out, end);
     }
-    take(&mem, state);
+    span_take(&mem, state);
 }

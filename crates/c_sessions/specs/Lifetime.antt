@@ -4,7 +4,7 @@ use Rattle.limits.specs.declared.TheConstants.{PROCESSES}
 use Rattle.verifier.specs.AnyFile.{IsFile, IsRefusal, IsTypable}
 use Rattle.verifier.specs.declared.fault.ImageError.{ImageError}
 use Rattle.verifier.specs.declared.fault.ImageError.TheVariants as error
-use Rattle.handlers.specs.Image.{TheImage}
+use Rattle.interp.specs.Image.{TheImage}
 use Rattle.world.specs.declared.refusal.Refusal.TheVariants.{NoSuchProcess, Memory}
 use Rattle.sessions.specs.Journal.{TheSession}
 use Rattle.c_sessions.specs.declared.fault.SessionFault.{SessionFault}

@@ -1,14 +1,14 @@
 //! Opening a session from image files.
 
 ghost use Rattle.std.specs.Prelude.{◌≡◌, ◌≤◌, MatchResult, OnOk, IfErr, length, map};
-ghost use Rattle.handlers.specs.Image.{image_in};
+ghost use Rattle.interp.specs.Image.{image_in};
 ghost use Rattle.c_sessions.specs.Inside.Loads.{AreMore, IsUnread};
 ghost use Rattle.c_sessions.specs.Lifetime.{IsImageIn, IsMisfit, IsOpened, IsRefused, IsUnopened};
 ghost use Rattle.c_sessions.specs.Session.{Results};
 
 use crate::fault::SessionFault;
 use crate::handle::SessionHandle;
-use handlers::Handler;
+use interp::Handler;
 use limits::PROCESSES;
 use sessions::Service;
 use std::alloc::Global;

@@ -3,5 +3,8 @@ pub mod Encoding
 pub mod First
 pub mod Refusal
 pub mod Slots
+pub mod Flow
+pub mod AluForm
+pub mod Attributes
 pub mod Distance
 pub mod Inside

@@ -8,6 +8,8 @@
 //! that it breaks. So decoding what `encode` wrote gives the same list again, and encoding what `decode` read gives the
 //! same bytes.
 //!
+//! [`flow_from`] says where an instruction leads, and [`attributes_from`] what it reads, writes and reaches.
+//!
 //! ```text
 //! let bytes = [0x07, 0x01, 0, 0, 5, 0, 0, 0, 0x95, 0, 0, 0, 0, 0, 0, 0];
 //! let insns = decode(alloc, &bytes)?; // r1 += 5, exit
@@ -17,10 +19,13 @@
 //! ```
 #![tactic(auto)]
 
+mod alu_form;
+mod attributes;
 mod decoder;
 mod distance;
 mod encoder;
 mod fault;
+mod flow;
 mod form;
 mod insn;
 mod laws;
@@ -28,9 +33,11 @@ mod layout;
 mod table;
 mod word;
 
+pub use attributes::{Access, Attributes, attributes_from, bytes_in, signed_bytes_in};
 pub use decoder::decode;
 pub use encoder::{encode, slots};
 pub use fault::{DecodeError, EncodingRule};
+pub use flow::{Flow, flow_from};
 pub use insn::{
     AluOp, ByteOrder, Condition, Extension, Insn, Operand, Reg, SignedSize, Size, SwapBits, Width,
 };

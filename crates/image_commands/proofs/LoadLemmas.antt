@@ -6,7 +6,7 @@ use Rattle.std.specs.String.{string_bytes}
 use Rattle.verifier.specs.declared.fault.ImageError.{ImageError}
 use Rattle.verifier.specs.declared.fault.ImageError.TheVariants as image
 use Rattle.verifier.specs.AnyFile as any
-use Rattle.handlers.specs.Image.{TheImage}
+use Rattle.interp.specs.Image.{TheImage}
 use Rattle.scenario.specs.Scenario.{IsScenario}
 use Rattle.scenario.specs.declared.order.Allowed.{Allowed}
 use Rattle.scenario.specs.declared.process.NamedProcess.{NamedProcess}

@@ -1,8 +1,8 @@
 -- What a handler makes of a state, piece by piece, and why it makes nothing.
 use Rattle.std.proofs.Common.{◌≡◌, ◌<◌, ◌≤◌, ◌∙◌, ◌⊎◌, ℕ, Bool, List, [], ◌∷◌, Some, drop, inl, inr, length, refl, replicate, subst, sym, take}
 use Rattle.limits.specs.declared.TheConstants.{STATE_BYTES}
-use Rattle.handlers.specs.Answer.{Handled, HasRun}
-use Rattle.handlers.specs.Image.{TheImage}
+use Rattle.interp.specs.Answer.{Handled, HasRun}
+use Rattle.interp.specs.Image.{TheImage}
 use Rattle.verifier.specs.declared.fault.HeaderFault.TheVariants.{StateLength}
 use Rattle.image_commands.specs.Check.{HasImage}
 use Rattle.image_commands.specs.Fault.{FaultOf}

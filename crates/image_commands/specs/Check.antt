@@ -4,7 +4,7 @@ use Rattle.decode.specs.declared.insn.Insn.{Insn}
 use Rattle.verifier.specs.declared.file_form.FileForm.{FileForm}
 use Rattle.verifier.specs.AnyFile as any
 use Rattle.verifier.specs.declared.fault.ImageError.{ImageError}
-use Rattle.handlers.specs.Image.{TheImage}
+use Rattle.interp.specs.Image.{TheImage}
 use Rattle.image_commands.specs.Fault.{fault_of_image}
 use Rattle.image_commands.specs.Files.{Content}
 use Rattle.image_commands.specs.declared.fault.Fault.{Fault}

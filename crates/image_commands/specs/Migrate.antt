@@ -5,8 +5,8 @@ use Rattle.helpers.specs.declared.effects.Who.{Who}
 use Rattle.verifier.specs.declared.file_form.FileForm.{FileForm}
 use Rattle.verifier.specs.declared.file_form.FileForm.TheVariants.{Sbi1, Sbi2, Sbi3}
 use Rattle.verifier.specs.AnyFile.{IsFile, IsTypable}
-use Rattle.handlers.specs.Answer.{Handled, HasRun}
-use Rattle.handlers.specs.Image.{TheImage}
+use Rattle.interp.specs.Answer.{Handled, HasRun}
+use Rattle.interp.specs.Image.{TheImage}
 use Rattle.verifier.specs.declared.fault.HeaderFault.TheVariants.{StateLength}
 use Rattle.image_commands.specs.Check.{IsUnaccepted}
 use Rattle.image_commands.specs.Files.{Content}

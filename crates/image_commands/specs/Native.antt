@@ -3,7 +3,7 @@ use Rattle.std.specs.Prelude.{ℕ, List}
 use Rattle.decode.specs.declared.insn.Insn.{Insn}
 use Rattle.verifier.specs.declared.file_form.FileForm.{FileForm}
 use Rattle.verifier.specs.AnyFile.{IsFile, IsTypable}
-use Rattle.span_native.specs.AnyForm.{IsNativeIn}
+use Rattle.native.specs.AnyForm.{IsNativeIn}
 
 -- the bytes are the file, of any form, of typable code, and the machine code does what it does, on every message and state
 pub record IsMachineCode (bytes machine : List ℕ) : Type 0 where

@@ -1,8 +1,8 @@
 //! The command `migrate`.
 
 ghost use Rattle.std.specs.Prelude.{◌≡◌, ◌≢◌, ◌<◌, ◌≤◌, ◌⊎◌, true, IfErr, IfOk, OnErr, OnOk, length, replicate};
-ghost use Rattle.handlers.specs.Answer.{Handled, HasRun};
-ghost use Rattle.handlers.specs.Image.{the_image};
+ghost use Rattle.interp.specs.Answer.{Handled, HasRun};
+ghost use Rattle.interp.specs.Image.{the_image};
 ghost use Rattle.verifier.specs.declared.fault.HeaderFault.TheVariants.{StateLength};
 ghost use Rattle.image_commands.specs.Fault.{FaultOf};
 ghost use Rattle.image_commands.specs.Files.{IsWritten, MakesFile};
@@ -15,7 +15,7 @@ use crate::files::Files;
 use crate::loader::load_handler;
 use crate::own_input::spare;
 use crate::site::Site;
-use handlers::Handler;
+use interp::Handler;
 use helpers::{Effects, Payload, Who};
 use limits::{FORM_1_BYTES, PAYLOAD_BYTES, STATE_BYTES};
 use std::alloc::Global;

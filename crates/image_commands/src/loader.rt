@@ -1,7 +1,7 @@
 //! Scenarios, and the images of their processes.
 
 ghost use Rattle.std.specs.Prelude.{◌≡◌, IfErr, IfOk, map};
-ghost use Rattle.handlers.specs.Image.{image_in, the_image};
+ghost use Rattle.interp.specs.Image.{image_in, the_image};
 ghost use Rattle.image_commands.specs.Check.{HasImage};
 ghost use Rattle.image_commands.specs.Fault.{IsFaultOfScenario, FaultOf};
 ghost use Rattle.image_commands.specs.Inside.{HandlerFault, ImagesFault};
@@ -12,7 +12,7 @@ use crate::fault::Fault;
 use crate::files::Files;
 use crate::look::broken_line;
 use crate::site::Site;
-use handlers::Handler;
+use interp::Handler;
 use hints::scenario_words;
 use indexmap::IndexMap;
 use scenario::{Allowed, NamedProcess, Scenario, ScenarioError, parse};

@@ -12,7 +12,7 @@ use crate::files::Files;
 use crate::loader::load_handler;
 use crate::own_input::spare;
 use crate::site::Site;
-use span_native::compile_handler;
+use native::compile_handler;
 use std::alloc::Global;
 
 /// The machine code of the image in a file, of any form.

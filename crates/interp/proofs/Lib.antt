@@ -16,3 +16,10 @@ pub mod FlatCalls
 pub mod Fits
 pub mod Exits
 pub mod WordsKept
+pub mod Replies
+pub mod SpanCounts
+pub mod Entries
+pub mod Progress
+pub mod Status
+pub mod Fills
+pub mod Ops

@@ -7,3 +7,8 @@ pub mod Admits
 pub mod Flat
 pub mod Words
 pub mod Laws
+pub mod CallArray
+pub mod SpanCall
+pub mod Handler
+pub mod Image
+pub mod Answer

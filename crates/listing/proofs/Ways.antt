@@ -4,11 +4,12 @@ use Rattle.std.specs.Prelude.{◌⊎◌, ◌+ℤ◌, Some, None, slice_index_or}
 use Rattle.std.specs.List.{Contains}
 use Rattle.decode.specs.declared.insn.Insn.{Insn}
 use Rattle.decode.specs.Slots.{insn_at}
-use Rattle.regtypes.specs.declared.flow.Flow.{Flow}
-use Rattle.regtypes.specs.declared.flow.Flow.TheVariants.{Ends, Leaps, Forks, Falls}
+use Rattle.decode.specs.declared.flow.Flow.{Flow}
+use Rattle.decode.specs.declared.flow.Flow.TheVariants.{Ends, Leaps, Forks, Falls}
 use Rattle.regtypes.specs.declared.frame.Frame.{Frame}
 use Rattle.regtypes.specs.declared.frame.Kind.{Kind}
-use Rattle.regtypes.specs.Flow.{exits, exits_by, flow_of}
+use Rattle.decode.specs.Flow.{flow_of}
+use Rattle.regtypes.specs.Exits.{exits, exits_by}
 use Rattle.regtypes.specs.Frame.{kind_at}
 use Rattle.regtypes.specs.Ways.{after, next, taken}
 use Rattle.regtypes.specs.Typing.{frame_at}

@@ -4,18 +4,18 @@ use Rattle.std.specs.Fmt.{signed_decimal}
 use Rattle.decode.specs.declared.insn.Reg.{Reg}
 use Rattle.decode.specs.declared.insn.Insn.{Insn}
 use Rattle.decode.specs.declared.insn.Insn.TheVariants.{Call}
-use Rattle.regtypes.specs.declared.attributes.Access.{Access}
-use Rattle.regtypes.specs.declared.attributes.Attributes.{Attributes}
-use Rattle.regtypes.specs.declared.flow.Flow.{Flow}
-use Rattle.regtypes.specs.declared.flow.Flow.TheVariants.{Ends, Leaps, Forks, Falls}
+use Rattle.decode.specs.declared.attributes.Access.{Access}
+use Rattle.decode.specs.declared.attributes.Attributes.{Attributes}
+use Rattle.decode.specs.declared.flow.Flow.{Flow}
+use Rattle.decode.specs.declared.flow.Flow.TheVariants.{Ends, Leaps, Forks, Falls}
 use Rattle.regtypes.specs.declared.frame.Frame.{Frame}
 use Rattle.regtypes.specs.declared.frame.Kind.{Kind}
 use Rattle.regtypes.specs.declared.frame.Kind.TheVariants.{Place}
 use Rattle.regtypes.specs.declared.image_form.ImageForm.{ImageForm}
 use Rattle.regtypes.specs.declared.rule.Rule.{Rule}
 use Rattle.regtypes.specs.declared.rule.Rule.TheVariants.{V1, V2, V3, V4, V5, V6, V7, V8, V9, V10}
-use Rattle.regtypes.specs.Attributes.{attributes_of}
-use Rattle.regtypes.specs.Flow.{flow_of}
+use Rattle.decode.specs.Attributes.{attributes_of}
+use Rattle.decode.specs.Flow.{flow_of}
 use Rattle.regtypes.specs.Frame.{form_number, is_num, kind_at}
 use Rattle.regtypes.specs.Rules.{Argument, Number, Payload, Sized, arguments_of, base_of, has, is_place, is_unset, moved_of}
 use Rattle.listing.specs.Kinds.{place_text, reg_text}

@@ -2,7 +2,7 @@
 use Rattle.std.specs.Prelude.{ℕ, zero, suc, ◌+◌, ◌&&◌, Bool, true, false, List, [], ◌∷◌, Option, Some, None, ℤ, if◌then◌else◌}
 use Rattle.std.specs.Option.{option_or}
 use Rattle.decode.specs.declared.insn.Reg.{Reg}
-use Rattle.regtypes.specs.declared.attributes.Access.{Access}
+use Rattle.decode.specs.declared.attributes.Access.{Access}
 use Rattle.regtypes.specs.declared.frame.Region.TheVariants.{Message, State, Stack}
 use Rattle.spans.specs.declared.kind.Reach.{Reach}
 use Rattle.spans.specs.declared.kind.SpanKind.{SpanKind}

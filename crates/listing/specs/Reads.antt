@@ -3,9 +3,9 @@ use Rattle.std.specs.Prelude.{ℕ, ◌==◌, ◌||◌, Bool, false, List, [], �
 use Rattle.decode.specs.declared.insn.Reg.{Reg}
 use Rattle.decode.specs.declared.insn.Insn.{Insn}
 use Rattle.decode.specs.declared.insn.Insn.TheVariants.{Call, Exit}
-use Rattle.regtypes.specs.declared.attributes.Attributes.{Attributes}
+use Rattle.decode.specs.declared.attributes.Attributes.{Attributes}
 use Rattle.regtypes.specs.declared.image_form.ImageForm.{ImageForm}
-use Rattle.regtypes.specs.Attributes.{attributes_of}
+use Rattle.decode.specs.Attributes.{attributes_of}
 use Rattle.regtypes.specs.Rules.{Argument, Number, Payload, Sized, arguments_of, base_of, moved_of}
 
 -- whether this is the register with the number r

@@ -6,15 +6,15 @@ use Rattle.decode.specs.declared.insn.Width.TheVariants.{W64}
 use Rattle.decode.specs.declared.insn.Operand.TheVariants as operand
 use Rattle.decode.specs.declared.insn.Insn.{Insn}
 use Rattle.decode.specs.declared.insn.Insn.TheVariants.{Alu, Call}
-use Rattle.regtypes.specs.declared.attributes.Access.{Access}
-use Rattle.regtypes.specs.declared.attributes.Attributes.{Attributes}
-use Rattle.regtypes.specs.declared.flow.Flow.{Flow}
-use Rattle.regtypes.specs.declared.flow.Flow.TheVariants.{Ends, Leaps, Forks, Falls}
+use Rattle.decode.specs.declared.attributes.Access.{Access}
+use Rattle.decode.specs.declared.attributes.Attributes.{Attributes}
+use Rattle.decode.specs.declared.flow.Flow.{Flow}
+use Rattle.decode.specs.declared.flow.Flow.TheVariants.{Ends, Leaps, Forks, Falls}
 use Rattle.regtypes.specs.declared.frame.Region.TheVariants.{Message, State, Stack}
 use Rattle.regtypes.specs.declared.rule.Rule.{Rule}
 use Rattle.regtypes.specs.declared.rule.Rule.TheVariants.{V1, V2, V3, V4, V5, V6, V7, V8, V9, V10}
-use Rattle.regtypes.specs.Attributes.{attributes_of}
-use Rattle.regtypes.specs.Flow.{flow_of}
+use Rattle.decode.specs.Attributes.{attributes_of}
+use Rattle.decode.specs.Flow.{flow_of}
 use Rattle.regtypes.specs.Rules.{base_of, moved_of}
 use Rattle.spans.specs.declared.kind.SpanKind.{SpanKind}
 use Rattle.spans.specs.declared.kind.SpanKind.TheVariants.{Unset, Num, Place}

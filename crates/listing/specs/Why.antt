@@ -8,7 +8,7 @@ use Rattle.decode.specs.Slots.{insn_at}
 use Rattle.regtypes.specs.declared.frame.Frame.{Frame}
 use Rattle.regtypes.specs.declared.frame.Kind.{Kind}
 use Rattle.regtypes.specs.declared.frame.Kind.TheVariants.{Unset}
-use Rattle.regtypes.specs.Flow.{exits}
+use Rattle.regtypes.specs.Exits.{exits}
 use Rattle.regtypes.specs.Frame.{entry_frame, is_num, kind_at}
 use Rattle.regtypes.specs.Rules.{first_broken, tests_of}
 use Rattle.regtypes.specs.Typing.{frame_at}

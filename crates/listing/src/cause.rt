@@ -1,7 +1,7 @@
 //! What breaks a rule at a slot, as a sentence, and what to do about it.
 
 ghost use Rattle.std.specs.Prelude.{◌≡◌, ◌<◌, ◌≤◌, ◌+◌, ◌+ℤ◌, pos, ◌++◌, ◌∷◌, [], OnOk, length, string_bytes};
-ghost use Rattle.regtypes.specs.Flow.{flow_of};
+ghost use Rattle.decode.specs.Flow.{flow_of};
 ghost use Rattle.regtypes.specs.Rules.{base_of, has, is_place, is_unset, moved_of};
 ghost use Rattle.listing.specs.Kinds.{place_text};
 ghost use Rattle.listing.specs.Cause.{about, advice, bytes_cause, call_cause, count_cause, distance_cause, number_cause, cause, first_with, flow_cause, helper_cause, jump_cause, mixed_cause, move_cause, out_cause, payload_cause, sized_cause};
@@ -9,11 +9,9 @@ ghost use Rattle.listing.specs.Cause.{about, advice, bytes_cause, call_cause, co
 use crate::kinds::{push_place, push_reg, push_with, push_with_signed};
 use crate::reads::{base, shifted};
 use crate::study::Study;
-use decode::{Insn, Reg};
+use decode::{Attributes, Flow, Insn, Reg, attributes_from, flow_from};
 use limits::SLOTS;
-use regtypes::{
-    Attributes, Flow, Frame, ImageForm, Kind, Region, Rule, attributes_from, flow_from,
-};
+use regtypes::{Frame, ImageForm, Kind, Region, Rule};
 use std::alloc::AllocError;
 
 fn is_unset(frame: &Frame, reg: Option<Reg>) -> bool

@@ -5,8 +5,8 @@ ghost use Rattle.spans.specs.Access.{is_reached};
 ghost use Rattle.spans.specs.Frame.{kind_at};
 ghost use Rattle.listing.specs.Flaw.{first_word, flawed_cell, flawed_word, has_flaw, is_flawed, reached_word};
 
-use decode::Reg;
-use regtypes::{Access, Region};
+use decode::{Access, Reg};
+use regtypes::Region;
 use spans::{Cells, Reach, SpanKind};
 
 /// What can be wrong with a register or a word of the stack.

@@ -10,9 +10,9 @@ ghost use Rattle.listing.specs.SpanListing.{dead_text, kept_text, known_text, re
 use crate::kinds::push_with;
 use crate::reads::is_read;
 use crate::span_kinds::{distance_of, push_kind};
-use decode::{Insn, Reg};
+use decode::{Insn, Reg, bytes_in};
 use limits::REGISTERS;
-use regtypes::{ImageForm, Region, bytes_in};
+use regtypes::{ImageForm, Region};
 use verifier::{is_inside, operand_kind, opposite, shown, whole_word};
 use spans::{Cells, Span, SpanKind};
 use std::alloc::AllocError;

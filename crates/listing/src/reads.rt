@@ -1,12 +1,12 @@
 //! Which registers an instruction reads.
 
 ghost use Rattle.std.specs.Prelude.{◌≡◌};
-ghost use Rattle.regtypes.specs.Attributes.{attributes_of};
+ghost use Rattle.decode.specs.Attributes.{attributes_of};
 ghost use Rattle.regtypes.specs.Rules.{arguments_of, base_of, moved_of};
 ghost use Rattle.listing.specs.Reads.{is_given, is_named, is_numbered, is_read};
 
-use decode::{Insn, Reg};
-use regtypes::{Access, Attributes, ImageForm, attributes_from};
+use decode::{Access, Attributes, Insn, Reg, attributes_from};
+use regtypes::ImageForm;
 
 /// Whether this is the register with this number.
 fn is_numbered(reg: Option<Reg>, number: u8) -> bool

@@ -1,7 +1,7 @@
 //! What breaks a rule of form 3 at a slot.
 
 ghost use Rattle.std.specs.Prelude.{◌≡◌, ◌∷◌, []};
-ghost use Rattle.regtypes.specs.Flow.{flow_of};
+ghost use Rattle.decode.specs.Flow.{flow_of};
 ghost use Rattle.regtypes.specs.Rules.{base_of, moved_of};
 ghost use Rattle.spans.specs.Frame.{kind_at};
 ghost use Rattle.listing.specs.SpanCause.{access_cause, by_missing, cause_of, helper_cause, jump_of, message_cause, mixed_by, mixed_cause, mixed_of, moved_cause, moved_or, out_by, out_cause, part_cause, reach_cause, sum_or, unset_cause};
@@ -11,8 +11,10 @@ ghost use Rattle.listing.specs.declared.flaw.Flaw.TheVariants.{Missing, Pointing
 use crate::argument::argument_cause;
 use crate::flaw::{Flaw, distance_at, flawed_word, is_flawed, reached_word};
 use crate::reads::{base, shifted};
-use decode::{AluOp, Insn, Operand, Reg, Width};
-use regtypes::{Access, Attributes, Flow, Region, Rule, attributes_from, flow_from};
+use decode::{
+    Access, AluOp, Attributes, Flow, Insn, Operand, Reg, Width, attributes_from, flow_from,
+};
+use regtypes::{Region, Rule};
 use spans::{Cells, Span, SpanKind};
 
 /// What is wrong with a register.

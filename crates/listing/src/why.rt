@@ -6,9 +6,9 @@ ghost use Rattle.listing.specs.Inside.Arrives.{Arrives, LeadsTo};
 ghost use Rattle.listing.specs.Why.{AreWhys, Calls, Clash, IsWhy, Leaves, Passes};
 
 use crate::study::Study;
-use decode::{Insn, Reg};
+use decode::{Flow, Insn, Reg, flow_from};
 use limits::REGISTERS;
-use regtypes::{Flow, Frame, Kind, flow_from, transfer};
+use regtypes::{Frame, Kind, transfer};
 
 /// Why a register isn't set.
 #[derive(Clone, Copy, Debug, PartialEq, Eq)]

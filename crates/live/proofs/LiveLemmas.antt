@@ -6,7 +6,7 @@ use Rattle.std.proofs.lemmas.List.{get_or_append_left, get_or_push, length-map}
 use Rattle.std.proofs.lemmas.List.Elements.{All-push}
 use Rattle.std.proofs.lemmas.List.Sums.{sum_by-append}
 use Rattle.limits.specs.declared.TheConstants.{SEATS, WORKERS}
-use Rattle.handlers.specs.Image.{TheImage}
+use Rattle.interp.specs.Image.{TheImage}
 use Rattle.world.specs.declared.entry.Entry.{Entry}
 use Rattle.sessions.specs.Fold.{handlers_of}
 use Rattle.world.specs.Legal.{Legal, world_of}

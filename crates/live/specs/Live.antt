@@ -1,6 +1,6 @@
 -- What workers leave of a scenario, and how they ended.
 use Rattle.std.specs.Prelude.{◌≡◌, ◌≢◌, ◌≤◌, ◌+◌, true, ℕ, List, [], ◌∷◌, ◌++◌, length, sum_by}
-use Rattle.handlers.specs.Image.{TheImage}
+use Rattle.interp.specs.Image.{TheImage}
 use Rattle.world.specs.declared.entry.Entry.{Entry}
 use Rattle.world.specs.declared.refusal.Refusal.TheVariants.{Memory}
 use Rattle.sessions.specs.Fold.{handlers_of}

@@ -1,7 +1,7 @@
 //! Runs by workers.
 
 ghost use Rattle.std.specs.Prelude.{◌≡◌, ◌↔◌, ◌≤◌, ◌+◌, ◌++◌, All, IfOk, IsTrue, OnErr, OnOk, [], length, map, string_bytes};
-ghost use Rattle.handlers.specs.Image.{image_in};
+ghost use Rattle.interp.specs.Image.{image_in};
 ghost use Rattle.machine.specs.Openings.{AreFew};
 ghost use Rattle.scenario.specs.Process.{names_of};
 ghost use Rattle.sessions.specs.Journal.{IsLegal};
@@ -16,7 +16,7 @@ ghost use Rattle.results.specs.Results.{results_text};
 
 use crate::ended::{Ended, ends_of};
 use crate::feeds::feeds_of;
-use handlers::Handler;
+use interp::Handler;
 use indexmap::IndexMap;
 use limits::{SEATS, WORKERS};
 use results::{note_refused, push_results};

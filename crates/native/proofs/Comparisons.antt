@@ -17,7 +17,7 @@ use Rattle.x86.specs.declared.instruction.Instr.TheVariants as instr
 use Rattle.helpers.specs.declared.effects.Who.{Who}
 use Rattle.helpers.specs.Effects.{Emitted}
 use Rattle.x86.specs.Machine.{Value, Flags, State, Goes, Leaps, compared, tested, differ, difference, overflows, asks, operated, with_word, extended, act}
-use Rattle.native_tasks.specs.Tasks.{is_word, operand_of}
+use Rattle.native.specs.Tasks.{is_word, operand_of}
 use Rattle.native.specs.Code.{gpr, IsShort}
 use Rattle.native.specs.Comparison.{cmp_code, test_code, compare_code, condition_of}
 use Rattle.native.proofs.Agreement.{Agrees, reads_word}

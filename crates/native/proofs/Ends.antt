@@ -10,10 +10,10 @@ use Rattle.helpers.specs.declared.effects.Who.{Who}
 use Rattle.helpers.specs.Effects.{Emitted}
 use Rattle.x86.specs.Machine as machine
 use Rattle.x86.specs.Machine.{Value, Word, At, Block, Array, Record, Flags, Unknown, State, Outcome, Goes, Leaps, Returns, Stuck, by_outcome, returned, is_named, value, with_word, word_or_stuck, behind, extended, reach, written, block, act, HasAt, Runs}
-use Rattle.native_tasks.specs.declared.prologue.Opening.{Opening}
-use Rattle.native_tasks.specs.declared.prologue.Opening.TheVariants as opening
-use Rattle.native_tasks.specs.declared.saved.SavedRegisters.{SavedRegisters}
-use Rattle.native_tasks.specs.Saved.{may_write}
+use Rattle.native.specs.declared.prologue.Opening.{Opening}
+use Rattle.native.specs.declared.prologue.Opening.TheVariants as opening
+use Rattle.native.specs.declared.saved_registers.SavedRegisters.{SavedRegisters}
+use Rattle.native.specs.Saved.{may_write}
 use Rattle.native.specs.Openings.{push_if, pop_if, saving, restoring, entering_by, placing, beginning, entering, ending, leaving}
 use Rattle.native.specs.Code.{gpr, codes, clear}
 use Rattle.native.specs.Correct.{IsCalled}

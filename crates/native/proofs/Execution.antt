@@ -18,11 +18,11 @@ use Rattle.operations.specs.Operations.{result_of}
 use Rattle.x86.specs.declared.instruction.Instr.{Instr}
 use Rattle.x86.specs.declared.instruction.Instr.TheVariants as instr
 use Rattle.x86.specs.Machine.{Value, State, HasAt}
-use Rattle.native_tasks.specs.declared.task.SlotTask.{SlotTask}
-use Rattle.native_tasks.specs.declared.task.SlotTask.TheVariants as task
-use Rattle.native_tasks.specs.Tasks.{operand_of, holds_word, is_word, is_eligible, sized_at, task_act, TaskReaches, TaskFits}
+use Rattle.native.specs.declared.task.SlotTask.{SlotTask}
+use Rattle.native.specs.declared.task.SlotTask.TheVariants as task
+use Rattle.native.specs.Tasks.{operand_of, holds_word, is_word, is_eligible, sized_at, task_act, TaskReaches, TaskFits}
 use Rattle.native.specs.Code.{seen, codes, IsShort, TaskIsShort}
-use Rattle.native_tasks.specs.Pending.{taken}
+use Rattle.native.specs.Pending.{taken}
 use Rattle.native.specs.Emission.{IsCall, send_tests, send_end, output_tests, output_end, send_sized_tests, send_sized_end, output_sized_tests, output_sized_end}
 use Rattle.native.specs.SlotCode.{IsDone}
 use Rattle.native.proofs.Runs.{codes-append}

@@ -16,13 +16,13 @@ use Rattle.dense.specs.declared.execution.Next.TheVariants.{To, End}
 use Rattle.dense.specs.Acts.{Does}
 use Rattle.x86.specs.declared.instruction.Instr.{Instr}
 use Rattle.x86.specs.declared.instruction.Instr.TheVariants as instr
-use Rattle.native_tasks.specs.declared.task.SlotTask.{SlotTask}
-use Rattle.native_tasks.specs.declared.task.SlotTask.TheVariants as task
-use Rattle.native_tasks.specs.Tasks.{operand_of, task_act, holds_word, is_eligible}
-use Rattle.native_tasks.specs.SlotTasks.{task_at}
+use Rattle.native.specs.declared.task.SlotTask.{SlotTask}
+use Rattle.native.specs.declared.task.SlotTask.TheVariants as task
+use Rattle.native.specs.Tasks.{operand_of, task_act, holds_word, is_eligible}
+use Rattle.native.specs.SlotTasks.{task_at}
 use Rattle.native.specs.Code.{gpr}
-use Rattle.native_tasks.specs.Pending.{ArePending}
-use Rattle.native_tasks.specs.Targets.{marked_by, marked, targets_in}
+use Rattle.native.specs.Pending.{ArePending}
+use Rattle.native.specs.Targets.{marked_by, marked, targets_in}
 use Rattle.native.specs.Fusion.{sum_of, fused, is_covered}
 use Rattle.native.proofs.Bodies.{word_register}
 

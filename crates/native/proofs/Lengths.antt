@@ -17,11 +17,11 @@ use Rattle.native.specs.declared.body.Body.{Body}
 use Rattle.native.specs.declared.body.Body.TheVariants.{Empty, One, Two, Three}
 use Rattle.native.specs.declared.emission.Helper.{Helper}
 use Rattle.native.specs.declared.emission.Helper.TheVariants as helper
-use Rattle.native_tasks.specs.declared.task.SlotTask.{SlotTask}
-use Rattle.native_tasks.specs.declared.task.SlotTask.TheVariants as task
-use Rattle.native_tasks.specs.declared.saved.SavedRegisters.{SavedRegisters}
+use Rattle.native.specs.declared.task.SlotTask.{SlotTask}
+use Rattle.native.specs.declared.task.SlotTask.TheVariants as task
+use Rattle.native.specs.declared.saved_registers.SavedRegisters.{SavedRegisters}
 use Rattle.native.specs.Openings.{pop_if, restoring, ending, leaving}
-use Rattle.native_tasks.specs.SlotTasks.{task_at}
+use Rattle.native.specs.SlotTasks.{task_at}
 use Rattle.native.specs.Laid.{Fuses, ServesBy}
 use Rattle.native.specs.Code.{seen, codes, body_of, IsBody}
 use Rattle.native.specs.Quotient.{two_size}

@@ -13,21 +13,21 @@ use Rattle.verifier.specs.Least.{IsLeastTyping}
 use Rattle.x86.specs.declared.instruction.Instr.{Instr}
 use Rattle.native.specs.declared.body.Body.{Body}
 use Rattle.native.specs.declared.body.Body.TheVariants.{Empty, One, Two, Three}
-use Rattle.native_tasks.specs.declared.saved.SavedRegisters.{SavedRegisters}
-use Rattle.native_tasks.specs.declared.prologue.Opening.{Opening}
-use Rattle.native_tasks.specs.declared.prologue.Opening.TheVariants as opening
-use Rattle.native_tasks.specs.declared.task.SlotTask.{SlotTask}
-use Rattle.native_tasks.specs.declared.task.SlotTask.TheVariants as task
-use Rattle.native_tasks.specs.Tasks.{is_eligible}
+use Rattle.native.specs.declared.saved_registers.SavedRegisters.{SavedRegisters}
+use Rattle.native.specs.declared.prologue.Opening.{Opening}
+use Rattle.native.specs.declared.prologue.Opening.TheVariants as opening
+use Rattle.native.specs.declared.task.SlotTask.{SlotTask}
+use Rattle.native.specs.declared.task.SlotTask.TheVariants as task
+use Rattle.native.specs.Tasks.{is_eligible}
 use Rattle.native.specs.Code.{codes, body_of, IsBody}
 use Rattle.native.specs.SlotCode.{flushed, skipped, jump_code, jump_if_code, IsDone, Counts, Reaches, Plain, Serves}
 use Rattle.native.specs.Openings.{leaving, entering_by}
 use Rattle.native.specs.Comparison.{condition_of, compare_code}
-use Rattle.native_tasks.specs.Pending.{taken, pending_in}
+use Rattle.native.specs.Pending.{taken, pending_in}
 use Rattle.native.specs.Fusion.{fused, is_covered}
 use Rattle.native.specs.Laid.{Fuses, ServesBy, IsPiece}
-use Rattle.native_tasks.specs.Saved.{saved_for}
-use Rattle.native_tasks.specs.SlotTasks.{task_at, task_there, tasks_in}
+use Rattle.native.specs.Saved.{saved_for}
+use Rattle.native.specs.SlotTasks.{task_at, task_there, tasks_in}
 use Rattle.native.specs.Written.{Stacks, IsWritten, IsOneCode}
 
 -- ---- a slot's code

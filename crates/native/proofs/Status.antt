@@ -14,11 +14,11 @@ use Rattle.regtypes.specs.Typing.{Table}
 use Rattle.verifier.specs.Least.{IsLeastTyping}
 use Rattle.interp.specs.Flat.{IsHandledIn}
 use Rattle.interp.proofs.FlatCalls.{Going, Ready, in_ops, in_slots, op_within, going_next, later, ended_in}
-use Rattle.native_tasks.specs.declared.task.SlotTask.{SlotTask}
-use Rattle.native_tasks.specs.declared.task.SlotTask.TheVariants as task
-use Rattle.native_tasks.specs.Tasks.{task_act, TaskWithin, TaskReaches}
-use Rattle.native_tasks.specs.SlotTasks.{AreTold}
-use Rattle.native_tasks.proofs.Reached.{has_code}
+use Rattle.native.specs.declared.task.SlotTask.{SlotTask}
+use Rattle.native.specs.declared.task.SlotTask.TheVariants as task
+use Rattle.native.specs.Tasks.{task_act, TaskWithin, TaskReaches}
+use Rattle.native.specs.SlotTasks.{AreTold}
+use Rattle.native.proofs.Reached.{has_code}
 use Rattle.native.proofs.Successors.{Call}
 
 -- what lies in the array at positions that no register holds, lies there whatever the registers hold

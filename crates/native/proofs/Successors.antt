@@ -22,20 +22,20 @@ use Rattle.x86.specs.declared.instruction.Instr.TheVariants as instr
 use Rattle.x86.specs.Encoding.{bytes_of}
 use Rattle.x86.specs.declared.instruction.ConditionCode as x86
 use Rattle.x86.specs.Machine.{State, HasAt, Word, Goes, Leaps, value, put, behind, extended, branch, act}
-use Rattle.native_tasks.specs.declared.task.SlotTask.{SlotTask}
-use Rattle.native_tasks.specs.declared.task.SlotTask.TheVariants as task
-use Rattle.native_tasks.specs.Tasks.{operand_of, task_act, holds_word, is_word, is_eligible, TaskReaches, TaskFits}
-use Rattle.native_tasks.specs.Saved.{WritesWithin, may_write, SaveAll}
-use Rattle.native_tasks.specs.declared.saved.SavedRegisters.{SavedRegisters}
+use Rattle.native.specs.declared.task.SlotTask.{SlotTask}
+use Rattle.native.specs.declared.task.SlotTask.TheVariants as task
+use Rattle.native.specs.Tasks.{operand_of, task_act, holds_word, is_word, is_eligible, TaskReaches, TaskFits}
+use Rattle.native.specs.Saved.{WritesWithin, may_write, SaveAll}
+use Rattle.native.specs.declared.saved_registers.SavedRegisters.{SavedRegisters}
 use Rattle.native.specs.SlotCode as code_specs
 use Rattle.native.specs.Code.{gpr, codes, TaskIsShort}
 use Rattle.native.specs.SlotCode.{flushed, skipped, jump_code, jump_if_code, Reaches, Plain, Forks, Jumps, Serves}
 use Rattle.native.specs.Openings.{leaving}
 use Rattle.native.specs.Comparison.{condition_of, compare_code}
-use Rattle.native_tasks.specs.Pending.{taken}
+use Rattle.native.specs.Pending.{taken}
 use Rattle.native.specs.Fusion.{fused, is_covered}
 use Rattle.native.specs.Laid.{Fuses, ServesBy, Laid}
-use Rattle.native_tasks.specs.SlotTasks.{task_at}
+use Rattle.native.specs.SlotTasks.{task_at}
 use Rattle.native.specs.Correct.{Keeps}
 use Rattle.native.proofs.Runs.{spread_small, Ends, goes, leaps, has_front, has_back, codes-append}
 use Rattle.native.proofs.Agreement.{Agrees, after, flushes, reads, puts, put_word, put_flags}

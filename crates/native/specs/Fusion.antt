@@ -7,11 +7,11 @@ use Rattle.decode.specs.declared.insn.Operand.TheVariants as operand
 use Rattle.operations.specs.Operations.{word_of}
 use Rattle.x86.specs.declared.instruction.Instr.{Instr}
 use Rattle.x86.specs.declared.instruction.Instr.TheVariants as instr
-use Rattle.native_tasks.specs.declared.task.SlotTask.{SlotTask}
-use Rattle.native_tasks.specs.declared.task.SlotTask.TheVariants as task
-use Rattle.native_tasks.specs.Tasks.{holds_word}
+use Rattle.native.specs.declared.task.SlotTask.{SlotTask}
+use Rattle.native.specs.declared.task.SlotTask.TheVariants as task
+use Rattle.native.specs.Tasks.{holds_word}
 use Rattle.native.specs.Code.{gpr}
-use Rattle.native_tasks.specs.Targets.{targets_in}
+use Rattle.native.specs.Targets.{targets_in}
 
 -- the instruction for copying s to d and then adding a number to e, if e is d
 abbrev pub sum_by : ℕ → ℕ → ℕ → ℤ → Option Instr

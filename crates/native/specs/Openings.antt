@@ -2,9 +2,9 @@
 use Rattle.std.specs.Prelude.{List, [], ◌∷◌, ◌++◌, ℕ, Bool, if◌then◌else◌, ◌+◌}
 use Rattle.x86.specs.declared.instruction.Instr.{Instr}
 use Rattle.x86.specs.declared.instruction.Instr.TheVariants as instr
-use Rattle.native_tasks.specs.declared.prologue.Opening.{Opening}
-use Rattle.native_tasks.specs.declared.prologue.Opening.TheVariants as opening
-use Rattle.native_tasks.specs.declared.saved.SavedRegisters.{SavedRegisters}
+use Rattle.native.specs.declared.prologue.Opening.{Opening}
+use Rattle.native.specs.declared.prologue.Opening.TheVariants as opening
+use Rattle.native.specs.declared.saved_registers.SavedRegisters.{SavedRegisters}
 use Rattle.native.specs.Code.{clear}
 use Rattle.decode.specs.declared.insn.Width.TheVariants.{W64}
 use Rattle.decode.specs.declared.insn.Size.TheVariants as size

@@ -8,9 +8,9 @@ use Rattle.decode.specs.declared.insn.Operand.{Operand}
 use Rattle.x86.specs.declared.instruction.ConditionCode as x86
 use Rattle.x86.specs.declared.instruction.Instr.{Instr}
 use Rattle.x86.specs.declared.instruction.Instr.TheVariants as instr
-use Rattle.native_tasks.specs.declared.task.SlotTask.{SlotTask}
-use Rattle.native_tasks.specs.declared.task.SlotTask.TheVariants as task
-use Rattle.native_tasks.specs.declared.saved.SavedRegisters.{SavedRegisters}
+use Rattle.native.specs.declared.task.SlotTask.{SlotTask}
+use Rattle.native.specs.declared.task.SlotTask.TheVariants as task
+use Rattle.native.specs.declared.saved_registers.SavedRegisters.{SavedRegisters}
 use Rattle.native.specs.Openings.{leaving}
 use Rattle.native.specs.Code.{gpr, clear, body_of, IsBody, IsShort, TaskIsShort}
 use Rattle.native.specs.Emission.{send_tests, send_good, send_end, output_tests, output_good, output_end, send_sized_tests, send_sized_good}
@@ -18,7 +18,7 @@ use Rattle.native.specs.Emission.{send_sized_end, output_sized_tests, output_siz
 use Rattle.native.specs.Emission.{send_sized_by_good, output_sized_by_good, IsCall}
 use Rattle.native.specs.Quotient.{two_size, IsQuotient, IsSigned}
 use Rattle.native.specs.Comparison.{condition_of, compare_code}
-use Rattle.native_tasks.specs.Pending.{taken}
+use Rattle.native.specs.Pending.{taken}
 
 -- the instructions of a task that always goes on
 abbrev pub IsDone : SlotTask → List Instr → Type 0

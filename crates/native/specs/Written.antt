@@ -4,13 +4,13 @@ use Rattle.decode.specs.declared.insn.Insn.{Insn}
 use Rattle.regtypes.specs.declared.image_form.ImageForm.{ImageForm}
 use Rattle.regtypes.specs.Typing.{Table}
 use Rattle.verifier.specs.Least.{IsLeastTyping}
-use Rattle.native_tasks.specs.declared.prologue.Opening.{Opening}
-use Rattle.native_tasks.specs.declared.prologue.Opening.TheVariants as opening
-use Rattle.native_tasks.specs.declared.task.SlotTask.{SlotTask}
-use Rattle.native_tasks.specs.SlotTasks.{task_at, tasks_in}
-use Rattle.native_tasks.specs.Pending.{pending_in, ArePending}
+use Rattle.native.specs.declared.prologue.Opening.{Opening}
+use Rattle.native.specs.declared.prologue.Opening.TheVariants as opening
+use Rattle.native.specs.declared.task.SlotTask.{SlotTask}
+use Rattle.native.specs.SlotTasks.{task_at, tasks_in}
+use Rattle.native.specs.Pending.{pending_in, ArePending}
 use Rattle.native.specs.Openings.{entering_by}
-use Rattle.native_tasks.specs.Saved.{saved_for, SaveAll}
+use Rattle.native.specs.Saved.{saved_for, SaveAll}
 use Rattle.native.specs.Code.{codes}
 use Rattle.native.specs.Laid.{IsPiece, LaidFrom}
 

@@ -7,8 +7,8 @@ ghost use Rattle.native.specs.Code as codes;
 ghost use Rattle.native.specs.Code.{IsNear, TaskIsShort};
 
 use crate::computation::{alu_code, compute_code};
+use crate::task::SlotTask;
 use decode::{ByteOrder, Extension, Reg, SignedSize, Size, SwapBits, Width};
-use native_tasks::SlotTask;
 use operations::word_of_imm;
 use x86::{Alu, Instr};
 

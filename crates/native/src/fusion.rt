@@ -3,12 +3,14 @@
 ghost use Rattle.std.specs.Prelude.{◌≡◌, ◌<◌, true, slice_index_or};
 ghost use Rattle.limits.specs.declared.TheConstants.{SLOTS};
 ghost use Rattle.native.specs.Fusion as specs;
-ghost use Rattle.native_tasks.specs.Targets.{targets_in};
+ghost use Rattle.native.specs.Targets.{targets_in};
 
 use crate::body::{gpr, number};
+use crate::eligibility::holds_word;
+use crate::slot_tasks::task_at;
+use crate::task::SlotTask;
 use decode::{AluOp, Operand, Reg, Width};
 use limits::SLOTS;
-use native_tasks::{SlotTask, holds_word, task_at};
 use x86::Instr;
 
 fn is_target(targets: &[bool], slot: usize) -> bool

@@ -5,23 +5,26 @@ ghost use Rattle.limits.specs.declared.TheConstants.{SLOTS};
 ghost use Rattle.native.specs.Code.{codes};
 ghost use Rattle.native.specs.SlotCode.{IsBehind};
 ghost use Rattle.native.specs.Correct.{IsNative};
-ghost use Rattle.native_tasks.specs.Targets.{targets_in};
-ghost use Rattle.native_tasks.specs.Pending.{ArePending, pending_in};
+ghost use Rattle.native.specs.Targets.{targets_in};
+ghost use Rattle.native.specs.Pending.{ArePending, pending_in};
 ghost use Rattle.native.specs.Laid.{IsPiece};
 ghost use Rattle.native.specs.Openings.{entering_by};
-ghost use Rattle.native_tasks.specs.Saved.{saved_for};
-ghost use Rattle.native_tasks.specs.SlotTasks as slots;
+ghost use Rattle.native.specs.Saved.{saved_for};
+ghost use Rattle.native.specs.SlotTasks as slots;
 ghost use Rattle.native.specs.Written.{IsCodeOf, IsLaidFrom, IsServed};
 
 use crate::body::clear;
+use crate::eligibility::is_eligible;
 use crate::fusion::is_covered;
+use crate::pending::pending_of;
+use crate::prologue::Opening;
+use crate::saved_registers::{SavedRegisters, saved_for};
 use crate::sequence::write_all;
 use crate::slot_code::{emit, emit_entry};
+use crate::slot_tasks::{task_at, tasks_of};
+use crate::targets::targets_of;
+use crate::task::SlotTask;
 use limits::SLOTS;
-use native_tasks::{
-    Opening, SavedRegisters, SlotTask, is_eligible, pending_of, saved_for, targets_of, task_at,
-    tasks_of,
-};
 use std::alloc::{AllocError, Global};
 use verifier::Image;
 use x86::Instr;

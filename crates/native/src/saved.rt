@@ -4,7 +4,7 @@ ghost use Rattle.std.specs.Prelude.{◌≡◌, ◌++◌, OnOk};
 ghost use Rattle.native.specs.Code.{codes};
 ghost use Rattle.native.specs.Openings as specs;
 
-use native_tasks::SavedRegisters;
+use crate::saved_registers::SavedRegisters;
 use std::alloc::AllocError;
 use x86::Instr;
 

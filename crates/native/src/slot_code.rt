@@ -4,23 +4,26 @@ ghost use Rattle.std.specs.Prelude.{◌≡◌, ◌<◌, ◌≤◌, ◌+◌, ◌-
 ghost use Rattle.native.specs.Code.{Emits, codes};
 ghost use Rattle.native.specs.SlotCode.{flushed, skipped, IsBehind, Counts, Reaches, Plain, Forks, Jumps, Ends, Serves};
 ghost use Rattle.native.specs.Openings.{leaving, entering};
-ghost use Rattle.native_tasks.specs.Pending.{taken, IsBalanced, ArePending};
+ghost use Rattle.native.specs.Pending.{taken, IsBalanced, ArePending};
 ghost use Rattle.native.specs.SlotCode as specs;
-ghost use Rattle.native_tasks.specs.Targets.{targets_in};
+ghost use Rattle.native.specs.Targets.{targets_in};
 ghost use Rattle.native.specs.Fusion as fusion;
 ghost use Rattle.native.specs.Laid.{Fuses, ServesBy};
-ghost use Rattle.native_tasks.specs.SlotTasks as slots;
-ghost use Rattle.native_tasks.specs.Tasks.{is_eligible};
+ghost use Rattle.native.specs.SlotTasks as slots;
+ghost use Rattle.native.specs.Tasks.{is_eligible};
 
 use crate::body::{body_of, clear};
 use crate::comparison::{compare_code, condition_of};
 use crate::fusion::fused;
+use crate::pending::number_at;
 use crate::saved::{write_restoring, write_saving};
+use crate::saved_registers::SavedRegisters;
 use crate::sequence::write_all;
+use crate::slot_tasks::task_at;
+use crate::task::SlotTask;
 use crate::task_code::emit_done;
 use decode::{Condition, Operand, Reg, Size, Width};
 use limits::SLOTS;
-use native_tasks::{SavedRegisters, SlotTask, number_at, task_at};
 use std::alloc::{AllocError, Global};
 use x86::Instr;
 

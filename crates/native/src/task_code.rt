@@ -13,8 +13,8 @@ use crate::effect::write_good;
 use crate::emission::{Helper, write_end, write_tests};
 use crate::quotient::{Ways, divisor_code, two_size, write_quotient, write_signed};
 use crate::sequence::write_all;
+use crate::task::SlotTask;
 use decode::{AluOp, Operand, Reg, Width};
-use native_tasks::SlotTask;
 use std::alloc::{AllocError, Global};
 use x86::Instr;
 

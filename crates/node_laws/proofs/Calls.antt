@@ -4,8 +4,8 @@ use Rattle.std.specs.Prelude.{Option, Some, None, not, ◌&&◌, is_none, if◌t
 use Rattle.helpers.specs.declared.effects.Who.{Who}
 use Rattle.verifier.specs.declared.any_image.AnyImage.{AnyImage}
 use Rattle.interp.specs.HandlerCall.{Handled}
-use Rattle.handlers.specs.Image.{TheImage, as_image}
-use Rattle.handlers.specs.Answer.{answered as answer_in}
+use Rattle.interp.specs.Image.{TheImage, as_image}
+use Rattle.interp.specs.Answer.{answered as answer_in}
 use Rattle.packets.specs.declared.packet.NodePacket.{NodePacket}
 use Rattle.node.specs.declared.job.OpenJob.{OpenJob}
 use Rattle.theorems.proofs.Tests.{both}

@@ -12,7 +12,7 @@ use Rattle.regtypes.specs.declared.image_form.ImageForm.TheVariants as two
 use Rattle.regtypes.specs.declared.frame.Frame.{Frame}
 use Rattle.regtypes.specs.Frame.{entry_frame}
 use Rattle.regtypes.specs.Ways.{next}
-use Rattle.regtypes.specs.Flow.{exits}
+use Rattle.regtypes.specs.Exits.{exits}
 use Rattle.regtypes.specs.Typing.{Table, frame_at, broken, Enters, IsTyping}
 use Rattle.regtypes.proofs.Monotone.{Leq-refl}
 use Rattle.verifier.specs.declared.any_image.AnyImage.TheVariants.{Flat}

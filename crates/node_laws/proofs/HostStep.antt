@@ -1,7 +1,7 @@
 -- One call of a host, as calls in all lives
 use Rattle.std.proofs.Common.{◌≡◌, ℕ, List, [], true}
 use Rattle.verifier.specs.declared.any_image.AnyImage.{AnyImage}
-use Rattle.handlers.specs.Image.{as_image}
+use Rattle.interp.specs.Image.{as_image}
 use Rattle.recovery.specs.Collection.{TheCollecting}
 use Rattle.node_laws.specs.Together.{IsFirst}
 use Rattle.node_laws.specs.Process as stages

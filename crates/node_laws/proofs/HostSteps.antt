@@ -4,7 +4,7 @@ use Rattle.std.specs.Prelude.{◌⊎◌, Some, ◌==◌, if◌then◌else◌}
 use Rattle.std.proofs.lemmas.Bool.Decides.{nat_tests}
 use Rattle.world.specs.World.{put}
 use Rattle.verifier.specs.declared.any_image.AnyImage.{AnyImage}
-use Rattle.handlers.specs.Image.{as_image}
+use Rattle.interp.specs.Image.{as_image}
 use Rattle.packets.specs.declared.packet.NodePacket.{NodePacket}
 use Rattle.packets.specs.Format.{IsPacket}
 use Rattle.packets.proofs.WholeLemmas.{one_packet}

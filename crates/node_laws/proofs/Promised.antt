@@ -4,7 +4,7 @@ use Rattle.std.specs.Prelude.{Some}
 use Rattle.world.specs.Handlers.{Handlers}
 use Rattle.world.specs.History.{count_of, nth}
 use Rattle.verifier.specs.declared.any_image.AnyImage.{AnyImage}
-use Rattle.handlers.specs.Image.{as_image}
+use Rattle.interp.specs.Image.{as_image}
 use Rattle.packets.specs.declared.packet.NodePacket.{NodePacket}
 use Rattle.stores.specs.declared.change.Output.{Output}
 use Rattle.cluster.specs.Cluster.{Cluster, opening}

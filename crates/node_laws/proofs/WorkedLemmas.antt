@@ -11,7 +11,7 @@ use Rattle.verifier.specs.declared.file_form.FileForm.TheVariants.{Sbi1}
 use Rattle.verifier.specs.AnyImage.{code_of}
 use Rattle.interp.specs.HandlerCall.{Handled, handled_by}
 use Rattle.interp.specs.Configuration.{entry}
-use Rattle.handlers.specs.Answer.{answer_by, run_of, shown}
+use Rattle.interp.specs.Answer.{answer_by, run_of, shown}
 use Rattle.packets.specs.declared.packet.NodePacket.{NodePacket}
 use Rattle.packets.specs.Kept.{IsKept, KeptFits, kept_bytes}
 use Rattle.packets.specs.Packet.{entries_in_range, pairs_in_range}

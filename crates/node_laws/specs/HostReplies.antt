@@ -3,7 +3,7 @@ use Rattle.std.specs.Prelude.{ℕ, List, [], Option, Some, None}
 use Rattle.helpers.specs.declared.effects.Who.{Who}
 use Rattle.verifier.specs.declared.any_image.AnyImage.{AnyImage}
 use Rattle.interp.specs.HandlerCall.{Handled}
-use Rattle.handlers.specs.Answer.{answer_by}
+use Rattle.interp.specs.Answer.{answer_by}
 use Rattle.node.specs.Runs.{Answer, Answering}
 use Rattle.process.specs.Work.{given_of}
 

@@ -7,7 +7,7 @@ use Rattle.helpers.specs.Effects.{Emitted}
 use Rattle.verifier.specs.declared.file_form.FileForm.{FileForm}
 use Rattle.verifier.specs.AnyImage.{form_of, code_of}
 use Rattle.interp.specs.HandlerCall.{Handled}
-use Rattle.handlers.specs.Answer.{answer_by, run_of, shown}
+use Rattle.interp.specs.Answer.{answer_by, run_of, shown}
 use Rattle.node.specs.declared.job.OpenJob.{OpenJob}
 use Rattle.node.specs.declared.job.Given.{Given}
 use Rattle.node.specs.declared.node.TheConstants.{MOST_GIVEN}

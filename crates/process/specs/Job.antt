@@ -3,15 +3,15 @@ use Rattle.std.specs.Prelude.{◌≡◌, ◌≢◌, ℕ, List, length, slice_ran
 use Rattle.helpers.specs.declared.effects.Who.{Who}
 use Rattle.helpers.specs.Effects.{Emitted}
 use Rattle.limits.specs.declared.TheConstants.{MEMORY_BYTES}
-use Rattle.span_steps.specs.declared.array.TheConstants.{ARRAY_BYTES}
+use Rattle.dense.specs.declared.array.TheConstants.{ARRAY_BYTES}
 use Rattle.verifier.specs.declared.any_image.AnyImage.{AnyImage}
 use Rattle.verifier.specs.declared.any_image.AnyImage.TheVariants.{Flat, Span}
 use Rattle.verifier.specs.AnyImage.{form_of, code_of, state_of as image_state}
 use Rattle.interp.specs.HandlerCall.{Handled}
 use Rattle.interp.specs.Configuration.{entry}
 use Rattle.interp.specs.Flat.{Holds}
-use Rattle.handlers.specs.CallArray.{HoldsEntry, state_in}
-use Rattle.handlers.specs.Answer.{MayRunAs, shown, answer_by}
+use Rattle.interp.specs.CallArray.{HoldsEntry, state_in}
+use Rattle.interp.specs.Answer.{MayRunAs, shown, answer_by}
 use Rattle.node.specs.declared.job.OpenJob.{OpenJob}
 use Rattle.node.specs.declared.job.Given.{Given}
 use Rattle.process.specs.declared.lifecycle.Lifecycle.{Lifecycle}

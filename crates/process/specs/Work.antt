@@ -6,7 +6,7 @@ use Rattle.helpers.specs.declared.effects.Sent.{Sent}
 use Rattle.helpers.specs.Effects.{Emitted}
 use Rattle.verifier.specs.declared.any_image.AnyImage.{AnyImage}
 use Rattle.verifier.specs.AnyImage.{state_of as image_state}
-use Rattle.handlers.specs.Answer.{MayRunAs, answer_by}
+use Rattle.interp.specs.Answer.{MayRunAs, answer_by}
 use Rattle.interp.specs.HandlerCall.{Handled}
 use Rattle.world.specs.History.{Payload}
 use Rattle.node.specs.declared.job.OpenJob.{OpenJob}

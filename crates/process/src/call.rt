@@ -2,12 +2,12 @@
 
 ghost use Rattle.std.specs.Prelude.{◌≡◌, ◌↔◌, length, IsTrue};
 ghost use Rattle.std.specs.Arc.{arc_value};
-ghost use Rattle.handlers.specs.Answer.{MayRunAs};
-ghost use Rattle.handlers.specs.Handler.{image_of};
+ghost use Rattle.interp.specs.Answer.{MayRunAs};
+ghost use Rattle.interp.specs.Handler.{image_of};
 ghost use Rattle.verifier.specs.AnyImage.{state_of};
 
-use handlers::Handler;
 use helpers::{Payload, Who};
+use interp::Handler;
 use std::marker::Model;
 use std::sync::Arc;
 
@@ -33,7 +33,7 @@ pub struct HandlerCall {
 impl Model for HandlerCall {
     ghost use Rattle.std.specs.Prelude.{◌≡◌, length};
     ghost use Rattle.std.specs.Arc.{arc_value};
-    ghost use Rattle.handlers.specs.Handler.{image_of};
+    ghost use Rattle.interp.specs.Handler.{image_of};
     ghost use Rattle.process.specs.Job.{TheJob, IsCallable};
 
     ghost Value = { TheJob };

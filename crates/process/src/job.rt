@@ -7,10 +7,10 @@ ghost use Rattle.process.specs.Job.{array_size, shown_by, IsLaid};
 use crate::call::{HandlerCall, HandlerTicket};
 use crate::done::FinishedCall;
 use crate::layout::{lay_flat, lay_span, shown};
-use handlers::Handler;
+use dense::ARRAY_BYTES;
 use helpers::{Effects, Who};
+use interp::Handler;
 use limits::MEMORY_BYTES;
-use span_steps::ARRAY_BYTES;
 use std::marker::Model;
 
 /// A call of a process's handler that is to be made, with room for its answer.

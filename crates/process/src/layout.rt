@@ -4,14 +4,14 @@ ghost use Rattle.std.specs.Prelude.{◌≡◌, length};
 ghost use Rattle.verifier.specs.FileForm.{file_form_of};
 ghost use Rattle.verifier.specs.declared.any_image.AnyImage.TheVariants.{Flat as AnyFlat, Span as AnySpan};
 ghost use Rattle.interp.specs.Configuration.{IsLong};
-ghost use Rattle.handlers.specs.Answer.{shown};
+ghost use Rattle.interp.specs.Answer.{shown};
 ghost use Rattle.process.specs.Job.{IsLaid};
 
-use handlers::Program;
+use dense::ARRAY_BYTES;
 use helpers::Payload;
+use interp::Program;
 use limits::MEMORY_BYTES;
 use regtypes::ImageForm;
-use span_steps::ARRAY_BYTES;
 use verifier::Image;
 
 /// The bytes of a payload that a handler of form 1 or 2 sees.
@@ -43,6 +43,6 @@ pub(crate) fn lay_span(program: &Program, state: &[u8], payload: &Payload, array
     ensures { IsLaid (AnySpan program.now) state.now payload.now array.new }
 {
     let mut mem = [0; ARRAY_BYTES];
-    handlers::fill(program, &mut mem, payload.as_slice(), state);
+    interp::span_fill(program, &mut mem, payload.as_slice(), state);
     array.copy_from_slice(&mem);
 }

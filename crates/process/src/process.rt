@@ -2,7 +2,7 @@
 
 ghost use Rattle.std.specs.Prelude.{◌≡◌, ◌≤◌, true, IfOk, IfErr};
 ghost use Rattle.std.specs.Arc.{arc_value};
-ghost use Rattle.handlers.specs.Handler.{image_of};
+ghost use Rattle.interp.specs.Handler.{image_of};
 ghost use Rattle.node.specs.Limit.{AreAllowed};
 ghost use Rattle.packets.specs.Kept.{IsKept};
 ghost use Rattle.recovery.specs.Own.{comes_back};
@@ -10,8 +10,8 @@ ghost use Rattle.process.specs.Revival.{IsOpened, IsRevived, IsUnopened, IsUnrev
 
 use crate::fault::Unrevived;
 use crate::lifecycle::Lifecycle;
-use handlers::Handler;
 use helpers::{Effects, Refused};
+use interp::Handler;
 use node::{Limits, Node};
 use packets::{Kept, KeptError, KeptFault, NUMBER_LIMIT, decode_kept};
 use recovery::{Collecting, comes_back};
@@ -32,7 +32,7 @@ pub struct Member {
 
 impl Model for Member {
     ghost use Rattle.std.specs.Arc.{arc_value};
-    ghost use Rattle.handlers.specs.Handler.{image_of};
+    ghost use Rattle.interp.specs.Handler.{image_of};
     ghost use Rattle.process.specs.Process.{TheProcess};
 
     ghost Value = { TheProcess };

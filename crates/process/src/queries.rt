@@ -2,7 +2,7 @@
 
 ghost use Rattle.std.specs.Prelude.{◌≡◌, ◌≤◌, ◌∷◌, [], List, MatchOption};
 ghost use Rattle.packets.specs.declared.packet.NodePacket.{NodePacket};
-ghost use Rattle.handlers.specs.Handler.{image_of};
+ghost use Rattle.interp.specs.Handler.{image_of};
 ghost use Rattle.process.specs.Process.{out_of, state_of};
 ghost use Rattle.node.specs.declared.node.TheConstants.{WINDOW};
 ghost use Rattle.process.specs.Calls.{standing_at};
@@ -10,8 +10,8 @@ ghost use Rattle.process.specs.Bounds.{IsBounded, waiting_of};
 
 use crate::lifecycle::Lifecycle;
 use crate::process::Member;
-use handlers::Handler;
 use helpers::Refused;
+use interp::Handler;
 use limits::PROCESSES;
 use node::{MOST_GIVEN, MOST_KEPT, Stage, Standing};
 use packets::NodePacket;

@@ -2,15 +2,15 @@
 
 ghost use Rattle.std.specs.Prelude.{◌≡◌, IfNone, IfSome, IfOk, IfErr};
 ghost use Rattle.std.specs.Arc.{arc_value};
-ghost use Rattle.handlers.specs.Handler.{image_of};
+ghost use Rattle.interp.specs.Handler.{image_of};
 ghost use Rattle.node.specs.Limit.{AreAllowed};
 ghost use Rattle.node.specs.Suspension.{CanSuspend, IsSuspended};
 ghost use Rattle.process.specs.Suspension.{MaySuspend, Suspends, error_of, IsResumed, IsUnresumed};
 
 use crate::lifecycle::Lifecycle;
 use crate::process::Member;
-use handlers::Handler;
 use helpers::{Effects, Refused};
+use interp::Handler;
 use limits::STATE_BYTES;
 use node::{Limits, Node, Unsuspended};
 use recovery::{Unresumed, resume};

@@ -7,24 +7,22 @@ use Rattle.std.proofs.lemmas.Bool.{or_parts, cases_eq, cases_lt, false≢true}
 use Rattle.std.proofs.lemmas.Bool.Decides.{nat_tests}
 use Rattle.std.proofs.lemmas.List.{get_or-set_same, get_or-set_other, get_or_past, length-set, get_or-drop, ext_get_or}
 use Rattle.decode.specs.declared.insn.Reg.{Reg}
-use Rattle.decode.specs.declared.insn.Width.TheVariants.{W32, W64}
-use Rattle.decode.specs.declared.insn.Operand.TheVariants as operand
+use Rattle.decode.specs.declared.insn.Condition.{Condition}
 use Rattle.decode.specs.declared.insn.Insn.{Insn}
-use Rattle.decode.specs.declared.insn.Insn.TheVariants.{Alu, MovSx, Neg, End, Jump, JumpLong, JumpIf, Call, Exit, Load, LoadSx, StoreReg, StoreImm, Wide}
 use Rattle.regtypes.specs.declared.image_form.ImageForm.{ImageForm}
 use Rattle.regtypes.specs.declared.frame.Region.{Region}
 use Rattle.regtypes.specs.declared.frame.Region.TheVariants.{Message, State, Stack}
 use Rattle.regtypes.specs.declared.frame.Kind.{Kind}
 use Rattle.regtypes.specs.declared.frame.Kind.TheVariants.{Unset, Num, Len, Place}
 use Rattle.regtypes.specs.declared.frame.Frame.{Frame}
-use Rattle.regtypes.specs.declared.attributes.Access.{Access}
-use Rattle.regtypes.specs.declared.attributes.Attributes.{Attributes}
+use Rattle.decode.specs.declared.attributes.Access.{Access}
+use Rattle.decode.specs.declared.attributes.Attributes.{Attributes}
 use Rattle.regtypes.specs.declared.rule.Rule.{Rule}
 use Rattle.regtypes.specs.Frame.{kind_at, is_num, LeqKind, Leq}
-use Rattle.regtypes.specs.Attributes.{attributes_of}
-use Rattle.regtypes.specs.Rules.{is_unset, is_len, is_place, is_in_message, is_message, region_len, lie_inside, has_bytes, moved, is_near, is_sized, Argument, Number, Payload, Sized, arguments_of, takes, has, base_of, moved_of, reaches_out, moves_out, called, ends_without, Tests, first_broken, tests_by, tests_of}
-use Rattle.regtypes.specs.Ways.{given, after_by, after, least_shown, shown, raised, IsMonotone}
-use Rattle.regtypes.proofs.Parts.{LeqKinds, reads_unset, mixes, stores_in_message, takes_all, refuses, misgives, given_by, written_with, after_helper}
+use Rattle.decode.specs.Attributes.{attributes_of}
+use Rattle.regtypes.specs.Rules.{is_unset, is_len, is_place, is_in_message, is_message, region_len, lie_inside, has_bytes, moved, is_near, is_sized, Argument, Number, Payload, Sized, arguments_of, takes, has, base_of, moved_of, reaches_out, moves_out, called, is_end, Tests, first_broken, tests_by, tests_of}
+use Rattle.regtypes.specs.Ways.{given, after_by, after_helper, after_called, after, least_shown, compared, shown_by, shown, raised, IsMonotone}
+use Rattle.regtypes.proofs.Parts.{LeqKinds, reads_unset, mixes, stores_in_message, takes_all, refuses, misgives, given_by, written_with}
 use Rattle.regtypes.proofs.Order.{LeqKind-refl}
 
 -- ---- tests of which none holds
@@ -219,21 +217,9 @@ refuses_kept len f g le (Some xs) h = kept (takes_all len g xs) (takes_all len f
 misgives_kept : (form : ImageForm) (len : ℕ) (i : Insn) (f g : Frame) → Leq f g → misgives form len i g ≡ false → misgives form len i f ≡ false
 misgives_kept form len i f g le h = refuses_kept len f g le (option_and_then (arguments_of form) (called i)) h
 
-ends_kept : (i : Insn) (f g : List Kind) → LeqKinds f g → ends_without i g ≡ false → ends_without i f ≡ false
-ends_kept Exit f g le h = kept (is_num (kind_at g 0)) (is_num (kind_at f 0)) (num_holds (kind_at f 0) (kind_at g 0) (le 0)) h
-ends_kept (Call helper) f g le h = refl
-ends_kept (Alu op width dst o) f g le h = refl
-ends_kept (MovSx extension dst src) f g le h = refl
-ends_kept (Neg width dst) f g le h = refl
-ends_kept (End order bits dst) f g le h = refl
-ends_kept (Jump offset) f g le h = refl
-ends_kept (JumpLong distance) f g le h = refl
-ends_kept (JumpIf condition width dst o offset) f g le h = refl
-ends_kept (Load size dst src offset) f g le h = refl
-ends_kept (LoadSx size dst src offset) f g le h = refl
-ends_kept (StoreReg size dst src offset) f g le h = refl
-ends_kept (StoreImm size dst offset imm) f g le h = refl
-ends_kept (Wide dst value) f g le h = refl
+ends_kept : (ends : Bool) (f g : List Kind) → LeqKinds f g → (ends && not (is_num (kind_at g 0))) ≡ false → (ends && not (is_num (kind_at f 0))) ≡ false
+ends_kept true f g le h = kept (is_num (kind_at g 0)) (is_num (kind_at f 0)) (num_holds (kind_at f 0) (kind_at g 0) (le 0)) h
+ends_kept false f g le h = refl
 
 rules_kept : (a : Attributes) (form : ImageForm) (len : ℕ) (i : Insn) (f g : Frame) → Leq f g → NoneHolds (tests_by a form len i g) → NoneHolds (tests_by a form len i f)
 rules_kept a form len i f g le h =
@@ -244,7 +230,7 @@ rules_kept a form len i f g le h =
     let v6 = neither (reaches_out len f a.access) (moves_out f.kinds a.moved) (reaches_kept len f g le a.access s.base six.0) (moves_kept f.kinds g.kinds le.kinds a.moved s.moved six.1) in
     let v7 = stores_kept f.kinds g.kinds le.kinds a.access s.base h.1.1.1.1.0 in
     let v9 = misgives_kept form len i f g le h.1.1.1.1.1.1.0 in
-    let v10 = ends_kept i f.kinds g.kinds le.kinds h.1.1.1.1.1.1.1.0 in
+    let v10 = ends_kept (is_end i) f.kinds g.kinds le.kinds h.1.1.1.1.1.1.1.0 in
     (v3, (h.1.0, (v5, (v6, (v7, (h.1.1.1.1.1.0, (v9, (v10, tt))))))))
 
 -- ---- registers that leave
@@ -300,24 +286,12 @@ by_kept : (a : Attributes) (f g : List Kind) → length f ≡ length g → LeqKi
 by_kept a f g n le s = written_kept f g (given f a) (given g a) a.written n le (given_kept f g a le s)
 
 -- the attributes give what leaves, except after a helper
-pub after_cases : (P : (List Kind → List Kind) → Type 0) (i : Insn) → P after_helper → P (after_by (attributes_of i)) → P (after i)
-after_cases P (Call helper) h a = h
-after_cases P (Alu op width dst o) h a = a
-after_cases P (MovSx extension dst src) h a = a
-after_cases P (Neg width dst) h a = a
-after_cases P (End order bits dst) h a = a
-after_cases P (Jump offset) h a = a
-after_cases P (JumpLong distance) h a = a
-after_cases P (JumpIf condition width dst o offset) h a = a
-after_cases P Exit h a = a
-after_cases P (Load size dst src offset) h a = a
-after_cases P (LoadSx size dst src offset) h a = a
-after_cases P (StoreReg size dst src offset) h a = a
-after_cases P (StoreImm size dst offset imm) h a = a
-after_cases P (Wide dst value) h a = a
+after_cases : (P : (List Kind → List Kind) → Type 0) (helper : Option ℤ) (a : Attributes) → P after_helper → P (after_by a) → P (after_called helper a)
+after_cases P (Some z) a h b = h
+after_cases P None a h b = b
 
 after_kept : (i : Insn) (f g : List Kind) → length f ≡ length g → LeqKinds f g → AllSet g (attributes_of i) → LeqKinds (after i f) (after i g)
-after_kept i f g n le s = after_cases (λ h. LeqKinds (h f) (h g)) i (LeqKinds-helper f g le) (by_kept (attributes_of i) f g n le s)
+after_kept i f g n le s = after_cases (λ h. LeqKinds (h f) (h g)) (called i) (attributes_of i) (LeqKinds-helper f g le) (by_kept (attributes_of i) f g n le s)
 
 -- ---- the length that is known
 
@@ -344,26 +318,12 @@ shown_if x Num o le = inl refl
 shown_if x Len o le = inr (ap (λ k. cond (is_len k) o None) le)
 shown_if x (Place r k) o le = inl refl
 
-shown_kept : (met : Bool) (i : Insn) (f g : List Kind) → LeqKinds f g → (shown met i g ≡ None) ⊎ (shown met i f ≡ shown met i g)
-shown_kept met (JumpIf condition W64 dst (operand.Imm c) offset) f g le = shown_if (kind_at f dst.number) (kind_at g dst.number) (least_shown met condition c) (le dst.number)
-shown_kept met (JumpIf condition W64 dst (operand.Reg r) offset) f g le = inl refl
-shown_kept met (JumpIf condition W32 dst o offset) f g le = inl refl
-shown_kept met (Call helper) f g le = inl refl
-shown_kept met (Alu op width dst o) f g le = inl refl
-shown_kept met (MovSx extension dst src) f g le = inl refl
-shown_kept met (Neg width dst) f g le = inl refl
-shown_kept met (End order bits dst) f g le = inl refl
-shown_kept met (Jump offset) f g le = inl refl
-shown_kept met (JumpLong distance) f g le = inl refl
-shown_kept met Exit f g le = inl refl
-shown_kept met (Load size dst src offset) f g le = inl refl
-shown_kept met (LoadSx size dst src offset) f g le = inl refl
-shown_kept met (StoreReg size dst src offset) f g le = inl refl
-shown_kept met (StoreImm size dst offset imm) f g le = inl refl
-shown_kept met (Wide dst value) f g le = inl refl
+shown_kept : (met : Bool) (x : Option (Condition × Reg × ℤ)) (f g : List Kind) → LeqKinds f g → (shown_by met x g ≡ None) ⊎ (shown_by met x f ≡ shown_by met x g)
+shown_kept met (Some x) f g le = shown_if (kind_at f x.1.number) (kind_at g x.1.number) (least_shown met x.0 x.2) (le x.1.number)
+shown_kept met None f g le = inl refl
 
 low_kept : (met : Bool) (i : Insn) (f g : Frame) → Leq f g → raised g.low (shown met i g.kinds) ≤ raised f.low (shown met i f.kinds)
-low_kept met i f g le = ⊎_elim none same (shown_kept met i f.kinds g.kinds le.kinds)
+low_kept met i f g le = ⊎_elim none same (shown_kept met (compared i) f.kinds g.kinds le.kinds)
   where
     none : shown met i g.kinds ≡ None → raised g.low (shown met i g.kinds) ≤ raised f.low (shown met i f.kinds)
     none e = let a = ap (raised g.low) e in let b = raised_grows f.low (shown met i f.kinds) in let c = le.low in omega (arith, a, b, c)
@@ -387,7 +347,7 @@ written_length k (Some r) f h = length-set f r.number k ∙ h
 
 pub after_length : (i : Insn) (f : List Kind) → length f ≡ 11 → length (after i f) ≡ 11
 after_length i f h =
-    after_cases (λ x. length (x f) ≡ 11) i (omega (arith, h, length-drop {A = Kind} 6 f)) (written_length (given f (attributes_of i)) (attributes_of i).written f h)
+    after_cases (λ x. length (x f) ≡ 11) (called i) (attributes_of i) (omega (arith, h, length-drop {A = Kind} 6 f)) (written_length (given f (attributes_of i)) (attributes_of i).written f h)
 
 -- ---- the order of frames
 

@@ -1,5 +1,5 @@
 -- Parts of the rules, each under a name of its own.
-use Rattle.std.specs.Prelude.{ℕ, Bool, false, not, is_none, ◌||◌, ◌&&◌, List, [], ◌∷◌, Option, ℤ, drop, slice_set}
+use Rattle.std.specs.Prelude.{ℕ, Bool, false, not, is_none, ◌||◌, ◌&&◌, List, [], ◌∷◌, Option, ℤ, slice_set}
 use Rattle.std.specs.Option.{option_map_or, option_and_then}
 use Rattle.std.specs.List.{list_any, list_all}
 use Rattle.decode.specs.declared.insn.Reg.{Reg}
@@ -8,12 +8,12 @@ use Rattle.decode.specs.declared.insn.Insn.{Insn}
 use Rattle.decode.specs.Encoding.{bytes_in, loaded}
 use Rattle.regtypes.specs.declared.image_form.ImageForm.{ImageForm}
 use Rattle.regtypes.specs.declared.frame.Kind.{Kind}
-use Rattle.regtypes.specs.declared.frame.Kind.TheVariants.{Unset, Num}
+use Rattle.regtypes.specs.declared.frame.Kind.TheVariants.{Num}
 use Rattle.regtypes.specs.declared.frame.Frame.{Frame}
-use Rattle.regtypes.specs.declared.attributes.Access.{Access}
-use Rattle.regtypes.specs.declared.attributes.Attributes.{Attributes}
+use Rattle.decode.specs.declared.attributes.Access.{Access}
+use Rattle.decode.specs.declared.attributes.Attributes.{Attributes}
 use Rattle.regtypes.specs.Frame.{kind_at, is_num, LeqKind}
-use Rattle.regtypes.specs.Flow.{flow_of}
+use Rattle.decode.specs.Flow.{flow_of}
 use Rattle.regtypes.specs.Rules.{is_unset, is_place, is_in_message, moved, Argument, arguments_of, takes, has, base_of, moved_of, is_frame_pointer, called, Tests}
 use Rattle.regtypes.specs.Typing.{flow_tests}
 
@@ -67,7 +67,3 @@ given_by f copied moves =
 
 abbrev pub written_with : Kind → Option Reg → List Kind → List Kind
 written_with k r f = option_map_or (λ (x : Reg). slice_set f x.number k) r f
-
--- what a helper leaves
-abbrev pub after_helper : List Kind → List Kind
-after_helper f = Num ∷ Unset ∷ Unset ∷ Unset ∷ Unset ∷ Unset ∷ drop 6 f

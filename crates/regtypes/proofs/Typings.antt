@@ -5,7 +5,7 @@ use Rattle.decode.specs.declared.insn.Insn.{Insn}
 use Rattle.decode.specs.Slots.{insn_at}
 use Rattle.regtypes.specs.declared.image_form.ImageForm.{ImageForm}
 use Rattle.regtypes.specs.declared.frame.Frame.{Frame}
-use Rattle.regtypes.specs.Flow.{exits}
+use Rattle.regtypes.specs.Exits.{exits}
 use Rattle.regtypes.specs.Typing.{Table, frame_at, Enters, broken, IsTyping}
 
 -- an instruction begins only at a slot of the code

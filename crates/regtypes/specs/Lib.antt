@@ -1,7 +1,5 @@
 pub mod Frame
-pub mod Form
-pub mod Flow
-pub mod Attributes
+pub mod Exits
 pub mod Rules
 pub mod Ways
 pub mod Typing

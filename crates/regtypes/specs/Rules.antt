@@ -14,12 +14,12 @@ use Rattle.regtypes.specs.declared.frame.Region.TheVariants.{Message, State, Sta
 use Rattle.regtypes.specs.declared.frame.Kind.{Kind}
 use Rattle.regtypes.specs.declared.frame.Kind.TheVariants.{Unset, Num, Len, Place}
 use Rattle.regtypes.specs.declared.frame.Frame.{Frame}
-use Rattle.regtypes.specs.declared.attributes.Access.{Access}
-use Rattle.regtypes.specs.declared.attributes.Attributes.{Attributes}
+use Rattle.decode.specs.declared.attributes.Access.{Access}
+use Rattle.decode.specs.declared.attributes.Attributes.{Attributes}
 use Rattle.regtypes.specs.declared.rule.Rule.{Rule}
 use Rattle.regtypes.specs.declared.rule.Rule.TheVariants.{V1, V2, V3, V4, V5, V6, V7, V8, V9, V10}
 use Rattle.regtypes.specs.Frame.{kind_at, is_num}
-use Rattle.regtypes.specs.Attributes.{attributes_of}
+use Rattle.decode.specs.Attributes.{attributes_of}
 
 -- ---- kinds
 
@@ -137,10 +137,14 @@ abbrev pub called : Insn → Option ℤ
 called (Call helper) = Some helper
 called i = None
 
+-- whether the call ends there
+abbrev pub is_end : Insn → Bool
+is_end Exit = true
+is_end i = false
+
 -- EXIT, and r0 isn't a number
 abbrev pub ends_without : Insn → List Kind → Bool
-ends_without Exit f = not (is_num (kind_at f 0))
-ends_without i f = false
+ends_without i f = is_end i && not (is_num (kind_at f 0))
 
 -- the number N of a rule in `verify refused VN` (docs/FORMATS.md, "Rules of the verifier")
 abbrev pub rule_number : Rule → ℕ

@@ -9,7 +9,7 @@ use Rattle.decode.specs.declared.insn.Condition.{Condition}
 use Rattle.decode.specs.declared.insn.Condition.TheVariants.{Equal, Greater, GreaterEqual, NotEqual, Less, LessEqual}
 use Rattle.decode.specs.declared.insn.Operand.TheVariants as operand
 use Rattle.decode.specs.declared.insn.Insn.{Insn}
-use Rattle.decode.specs.declared.insn.Insn.TheVariants.{JumpIf, Call}
+use Rattle.decode.specs.declared.insn.Insn.TheVariants.{JumpIf}
 use Rattle.regtypes.specs.declared.image_form.ImageForm.{ImageForm}
 use Rattle.regtypes.specs.declared.frame.Kind.{Kind}
 use Rattle.regtypes.specs.declared.frame.Kind.TheVariants.{Unset, Num}
@@ -17,9 +17,9 @@ use Rattle.regtypes.specs.declared.frame.Frame.{Frame}
 use Rattle.regtypes.specs.declared.ways.Leaving.{Leaving}
 use Rattle.regtypes.specs.declared.rule.Rule.{Rule}
 use Rattle.regtypes.specs.Frame.{kind_at, Leq}
-use Rattle.regtypes.specs.declared.attributes.Attributes.{Attributes}
-use Rattle.regtypes.specs.Attributes.{attributes_of}
-use Rattle.regtypes.specs.Rules.{is_len, moved, first_broken, tests_of}
+use Rattle.decode.specs.declared.attributes.Attributes.{Attributes}
+use Rattle.decode.specs.Attributes.{attributes_of}
+use Rattle.regtypes.specs.Rules.{is_len, moved, called, first_broken, tests_of}
 
 -- ---- registers
 
@@ -33,11 +33,18 @@ given f a =
 abbrev pub after_by : Attributes → List Kind → List Kind
 after_by a f = option_map_or (λ (r : Reg). slice_set f r.number (given f a)) a.written f
 
--- what is known of the registers after an instruction, on each of its ways; a helper sets r0 and loses r1 to r5 (the
--- BPF calling convention)
+-- what a helper leaves: it sets r0 and loses r1 to r5 (the BPF calling convention)
+abbrev pub after_helper : List Kind → List Kind
+after_helper f = Num ∷ Unset ∷ Unset ∷ Unset ∷ Unset ∷ Unset ∷ drop 6 f
+
+-- what is known of the registers after an instruction with these attributes, which may call a helper
+abbrev pub after_called : Option ℤ → Attributes → List Kind → List Kind
+after_called (Some helper) a = after_helper
+after_called None a = after_by a
+
+-- what is known of the registers after an instruction, on each of its ways
 abbrev pub after : Insn → List Kind → List Kind
-after (Call helper) f = Num ∷ Unset ∷ Unset ∷ Unset ∷ Unset ∷ Unset ∷ drop 6 f
-after i f = after_by (attributes_of i) f
+after i = after_called (called i) (attributes_of i)
 
 -- ---- the message's length
 
@@ -51,11 +58,19 @@ least_shown false Less c = Some c
 least_shown false LessEqual c = Some (c +ℤ pos 1)
 least_shown met condition c = None
 
--- the least length of the message on a way of a 64-bit comparison of it with an immediate
+-- the 64-bit comparison with an immediate that decides a jump; None if there is none
+abbrev pub compared : Insn → Option (Condition × Reg × ℤ)
+compared (JumpIf condition W64 dst (operand.Imm c) offset) = Some (condition, dst, c)
+compared i = None
+
+-- the least length of the message on a way of a comparison, if its length is compared
+abbrev pub shown_by : Bool → Option (Condition × Reg × ℤ) → List Kind → Option ℤ
+shown_by met (Some x) f = if is_len (kind_at f x.1.number) then least_shown met x.0 x.2 else None
+shown_by met None f = None
+
+-- the same on a way of an instruction
 abbrev pub shown : Bool → Insn → List Kind → Option ℤ
-shown met (JumpIf condition W64 dst (operand.Imm c) offset) f =
-    if is_len (kind_at f dst.number) then least_shown met condition c else None
-shown met i f = None
+shown met i f = shown_by met (compared i) f
 
 -- no message has more than 256 bytes
 abbrev pub raised : ℕ → Option ℤ → ℕ

@@ -17,9 +17,6 @@
 //! ```
 #![tactic(auto)]
 
-mod attributes;
-mod flow;
-mod form;
 mod frame;
 mod image_form;
 mod kinds;
@@ -29,8 +26,6 @@ mod rule;
 mod targets;
 mod ways;
 
-pub use attributes::{Access, Attributes, attributes_from, bytes_in, signed_bytes_in};
-pub use flow::{Flow, flow_from};
 pub use frame::{Frame, Kind, Region, join, leq};
 pub use image_form::ImageForm;
 pub use laws::rules_are_monotone;

@@ -3,15 +3,14 @@
 ghost use Rattle.std.specs.Prelude.{◌≡◌, false, ◌||◌, ◌&&◌, not, is_none, [], ◌∷◌};
 ghost use Rattle.std.specs.Option.{option_map_or, option_and_then};
 ghost use Rattle.std.specs.List.{list_any, list_all};
-ghost use Rattle.regtypes.specs.declared.attributes.Access.{Access};
+ghost use Rattle.decode.specs.declared.attributes.Access.{Access};
 ghost use Rattle.regtypes.specs.Frame.{is_num, kind_at};
 ghost use Rattle.regtypes.specs.Rules.{has, base_of, moved_of, is_unset, is_place, is_in_message, is_frame_pointer, reaches_out, moves_out, called, arguments_of, takes, ends_without};
 
-use crate::attributes::{Access, Attributes};
 use crate::frame::{Frame, is_num};
 use crate::image_form::ImageForm;
 use crate::kinds::{has_bytes, is_in_message, is_place, is_sized, is_unset, moves, reaches};
-use decode::{Insn, Reg};
+use decode::{Access, Attributes, Insn, Reg};
 use limits::FORM_1_BYTES;
 
 fn holds_nothing(frame: &Frame, reg: Option<Reg>) -> bool

@@ -5,9 +5,8 @@ ghost use Rattle.decode.specs.Slots.{insn_at};
 ghost use Rattle.regtypes.specs.Rules.{first_broken};
 ghost use Rattle.regtypes.specs.Typing.{is_target, flow_tests};
 
-use crate::flow::Flow;
 use crate::rule::Rule;
-use decode::Insn;
+use decode::{Flow, Insn};
 use limits::SLOTS;
 
 /// Whether an instruction begins at a slot.

@@ -1,13 +1,11 @@
 //! What is known after an instruction, on each of its two ways.
 
-ghost use Rattle.std.specs.Prelude.{◌≡◌, ℤ, ◌∷◌, drop, true, false, Some, None, MatchResult, IfOk};
-ghost use Rattle.regtypes.specs.declared.frame.Kind.TheVariants as kind;
+ghost use Rattle.std.specs.Prelude.{◌≡◌, ℤ, true, false, Some, None, MatchResult, IfOk};
 ghost use Rattle.regtypes.specs.Frame.{kind_at};
-ghost use Rattle.regtypes.specs.Attributes.{attributes_of};
+ghost use Rattle.decode.specs.Attributes.{attributes_of};
 ghost use Rattle.regtypes.specs.Rules.{moves_out, first_broken, tests_by};
-ghost use Rattle.regtypes.specs.Ways.{after, given, least_shown, raised, next, taken, Leaves};
+ghost use Rattle.regtypes.specs.Ways.{after, after_helper, given, least_shown, raised, next, taken, Leaves};
 
-use crate::attributes::{Attributes, attributes_from};
 use crate::frame::{Frame, Kind};
 use crate::image_form::ImageForm;
 use crate::kinds::{is_len, moved};
@@ -16,7 +14,7 @@ use crate::local::{
     stores_in_message, writes_frame_pointer,
 };
 use crate::rule::Rule;
-use decode::{Condition, Insn, Operand, Reg, Width};
+use decode::{Attributes, Condition, Insn, Operand, Reg, Width, attributes_from};
 use limits::PAYLOAD_BYTES;
 
 /// What is known after an instruction.
@@ -42,7 +40,7 @@ fn given(frame: &Frame, what: &Attributes) -> Kind
 
 /// The frame that a helper leaves.
 fn after_helper(frame: &Frame) -> Frame
-    ensures { result ≡ record frame.now { kinds = kind.Num ∷ kind.Unset ∷ kind.Unset ∷ kind.Unset ∷ kind.Unset ∷ kind.Unset ∷ drop 6 frame.now.kinds } }
+    ensures { result ≡ record frame.now { kinds = after_helper frame.now.kinds } }
 {
     let mut kinds = frame.kinds;
     kinds[0] = Kind::Num;

@@ -1,6 +1,6 @@
 -- What a session came to, as text: the trace of its journal, and the report (docs/FORMATS.md, "Trace" and "Report").
 use Rattle.std.specs.Prelude.{ℕ, ◌+◌, List, [], ◌∷◌, ◌++◌, Bool, flat_map, length, if◌then◌else◌}
-use Rattle.handlers.specs.Image.{TheImage}
+use Rattle.interp.specs.Image.{TheImage}
 use Rattle.world.specs.declared.message.Message.{Message}
 use Rattle.world.specs.declared.entry.Entry.{Entry}
 use Rattle.sessions.specs.Fold.{handlers_of}

@@ -1,6 +1,6 @@
 -- How a player opens.
 use Rattle.std.proofs.Common.{◌≡◌, List, Err, refl}
-use Rattle.handlers.specs.Image.{TheImage}
+use Rattle.interp.specs.Image.{TheImage}
 use Rattle.world.specs.declared.refusal.Refusal.{Refusal}
 use Rattle.world.specs.declared.refusal.Refusal.TheVariants as refusals
 use Rattle.machine.specs.Openings.{AreFew}

@@ -2,7 +2,7 @@
 use Rattle.std.proofs.Common.{◌≡◌, ◌∙◌, ℕ, Bool, List, [], ◌∷◌, ◌++◌, append_assoc, length, take, Option, Some, None, Result, Ok, Err, refl, sym, ap, subst, inl, inr, arith}
 use Rattle.std.specs.Result.{OnErr}
 use Rattle.std.proofs.lemmas.List.{append-nil, flat_map_more, take_all}
-use Rattle.handlers.specs.Image.{TheImage}
+use Rattle.interp.specs.Image.{TheImage}
 use Rattle.world.specs.declared.call.Call.{Call}
 use Rattle.sessions.specs.Fold.{handlers_of}
 use Rattle.world.specs.Legal.{Legal}

@@ -1,6 +1,6 @@
 -- What a run of a scenario writes in another style (docs/FORMATS.md, "Other ways to print a run").
 use Rattle.std.specs.Prelude.{◌≡◌, ℕ, Bool, List, ◌++◌, flat_map, length, Option, Some, None, cond}
-use Rattle.handlers.specs.Image.{TheImage}
+use Rattle.interp.specs.Image.{TheImage}
 use Rattle.scenario.specs.Order.{process_text}
 use Rattle.scenario.specs.declared.scenario.Step.{Step}
 use Rattle.sessions.specs.Journal.{is_exact_of}

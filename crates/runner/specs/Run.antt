@@ -1,7 +1,7 @@
 -- What a run of a scenario writes (docs/FORMATS.md, "Carrying out"), and what its pictures show.
 use Rattle.std.specs.Prelude.{◌≡◌, ◌⊎◌, ◌-◌, ℕ, List, [], ◌∷◌, ◌++◌, codes, decimal, drop, flat_map, length, map, replicate, slice_get}
 use Rattle.std.specs.Prelude.{take, Option, Some, None}
-use Rattle.handlers.specs.Image.{TheImage}
+use Rattle.interp.specs.Image.{TheImage}
 use Rattle.world.specs.declared.call.Call.{Call}
 use Rattle.world.specs.declared.call.Call.TheVariants as call
 use Rattle.world.specs.declared.entry.Entry.{Entry}

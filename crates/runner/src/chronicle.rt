@@ -1,7 +1,7 @@
 //! Runs of a scenario, and which line made each call.
 
 ghost use Rattle.std.specs.Prelude.{◌≡◌, ◌++◌, IfOk, List, None, OnOk, drop, map, replicate};
-ghost use Rattle.handlers.specs.Image.{TheImage, image_in};
+ghost use Rattle.interp.specs.Image.{TheImage, image_in};
 ghost use Rattle.machine.specs.Openings.{AreFew};
 ghost use Rattle.sessions.specs.Journal.{IsLegal};
 ghost use Rattle.runner.specs.Orders.{CarriesOut, beginning, world_at};
@@ -9,7 +9,7 @@ ghost use Rattle.runner.specs.Inside.{AreNoted, IsNoted, notes_of, position_of};
 ghost use Rattle.runner.specs.Run.{IsChronicle, refused_moment, sent_by, sent_in};
 
 use crate::player::Player;
-use handlers::Handler;
+use interp::Handler;
 use helpers::Payload;
 use scenario::{Scenario, Step};
 use sessions::{Slip, copied};

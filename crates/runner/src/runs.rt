@@ -1,7 +1,7 @@
 //! Runs of a scenario.
 
 ghost use Rattle.std.specs.Prelude.{◌≡◌, ◌≢◌, ◌≤◌, ◌+◌, ◌*◌, ◌++◌, ℕ, IfErr, IfOk, List, OnErr, OnOk, Some, length, map, string_bytes, string_capacity, string_len};
-ghost use Rattle.handlers.specs.Image.{TheImage, image_in};
+ghost use Rattle.interp.specs.Image.{TheImage, image_in};
 ghost use Rattle.machine.specs.Openings.{AreFew};
 ghost use Rattle.scenario.specs.Process.{names_of};
 ghost use Rattle.runner.specs.Orders.{FindsNoMemory, beginning};
@@ -11,7 +11,7 @@ ghost use Rattle.runner.specs.Run.{IsCut, IsRun, refused_text};
 use crate::player::Player;
 use crate::rest::rest_of;
 use crate::why::keep_told;
-use handlers::Handler;
+use interp::Handler;
 use hints::{Told, note_run};
 use itoa::Buffer;
 use results::{note_refused, push_results};

@@ -1,14 +1,14 @@
 //! How a run begins.
 
 ghost use Rattle.std.specs.Prelude.{◌≡◌, IfOk, None, map, replicate};
-ghost use Rattle.handlers.specs.Image.{image_in};
+ghost use Rattle.interp.specs.Image.{image_in};
 ghost use Rattle.machine.specs.Openings.{AreFew};
 ghost use Rattle.world.specs.declared.refusal.Refusal.TheVariants.{Memory};
 ghost use Rattle.runner.specs.Orders.{beginning};
 ghost use Rattle.runner.specs.Inside.{position_of};
 
 use crate::player::Player;
-use handlers::Handler;
+use interp::Handler;
 use limits::PARTIES;
 use sessions::{Job, Service};
 use std::alloc::{AllocError, Global};

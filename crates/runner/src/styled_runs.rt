@@ -1,7 +1,7 @@
 //! Runs of a scenario in another style.
 
 ghost use Rattle.std.specs.Prelude.{◌≡◌, ◌≤◌, ◌++◌, IfOk, List, None, OnOk, Some, cond, length, map, option_map, string_bytes};
-ghost use Rattle.handlers.specs.Image.{TheImage, image_in};
+ghost use Rattle.interp.specs.Image.{TheImage, image_in};
 ghost use Rattle.machine.specs.Openings.{AreFew};
 ghost use Rattle.scenario.specs.Process.{names_of};
 ghost use Rattle.sessions.specs.Journal.{world_at};
@@ -14,7 +14,7 @@ ghost use Rattle.runner.specs.Reports.{IsTelling, outputs_told, process_told, re
 
 use crate::chronicle::Moment;
 use crate::player::Player;
-use handlers::Handler;
+use interp::Handler;
 use indexmap::IndexMap;
 use scenario::{NamedProcess, Scenario, Style, name_at};
 use sessions::{Service, copied};

@@ -4,8 +4,8 @@ use Rattle.std.specs.Prelude.{Option, Some, None, slice_get, if◌then◌else◌
 use Rattle.std.specs.Option.{option_map}
 use Rattle.std.proofs.lemmas.Option.{slice_get-map}
 use Rattle.std.proofs.lemmas.List.Sums.{fold-append}
-use Rattle.handlers.specs.Image.{TheImage}
-use Rattle.handlers.specs.Answer.{Handled, answered}
+use Rattle.interp.specs.Image.{TheImage}
+use Rattle.interp.specs.Answer.{Handled, answered}
 use Rattle.world.specs.declared.message.Message.{Message}
 use Rattle.world.specs.History.{nth}
 use Rattle.replay.specs.Emission.{payloads_to, emitted_to}

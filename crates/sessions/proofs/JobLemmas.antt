@@ -6,8 +6,8 @@ use Rattle.std.specs.Slice.{IsItemAt}
 use Rattle.std.proofs.lemmas.Bool.Decides.{nat_tests}
 use Rattle.std.proofs.lemmas.List.{get_or-map}
 use Rattle.std.proofs.lemmas.Option.{slice_get-get_or, slice_get-map, slice_get_past, slice_get_read}
-use Rattle.handlers.specs.Image.{TheImage}
-use Rattle.handlers.specs.Answer.{answered, run_of, shown}
+use Rattle.interp.specs.Image.{TheImage}
+use Rattle.interp.specs.Answer.{answered, run_of, shown}
 use Rattle.replay.specs.Task.{TheTask, Answers}
 use Rattle.theorems.proofs.ListLemmas.{nth-within}
 use Rattle.world.specs.declared.message.Message.{Message}

@@ -1,13 +1,13 @@
 -- What the handlers of images make of a history: a fold of handler calls over its messages
 use Rattle.std.specs.Prelude.{ℕ, List, [], ◌++◌, length, replicate, fold, Option, Some, None}
 use Rattle.helpers.specs.Effects.{Emitted}
-use Rattle.handlers.specs.Answer.{answered}
+use Rattle.interp.specs.Answer.{answered}
 use Rattle.world.specs.declared.message.Message.{Message}
 use Rattle.world.specs.History.{nth}
 use Rattle.world.specs.Handlers.{Handlers}
 use Rattle.replay.specs.Emission.{emitted_to}
-pub use Rattle.handlers.specs.Image.{TheImage}
-pub use Rattle.handlers.specs.Answer.{Handled}
+pub use Rattle.interp.specs.Image.{TheImage}
+pub use Rattle.interp.specs.Answer.{Handled}
 
 -- the state of a process, and all that it has sent and put out
 pub record Folded : Type 0 where

@@ -2,8 +2,8 @@
 use Rattle.std.specs.Prelude.{◌≡◌, ◌≤◌, List, [], length, Option, Some, None}
 use Rattle.decode.specs.declared.insn.Insn.{Insn}
 use Rattle.verifier.specs.declared.file_form.FileForm.{FileForm}
-use Rattle.handlers.specs.Image.{TheImage}
-use Rattle.handlers.specs.Answer.{Handled, HasRun, answered}
+use Rattle.interp.specs.Image.{TheImage}
+use Rattle.interp.specs.Answer.{Handled, HasRun, answered}
 use Rattle.replay.specs.Task.{TheTask, TheCompletion}
 use Rattle.world.specs.declared.packet.Packet.{Packet}
 use Rattle.world.specs.declared.answer.Answer.{Answer}

@@ -1,6 +1,6 @@
 -- Sessions of one caller, who has no seat
 use Rattle.std.specs.Prelude.{◌≡◌, ℕ, List, [], length, Result, Ok, Err}
-use Rattle.handlers.specs.Image.{TheImage}
+use Rattle.interp.specs.Image.{TheImage}
 use Rattle.world.specs.declared.call.Call.{Call}
 use Rattle.world.specs.declared.call.Call.TheVariants.{Recover}
 use Rattle.world.specs.declared.answer.Answer.{Answer}

@@ -2,7 +2,7 @@
 
 ghost use Rattle.std.specs.Prelude.{◌≡◌, length, Some};
 ghost use Rattle.std.specs.Option.{option_map};
-ghost use Rattle.handlers.specs.Image.{TheImage, image_in};
+ghost use Rattle.interp.specs.Image.{TheImage, image_in};
 ghost use Rattle.replay.specs.Task.{TheTask};
 ghost use Rattle.machine.specs.Arrival.{OfJob, answer_of};
 ghost use Rattle.machine.specs.declared.arrival.Arrival.TheVariants.{Started};
@@ -10,7 +10,7 @@ ghost use Rattle.sessions.specs.Fields.{IsSized, joined};
 ghost use Rattle.sessions.specs.Job.{arrival_of};
 
 use crate::job::Job;
-use handlers::Handler;
+use interp::Handler;
 use machine::{Arrival, Invocation};
 use std::sync::Arc;
 

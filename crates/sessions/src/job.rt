@@ -1,13 +1,12 @@
 //! Handler calls that leave a session, and come back to it.
 
 ghost use Rattle.std.specs.Prelude.{◌≡◌, ◌≤◌, ◌+◌, length, Ok, Err, IfOk, IfErr, OnOk};
-ghost use Rattle.handlers.specs.Image.{image_in, the_image};
+ghost use Rattle.interp.specs.Image.{image_in, the_image};
 ghost use Rattle.machine.specs.Arrival.{Finishes};
 ghost use Rattle.sessions.specs.Job.{IsAnswer, answer_of, completed};
 
-use handlers::Handler;
 use helpers::Effects;
-use interp::CallEnd;
+use interp::{CallEnd, Handler};
 use limits::ENTRIES;
 use machine::{Completion, Finished, Invocation, Machine, Serial};
 use replay::Task;
@@ -24,7 +23,7 @@ pub struct Job {
 
 impl Model for Job {
     ghost use Rattle.std.specs.Prelude.{◌≡◌, length};
-    ghost use Rattle.handlers.specs.Image.{image_in};
+    ghost use Rattle.interp.specs.Image.{image_in};
     ghost use Rattle.sessions.specs.Job.{TheJob};
 
     ghost Value = { TheJob };
@@ -100,7 +99,7 @@ pub struct Done {
 }
 
 impl Model for Done {
-    ghost use Rattle.handlers.specs.Image.{image_in};
+    ghost use Rattle.interp.specs.Image.{image_in};
     ghost use Rattle.sessions.specs.Job.{TheJob, IsAnswer};
 
     ghost Value = { TheJob };

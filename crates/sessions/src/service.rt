@@ -3,7 +3,7 @@
 ghost use Rattle.std.specs.Prelude.{◌≡◌, ◌↔◌, ◌≤◌, IfOk, IsTrue, [], true, length, map, option_copied};
 ghost use Rattle.std.specs.List.{All};
 ghost use Rattle.std.specs.Option.{option_map};
-ghost use Rattle.handlers.specs.Image.{image_in};
+ghost use Rattle.interp.specs.Image.{image_in};
 ghost use Rattle.world.specs.Useful.{may_call};
 ghost use Rattle.machine.specs.Simulation.{answering};
 ghost use Rattle.machine.specs.Dispatch.{TakesNoResult, answer_in};
@@ -20,7 +20,7 @@ use crate::job::{Done, Job};
 use crate::journal::Journal;
 use crate::refused::RefusedEffects;
 use crate::slip::Brief;
-use handlers::Handler;
+use interp::Handler;
 use limits::{ENTRIES, PROCESSES, STATE_BYTES};
 use machine::{Finished, Machine, Reply};
 use std::alloc::{AllocError, Global};
@@ -41,7 +41,7 @@ pub struct Service {
 
 impl Model for Service {
     ghost use Rattle.std.specs.Prelude.{◌≡◌, [], map};
-    ghost use Rattle.handlers.specs.Image.{image_in};
+    ghost use Rattle.interp.specs.Image.{image_in};
     ghost use Rattle.sessions.specs.Journal.{TheSession, is_exact_of};
     ghost use Rattle.sessions.specs.Fields.{IsSession};
 

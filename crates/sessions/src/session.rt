@@ -1,7 +1,7 @@
 //! Sessions of many callers.
 
 ghost use Rattle.std.specs.Prelude.{◌≡◌, ◌↔◌, ◌+◌, ◌≤◌, IfNone, IfOk, IfSome, IsTrue, None, Some, [], true, false, length, map, slice_set};
-ghost use Rattle.handlers.specs.Image.{image_in};
+ghost use Rattle.interp.specs.Image.{image_in};
 ghost use Rattle.world.specs.Useful.{may_call};
 ghost use Rattle.machine.specs.Simulation.{answering};
 ghost use Rattle.machine.specs.Dispatch.{TakesNoResult, answer_in};
@@ -16,7 +16,7 @@ use crate::job::{Done, Job};
 use crate::seat::{Seat, settle};
 use crate::service::Service;
 use crate::share::Share;
-use handlers::Handler;
+use interp::Handler;
 use limits::SEATS;
 use machine::{Finished, Reply};
 use std::alloc::{AllocError, Global};

@@ -1,6 +1,6 @@
 -- How many processes a scenario has.
 use Rattle.std.proofs.Common.{ℕ, List, arith}
-use Rattle.handlers.specs.Image.{TheImage}
+use Rattle.interp.specs.Image.{TheImage}
 use Rattle.machine.specs.Openings.{AreFew}
 use Rattle.scenario.specs.declared.order.Allowed.{Allowed}
 use Rattle.scenario.specs.declared.scenario.Scenario.{Scenario}

@@ -1,6 +1,6 @@
 -- The command `draw` (docs/FORMATS.md, "Commands").
 use Rattle.std.specs.Prelude.{ℕ, Bool, List, length}
-use Rattle.handlers.specs.Image.{TheImage}
+use Rattle.interp.specs.Image.{TheImage}
 use Rattle.diagram.specs.Picture.{IsPicture}
 use Rattle.diagram.specs.Run.{TheRun}
 use Rattle.runner.specs.Run.{IsChronicle}

@@ -1,6 +1,6 @@
 -- The command `live` (docs/FORMATS.md, "Commands").
 use Rattle.std.specs.Prelude.{ℕ, List, []}
-use Rattle.handlers.specs.Image.{TheImage}
+use Rattle.interp.specs.Image.{TheImage}
 use Rattle.live.specs.Live.{IsLive}
 use Rattle.live.specs.declared.ended.Ended.{Ended}
 use Rattle.scenario.specs.Process.{names_of}

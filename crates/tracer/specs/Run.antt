@@ -1,6 +1,6 @@
 -- The command `run` (docs/FORMATS.md, "Commands").
 use Rattle.std.specs.Prelude.{ℕ, List, []}
-use Rattle.handlers.specs.Image.{TheImage}
+use Rattle.interp.specs.Image.{TheImage}
 use Rattle.runner.specs.Run.{IsCut, IsRun}
 use Rattle.scenario.specs.Process.{names_of}
 use Rattle.scenario.specs.declared.order.Allowed.TheVariants.{All}

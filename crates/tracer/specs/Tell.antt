@@ -1,6 +1,6 @@
 -- The command `run` in another style (docs/FORMATS.md, "Other ways to print a run").
 use Rattle.std.specs.Prelude.{ℕ, Bool, List}
-use Rattle.handlers.specs.Image.{TheImage}
+use Rattle.interp.specs.Image.{TheImage}
 use Rattle.runner.specs.Reports.{IsTelling}
 use Rattle.scenario.specs.Process.{names_of}
 use Rattle.scenario.specs.declared.order.Allowed.TheVariants.{All}

@@ -12,10 +12,11 @@ use Rattle.decode.specs.Slots.{Follows, size_of, insn_at}
 use Rattle.regtypes.specs.declared.image_form.ImageForm.{ImageForm}
 use Rattle.regtypes.specs.declared.image_form.ImageForm.TheVariants.{Sbi1, Sbi2}
 use Rattle.regtypes.specs.declared.frame.Frame.{Frame}
-use Rattle.regtypes.specs.declared.flow.Flow.{Flow}
-use Rattle.regtypes.specs.declared.flow.Flow.TheVariants.{Ends, Leaps, Forks, Falls}
+use Rattle.decode.specs.declared.flow.Flow.{Flow}
+use Rattle.decode.specs.declared.flow.Flow.TheVariants.{Ends, Leaps, Forks, Falls}
 use Rattle.regtypes.specs.declared.rule.Rule.{Rule}
-use Rattle.regtypes.specs.Flow.{flow_of, exits, exits_by}
+use Rattle.decode.specs.Flow.{flow_of}
+use Rattle.regtypes.specs.Exits.{exits, exits_by}
 use Rattle.regtypes.specs.Frame.{entry_frame, Leq}
 use Rattle.regtypes.specs.Rules.{Tests, first_broken, tests_of}
 use Rattle.regtypes.specs.Typing.{Table, frame_at, broken, flow_tests, IsTyping}

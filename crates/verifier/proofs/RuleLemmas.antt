@@ -10,9 +10,9 @@ use Rattle.regtypes.specs.declared.frame.Region.TheVariants.{Message, State, Sta
 use Rattle.regtypes.specs.declared.frame.Kind.{Kind}
 use Rattle.regtypes.specs.declared.frame.Kind.TheVariants.{Unset, Num, Len, Place}
 use Rattle.regtypes.specs.declared.frame.Frame.{Frame}
-use Rattle.regtypes.specs.declared.attributes.Access.{Access}
+use Rattle.decode.specs.declared.attributes.Access.{Access}
 use Rattle.regtypes.specs.Frame.{kind_at, is_num}
-use Rattle.regtypes.specs.Attributes.{attributes_of}
+use Rattle.decode.specs.Attributes.{attributes_of}
 use Rattle.regtypes.specs.Rules.{is_unset, is_in_message, has, base_of, has_bytes, moved, reaches_out, first_broken, tests_of}
 use Rattle.regtypes.proofs.Parts.{stores_in_message}
 use Rattle.regtypes.specs.Typing.{is_target}

@@ -7,9 +7,9 @@ ghost use Rattle.verifier.specs.Fixpoint.{IsLeast, StopsAt};
 ghost use Rattle.verifier.specs.Least.{flat_form};
 ghost use Rattle.verifier.specs.Inside.Pass.{Merged};
 
-use decode::Insn;
+use decode::{Flow, Insn, flow_from};
 use limits::{PAYLOAD_BYTES, REGISTERS, SLOTS};
-use regtypes::{Flow, Frame, ImageForm, Rule, flow_from, join, leads, transfer};
+use regtypes::{Frame, ImageForm, Rule, join, leads, transfer};
 
 /// Joins a frame into the frame of a slot.
 fn merge(table: &mut [Option<Frame>], to: usize, frame: &Frame)

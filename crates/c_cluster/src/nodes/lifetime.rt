@@ -2,7 +2,7 @@
 
 ghost use Rattle.std.specs.Prelude.{◌≡◌, ◌↔◌, Some, None, IsTrue, MatchOption, MatchResult, IfErr, OnErr, OnOk};
 ghost use Rattle.std.specs.Arc.{arc_value};
-ghost use Rattle.handlers.specs.Handler.{image_of};
+ghost use Rattle.interp.specs.Handler.{image_of};
 ghost use Rattle.node.specs.Node.{IsPositive};
 ghost use Rattle.process.specs.Revival.{zero_state};
 ghost use Rattle.c_calls.specs.declared.nodes.fault.NodeFault.TheVariants.{Memory};
@@ -11,7 +11,7 @@ ghost use Rattle.c_cluster.specs.Nodes.Lifetime.{AreLimits, limits_of, IsSeat, I
 
 use c_calls::nodes::fault::NodeFault;
 use c_calls::nodes::handle::NodeHandle;
-use handlers::Handler;
+use interp::Handler;
 use limits::PROCESSES;
 use packets::NUMBER_LIMIT;
 use process::{Member, Unrevived};

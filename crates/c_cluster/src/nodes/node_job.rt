@@ -1,7 +1,7 @@
 //! Handler calls that a program makes outside of the node.
 
 ghost use Rattle.std.specs.Prelude.{◌≡◌, ◌≤◌, ◌<◌, ◌+◌, ◌↔◌, length, IfErr, IsTrue, MatchOption, MatchResult, OnErr, OnOk};
-ghost use Rattle.handlers.specs.Handler.{image_of};
+ghost use Rattle.interp.specs.Handler.{image_of};
 ghost use Rattle.process.specs.Job.{array_size, ticket_at};
 ghost use Rattle.c_calls.specs.declared.nodes.fault.NodeFault.TheVariants.{Room};
 ghost use Rattle.c_calls.specs.Nodes.Answers.{Results};
@@ -11,10 +11,10 @@ use crate::nodes::outcome::left_in;
 use c_calls::nodes::fault::NodeFault;
 use c_calls::nodes::handle::NodeHandle;
 use c_handles::copy;
-use handlers::Handler;
+use dense::ARRAY_BYTES;
+use interp::Handler;
 use limits::{STACK_BYTES, STATE_BYTES};
 use process::{HandlerJob, HandlerTicket, Member, Undone};
-use span_steps::ARRAY_BYTES;
 use std::alloc::Global;
 
 /// Where the state begins in the array of forms 1 and 2.

@@ -1,6 +1,6 @@
 -- What loading guarantees
 use Rattle.std.specs.Prelude.{◌≡◌, ℕ, List, ◌++◌}
-use Rattle.handlers.specs.Image.{TheImage}
+use Rattle.interp.specs.Image.{TheImage}
 use Rattle.world.specs.declared.refusal.Refusal.TheVariants.{Memory}
 use Rattle.c_sessions.specs.declared.fault.SessionFault.{SessionFault}
 use Rattle.c_sessions.specs.declared.fault.SessionFault.TheVariants.{Session, File}

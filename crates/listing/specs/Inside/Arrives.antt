@@ -1,7 +1,7 @@
 -- Why an unset register is unset at a slot.
 use Rattle.std.specs.Prelude.{◌≡◌, ◌≢◌, ◌<◌, ◌+◌, ◌⊎◌, ℕ, pos, ◌+ℤ◌, Option, Some, None}
-use Rattle.regtypes.specs.declared.flow.Flow.{Flow}
-use Rattle.regtypes.specs.declared.flow.Flow.TheVariants as flow
+use Rattle.decode.specs.declared.flow.Flow.{Flow}
+use Rattle.decode.specs.declared.flow.Flow.TheVariants as flow
 use Rattle.regtypes.specs.declared.frame.Kind.{Kind}
 use Rattle.regtypes.specs.declared.frame.Kind.TheVariants as kind
 use Rattle.listing.specs.declared.study.Study.{Study}

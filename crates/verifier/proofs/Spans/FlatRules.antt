@@ -26,7 +26,7 @@ use Rattle.regtypes.specs.declared.frame.Kind.{Kind as FlatKind}
 use Rattle.regtypes.specs.declared.frame.Kind.TheVariants as flat
 use Rattle.regtypes.specs.declared.frame.Frame.{Frame as FlatFrame}
 use Rattle.regtypes.specs.Frame.{kind_at, is_num as is_flat_num}
-use Rattle.regtypes.specs.Attributes.{register_of}
+use Rattle.decode.specs.Attributes.{register_of}
 use Rattle.regtypes.specs.Rules.{arguments_of, first_broken, has, is_in_message, is_near, is_place, is_unset, moved, tests_of}
 use Rattle.regtypes.specs.Ways.{next, taken}
 use Rattle.regtypes.specs.declared.rule.Rule.TheVariants.{V4}

@@ -8,7 +8,8 @@ use Rattle.decode.specs.declared.insn.Insn.TheVariants.{Jump, JumpLong, JumpIf, 
 use Rattle.decode.specs.Slots.{insn_at, size_of, slots_of}
 use Rattle.regtypes.specs.declared.image_form.ImageForm.{ImageForm}
 use Rattle.regtypes.specs.declared.frame.Frame.{Frame as FlatFrame}
-use Rattle.regtypes.specs.Flow.{exits, flow_of}
+use Rattle.decode.specs.Flow.{flow_of}
+use Rattle.regtypes.specs.Exits.{exits}
 use Rattle.regtypes.specs.Frame.{entry_frame as flat_entry}
 use Rattle.regtypes.specs.Ways.{next, taken}
 use Rattle.regtypes.specs.Rules.{first_broken, tests_of}

@@ -12,7 +12,7 @@ use Rattle.decode.specs.declared.insn.Insn.TheVariants.{Alu, MovSx, Neg, End, Ju
 use Rattle.decode.specs.Encoding.{Fits}
 use Rattle.decode.specs.Slots.{insn_at, size_of, slots_of}
 use Rattle.decode.proofs.SlotLemmas.{one_or_two}
-use Rattle.regtypes.specs.Flow.{flow_of}
+use Rattle.decode.specs.Flow.{flow_of}
 use Rattle.regtypes.specs.Rules.{first_broken}
 use Rattle.regtypes.specs.Typing.{flow_tests, is_target}
 use Rattle.regtypes.proofs.Monotone.{none_holds, not_false}

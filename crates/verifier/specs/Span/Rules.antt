@@ -12,7 +12,7 @@ use Rattle.decode.specs.Encoding.{bytes_in, loaded}
 use Rattle.regtypes.specs.declared.frame.Region.TheVariants.{Message, State, Stack}
 use Rattle.regtypes.specs.declared.rule.Rule.{Rule}
 use Rattle.regtypes.specs.declared.rule.Rule.TheVariants.{V3, V4, V5, V6, V7, V8, V9, V10}
-use Rattle.regtypes.specs.Attributes.{attributes_of}
+use Rattle.decode.specs.Attributes.{attributes_of}
 use Rattle.regtypes.specs.Rules.{rule_number, is_frame_pointer}
 use Rattle.spans.specs.declared.kind.Reach.{Reach}
 use Rattle.spans.specs.declared.kind.SpanKind.{SpanKind}

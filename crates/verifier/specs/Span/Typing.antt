@@ -6,7 +6,7 @@ use Rattle.std.specs.Global.{Box}
 use Rattle.decode.specs.declared.insn.Insn.{Insn}
 use Rattle.decode.specs.Slots.{insn_at}
 use Rattle.regtypes.specs.declared.rule.Rule.{Rule}
-use Rattle.regtypes.specs.Flow.{flow_of}
+use Rattle.decode.specs.Flow.{flow_of}
 use Rattle.regtypes.specs.Rules.{first_broken}
 use Rattle.regtypes.specs.Typing.{flow_tests}
 use Rattle.spans.specs.declared.cells.Cells.{Cells}

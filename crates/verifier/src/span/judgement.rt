@@ -10,9 +10,9 @@ ghost use Rattle.verifier.specs.Fixpoint.{IsLeast};
 
 use crate::span::propagation::spread;
 use crate::span::ways::{SpanLeaving, transfer};
-use decode::Insn;
+use decode::{Insn, flow_from};
 use limits::SLOTS;
-use regtypes::{Rule, flow_from, leads};
+use regtypes::{Rule, leads};
 use spans::Cells;
 use std::alloc::{AllocError, Global};
 

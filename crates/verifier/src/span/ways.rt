@@ -16,8 +16,8 @@ use crate::span::memory::{load_rule, loaded, store_rule, stored};
 use crate::span::narrowing::{opposite, shown};
 use crate::span::results::whole;
 use crate::span::rules::{exit_rule, lesser, number_rule};
-use decode::{Condition, Insn, Operand, Reg, Width};
-use regtypes::{Rule, attributes_from, bytes_in, signed_bytes_in};
+use decode::{Condition, Insn, Operand, Reg, Width, attributes_from, bytes_in, signed_bytes_in};
+use regtypes::Rule;
 use spans::{Cells, Span, SpanKind};
 
 /// What is known after an instruction; no step takes a way without a frame.

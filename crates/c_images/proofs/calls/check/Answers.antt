@@ -1,5 +1,5 @@
 use Rattle.std.proofs.Common.{rules, refl}
-use Rattle.handlers.specs.Image.{as_image}
+use Rattle.interp.specs.Image.{as_image}
 use Rattle.c_images.proofs.calls.check.Goals as goal
 
 pub returns-in-Ok : goal.returns-in-Ok

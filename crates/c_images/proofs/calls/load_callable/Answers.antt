@@ -1,6 +1,6 @@
 use Rattle.std.proofs.Common.{◌≡◌, ◌≢◌, length, rules, refl, inl, inr}
 use Rattle.verifier.specs.declared.file_form.FileForm.TheVariants.{Sbi2}
-use Rattle.handlers.specs.Image.{TheImage, the_image}
+use Rattle.interp.specs.Image.{TheImage, the_image}
 use Rattle.c_images.specs.declared.refusal.ImageRefusal.TheVariants.{Form, State}
 use Rattle.c_images.specs.Calls.{IsTypableFile, IsCallableForm}
 use Rattle.c_images.specs.Exports.{IsTypable, IsCallable, IsFormRefusal, IsStateRefusal}

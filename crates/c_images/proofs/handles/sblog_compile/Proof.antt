@@ -4,7 +4,7 @@ use mir.Raw.{raw as bare}
 use contract.Running.{tables, tables_of}
 use Rattle.std.specs.contracts.alloc.Global as heap
 use Rattle.std.proofs.alloc.Global.TheLaws as heap_laws
-use Rattle.handlers.specs.Image.{TheImage}
+use Rattle.interp.specs.Image.{TheImage}
 use Rattle.c_images.specs.Handles.{may_free, owns_image}
 use Rattle.c_images.specs.MachineCode.{Compiles}
 use Rattle.c_images.specs.declared.refusal.ImageRefusal.TheVariants.{Handle}

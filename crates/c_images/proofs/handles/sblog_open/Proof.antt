@@ -2,7 +2,7 @@
 use Rattle.c_handles.proofs.Steps.{List, [], ◌∷◌, Option, refl, ap, w32, full_share, named, ty_ptr, Val, vint, SProp, sep, ex, ex_i, emp, id⊢, ftrue, fat, flft, fact, fact_i, sem, ‵, raw, ◌⊛◌, some, later, ◌$◌, ◌∵◌, !, qed, by, move, keep, drop, use0, use1, use2, split, split3, join, pick, await, fsplit, fsplit3, fjoin, fjoin3, feq_i, feq_l, rewrite, and_then, no_more, of_opd, returns, enter, assigns, store, stop, fld, sub, whole, alloc_all, pass_all, free_all, look_at, get, get_in, through, sets, lands_as, yes, owns, u8, u32, SliceRefOf, cell_at, uint_Makes, RawPtr, ptr_val, mut_vals, mut_Tells, plain, types_at, shr_slice_vals, shr_slice_Tells, nothing, owned, opens, closes, heard, only, calls_at, Lasts, lasts, triple_of, framed, Stays, stay_dropped, stay_ref, walk_of, Goes-dropped, Goes-ref, proved, leaves, heap_val, heap_Tells, tables}
 use Rattle.std.specs.contracts.alloc.Global as heap
 use Rattle.std.proofs.alloc.Global.TheLaws as heap_laws
-use Rattle.handlers.specs.Image.{TheImage}
+use Rattle.interp.specs.Image.{TheImage}
 use Rattle.c_images.specs.Handles.{owns_image, Opens}
 use Rattle.c_images.specs.contracts.lifetime.Opened as opened
 use Rattle.c_images.proofs.OpenedValue.{opened_out, ptr_good, word_good}

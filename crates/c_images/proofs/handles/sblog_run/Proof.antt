@@ -6,7 +6,7 @@ use Rattle.c_images.specs.Handles.{may_free, owns_image, Runs as IsRun}
 use Rattle.c_images.specs.declared.refusal.ImageRefusal.TheVariants.{Handle}
 use Rattle.helpers.specs.declared.effects.Who.{Who}
 use Rattle.c_images.proofs.Lent.{given_slice, slice_left, tested}
-use Rattle.handlers.specs.Image.{TheImage}
+use Rattle.interp.specs.Image.{TheImage}
 use Rattle.c_images.specs.contracts.handler.OpenHandler.{the_row}
 use Rattle.c_images.specs.contracts.runs.run as of
 use Rattle.c_images.proofs.runs.run.Symbol.{name as #call}

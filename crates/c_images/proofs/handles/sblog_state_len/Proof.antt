@@ -4,7 +4,7 @@ use mir.Raw.{raw as bare}
 use contract.Running.{tables, tables_of}
 use Rattle.c_images.specs.Handles.{may_free, owns_image}
 use Rattle.c_images.specs.Handles.{state_len_of}
-use Rattle.handlers.specs.Image.{TheImage}
+use Rattle.interp.specs.Image.{TheImage}
 use Rattle.c_images.specs.contracts.handler.OpenHandler.{the_row}
 use Rattle.c_images.proofs.handler.OpenHandler.TheLaws.{the_row_laws, the_within}
 use Rattle.c_images.proofs.Lent.{tested}

@@ -1,4 +1,4 @@
-use Rattle.handlers.specs.CallArray.{IsLeft, state_in}
+use Rattle.interp.specs.CallArray.{IsLeft, state_in}
 use Rattle.c_images.specs.Arrays.{span_image}
 use Rattle.c_images.proofs.CallLemmas.{Reported}
 use Rattle.c_images.proofs.span_array.call_spans.Given as goal

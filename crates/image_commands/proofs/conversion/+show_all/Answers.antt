@@ -1,6 +1,6 @@
 use Rattle.std.proofs.Common.{◌≡◌, ◌<◌, ◌≤◌, ◌∙◌, ap, arith, drop, length, subst, take}
-use Rattle.handlers.specs.Answer.{Handled, HasRun}
-use Rattle.handlers.specs.Image.{the_image}
+use Rattle.interp.specs.Answer.{Handled, HasRun}
+use Rattle.interp.specs.Image.{the_image}
 use Rattle.image_commands.specs.Migrate.{Converts, converter, piece_bytes}
 use Rattle.image_commands.proofs.MigrateLemmas.{more_pieces, one_piece}
 use Rattle.image_commands.proofs.conversion.+show_all.Goals as goal

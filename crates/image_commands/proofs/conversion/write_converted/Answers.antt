@@ -1,5 +1,5 @@
 use Rattle.std.proofs.Common.{inl, rules}
-use Rattle.handlers.specs.Image.{the_image}
+use Rattle.interp.specs.Image.{the_image}
 use Rattle.image_commands.proofs.FaultLemmas.{becomes}
 use Rattle.image_commands.proofs.MigrateLemmas.{state_made, state_unmade}
 use Rattle.image_commands.proofs.conversion.write_converted.Goals as goal

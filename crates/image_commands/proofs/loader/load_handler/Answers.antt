@@ -1,6 +1,6 @@
 use Rattle.std.proofs.Common.{◌∙◌, inl, subst}
 use Rattle.verifier.specs.AnyFile.{IsFile}
-use Rattle.handlers.specs.Image.{the_image}
+use Rattle.interp.specs.Image.{the_image}
 use Rattle.image_commands.proofs.FaultLemmas.{becomes, handler_refused, plain_of}
 use Rattle.image_commands.proofs.HeadLemmas.{any_file}
 use Rattle.image_commands.proofs.loader.load_handler.Goals as goal

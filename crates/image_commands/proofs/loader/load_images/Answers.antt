@@ -2,7 +2,7 @@ use Rattle.std.proofs.Common.{◌≡◌, ◌∙◌, Some, ap, string_bytes, subs
 use Rattle.std.specs.Map.Iter.{deref_pair}
 use Rattle.std.specs.Option.{option_map}
 use Rattle.std.specs.Prelude.{slice_get}
-use Rattle.handlers.specs.Image.{image_in, the_image}
+use Rattle.interp.specs.Image.{image_in, the_image}
 use Rattle.image_commands.specs.Check.{HasImage}
 use Rattle.image_commands.specs.Inside.{HandlerFault}
 use Rattle.image_commands.proofs.FaultLemmas.{becomes}

@@ -1,5 +1,5 @@
 use Rattle.std.proofs.Common.{◌≡◌, map, take}
-use Rattle.handlers.specs.Image.{image_in}
+use Rattle.interp.specs.Image.{image_in}
 use Rattle.image_commands.specs.Loads.{AreLoaded}
 use Rattle.image_commands.proofs.loader.load_images.Given as goal
 

@@ -1,6 +1,6 @@
 use Rattle.std.proofs.Common.{subst, sym}
-use Rattle.handlers.specs.Image.{the_image}
-use Rattle.span_native.specs.AnyForm.{IsNativeOf}
+use Rattle.interp.specs.Image.{the_image}
+use Rattle.native.specs.AnyForm.{IsNativeOf}
 use Rattle.image_commands.specs.Inside.{HandlerFault}
 use Rattle.image_commands.proofs.FaultLemmas.{becomes}
 use Rattle.image_commands.proofs.LoadLemmas.{handler_fault}

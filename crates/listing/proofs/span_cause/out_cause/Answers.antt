@@ -1,5 +1,5 @@
 use Rattle.std.proofs.Common.{◌∙◌, ap}
-use Rattle.regtypes.specs.declared.attributes.Attributes.{Attributes}
+use Rattle.decode.specs.declared.attributes.Attributes.{Attributes}
 use Rattle.spans.specs.Frame.{kind_at}
 use Rattle.listing.specs.SpanCause.{moved_or, out_by}
 use Rattle.listing.proofs.span_cause.out_cause.Goals as goal

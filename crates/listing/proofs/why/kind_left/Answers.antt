@@ -1,10 +1,10 @@
 use Rattle.std.proofs.Common.{rules, ◌≡◌, ◌∙◌, ap, sym, subst, List}
 use Rattle.std.specs.Prelude.{Some, IsTrue}
 use Rattle.decode.specs.Slots.{insn_at}
-use Rattle.regtypes.specs.declared.flow.Flow.{Flow}
+use Rattle.decode.specs.declared.flow.Flow.{Flow}
 use Rattle.regtypes.specs.declared.frame.Frame.{Frame}
 use Rattle.regtypes.specs.declared.frame.Kind.{Kind}
-use Rattle.regtypes.specs.Flow.{flow_of}
+use Rattle.decode.specs.Flow.{flow_of}
 use Rattle.regtypes.specs.Frame.{kind_at}
 use Rattle.regtypes.specs.Ways.{after}
 use Rattle.regtypes.specs.Typing.{frame_at}

@@ -2,7 +2,7 @@ use Rattle.std.proofs.Common.{rules, ◌∙◌, length, map, sym, ap, subst, str
 use Rattle.std.proofs.lemmas.List.{length-map}
 use Rattle.std.specs.Prelude.{Err, IfOk, Ok, OnOk, Result}
 use Rattle.limits.specs.declared.TheConstants.{SEATS}
-use Rattle.handlers.specs.Image.{image_in}
+use Rattle.interp.specs.Image.{image_in}
 use Rattle.sessions.specs.Journal.{TheSession}
 use Rattle.sessions.specs.Seats.{IsWhole}
 use Rattle.scenario.specs.Process.{names_of}

@@ -1,5 +1,5 @@
 use Rattle.std.proofs.Common.{◌≡◌, length, ◌∙◌, subst, arith}
-use Rattle.native_tasks.specs.declared.prologue.Opening.TheVariants as opening
+use Rattle.native.specs.declared.prologue.Opening.TheVariants as opening
 use Rattle.native.specs.Written.{IsServed, IsWritten}
 use Rattle.native.proofs.Native.{native}
 use Rattle.native.proofs.image_code.compile.Goals as goal

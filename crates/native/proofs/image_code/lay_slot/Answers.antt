@@ -2,11 +2,11 @@ use Rattle.std.proofs.Common.{◌≡◌, ◌+◌, ◌++◌, length, reverse, Som
 use Rattle.std.specs.Prelude.{slice_get, slice_set}
 use Rattle.std.proofs.lemmas.List.{reverse-append, reverse-reverse, length-reverse}
 use Rattle.std.proofs.lemmas.Option.{slice_get-get_or}
-use Rattle.native_tasks.specs.declared.task.SlotTask.TheVariants as task
+use Rattle.native.specs.declared.task.SlotTask.TheVariants as task
 use Rattle.native.specs.Laid.{IsPiece}
-use Rattle.native_tasks.specs.Pending.{pending_in}
-use Rattle.native_tasks.specs.Saved.{saved_for}
-use Rattle.native_tasks.specs.SlotTasks.{task_at}
+use Rattle.native.specs.Pending.{pending_in}
+use Rattle.native.specs.Saved.{saved_for}
+use Rattle.native.specs.SlotTasks.{task_at}
 use Rattle.native.specs.Written.{IsLaidFrom}
 use Rattle.native.proofs.Native.{laid_next, stacks_next}
 use Rattle.native.proofs.image_code.lay_slot.Goals as goal

@@ -2,8 +2,8 @@ use Rattle.std.proofs.Common.{◌≡◌, ◌≤◌, ◌++◌, true, false, lengt
 use Rattle.std.proofs.lemmas.Bool.{true≢false}
 use Rattle.native.specs.Code.{codes}
 use Rattle.native.specs.Fusion.{fused, is_covered}
-use Rattle.native_tasks.specs.SlotTasks.{task_at}
-use Rattle.native_tasks.specs.Tasks.{is_eligible}
+use Rattle.native.specs.SlotTasks.{task_at}
+use Rattle.native.specs.Tasks.{is_eligible}
 use Rattle.native.proofs.Lengths.{slot_short}
 use Rattle.native.proofs.image_code.write_piece.Goals as goal
 

@@ -1,7 +1,7 @@
 use Rattle.std.proofs.Common.{◌≡◌, ◌+◌, ◌-◌, ◌++◌, [], length, reverse, refl, ap, ◌∙◌, subst, arith}
 use Rattle.native.specs.Code.{codes}
-use Rattle.native_tasks.specs.Pending.{ArePending, pending_in}
-use Rattle.native_tasks.specs.Saved.{SaveAll, saved_for}
+use Rattle.native.specs.Pending.{ArePending, pending_in}
+use Rattle.native.specs.Saved.{SaveAll, saved_for}
 use Rattle.native.specs.Openings.{entering_by}
 use Rattle.native.specs.Written.{Stacks, IsLaidFrom}
 use Rattle.native.proofs.Native.{laid_none, stacks_none}

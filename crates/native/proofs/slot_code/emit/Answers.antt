@@ -1,13 +1,13 @@
 use Rattle.std.proofs.Common.{◌≡◌, ◌-◌, true, sym, ◌∙◌, subst, arith}
 use Rattle.std.specs.Prelude.{OnOk}
 use Rattle.std.proofs.lemmas.Option.{slice_get-get_or}
-use Rattle.native_tasks.specs.declared.task.SlotTask.TheVariants as task
-use Rattle.native_tasks.specs.Tasks.{is_eligible}
+use Rattle.native.specs.declared.task.SlotTask.TheVariants as task
+use Rattle.native.specs.Tasks.{is_eligible}
 use Rattle.native.specs.Code.{Emits}
 use Rattle.native.specs.SlotCode.{Serves}
-use Rattle.native_tasks.specs.Pending.{IsBalanced}
+use Rattle.native.specs.Pending.{IsBalanced}
 use Rattle.native.specs.Laid.{Fuses, ServesBy}
-use Rattle.native_tasks.specs.SlotTasks.{task_at}
+use Rattle.native.specs.SlotTasks.{task_at}
 use Rattle.native.proofs.FusionLemmas.{fused_balanced}
 use Rattle.native.proofs.slot_code.emit.Goals as goal
 

@@ -1,6 +1,6 @@
 use Rattle.std.proofs.Common.{List, map, subst}
 use Rattle.std.proofs.lemmas.Result.{IfOk-weaker}
-use Rattle.handlers.specs.Image.{image_in}
+use Rattle.interp.specs.Image.{image_in}
 use Rattle.scenario.specs.declared.scenario.Step.{Step}
 use Rattle.runner.specs.Run.{IsChronicle}
 use Rattle.runner.specs.declared.chronicle.Chronicle.{Chronicle}

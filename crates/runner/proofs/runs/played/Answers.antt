@@ -1,6 +1,6 @@
 use Rattle.std.proofs.Common.{map, refl, subst}
 use Rattle.std.specs.Prelude.{string_bytes}
-use Rattle.handlers.specs.Image.{image_in}
+use Rattle.interp.specs.Image.{image_in}
 use Rattle.runner.specs.Inside.{ArePlayed, position_of}
 use Rattle.runner.specs.Orders.{Position}
 use Rattle.runner.proofs.Played.{cut-none, on_err}

@@ -3,7 +3,7 @@ use Rattle.std.specs.List.{All}
 use Rattle.std.proofs.lemmas.List.{take_more, map-append}
 use Rattle.std.proofs.lemmas.List.Elements.{All-push}
 use Rattle.limits.specs.declared.TheConstants.{STATE_BYTES}
-use Rattle.handlers.specs.Image.{TheImage, image_in, the_image}
+use Rattle.interp.specs.Image.{TheImage, image_in, the_image}
 use Rattle.sessions.specs.Fields.{lengths_of}
 use Rattle.sessions.proofs.service.lengths.Goals as goal
 

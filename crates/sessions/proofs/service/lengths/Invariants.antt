@@ -1,7 +1,7 @@
 use Rattle.std.proofs.Common.{◌≡◌, ◌≤◌, map, take}
 use Rattle.std.specs.List.{All}
 use Rattle.limits.specs.declared.TheConstants.{STATE_BYTES}
-use Rattle.handlers.specs.Image.{image_in}
+use Rattle.interp.specs.Image.{image_in}
 use Rattle.sessions.specs.Fields.{lengths_of}
 use Rattle.sessions.proofs.service.lengths.Given as goal
 

@@ -1,5 +1,5 @@
 use Rattle.std.proofs.Common.{◌≡◌, ℕ, List, Option, inr, length, map, string_bytes, subst, sym, true}
-use Rattle.handlers.specs.Image.{image_in}
+use Rattle.interp.specs.Image.{image_in}
 use Rattle.cli.specs.Asks.{Draw}
 use Rattle.diagram.specs.Picture.{IsPicture}
 use Rattle.diagram.specs.Run.{Moment}

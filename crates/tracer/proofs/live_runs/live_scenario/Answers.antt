@@ -1,6 +1,6 @@
 use Rattle.std.proofs.Common.{◌≡◌, ◌∙◌, List, ℕ, length, map, rules, string_bytes, subst}
 use Rattle.std.proofs.lemmas.List.{length-map}
-use Rattle.handlers.specs.Image.{image_in}
+use Rattle.interp.specs.Image.{image_in}
 use Rattle.machine.specs.Openings.{AreFew}
 use Rattle.live.specs.Live.{IsLive}
 use Rattle.scenario.specs.Process.{names_of}

@@ -1,6 +1,6 @@
 use Rattle.std.proofs.Common.{◌∙◌, map}
 use Rattle.std.proofs.lemmas.List.{length-map}
-use Rattle.handlers.specs.Image.{image_in}
+use Rattle.interp.specs.Image.{image_in}
 use Rattle.scenario.specs.declared.order.Allowed.TheVariants.{All}
 use Rattle.image_commands.proofs.LoadLemmas.{as_many, loaded_scenario}
 use Rattle.tracer.proofs.FewLemmas.{are_few}

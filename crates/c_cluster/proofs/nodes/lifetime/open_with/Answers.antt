@@ -2,7 +2,7 @@ use Rattle.std.proofs.Common.{rules, ◌≡◌, arith}
 use Rattle.std.specs.Prelude.{Some, None, OnOk, IfErr}
 use Rattle.std.proofs.lemmas.Grind.{common_steps}
 use Rattle.std.specs.Arc.{arc_value}
-use Rattle.handlers.specs.Handler.{image_of}
+use Rattle.interp.specs.Handler.{image_of}
 use Rattle.process.specs.Revival.{IsOpened}
 use Rattle.c_calls.specs.declared.nodes.fault.NodeFault.TheVariants.{Memory}
 use Rattle.c_cluster.specs.Nodes.Lifetime.{IsImageIn, IsSeat, AreLimits, limits_of}

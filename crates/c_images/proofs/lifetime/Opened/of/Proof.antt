@@ -4,7 +4,7 @@ use Rattle.std.specs.contracts.alloc.Global as heap
 use Rattle.std.proofs.alloc.Global.TheLaws as heap_laws
 use Rattle.std.specs.contracts.impls.GlobalAllocator.TheImpl.{ghosts}
 use Rattle.c_images.specs.contracts.handler.OpenHandler as handler
-use Rattle.handlers.specs.Image.{TheImage}
+use Rattle.interp.specs.Image.{TheImage}
 use Rattle.c_handles.proofs.Loosened.{both, Loose, loose_good, loose_out}
 use Rattle.c_images.proofs.OpenedValue.{word, opened_in}
 use Rattle.c_images.specs.contracts.lifetime.Opened.of as f

@@ -1,6 +1,6 @@
 -- `refused` hands out a null pointer.
 use Rattle.c_handles.proofs.Steps.{◌≡◌, [], ◌∷◌, Option, None, refl, lit<, w32, emp, ftrue, fact, fact_i, ‵, raw, ◌$◌, ◌∵◌, !, qed, by, drop, use0, join, fjoin, feq_i, and_then, no_more, lit, returns, enter, agg, alloc_all, pass_all, free_all, look_at, get, sets, yes, u32, uint_vals, uint_Tells, Ptr, null_ptr, plain, nothing, on_entry, Stays, stay_dropped, walk_of, Goes-dropped, proved, leaves, tables}
-use Rattle.handlers.specs.Image.{TheImage}
+use Rattle.interp.specs.Image.{TheImage}
 use Rattle.c_images.proofs.OpenedValue.{word, opened_in}
 use Rattle.c_images.specs.contracts.lifetime.Opened.refused as f
 use Rattle.c_images.proofs.lifetime.Opened.refused.Statement.{statement}

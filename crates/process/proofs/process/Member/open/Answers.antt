@@ -2,7 +2,7 @@ use Rattle.std.proofs.Common.{rules, ◌≡◌, replicate, arith}
 use Rattle.std.proofs.lemmas.Grind.{common_steps}
 use Rattle.std.specs.Arc.{arc_value}
 use Rattle.verifier.specs.AnyImage.{state_of}
-use Rattle.handlers.specs.Handler.{image_of}
+use Rattle.interp.specs.Handler.{image_of}
 use Rattle.process.proofs.Openings.{opened-zeros}
 use Rattle.process.proofs.Within as within
 use Rattle.process.proofs.process.Member.open.Goals as goal

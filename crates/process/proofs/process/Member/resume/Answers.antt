@@ -3,7 +3,7 @@ use Rattle.std.proofs.lemmas.Grind.{common_steps}
 use Rattle.std.proofs.lemmas.Result.{err_from_is_err_and}
 use Rattle.std.specs.Arc.{arc_value}
 use Rattle.verifier.specs.AnyImage.{state_of}
-use Rattle.handlers.specs.Handler.{image_of}
+use Rattle.interp.specs.Handler.{image_of}
 use Rattle.process.proofs.Suspensions.{resumed, unresumed-why}
 use Rattle.process.proofs.process.Member.resume.Goals as goal
 

@@ -2,7 +2,7 @@ use Rattle.std.proofs.Common.{rules, ◌≡◌, arith, length}
 use Rattle.std.proofs.lemmas.Grind.{common_steps}
 use Rattle.std.specs.Arc.{arc_value}
 use Rattle.verifier.specs.AnyImage.{state_of}
-use Rattle.handlers.specs.Handler.{image_of}
+use Rattle.interp.specs.Handler.{image_of}
 use Rattle.node.specs.Node.{IsPositive}
 use Rattle.process.proofs.Openings.{came-back}
 use Rattle.process.proofs.Within as within

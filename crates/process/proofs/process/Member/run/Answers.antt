@@ -3,8 +3,8 @@ use Rattle.std.specs.Prelude.{Some}
 use Rattle.std.proofs.lemmas.Grind.{common_steps}
 use Rattle.std.specs.Arc.{arc_value}
 use Rattle.interp.specs.HandlerCall.{Handled}
-use Rattle.handlers.specs.Answer.{answer_by}
-use Rattle.handlers.specs.Handler.{image_of}
+use Rattle.interp.specs.Answer.{answer_by}
+use Rattle.interp.specs.Handler.{image_of}
 use Rattle.node.specs.declared.node.TheConstants.{MOST_GIVEN}
 use Rattle.process.specs.Process.{TheProcess, state_of}
 use Rattle.process.specs.Work.{given_of, Works}

@@ -1,5 +1,5 @@
 use Rattle.std.proofs.Common.{map}
-use Rattle.handlers.specs.Image.{image_in}
+use Rattle.interp.specs.Image.{image_in}
 use Rattle.runner.proofs.Beginnings.{open-memory}
 use Rattle.runner.proofs.player.Player.open.Goals as goal
 

@@ -1,5 +1,5 @@
 use Rattle.std.proofs.Common.{◌≡◌, Ok, sym, subst}
-use Rattle.handlers.specs.Image.{image_in}
+use Rattle.interp.specs.Image.{image_in}
 use Rattle.replay.specs.Task.{TheCompletion}
 use Rattle.machine.specs.Arrival.{Finishes}
 use Rattle.sessions.specs.Job.{TheJob, completed, given}

@@ -3,7 +3,7 @@ use Rattle.std.specs.Option.{option_map}
 use Rattle.std.proofs.Common.{◌≡◌, ◌-◌, ◌++◌, ◌∷◌, [], length, map, arith, ap, refl, sym, subst, ◌∙◌}
 use Rattle.std.proofs.lemmas.Result.{err_from_is_err_and}
 use Rattle.limits.specs.declared.TheConstants.{ENTRIES}
-use Rattle.handlers.specs.Image.{TheImage, image_in}
+use Rattle.interp.specs.Image.{TheImage, image_in}
 use Rattle.replay.specs.Task.{TheTask}
 use Rattle.world.specs.declared.call.Call.TheVariants.{Arrive}
 use Rattle.world.specs.History.{nth}

@@ -1,5 +1,5 @@
 use Rattle.std.proofs.Common.{length, arith, subst, map}
-use Rattle.handlers.specs.Image.{image_in}
+use Rattle.interp.specs.Image.{image_in}
 use Rattle.sessions.specs.Fold.{handlers_of}
 use Rattle.theorems.specs.Kept.{HasKept}
 use Rattle.theorems.specs.Orphans.{NoOrphan, ShownBegin}

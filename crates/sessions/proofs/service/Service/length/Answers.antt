@@ -1,5 +1,5 @@
 use Rattle.std.proofs.Common.{◌≡◌, subst, map}
-use Rattle.handlers.specs.Image.{image_in}
+use Rattle.interp.specs.Image.{image_in}
 use Rattle.world.specs.Logs.{length_of}
 use Rattle.sessions.specs.Journal.{TheSession, world_at}
 use Rattle.sessions.proofs.Steps.{here}

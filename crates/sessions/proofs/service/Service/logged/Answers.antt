@@ -1,5 +1,5 @@
 use Rattle.std.proofs.Common.{◌≡◌, ◌≢◌, ◌≤◌, ◌∙◌, Some, arith, ap, length, subst, sym, map}
-use Rattle.handlers.specs.Image.{image_in}
+use Rattle.interp.specs.Image.{image_in}
 use Rattle.sessions.specs.Journal.{TheSession, world_at}
 use Rattle.sessions.specs.Logged.{logged}
 use Rattle.sessions.proofs.LoggedLemmas.{logged-missing, logged-there}

@@ -1,5 +1,5 @@
 use Rattle.std.proofs.Common.{map, refl}
-use Rattle.handlers.specs.Image.{image_in}
+use Rattle.interp.specs.Image.{image_in}
 use Rattle.sessions.proofs.Steps.{opened}
 use Rattle.sessions.proofs.service.Service.open.Goals as goal
 

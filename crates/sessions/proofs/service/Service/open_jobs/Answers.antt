@@ -1,5 +1,5 @@
 use Rattle.std.proofs.Common.{◌≡◌, sym, subst, ◌∙◌, map}
-use Rattle.handlers.specs.Image.{image_in}
+use Rattle.interp.specs.Image.{image_in}
 use Rattle.world.specs.Bounds.{open_jobs}
 use Rattle.machine.proofs.Status.{jobs}
 use Rattle.sessions.specs.Journal.{TheSession, world_at}

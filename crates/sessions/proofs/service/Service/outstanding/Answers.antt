@@ -1,7 +1,7 @@
 use Rattle.std.proofs.Common.{subst, map}
 use Rattle.std.specs.Prelude.{IfNone, IfSome}
 use Rattle.limits.specs.declared.TheConstants.{ENTRIES}
-use Rattle.handlers.specs.Image.{image_in}
+use Rattle.interp.specs.Image.{image_in}
 use Rattle.machine.specs.Choice.{IsPick}
 use Rattle.machine.proofs.Picks.{if_none, if_some}
 use Rattle.sessions.specs.Journal.{TheSession, world_at}

@@ -1,5 +1,5 @@
 use Rattle.std.proofs.Common.{◌≡◌, map, subst}
-use Rattle.handlers.specs.Image.{image_in}
+use Rattle.interp.specs.Image.{image_in}
 use Rattle.world.specs.Refusals.{refusal_of, cause_of}
 use Rattle.sessions.specs.Journal.{TheSession, room_at, world_at}
 use Rattle.sessions.proofs.Steps.{caused, here}

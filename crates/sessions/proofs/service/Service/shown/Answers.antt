@@ -1,5 +1,5 @@
 use Rattle.std.proofs.Common.{subst, map}
-use Rattle.handlers.specs.Image.{image_in}
+use Rattle.interp.specs.Image.{image_in}
 use Rattle.theorems.specs.Orphans.{NoOrphan, ShownBegin}
 use Rattle.sessions.proofs.HandlerLemmas.{no-orphan-of, output-once-of}
 use Rattle.sessions.specs.Journal.{TheSession, IsExact, world_at}

@@ -1,5 +1,5 @@
 use Rattle.std.proofs.Common.{◌≡◌, map, subst}
-use Rattle.handlers.specs.Image.{image_in}
+use Rattle.interp.specs.Image.{image_in}
 use Rattle.sessions.specs.Fields.{starter}
 use Rattle.sessions.specs.Journal.{TheSession, world_at}
 use Rattle.sessions.proofs.Steps.{here}

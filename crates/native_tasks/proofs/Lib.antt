@@ -1,6 +1,0 @@
-pub mod FormTasks
-pub mod Reached
-pub mod Told
-pub mod TaskActs
-pub mod Uncounted
-pub mod Preservation

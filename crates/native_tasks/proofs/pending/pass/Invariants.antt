@@ -1,5 +1,0 @@
-use Rattle.native_tasks.proofs.Uncounted.{Passed}
-use Rattle.native_tasks.proofs.pending.pass.Given as goal
-
-abbrev pub invariant-loop-slot : goal.invariant-loop-slot
-invariant-loop-slot l = Passed l.tasks l.initial.pending.items l.pending.items l.changed l.slot

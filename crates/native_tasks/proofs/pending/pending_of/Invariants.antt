@@ -1,8 +1,0 @@
-use Rattle.native_tasks.proofs.Uncounted.{Filled, Settling}
-use Rattle.native_tasks.proofs.pending.pending_of.Given as goal
-
-abbrev pub invariant-fill : goal.invariant-fill
-invariant-fill l = Filled l.pending.items l.counter
-
-abbrev pub invariant-passes : goal.invariant-passes
-invariant-passes l = Settling l.tasks l.pending.items l.counter

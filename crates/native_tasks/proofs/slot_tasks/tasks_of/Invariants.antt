@@ -1,5 +1,0 @@
-use Rattle.native_tasks.proofs.Told.{Telling}
-use Rattle.native_tasks.proofs.slot_tasks.tasks_of.Given as goal
-
-abbrev pub invariant-slots : goal.invariant-slots
-invariant-slots l = Telling l.image.slots l.image.table l.image.len l.ops l.pool l.tasks.items l.slot

@@ -1,4 +1,0 @@
-use Rattle.span_native.proofs.slot_tasks.tasks_of.Goals as goal
-
-pub slots-init : goal.slots-init
-slots-init c = c.in_ok-tasks.ensures.items
