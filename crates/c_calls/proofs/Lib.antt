@@ -1,3 +1,3 @@
 mod AsBox
-mod Bundles
+mod Packets
 pub mod Called

@@ -1,5 +1,3 @@
-pub mod Bundle
 pub mod Inside
 pub mod Gateways
 pub mod Nodes
-pub mod Outbox

@@ -3,7 +3,7 @@
 //! A program in C holds a gateway or a node by a handle of zeros, which means closed. `c_cluster`
 //! opens handles, and exports the functions here by one function each: a handle's call owes what the
 //! call of [`gateway`] or [`process`] owes, or says why it wasn't made, which changes nothing. The
-//! packets of a bundle are taken in and given out one after another ([`bundle`]).
+//! packets of a bundle are taken in and given out one after another.
 //!
 //! ```rust
 //! gateways::calls::input(alloc, &mut gateway, 1, &payload, &mut ssn)?;
@@ -12,7 +12,5 @@
 //! ```
 #![tactic(auto)]
 
-pub mod bundle;
 pub mod gateways;
 pub mod nodes;
-pub mod outbox;

@@ -15,12 +15,13 @@ use Rattle.node_laws.specs.Together.{IsFirst}
 use Rattle.node_laws.specs.HostProcess.{Checkpoint, Runs, Alive, goes_on}
 use Rattle.node_laws.specs.HostSystem.{System, HostCall, GaveBytes, HandedBytes, Worked, DoesIt, after_call}
 use Rattle.node_laws.proofs.Sound.{raised-here}
-use Rattle.c_calls.specs.declared.bundle.BundleTally.{BundleTally}
+use Rattle.c_handles.specs.declared.bundle.BundleTally.{BundleTally}
 use Rattle.c_calls.specs.declared.nodes.fault.NodeFault.{NodeFault}
 use Rattle.c_calls.specs.declared.nodes.fault.NodeFault.TheVariants.{Memory, Handle, Image, Room, Absent, Bytes, Unready, Limit, Left}
-use Rattle.c_calls.specs.Bundle.{IsBundle, InOrder, none_counted, Counting, GivesTo, GivesAll}
-use Rattle.c_calls.specs.Nodes.Bundles.{Serves, IsToWork, Leaves}
+use Rattle.c_handles.specs.Bundle.{IsBundle, InOrder, none_counted, Counting, GivesAll}
+use Rattle.c_calls.specs.Nodes.Bundles.{Serves, IsToWork}
 use Rattle.c_calls.specs.Nodes.Calls.{IsUnreceived, HasNotWorked}
+use Rattle.c_calls.specs.Nodes.Results.{Leaves}
 use Rattle.c_cluster.specs.Nodes.HostCalls.{IsToServe, IsToTake, bytes_taken, AreMade, WereGiven, AreGiven}
 
 -- ---- what a handle holds
@@ -113,7 +114,7 @@ module _ (images : ℕ → AnyImage) (n p : ℕ) (first : IsFirst n p) (w : Chec
 
   -- ---- packets are taken
 
-  takes : (to : ℕ) (packets : List (List ℕ)) (s : System) (old new : TheProcess) → Runs-as s old → InOrder (GivesTo Leaves to) packets old new
+  takes : (to : ℕ) (packets : List (List ℕ)) (s : System) (old new : TheProcess) → Runs-as s old → InOrder (Leaves to) packets old new
       → (calls : List HostCall) × (bytes_taken calls ≡ packets) × (length calls ≡ length packets) × AreMade images n s p w new (IsToTake p to) calls
   takes to [] s old new runs done = ([], refl, refl, none-made s old new (IsToTake p to) runs done)
   takes to (bytes ∷ packets) s old new runs done =

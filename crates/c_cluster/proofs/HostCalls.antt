@@ -72,14 +72,14 @@ exports-are-calls =
           (h.first, (one, (is, alive (λ o. (y : NodePacket) → IsPacket y bytes → Calls (IsHanded y) o new) n s p w old h all)));
       taken = λ images n s p w old new out out' size to h t.
           let both = of-both old new _ t in
-          let x = both.0 in
-          let bytes = both.1.0 in
+          let bytes = both.0 in
+          let x = both.1.0 in
           record {
             packet = x;
             bytes = bytes;
-            copied = both.1.2;
-            to_is = both.1.3;
-            is = (h.first, (both.1.1, alive (λ o. GivesBytes bytes o new) n s p w old h (x, both.1.1, both.1.4)));
+            copied = both.2;
+            to_is = sym both.1.2;
+            is = (h.first, (both.1.1, alive (λ o. GivesBytes bytes o new) n s p w old h (x, both.1.1, both.1.3)));
           };
       worked = λ images n s p w old new h k. (h.first, alive (λ o. Works o new) n s p w old h (of-both old new _ k));
       done = λ images n s p w old new ticket array bytes h d.

@@ -1,3 +1,4 @@
+pub mod Bundles
 pub mod Loosened
 pub mod OnHeap
 pub mod Steps

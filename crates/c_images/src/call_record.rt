@@ -10,6 +10,7 @@ use crate::refusal::ImageRefusal;
 use crate::report::{REPORT_LIMIT, put_parts};
 use arrayvec::ArrayVec;
 use byteorder::{ByteOrder, LittleEndian};
+use c_handles::code;
 use helpers::{Payload, Sent};
 use limits::EFFECTS;
 
@@ -145,8 +146,5 @@ fn write(r0: u64, bytes: &[u8], out: &mut [u8]) -> Result<(), ImageRefusal>
 pub fn report(r0: u64, bytes: &[u8], out: &mut [u8]) -> u32
     ensures { Reports result r0 bytes.now out.old out.new }
 {
-    match write(r0, bytes, out) {
-        Ok(()) => 0,
-        Err(refusal) => refusal.number(),
-    }
+    code(write(r0, bytes, out))
 }

@@ -6,6 +6,7 @@ ghost use Rattle.c_images.specs.Calls.{caller};
 ghost use Rattle.c_images.specs.Exports.{Answers, AnswersCall, AnswersCalls, IsChecked, IsUnchecked};
 
 use crate::{call_record, calls};
+use c_handles::code;
 use helpers::Who;
 use std::alloc::Global;
 
@@ -15,10 +16,7 @@ use std::alloc::Global;
 pub extern "C" fn sblog_check(alloc: Global, file: &[u8], out: &mut [u8]) -> u32
     ensures { Answers result (IsChecked file.now out.old out.new) (IsUnchecked file.now out.old out.new) }
 {
-    match calls::check(alloc, file, out) {
-        Ok(()) => 0,
-        Err(refusal) => refusal.number(),
-    }
+    code(calls::check(alloc, file, out))
 }
 
 /// Loads an image file and calls its handler with one message of 64 bytes. Changes the state in
@@ -36,10 +34,7 @@ pub extern "C" fn sblog_call(
 ) -> u32
     ensures { AnswersCall result file.now (caller me from count) state.old message.now state.new out.old out.new }
 {
-    match calls::call(alloc, file, state, message, Who { me, from, count }, out) {
-        Ok(()) => 0,
-        Err(refusal) => refusal.number(),
-    }
+    code(calls::call(alloc, file, state, message, Who { me, from, count }, out))
 }
 
 /// Loads an image file and calls its handler with each message of 64 bytes in turn. Changes the
@@ -58,10 +53,7 @@ pub extern "C" fn sblog_call_many(
 ) -> u32
     ensures { AnswersCalls result file.now (caller me from count) state.old messages.now state.new out.old out.new }
 {
-    match calls::call_many(alloc, file, state, messages, Who { me, from, count }, out) {
-        Ok(()) => 0,
-        Err(refusal) => refusal.number(),
-    }
+    code(calls::call_many(alloc, file, state, messages, Who { me, from, count }, out))
 }
 
 /// Writes the report of a call of machine code from its r0 and the record that it left. `out` has

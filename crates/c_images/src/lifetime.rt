@@ -8,7 +8,7 @@ ghost use Rattle.c_images.specs.Handles.{owns_image, Opens};
 
 use crate::handler::OpenHandler;
 use crate::refusal::ImageRefusal;
-use c_handles::Loose;
+use c_handles::{Loose, code};
 use interp::Handler as AnyHandler;
 use std::alloc::Global;
 use std::marker::Model;
@@ -69,7 +69,7 @@ pub fn open(alloc: Global, file: &[u8]) -> Opened
 {
     match boxed(alloc, file) {
         Ok(image) => Opened::of(Loose::of(image)),
-        Err(refusal) => Opened::refused(refusal.number()),
+        Err(refusal) => Opened::refused(code(Err(refusal))),
     }
 }
 

@@ -6,6 +6,7 @@ ghost use Rattle.c_images.specs.MachineCode.{IsCompiled, IsUncompiled, Compiles}
 use crate::bytes::put;
 use crate::handler::OpenHandler;
 use crate::refusal::ImageRefusal;
+use c_handles::code;
 use std::alloc::Global;
 
 /// Writes the machine code of a handler's image to the front of `out`, and its length into `size`.
@@ -33,8 +34,5 @@ fn write(
 pub fn compile(alloc: Global, handler: &OpenHandler, out: &mut [u8], size: &mut usize) -> u32
     ensures { Compiles result (Some handler.now) out.old out.new size.old size.new }
 {
-    match write(alloc, handler, out, size) {
-        Ok(()) => 0,
-        Err(refusal) => refusal.number(),
-    }
+    code(write(alloc, handler, out, size))
 }

@@ -1,8 +1,9 @@
 //! Why a file or a call is refused.
 
 ghost use Rattle.std.specs.Prelude.{◌≡◌};
-ghost use Rattle.c_images.specs.Exports.{refusal_number, refused_rule, refused_slot};
+ghost use Rattle.c_images.specs.Exports.{refused_rule, refused_slot};
 
+use c_handles::Fault;
 use thiserror::Error;
 use verifier::ImageError;
 
@@ -36,11 +37,12 @@ pub enum ImageRefusal {
     Record,
 }
 
-impl ImageRefusal {
-    /// Its number, 1 to 10 or 12.
-    pub fn number(&self) -> u32
-        ensures { result ≡ refusal_number self.now }
-    {
+impl Fault for ImageRefusal {
+    ghost use Rattle.c_images.specs.Exports.{refusal_number};
+
+    ghost number_of = { refusal_number };
+
+    fn number(&self) -> u32 {
         match self {
             ImageRefusal::Image(ImageError::Memory) => 1,
             ImageRefusal::Image(ImageError::Header(_)) => 2,

@@ -8,6 +8,7 @@ use crate::calls::{MESSAGE, is_seat};
 use crate::handler::OpenHandler;
 use crate::refusal::ImageRefusal;
 use crate::report::REPORT_LIMIT;
+use c_handles::code;
 use helpers::Who;
 use verifier::FileForm;
 
@@ -57,10 +58,7 @@ pub fn run(
     ensures same { handler.new ≡ handler.old }
     ensures answer { Runs result (Some handler.old) (caller me from count) state.old messages.now state.new out.old out.new }
 {
-    match call_all(handler, state, messages, Who { me, from, count }, out) {
-        Ok(()) => 0,
-        Err(refusal) => refusal.number(),
-    }
+    code(call_all(handler, state, messages, Who { me, from, count }, out))
 }
 
 /// Calls by a handle answer what `sblog_call_many` answers for the file that was opened.

@@ -11,9 +11,9 @@ ghost use Rattle.c_sessions.specs.Schedule.{IsReceived, IsUnreceived};
 ghost use Rattle.c_sessions.specs.Queries.{IsNotStanding, IsReadOf, IsSaved, IsShown, IsStanding, IsState, IsTraced, IsUnreadOf, IsUnshown, IsUntraced, OfPromised, exact_number};
 
 use crate::entry::Record;
-use crate::fault::code;
 use crate::handle::SessionHandle;
 use crate::{calls, journal, lifetime, places, queries, schedule};
+use c_handles::code;
 use std::alloc::Global;
 use world::Call;
 

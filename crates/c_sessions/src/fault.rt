@@ -1,8 +1,6 @@
 //! Why a function did nothing.
 
-ghost use Rattle.std.specs.Prelude.{◌≡◌, IfErr, IfOk};
-ghost use Rattle.c_sessions.specs.Session.{fault_number};
-
+use c_handles::Fault;
 use thiserror::Error;
 use world::Refusal;
 
@@ -29,11 +27,12 @@ pub enum SessionFault {
     Absent,
 }
 
-impl SessionFault {
-    /// Its number, 1 to 20.
-    pub fn number(&self) -> u32
-        ensures { result ≡ fault_number self.now }
-    {
+impl Fault for SessionFault {
+    ghost use Rattle.c_sessions.specs.Session.{fault_number};
+
+    ghost number_of = { fault_number };
+
+    fn number(&self) -> u32 {
         match *self {
             SessionFault::Session(refusal) => refusal.number() as u32,
             SessionFault::Handle => 16,
@@ -42,16 +41,5 @@ impl SessionFault {
             SessionFault::Room => 19,
             SessionFault::Absent => 20,
         }
-    }
-}
-
-/// The code of a result: 0, or the number of the fault.
-pub(crate) fn code(done: Result<(), SessionFault>) -> u32
-    ensures done { IfOk done (λ _. result ≡ 0) }
-    ensures fault { IfErr done (λ why. result ≡ fault_number why) }
-{
-    match done {
-        Ok(()) => 0,
-        Err(fault) => fault.number(),
     }
 }

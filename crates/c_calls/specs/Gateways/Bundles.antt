@@ -1,16 +1,14 @@
 -- Bundles that a gateway is handed
-use Rattle.std.specs.Prelude.{◌≡◌, ◌⊎◌, ◌+◌, [], ℕ, List, length, Option, Some, None}
-use Rattle.packets.specs.declared.packet.NodePacket.{NodePacket}
+use Rattle.std.specs.Prelude.{◌≡◌, ◌⊎◌, ℕ, List, Option, None}
 use Rattle.gateway.specs.Gateway.{TheGateway}
-use Rattle.gateway.specs.Stands.{Takes}
-use Rattle.gateway.specs.Written.{Waits}
-use Rattle.c_calls.specs.declared.bundle.BundleTally.{BundleTally}
+use Rattle.c_handles.specs.declared.bundle.BundleTally.{BundleTally}
 use Rattle.c_calls.specs.declared.gateways.fault.GatewayFault.{GatewayFault}
-use Rattle.c_calls.specs.declared.gateways.fault.GatewayFault.TheVariants.{Memory, Handle, Room, Absent, Bytes}
-use Rattle.c_calls.specs.Bundle.{IsBundle, FitsFrom, one_taken, one_refused, one_lost, Counting, IsReceivedAll, GivesAll}
+use Rattle.c_calls.specs.declared.gateways.fault.GatewayFault.TheVariants.{Memory, Handle, Bytes}
+use Rattle.c_handles.specs.Bundle.{IsBundle, IsUnfit, one_taken, one_refused, one_lost, Counting, IsReceivedAll, GivesAll}
 use Rattle.c_calls.specs.Gateways.Answers.{OfOpen, Calls, Refuses}
 use Rattle.c_handles.specs.Buffer.{IsUntouched}
 use Rattle.c_calls.specs.Gateways.Calls.{IsReceived, IsUnreceived}
+use Rattle.c_calls.specs.Gateways.Results.{Leaves, GivesNot}
 
 -- a packet more that wasn't taken
 abbrev pub one_untaken : GatewayFault → BundleTally → BundleTally
@@ -35,22 +33,10 @@ AreUnreceived bundle old other = ⊥
 
 -- ---- packets out
 
--- this packet, the first that waits, is taken
-abbrev pub Leaves : NodePacket → TheGateway → TheGateway → Type 0
-Leaves x g h = Takes (Some x) g h
-
 -- packets were taken from the gateway
 abbrev pub AreTaken : List ℕ → List ℕ → ℕ → ℕ → ℕ → Option TheGateway → Option TheGateway → Type 0
 AreTaken out out' size to count old new = Calls old new (GivesAll Leaves out out' size to count)
 
--- why none is: none waits, memory ran out, or the first one doesn't fit the buffer
-abbrev pub GivesNone : List ℕ → List ℕ → ℕ → ℕ → TheGateway → GatewayFault → Type 0
-GivesNone out new was size g Absent = (g.out ≡ []) × IsUntouched out new was size
-GivesNone out new was size g Memory = IsUntouched out new was size
-GivesNone out new was size g Room = (to : ℕ) × (bytes : List ℕ) × Waits to bytes g × (¬ FitsFrom 0 (length out) bytes) × (new ≡ out)
-    × (size ≡ 2 + length bytes)
-GivesNone out new was size g other = ⊥
-
--- no packet was taken, and nothing changed
+-- none was: none waits, memory ran out, or the first one doesn't fit the buffer. Nothing changed
 abbrev pub AreUntaken : List ℕ → List ℕ → ℕ → ℕ → Option TheGateway → GatewayFault → Type 0
-AreUntaken out new was size old why = Refuses old (IsUntouched out new was size) (λ g w. GivesNone out new was size g w) why
+AreUntaken out new was size old why = Refuses old (IsUntouched out new was size) (λ g w. GivesNot IsUnfit out new was size g w) why

@@ -13,28 +13,28 @@ use Rattle.c_calls.specs.declared.gateways.fault.GatewayFault.{GatewayFault}
 use Rattle.c_calls.specs.declared.gateways.fault.GatewayFault.TheVariants.{Memory, Room, Absent}
 use Rattle.c_calls.specs.Gateways.Answers.{OfOpen, Calls, Refuses}
 use Rattle.c_handles.specs.Buffer.{IsCopied, IsUncopied, IsUntouched}
+use Rattle.c_handles.specs.Bundle.{GivesFirst}
 
 -- ---- packets
 
--- the first packet that waits is taken: its bytes, and its receiver
-abbrev pub Gives : List ℕ → List ℕ → ℕ → ℕ → TheGateway → TheGateway → Type 0
-Gives out new size to g h = (x : NodePacket) × (bytes : List ℕ) × IsPacket x bytes × (x.to ≡ to) × Takes (Some x) g h
-    × IsCopied bytes out new size
+-- the first packet that waits, which goes to this process and has these bytes, is taken
+abbrev pub Leaves : ℕ → List ℕ → TheGateway → TheGateway → Type 0
+Leaves to bytes g h = (x : NodePacket) × IsPacket x bytes × (x.to ≡ to) × Takes (Some x) g h
 
 -- why none is: none waits, memory ran out, or the buffer is too short for its bytes
-abbrev pub GivesNot : List ℕ → List ℕ → ℕ → ℕ → TheGateway → GatewayFault → Type 0
-GivesNot out new was size g Absent = (g.out ≡ []) × IsUntouched out new was size
-GivesNot out new was size g Memory = IsUntouched out new was size
-GivesNot out new was size g Room = (to : ℕ) × (bytes : List ℕ) × Waits to bytes g × IsUncopied bytes out new size
-GivesNot out new was size g other = ⊥
+abbrev pub GivesNot : (List ℕ → List ℕ → List ℕ → ℕ → Type 0) → List ℕ → List ℕ → ℕ → ℕ → TheGateway → GatewayFault → Type 0
+GivesNot IsShort out new was size g Absent = (g.out ≡ []) × IsUntouched out new was size
+GivesNot IsShort out new was size g Memory = IsUntouched out new was size
+GivesNot IsShort out new was size g Room = (to : ℕ) × (bytes : List ℕ) × Waits to bytes g × IsShort bytes out new size
+GivesNot IsShort out new was size g other = ⊥
 
 -- a packet was taken from the gateway
 abbrev pub IsTaken : List ℕ → List ℕ → ℕ → ℕ → Option TheGateway → Option TheGateway → Type 0
-IsTaken out out' size to old new = Calls old new (Gives out out' size to)
+IsTaken out out' size to old new = Calls old new (GivesFirst Leaves out out' size to)
 
 -- no packet was taken, and nothing changed
 abbrev pub IsUntaken : List ℕ → List ℕ → ℕ → ℕ → Option TheGateway → GatewayFault → Type 0
-IsUntaken out new was size old why = Refuses old (IsUntouched out new was size) (λ g w. GivesNot out new was size g w) why
+IsUntaken out new was size old why = Refuses old (IsUntouched out new was size) (λ g w. GivesNot IsUncopied out new was size g w) why
 
 -- ---- outputs
 

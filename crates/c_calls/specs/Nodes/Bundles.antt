@@ -1,17 +1,16 @@
 -- Bundles that a node is handed
-use Rattle.std.specs.Prelude.{◌≡◌, ◌⊎◌, ◌+◌, ◌∷◌, [], ℕ, List, length, Option, Some}
+use Rattle.std.specs.Prelude.{◌≡◌, ◌⊎◌, ◌∷◌, ℕ, List, Option}
 use Rattle.packets.specs.declared.packet.NodePacket.{NodePacket}
 use Rattle.packets.specs.Format.{IsPacket}
 use Rattle.process.specs.Process.{TheProcess, out_of}
-use Rattle.process.specs.Calls.{Stays, Takes}
-use Rattle.process.specs.Packets.{IsFront}
-use Rattle.c_calls.specs.declared.bundle.BundleTally.{BundleTally}
+use Rattle.c_handles.specs.declared.bundle.BundleTally.{BundleTally}
 use Rattle.c_calls.specs.declared.nodes.fault.NodeFault.{NodeFault}
-use Rattle.c_calls.specs.declared.nodes.fault.NodeFault.TheVariants.{Memory, Handle, Room, Absent, Bytes}
-use Rattle.c_calls.specs.Bundle.{IsBundle, FitsFrom, one_taken, one_refused, one_lost, Counting, IsReceivedAll, GivesAll}
+use Rattle.c_calls.specs.declared.nodes.fault.NodeFault.TheVariants.{Memory, Handle, Bytes}
+use Rattle.c_handles.specs.Bundle.{IsBundle, IsUnfit, one_taken, one_refused, one_lost, Counting, IsReceivedAll, GivesAll}
 use Rattle.c_calls.specs.Nodes.Answers.{OfBoth, OfSame, StaysClosed}
 use Rattle.c_handles.specs.Buffer.{IsUntouched}
 use Rattle.c_calls.specs.Nodes.Calls.{IsReceived, IsUnreceived, HasWorked, HasNotWorked}
+use Rattle.c_calls.specs.Nodes.Results.{Leaves, LeavesIn}
 
 -- its handler is to run on the next message
 abbrev pub IsToWork : Option TheProcess → Option TheProcess → Type 0
@@ -44,23 +43,11 @@ AreUnreceived bundle old new other = ⊥
 abbrev pub Waits : ℕ → List ℕ → TheProcess → Type 0
 Waits to bytes p = (x : NodePacket) × IsPacket x bytes × (x.to ≡ to) × ((rest : List NodePacket) × (out_of p.lifecycle ≡ x ∷ rest))
 
--- this packet, the first that waits, is taken
-abbrev pub Leaves : NodePacket → TheProcess → TheProcess → Type 0
-Leaves x p p' = Stays (Takes (Some x)) p p'
-
 -- packets were taken from the process
 abbrev pub AreTaken : List ℕ → List ℕ → ℕ → ℕ → ℕ → Option TheProcess → Option TheProcess → Type 0
 AreTaken out out' size to count old new = OfBoth old new (GivesAll Leaves out out' size to count)
 
--- why none is taken, if the handle is open: none waits, the first one doesn't fit the buffer, or memory ran out
-abbrev pub LeavesAllIn : List ℕ → List ℕ → ℕ → ℕ → TheProcess → TheProcess → NodeFault → Type 0
-LeavesAllIn out out' was size p p' Absent = (p' ≡ p) × (out_of p.lifecycle ≡ []) × IsUntouched out out' was size
-LeavesAllIn out out' was size p p' Room = (p' ≡ p)
-    × ((bytes : List ℕ) × IsFront p bytes × (¬ FitsFrom 0 (length out) bytes) × (out' ≡ out) × (size ≡ 2 + length bytes))
-LeavesAllIn out out' was size p p' Memory = (p' ≡ p) × IsUntouched out out' was size
-LeavesAllIn out out' was size p p' other = ⊥
-
--- why none is taken: one of these, or the handle is closed. Nothing else has changed
+-- why none is taken: none waits, the first one doesn't fit the buffer, memory ran out, or the handle is closed. Nothing else has changed
 abbrev pub AreUntaken : List ℕ → List ℕ → ℕ → ℕ → Option TheProcess → Option TheProcess → NodeFault → Type 0
 AreUntaken out out' was size old new Handle = StaysClosed old new × IsUntouched out out' was size
-AreUntaken out out' was size old new why = OfBoth old new (λ p p'. LeavesAllIn out out' was size p p' why)
+AreUntaken out out' was size old new why = OfBoth old new (λ p p'. LeavesIn IsUnfit out out' was size p p' why)

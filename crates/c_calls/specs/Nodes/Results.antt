@@ -10,27 +10,27 @@ use Rattle.c_calls.specs.declared.nodes.fault.NodeFault.{NodeFault}
 use Rattle.c_calls.specs.declared.nodes.fault.NodeFault.TheVariants.{Memory, Handle, Room, Absent, Unready}
 use Rattle.c_calls.specs.Nodes.Answers.{OfBoth, OfSame, StaysClosed}
 use Rattle.c_handles.specs.Buffer.{IsCopied, IsUncopied, IsUntouched}
+use Rattle.c_handles.specs.Bundle.{GivesFirst}
 
--- the first packet that waits is taken: its bytes are in the buffer, and its receiver is written
-abbrev pub TakesOut : List ℕ → List ℕ → ℕ → ℕ → TheProcess → TheProcess → Type 0
-TakesOut out out' size to p p' = (x : NodePacket)
-    × ((bytes : List ℕ) × IsPacket x bytes × IsCopied bytes out out' size × (to ≡ x.to) × Stays (Takes (Some x)) p p')
+-- the first packet that waits, which goes to this process and has these bytes, is taken
+abbrev pub Leaves : ℕ → List ℕ → TheProcess → TheProcess → Type 0
+Leaves to bytes p p' = (x : NodePacket) × IsPacket x bytes × (x.to ≡ to) × Stays (Takes (Some x)) p p'
 
 -- a packet was taken from the process
 abbrev pub IsTaken : List ℕ → List ℕ → ℕ → ℕ → Option TheProcess → Option TheProcess → Type 0
-IsTaken out out' size to old new = OfBoth old new (TakesOut out out' size to)
+IsTaken out out' size to old new = OfBoth old new (GivesFirst Leaves out out' size to)
 
 -- why none is taken, if the handle is open: none waits, the buffer is too short for it, or memory ran out
-abbrev pub LeavesIn : List ℕ → List ℕ → ℕ → ℕ → TheProcess → TheProcess → NodeFault → Type 0
-LeavesIn out out' was size p p' Absent = (p' ≡ p) × (out_of p.lifecycle ≡ []) × IsUntouched out out' was size
-LeavesIn out out' was size p p' Room = (p' ≡ p) × ((bytes : List ℕ) × IsFront p bytes × IsUncopied bytes out out' size)
-LeavesIn out out' was size p p' Memory = (p' ≡ p) × IsUntouched out out' was size
-LeavesIn out out' was size p p' other = ⊥
+abbrev pub LeavesIn : (List ℕ → List ℕ → List ℕ → ℕ → Type 0) → List ℕ → List ℕ → ℕ → ℕ → TheProcess → TheProcess → NodeFault → Type 0
+LeavesIn IsShort out out' was size p p' Absent = (p' ≡ p) × (out_of p.lifecycle ≡ []) × IsUntouched out out' was size
+LeavesIn IsShort out out' was size p p' Room = (p' ≡ p) × ((bytes : List ℕ) × IsFront p bytes × IsShort bytes out out' size)
+LeavesIn IsShort out out' was size p p' Memory = (p' ≡ p) × IsUntouched out out' was size
+LeavesIn IsShort out out' was size p p' other = ⊥
 
 -- why none is taken: one of these, or the handle is closed. Nothing else has changed
 abbrev pub IsUntaken : List ℕ → List ℕ → ℕ → ℕ → Option TheProcess → Option TheProcess → NodeFault → Type 0
 IsUntaken out out' was size old new Handle = StaysClosed old new × IsUntouched out out' was size
-IsUntaken out out' was size old new why = OfBoth old new (λ p p'. LeavesIn out out' was size p p' why)
+IsUntaken out out' was size old new why = OfBoth old new (λ p p'. LeavesIn IsUncopied out out' was size p p' why)
 
 -- a checkpoint is made, and its bytes are in the buffer
 abbrev pub Makes : List ℕ → List ℕ → ℕ → TheProcess → TheProcess → Type 0

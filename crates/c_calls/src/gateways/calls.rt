@@ -2,13 +2,13 @@
 
 ghost use Rattle.std.specs.Prelude.{◌≡◌, OnErr};
 ghost use Rattle.c_calls.specs.Gateways.Answers.{Does, Results};
-ghost use Rattle.c_calls.specs.Bundle.{IsFrontReceived};
+ghost use Rattle.c_handles.specs.Bundle.{IsFrontReceived};
 ghost use Rattle.c_calls.specs.Gateways.Bundles.{Hears, AreReceived, AreUnreceived};
 ghost use Rattle.c_calls.specs.Gateways.Calls.{IsClosed, WasClosed, IsLogged, IsReceived, IsTicked, IsUnlogged, IsUnreceived, Logs, LogsNot, Receives, ReceivesNot};
 
-use crate::bundle::{BundleTally, first_of, is_bundle};
 use crate::gateways::fault::GatewayFault;
 use crate::gateways::handle::GatewayHandle;
+use c_handles::bundle::{BundleTally, first_of, is_bundle};
 use gateway::Gateway;
 use helpers::Payload;
 use limits::PAYLOAD_BYTES;

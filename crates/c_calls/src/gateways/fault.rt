@@ -1,8 +1,6 @@
 //! Why a function did nothing.
 
-ghost use Rattle.std.specs.Prelude.{◌≡◌, IfErr, IfOk};
-ghost use Rattle.c_calls.specs.Gateways.Answers.{fault_number};
-
+use c_handles::Fault;
 use std::alloc::AllocError;
 use thiserror::Error;
 
@@ -35,12 +33,13 @@ pub enum GatewayFault {
     Range,
 }
 
-impl GatewayFault {
-    /// Its number, 15 to 23.
-    pub fn number(self) -> u32
-        ensures { result ≡ fault_number self }
-    {
-        match self {
+impl Fault for GatewayFault {
+    ghost use Rattle.c_calls.specs.Gateways.Answers.{fault_number};
+
+    ghost number_of = { fault_number };
+
+    fn number(&self) -> u32 {
+        match *self {
             GatewayFault::Memory => 15,
             GatewayFault::Handle => 16,
             GatewayFault::Payload => 18,
@@ -61,16 +60,5 @@ impl From<AllocError> for GatewayFault {
 
     fn from(_e: AllocError) -> GatewayFault {
         GatewayFault::Memory
-    }
-}
-
-/// The code of a result: 0, or the number of the fault.
-pub fn code(done: Result<(), GatewayFault>) -> u32
-    ensures done { IfOk done (λ _. result ≡ 0) }
-    ensures fault { IfErr done (λ why. result ≡ fault_number why) }
-{
-    match done {
-        Ok(()) => 0,
-        Err(fault) => fault.number(),
     }
 }

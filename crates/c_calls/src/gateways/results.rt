@@ -3,21 +3,24 @@
 ghost use Rattle.std.specs.Prelude.{◌≡◌, MatchResult, OnErr};
 ghost use Rattle.c_calls.specs.Gateways.Bundles.{AreTaken, AreUntaken};
 ghost use Rattle.c_calls.specs.Gateways.Answers.{Does, Results};
-ghost use Rattle.c_calls.specs.Gateways.Results.{Gives, GivesNot, IsShown, IsStored, IsTaken, IsTold, IsUnshown, IsUnstored, IsUntaken, IsUntold, Shows, ShowsNot, Spells, Tells, WritesNot};
+ghost use Rattle.c_calls.specs.Gateways.Results.{IsShown, IsStored, IsTaken, IsTold, IsUnshown, IsUnstored, IsUntaken, IsUntold, Shows, ShowsNot, Spells, Tells, WritesNot};
 ghost use Rattle.stores.specs.Format.{IsStoreBytes};
 ghost use Rattle.stores.specs.Changes.{AreChanges};
 
 use crate::gateways::fault::GatewayFault;
 use crate::gateways::handle::GatewayHandle;
-use crate::outbox::{Outgoing, Ungiven, give_all};
+use c_handles::outbox::{Outgoing, Ungiven, give_all, give_first};
 use c_handles::{copy, measure, write};
 use gateway::Gateway;
 use std::alloc::{AllocError, Global};
 
-impl Outgoing for Gateway {
+/// The packets of a gateway that wait.
+struct Outbox;
+
+impl Outgoing<Gateway> for Outbox {
     ghost use Rattle.std.specs.Prelude.{◌≡◌, []};
     ghost use Rattle.gateway.specs.Written.{Waits};
-    ghost use Rattle.c_calls.specs.Gateways.Bundles.{Leaves};
+    ghost use Rattle.c_calls.specs.Gateways.Results.{Leaves};
 
     ghost waits = { λ g to bytes. Waits to bytes g };
 
@@ -25,36 +28,16 @@ impl Outgoing for Gateway {
 
     ghost leaves = { Leaves };
 
-    fn first(&self, alloc: Global) -> Result<Option<(u8, Vec<u8>)>, AllocError> {
-        self.first_bytes(alloc)
+    fn first(alloc: Global, sender: &Gateway) -> Result<Option<(u8, Vec<u8>)>, AllocError> {
+        sender.first_bytes(alloc)
     }
 
-    fn take_first(&mut self) {
-        let _packet = self.take();
+    fn take_first(sender: &mut Gateway) {
+        let _packet = sender.take();
     }
 }
 
 /// Takes the first packet that waits: writes its bytes, their number, and its receiver.
-fn give(
-    alloc: Global,
-    gateway: &mut Gateway,
-    out: &mut [u8],
-    size: &mut usize,
-    to: &mut u8,
-) -> Result<(), GatewayFault>
-    ensures given { Does result gateway.old gateway.new (Gives out.old out.new size.new to.new) (GivesNot out.old out.new size.old size.new) }
-    ensures kept { OnErr result (to.new ≡ to.old) }
-{
-    let Some((name, bytes)) = gateway.first_bytes(alloc)? else {
-        return Err(GatewayFault::Absent);
-    };
-    copy(&bytes, out, size, GatewayFault::Room)?;
-    *to = name;
-    let _ = gateway.take();
-    Ok(())
-}
-
-/// The same for the gateway of a handle.
 pub fn take(
     alloc: Global,
     handle: &mut GatewayHandle,
@@ -68,9 +51,14 @@ pub fn take(
     let Some(mut gateway) = handle.take(alloc) else {
         return Err(GatewayFault::Handle);
     };
-    let done = give(alloc, &mut gateway, out, size, to);
+    let given = give_first::<Gateway, Outbox>(alloc, &mut gateway, out, size, to);
     handle.put(gateway);
-    done
+    match given {
+        Ok(()) => Ok(()),
+        Err(Ungiven::Memory) => Err(GatewayFault::Memory),
+        Err(Ungiven::Absent) => Err(GatewayFault::Absent),
+        Err(Ungiven::Room) => Err(GatewayFault::Room),
+    }
 }
 
 /// Takes the first packets that wait, as many as go to the same process and fit: writes them as those
@@ -89,7 +77,7 @@ pub fn take_all(
     let Some(mut gateway) = handle.take(alloc) else {
         return Err(GatewayFault::Handle);
     };
-    let given = give_all(alloc, &mut *gateway, out, size, to, count);
+    let given = give_all::<Gateway, Outbox>(alloc, &mut gateway, out, size, to, count);
     handle.put(gateway);
     match given {
         Ok(_all) => Ok(()),

@@ -2,13 +2,13 @@
 
 ghost use Rattle.std.specs.Prelude.{◌≡◌, OnErr};
 ghost use Rattle.c_calls.specs.Nodes.Answers.{Results};
-ghost use Rattle.c_calls.specs.Bundle.{IsFrontReceived};
+ghost use Rattle.c_handles.specs.Bundle.{IsFrontReceived};
 ghost use Rattle.c_calls.specs.Nodes.Bundles.{Serves, AreReceived, AreUnreceived};
 ghost use Rattle.c_calls.specs.Nodes.Calls.{IsClosed, WasClosed, IsReceived, IsUnreceived, HasWorked, HasNotWorked, HasTicked, IsHeldBack, HasSaved, HasNotSaved};
 
-use crate::bundle::{BundleTally, NOT_BUNDLE, first_of, is_bundle};
 use crate::nodes::fault::NodeFault;
 use crate::nodes::handle::NodeHandle;
+use c_handles::bundle::{BundleTally, NOT_BUNDLE, first_of, is_bundle};
 use packets::PacketError;
 use process::Cause;
 use std::alloc::Global;

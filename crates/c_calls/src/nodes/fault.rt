@@ -3,6 +3,7 @@
 ghost use Rattle.std.specs.Prelude.{◌≡◌, IfErr, IfOk};
 ghost use Rattle.c_calls.specs.Nodes.Answers.{fault_number, written};
 
+use c_handles::{Fault, code};
 use thiserror::Error;
 
 /// Why a function did nothing, by number.
@@ -38,11 +39,12 @@ pub enum NodeFault {
     Left,
 }
 
-impl NodeFault {
-    /// Its number, 15 to 24.
-    pub fn number(&self) -> u32
-        ensures { result ≡ fault_number self.now }
-    {
+impl Fault for NodeFault {
+    ghost use Rattle.c_calls.specs.Nodes.Answers.{fault_number};
+
+    ghost number_of = { fault_number };
+
+    fn number(&self) -> u32 {
         match *self {
             NodeFault::Memory => 15,
             NodeFault::Handle => 16,
@@ -57,18 +59,7 @@ impl NodeFault {
     }
 }
 
-/// The code of a result: 0, or the number of the fault.
-pub fn code(done: Result<(), NodeFault>) -> u32
-    ensures done { IfOk done (λ _. result ≡ 0) }
-    ensures fault { IfErr done (λ why. result ≡ fault_number why) }
-{
-    match done {
-        Ok(()) => 0,
-        Err(fault) => fault.number(),
-    }
-}
-
-/// The same; if bytes were refused, writes the number of their fault.
+/// The code of a result; if bytes were refused, writes the number of their fault.
 pub fn code_of_bytes(done: Result<(), NodeFault>, number: &mut u32) -> u32
     ensures done { IfOk done (λ _. (result ≡ 0) × (number.new ≡ number.old)) }
     ensures fault { IfErr done (λ why. (result ≡ fault_number why) × (number.new ≡ written why number.old)) }

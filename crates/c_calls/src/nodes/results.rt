@@ -3,19 +3,23 @@
 ghost use Rattle.std.specs.Prelude.{◌≡◌, MatchResult, OnErr};
 ghost use Rattle.c_calls.specs.Nodes.Bundles.{AreTaken, AreUntaken};
 ghost use Rattle.c_calls.specs.Nodes.Answers.{Results};
-ghost use Rattle.c_calls.specs.Nodes.Results.{IsTaken, IsUntaken, IsMade, IsUnmade, IsRead, IsUnread, TakesOut, LeavesIn, Makes, DoesNotMake};
+ghost use Rattle.c_calls.specs.Nodes.Results.{IsTaken, IsUntaken, IsMade, IsUnmade, IsRead, IsUnread, Makes, DoesNotMake};
 
 use crate::nodes::fault::NodeFault;
 use crate::nodes::handle::NodeHandle;
-use crate::outbox::{Outgoing, Ungiven, give_all};
 use c_handles::copy;
+use c_handles::outbox::{Outgoing, Ungiven, give_all, give_first};
 use process::Member;
 use std::alloc::{AllocError, Global};
 
-impl Outgoing for Member {
+/// The packets of a process that wait.
+struct Outbox;
+
+impl Outgoing<Member> for Outbox {
     ghost use Rattle.std.specs.Prelude.{◌≡◌, []};
     ghost use Rattle.process.specs.Process.{out_of};
-    ghost use Rattle.c_calls.specs.Nodes.Bundles.{Waits, Leaves};
+    ghost use Rattle.c_calls.specs.Nodes.Bundles.{Waits};
+    ghost use Rattle.c_calls.specs.Nodes.Results.{Leaves};
 
     ghost waits = { λ p to bytes. Waits to bytes p };
 
@@ -23,19 +27,19 @@ impl Outgoing for Member {
 
     ghost leaves = { Leaves };
 
-    fn first(&self, alloc: Global) -> Result<Option<(u8, Vec<u8>)>, AllocError> {
-        let Some(packet) = self.front() else {
+    fn first(alloc: Global, sender: &Member) -> Result<Option<(u8, Vec<u8>)>, AllocError> {
+        let Some(packet) = sender.front() else {
             return Ok(None);
         };
         let to = packet.to;
-        match self.front_bytes(alloc)? {
+        match sender.front_bytes(alloc)? {
             Some(bytes) => Ok(Some((to, bytes))),
             None => Ok(None),
         }
     }
 
-    fn take_first(&mut self) {
-        let _packet = self.take();
+    fn take_first(sender: &mut Member) {
+        let _packet = sender.take();
     }
 }
 
@@ -54,31 +58,14 @@ pub fn take(
     let Some(mut process) = handle.take(alloc) else {
         return Err(NodeFault::Handle);
     };
-    let taken = take_of(alloc, &mut process, out, size, to);
+    let given = give_first::<Member, Outbox>(alloc, &mut process, out, size, to);
     handle.put(process);
-    taken
-}
-
-fn take_of(
-    alloc: Global,
-    process: &mut Member,
-    out: &mut [u8],
-    size: &mut usize,
-    to: &mut u8,
-) -> Result<(), NodeFault>
-    ensures taken { MatchResult result (λ _. TakesOut out.old out.new size.new to.new process.old process.new) (LeavesIn out.old out.new size.old size.new process.old process.new) }
-    ensures kept { OnErr result (to.new ≡ to.old) }
-{
-    let bytes = match process.front_bytes(alloc) {
-        Ok(Some(bytes)) => bytes,
-        Ok(None) => return Err(NodeFault::Absent),
-        Err(_) => return Err(NodeFault::Memory),
-    };
-    copy(bytes.as_slice(), out, size, NodeFault::Room)?;
-    if let Some(packet) = process.take() {
-        *to = packet.to;
+    match given {
+        Ok(()) => Ok(()),
+        Err(Ungiven::Memory) => Err(NodeFault::Memory),
+        Err(Ungiven::Absent) => Err(NodeFault::Absent),
+        Err(Ungiven::Room) => Err(NodeFault::Room),
     }
-    Ok(())
 }
 
 /// Writes the first packets that wait, as those of a bundle, and their receiver: as many as go to the
@@ -97,7 +84,7 @@ pub fn take_all(
     let Some(mut process) = handle.take(alloc) else {
         return Err(NodeFault::Handle);
     };
-    let given = give_all(alloc, &mut *process, out, size, to, count);
+    let given = give_all::<Member, Outbox>(alloc, &mut process, out, size, to, count);
     handle.put(process);
     match given {
         Ok(_all) => Ok(()),

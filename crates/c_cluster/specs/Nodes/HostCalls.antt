@@ -16,9 +16,9 @@ use Rattle.node_laws.specs.HostSystem.{System, HostCall, GaveBytes, HandedBytes,
 use Rattle.node_laws.specs.HostSystem.{Resumed, Revived, AnswersSo, DoesIt, AreCalls, after_calls}
 use Rattle.c_cluster.specs.declared.nodes.lifetime.NodeLimits.{NodeLimits}
 use Rattle.c_calls.specs.declared.nodes.fault.NodeFault.{NodeFault}
-use Rattle.c_calls.specs.declared.bundle.BundleTally.{BundleTally}
+use Rattle.c_handles.specs.declared.bundle.BundleTally.{BundleTally}
 use Rattle.c_handles.specs.Buffer.{IsCopied}
-use Rattle.c_calls.specs.Bundle.{IsBundle}
+use Rattle.c_handles.specs.Bundle.{IsBundle}
 use Rattle.c_calls.specs.Nodes.Bundles.{AreReceived, AreTaken}
 use Rattle.c_calls.specs.Nodes.Calls.{IsReceived, HasWorked, HasTicked, IsHeldBack, HasSaved}
 use Rattle.c_calls.specs.Nodes.Results.{IsTaken, IsMade}

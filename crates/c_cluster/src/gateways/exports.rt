@@ -10,10 +10,10 @@ ghost use Rattle.c_calls.specs.Gateways.Calls.{IsClosed, WasClosed, IsLogged, Is
 ghost use Rattle.c_calls.specs.Gateways.Results.{IsShown, IsStored, IsTaken, IsTold, IsUnshown, IsUnstored, IsUntaken, IsUntold};
 
 use crate::gateways::lifetime;
-use c_calls::bundle::BundleTally;
-use c_calls::gateways::fault::code;
 use c_calls::gateways::handle::GatewayHandle;
 use c_calls::gateways::{calls, results};
+use c_handles::bundle::BundleTally;
+use c_handles::code;
 use std::alloc::Global;
 
 /// Opens the gateway of a new cluster of 1 to 15 processes. A packet has at most `page` bytes, 512

@@ -15,12 +15,13 @@ ghost use Rattle.c_calls.specs.Nodes.Label.{AnswersLabel};
 use crate::nodes::lifetime::NodeLimits;
 use crate::nodes::node_job::NodeJob;
 use crate::nodes::{lifetime, node_job};
-use c_calls::bundle::BundleTally;
-use c_calls::nodes::fault::{code, code_of_bytes};
+use c_calls::nodes::fault::code_of_bytes;
 use c_calls::nodes::handle::NodeHandle;
 use c_calls::nodes::label::PacketLabel;
 use c_calls::nodes::status::NodeStanding;
 use c_calls::nodes::{calls, label, results, status};
+use c_handles::bundle::BundleTally;
+use c_handles::code;
 use process::HandlerTicket;
 use std::alloc::Global;
 

@@ -6,9 +6,9 @@ ghost use Rattle.c_cluster.specs.Nodes.Lifetime.{limits_from};
 ghost use Rattle.c_cluster.specs.Nodes.Suspension.{IsWritten, IsUnwritten, Resumes, DoesNotResume, IsToldSo, AnswersResume};
 
 use crate::nodes::lifetime::{NodeLimits, handler_of, put};
-use c_calls::nodes::fault::{NodeFault, code, code_of_bytes};
+use c_calls::nodes::fault::{NodeFault, code_of_bytes};
 use c_calls::nodes::handle::NodeHandle;
-use c_handles::copy;
+use c_handles::{code, copy};
 use process::{Member, ResumeError};
 use std::alloc::Global;
 

@@ -1,12 +1,12 @@
 use Rattle.std.proofs.Common.{◌≡◌, ◌+◌, inl, inr, refl, arith}
-use Rattle.c_calls.specs.declared.bundle.BundleTally.{BundleTally}
+use Rattle.c_handles.specs.declared.bundle.BundleTally.{BundleTally}
 use Rattle.c_calls.specs.declared.gateways.fault.GatewayFault.{GatewayFault}
 use Rattle.c_calls.specs.declared.gateways.fault.GatewayFault.TheVariants.{Memory, Handle, Payload, Room, Absent, Bytes, Early, Range}
 use Rattle.gateway.specs.Gateway.{TheGateway}
-use Rattle.c_calls.specs.Bundle.{none_counted, one_taken, one_refused, one_lost, Counting}
+use Rattle.c_handles.specs.Bundle.{none_counted, one_taken, one_refused, one_lost, Counting}
 use Rattle.c_calls.specs.Gateways.Bundles.{Hears, one_untaken}
 use Rattle.c_calls.specs.Gateways.Calls.{IsUnreceived}
-use Rattle.c_calls.proofs.Bundles.{goes_on}
+use Rattle.c_handles.proofs.Bundles.{goes_on}
 use Rattle.c_calls.proofs.gateways.calls.hear_front.Goals as goal
 
 lost : (why : GatewayFault) (t : BundleTally) → why ≡ Memory → one_lost t ≡ one_untaken why t

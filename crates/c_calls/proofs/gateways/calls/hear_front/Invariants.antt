@@ -1,7 +1,7 @@
 use Rattle.std.proofs.Common.{ℕ, ◌+◌, ◌≤◌, List, length}
-use Rattle.c_calls.specs.Bundle.{InOrder, none_counted}
+use Rattle.c_handles.specs.Bundle.{InOrder, none_counted}
 use Rattle.c_calls.specs.Gateways.Bundles.{Hears}
-use Rattle.c_calls.proofs.Bundles.{Fronts}
+use Rattle.c_handles.proofs.Bundles.{Fronts}
 use Rattle.c_calls.proofs.gateways.calls.hear_front.Given as goal
 
 abbrev pub invariant-loop-packet : goal.invariant-loop-packet

@@ -1,6 +1,6 @@
 use Rattle.std.proofs.Common.{rules, IsTrue, arith}
 use Rattle.std.proofs.lemmas.Grind.{common_steps}
-use Rattle.c_calls.proofs.Bundles.{Fronts, is_all, none_left}
+use Rattle.c_handles.proofs.Bundles.{Fronts, is_all, none_left}
 use Rattle.c_calls.proofs.gateways.calls.receive_all.Goals as goal
 
 pub returns-clause-received : goal.returns-clause-received

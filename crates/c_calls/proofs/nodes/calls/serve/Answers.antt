@@ -1,14 +1,14 @@
 use Rattle.std.proofs.Common.{◌≡◌, ◌+◌, Result, Ok, Err, inl, inr, refl, arith}
 use Rattle.std.specs.Prelude.{Option}
 use Rattle.process.specs.Process.{TheProcess}
-use Rattle.c_calls.specs.declared.bundle.BundleTally.{BundleTally}
+use Rattle.c_handles.specs.declared.bundle.BundleTally.{BundleTally}
 use Rattle.c_calls.specs.declared.nodes.fault.NodeFault.{NodeFault}
 use Rattle.c_calls.specs.declared.nodes.fault.NodeFault.TheVariants.{Memory, Handle, Image, Room, Absent, Bytes, Unready, Limit, Left}
-use Rattle.c_calls.specs.Bundle.{none_counted, one_taken, one_refused, one_lost, Counting}
+use Rattle.c_handles.specs.Bundle.{none_counted, one_taken, one_refused, one_lost, Counting}
 use Rattle.c_calls.specs.Nodes.Answers.{Results}
 use Rattle.c_calls.specs.Nodes.Bundles.{IsToWork, Serves, one_untaken}
 use Rattle.c_calls.specs.Nodes.Calls.{HasWorked, HasNotWorked}
-use Rattle.c_calls.proofs.Bundles.{goes_on}
+use Rattle.c_handles.proofs.Bundles.{goes_on}
 use Rattle.c_calls.proofs.nodes.calls.serve.Goals as goal
 
 worked : (r : Result (Unit {0}) NodeFault) (old new : Option TheProcess) → Results r old new HasWorked HasNotWorked → IsToWork old new

@@ -1,7 +1,7 @@
 use Rattle.std.proofs.Common.{ℕ, ◌+◌, ◌≤◌, List, length}
-use Rattle.c_calls.specs.Bundle.{InOrder, none_counted}
+use Rattle.c_handles.specs.Bundle.{InOrder, none_counted}
 use Rattle.c_calls.specs.Nodes.Bundles.{Serves}
-use Rattle.c_calls.proofs.Bundles.{Fronts}
+use Rattle.c_handles.proofs.Bundles.{Fronts}
 use Rattle.c_calls.proofs.nodes.calls.serve.Given as goal
 
 abbrev pub invariant-loop-packet : goal.invariant-loop-packet

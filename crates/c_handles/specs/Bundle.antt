@@ -2,11 +2,9 @@
 use Rattle.std.specs.Prelude.{◌≡◌, ◌≢◌, ◌⊎◌, ℕ, ◌+◌, ◌^◌, ◌<◌, ◌≤◌, List, [], ◌∷◌, ◌++◌, length, Option}
 use Rattle.std.specs.List.{flat_map, AllByRecursion}
 use Rattle.byteorder.specs.Endian.{little_bytes}
-use Rattle.packets.specs.declared.packet.NodePacket.{NodePacket}
-use Rattle.packets.specs.Format.{IsPacket}
 use Rattle.operations.specs.Bytes.{overwritten}
 use Rattle.c_handles.specs.Buffer.{IsCopied}
-use Rattle.c_calls.specs.declared.bundle.BundleTally.{BundleTally}
+use Rattle.c_handles.specs.declared.bundle.BundleTally.{BundleTally}
 
 -- ---- their bytes
 
@@ -26,6 +24,10 @@ pub record IsBundle (packets : List (List ℕ)) (bytes : List ℕ) : Type 0 wher
 -- its length fits two bytes, and both fit a buffer of this size from a place on
 abbrev pub FitsFrom : ℕ → ℕ → List ℕ → Type 0
 FitsFrom at size packet = (length packet < 2 ^ 16) × (at + (2 + length packet) ≤ size)
+
+-- they don't fit an empty bundle in the buffer, which is unchanged, and the length of the bundle of this packet is written
+abbrev pub IsUnfit : List ℕ → List ℕ → List ℕ → ℕ → Type 0
+IsUnfit packet old new size = (¬ FitsFrom 0 (length old) packet) × (new ≡ old) × (size ≡ 2 + length packet)
 
 -- no packet is at their front
 abbrev pub BeginsWithNone : List ℕ → Type 0
@@ -73,17 +75,17 @@ pub record IsFrontReceived {S : Type 0} (Does : List ℕ → Counting S → Coun
 
 -- ---- packets out
 
--- a packet to this process, with these bytes, is taken
-abbrev pub GivesTo : {S : Type 0} → (NodePacket → S → S → Type 0) → ℕ → List ℕ → S → S → Type 0
-GivesTo Gives to bytes old new = (x : NodePacket) × IsPacket x bytes × (x.to ≡ to) × Gives x old new
+-- the first packet that waits is taken: the buffer begins with its bytes
+abbrev pub GivesFirst : {S : Type 0} → (ℕ → List ℕ → S → S → Type 0) → List ℕ → List ℕ → ℕ → ℕ → S → S → Type 0
+GivesFirst Gives out out' size to old new = (bytes : List ℕ) × Gives to bytes old new × IsCopied bytes out out' size
 
 -- the first packets that wait are taken, which all go to this process: the buffer begins with the packets of a bundle
-pub record GivesAll {S : Type 0} (Gives : NodePacket → S → S → Type 0) (out out' : List ℕ) (size to count : ℕ) (old new : S) : Type 0 where
+pub record GivesAll {S : Type 0} (Gives : ℕ → List ℕ → S → S → Type 0) (out out' : List ℕ) (size to count : ℕ) (old new : S) : Type 0 where
   pub packets : List (List ℕ)
   pub bundle : List ℕ
   pub some : 0 < count
   pub count_is : count ≡ length packets
-  pub given : InOrder (GivesTo Gives to) packets old new
+  pub given : InOrder (Gives to) packets old new
   pub is_bundle : IsBundle packets bundle
   pub copied : IsCopied bundle out out' size
 
@@ -93,9 +95,10 @@ abbrev pub IsNoMore : Type 0 → (ℕ → List ℕ → Type 0) → ℕ → ℕ �
 IsNoMore None Waits to at size = None ⊎ ((next : ℕ) × (packet : List ℕ) × Waits next packet × ((next ≢ to) ⊎ ¬ FitsFrom at size packet))
 
 -- the first packet that waits is taken, which goes to this process: it is written from a place on, and ends there
-pub record GivesNext {S : Type 0} (Gives : NodePacket → S → S → Type 0) (out out' : List ℕ) (at end to : ℕ) (old new : S) : Type 0 where
+pub record GivesNext {S : Type 0} (Gives : ℕ → List ℕ → S → S → Type 0) (out out' : List ℕ) (at end to : ℕ) (old new : S) : Type 0 where
   pub packet : List ℕ
+  pub some : 0 < length packet
   pub fits : FitsFrom at (length out) packet
-  pub given : GivesTo Gives to packet old new
+  pub given : Gives to packet old new
   pub written : out' ≡ overwritten out at (part_bytes packet)
   pub end_is : end ≡ at + length (part_bytes packet)

@@ -6,9 +6,7 @@ use Rattle.std.proofs.lemmas.Bool.{ne_eqb, false≢true}
 use Rattle.byteorder.specs.Endian.{little_bytes, little_number}
 use Rattle.byteorder.specs.Numbers.{little_number-reads_back, length-bytes_low_first}
 use Rattle.operations.specs.Bytes.{overwritten}
-use Rattle.packets.specs.declared.packet.NodePacket.{NodePacket}
-use Rattle.packets.specs.Format.{IsPacket, packet_bytes}
-use Rattle.c_calls.specs.Bundle.{IsPart, IsBundle, part_bytes, BeginsWithNone, FitsFrom, InOrder, GivesTo, GivesNext}
+use Rattle.c_handles.specs.Bundle.{IsPart, IsBundle, part_bytes, BeginsWithNone, FitsFrom, InOrder, GivesNext}
 use Rattle.c_handles.proofs.Overwritten.{overwritten_none, put_more}
 
 -- the first two bytes of a part tell its length
@@ -110,12 +108,6 @@ goes_on Does packets packet bytes rest after a b c n m front all few part e one 
 
 -- ---- packets that are written
 
-one_byte : (b : ℕ) (bytes : List ℕ) → 0 < length (b ∷ bytes)
-one_byte b bytes = omega arith
-
-pub packet_some : (x : NodePacket) (bytes : List ℕ) → IsPacket x bytes → 0 < length bytes
-packet_some x bytes p = subst (λ (b : List ℕ). 0 < length b) (sym p.bytes_are) (one_byte 83 (drop 1 (packet_bytes x)))
-
 -- these packets are at the front of a buffer, up to here; this many
 pub record Laid (out out' : List ℕ) (end count : ℕ) (packets : List (List ℕ)) : Type 0 where
   pub each : AllByRecursion IsPart packets
@@ -146,10 +138,10 @@ more_laid out mid out' end end' count count' packets packet l some fits written 
     }
 
 -- one more is given and written
-pub next_laid : {S : Type 0} (Gives : NodePacket → S → S → Type 0) (out mid out' : List ℕ) (end end' count to : ℕ) (packets : List (List ℕ)) (a b c : S) → Laid out mid end count packets → InOrder (GivesTo Gives to) packets a b → length mid ≡ length out
-    → GivesNext Gives mid out' end end' to b c → (all : List (List ℕ)) × Laid out out' end' (count + 1) all × InOrder (GivesTo Gives to) all a c
+pub next_laid : {S : Type 0} (Gives : ℕ → List ℕ → S → S → Type 0) (out mid out' : List ℕ) (end end' count to : ℕ) (packets : List (List ℕ)) (a b c : S) → Laid out mid end count packets → InOrder (Gives to) packets a b → length mid ≡ length out
+    → GivesNext Gives mid out' end end' to b c → (all : List (List ℕ)) × Laid out out' end' (count + 1) all × InOrder (Gives to) all a c
 next_laid Gives out mid out' end end' count to packets a b c laid given same g = (
   packets ++ g.packet ∷ [],
-  more_laid out mid out' end end' count (count + 1) packets g.packet laid (packet_some g.given.0 g.packet g.given.1) g.fits g.written g.end_is same refl,
-  one_more (GivesTo Gives to) packets g.packet a b c given g.given,
+  more_laid out mid out' end end' count (count + 1) packets g.packet laid g.some g.fits g.written g.end_is same refl,
+  one_more (Gives to) packets g.packet a b c given g.given,
 )

@@ -4,7 +4,7 @@ use Rattle.byteorder.specs.Endian.{little_bytes}
 use Rattle.byteorder.specs.Numbers.{length-bytes_low_first}
 use Rattle.operations.specs.Bytes.{overwritten}
 use Rattle.c_handles.proofs.Overwritten.{put_more}
-use Rattle.c_calls.proofs.bundle.put_part.Goals as goal
+use Rattle.c_handles.proofs.bundle.put_part.Goals as goal
 
 pub returns-clause-written : goal.returns-clause-written
 returns-clause-written c =

@@ -2,7 +2,7 @@
 
 ghost use Rattle.std.specs.Prelude.{◌≡◌, ◌++◌, ◌↔◌, ◌≤◌, ◌+◌, List, ℕ, length, IsTrue, MatchOption};
 ghost use Rattle.operations.specs.Bytes.{overwritten};
-ghost use Rattle.c_calls.specs.Bundle.{IsPart, IsBundle, part_bytes, BeginsWithNone, FitsFrom};
+ghost use Rattle.c_handles.specs.Bundle.{IsPart, IsBundle, part_bytes, BeginsWithNone, FitsFrom};
 
 use byteorder::{ByteOrder, LittleEndian};
 
@@ -10,7 +10,7 @@ use byteorder::{ByteOrder, LittleEndian};
 pub(crate) const LENGTH_BYTES: usize = 2;
 
 /// The fault of bytes that are not the packets of a bundle.
-pub(crate) const NOT_BUNDLE: u8 = 1;
+pub const NOT_BUNDLE: u8 = 1;
 
 /// How the packets of a bundle fared, as a program in C reads it: three words of 8 bytes.
 #[repr(C)]
@@ -25,7 +25,7 @@ pub struct BundleTally {
 }
 
 /// The first packet, and the bytes after it.
-pub(crate) fn first_of(bytes: &[u8]) -> Option<(&[u8], &[u8])>
+pub fn first_of(bytes: &[u8]) -> Option<(&[u8], &[u8])>
     ensures { MatchOption result (BeginsWithNone bytes.now) (λ p. IsPart p.0.now × (bytes.now ≡ part_bytes p.0.now ++ p.1.now)) }
 {
     if bytes.len() < LENGTH_BYTES {
@@ -40,7 +40,7 @@ pub(crate) fn first_of(bytes: &[u8]) -> Option<(&[u8], &[u8])>
 }
 
 /// Whether these bytes are the packets of a bundle.
-pub(crate) fn is_bundle(bytes: &[u8]) -> bool
+pub fn is_bundle(bytes: &[u8]) -> bool
     ensures { IsTrue result ↔ (xs : List (List ℕ)) × IsBundle xs bytes.now }
 {
     let mut rest = bytes;

@@ -1,7 +1,7 @@
 use Rattle.std.proofs.Common.{rules, ◌≡◌, ◌++◌, ◌∷◌, [], length, eqb, arith}
 use Rattle.std.proofs.lemmas.Grind.{common_steps}
-use Rattle.c_calls.proofs.Bundles.{more_front, whole}
-use Rattle.c_calls.proofs.bundle.is_bundle.Goals as goal
+use Rattle.c_handles.proofs.Bundles.{more_front, whole}
+use Rattle.c_handles.proofs.bundle.is_bundle.Goals as goal
 
 pub loop-packet-preserved : goal.loop-packet-preserved
 loop-packet-preserved c =
