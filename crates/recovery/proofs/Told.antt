@@ -13,8 +13,7 @@ use Rattle.node.specs.Stands.{Each}
 use Rattle.packets.specs.Says.{told_end, first_told}
 use Rattle.recovery.specs.Collected.{TheCollected, last_number, with_page, none_told}
 use Rattle.recovery.specs.Stands.{reached, IsTold}
-use Rattle.recovery.proofs.Lists.{each-append, each-more}
-use Rattle.recovery.proofs.Pages.{IsPage, first-above, first-below, last-least}
+use Rattle.recovery.proofs.Pages.{IsPage, first-above, first-below, low-page}
 
 -- nothing was told
 pub told-none : (q base : ℕ) → IsTold q base (none_told base) None
@@ -50,8 +49,7 @@ module _ (q base k : ℕ) (x : TheCollected) (t : Option Collected) (flags : Fla
   low-next true e g = absurd (cc)
   low-next false e g =
       let at : new.cursor ≡ last_number k page = rw (e, sym cursor) refl in
-      let least : k ≤ last_number k page = last-least k page fits in
-      rw at (each-append (λ (e : LoggedMessage). e.number ≤ last_number k page) x.entries page (each-more (λ (e : LoggedMessage). e.number ≤ k) (λ (e : LoggedMessage). e.number ≤ last_number k page) x.entries (λ e l. omega (arith, l, least)) low-at) fits.last)
+      rw at (low-page k x.entries page low-at fits)
 
   entries-next : (m : ℕ) → base < m → reaches (told_end flags k page) m ≡ true → (b : Bool) → nat_le m k ≡ b → (if b then entry_in t m else f m) ≡ first_told q (x.entries ++ page) m
   entries-next m l r true e =

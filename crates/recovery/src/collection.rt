@@ -1,11 +1,12 @@
 //! A process that collects: it asks its peers what their logs hold for it.
 
-ghost use Rattle.std.specs.Prelude.{◌≡◌, ◌≢◌, ◌≤◌, ◌<◌, ◌+◌, ◌^◌, true, IfOk, OnOk, OnErr};
+ghost use Rattle.std.specs.Prelude.{◌≡◌, ◌≢◌, ◌≤◌, ◌<◌, ◌+◌, ◌^◌, true, false, IfOk, OnOk, OnErr};
 ghost use Rattle.std.specs.List.{list_all};
+ghost use Rattle.packets.specs.Packet.{entries_in_range};
 ghost use Rattle.node.specs.Limit.{AreAllowed};
 ghost use Rattle.node.specs.Node.{IsPeer, IsPositive};
 ghost use Rattle.recovery.specs.Own.{comes_back, is_process, is_short};
-ghost use Rattle.recovery.specs.Collection.{asks, asked, begins, revived, answers, took_page, asks_anew, asked_by, handed};
+ghost use Rattle.recovery.specs.Collection.{asks, asked, begins, revived, answers, took_page, asks_anew, asked_by, handed, told_of};
 ghost use Rattle.recovery.specs.Stands.{Revives, Acts, IsHanded, Takes};
 
 use crate::collected::Collected;
@@ -209,11 +210,13 @@ impl Collecting {
         flags: Flags,
         page: &[LoggedMessage],
     ) -> Result<(), AllocError>
-        requires { IsPeer self.old.own.me self.old.own.count from }
+        requires peer { IsPeer self.old.own.me self.old.own.count from }
+        requires open { (told_of self.old.told from).done ≡ false }
+        requires page { entries_in_range (told_of self.old.told from).cursor flags page.now ≡ true }
         ensures ok { OnOk result (self.new ≡ took_page from teller flags page.now self.old) }
         ensures err { OnErr result (self.new ≡ self.old) }
     {
-        self.told[from as usize].add(page, flags.done())?;
+        self.told[from as usize].add(flags, page)?;
         self.own.learn(from, teller, flags);
         self.ask(from);
         Ok(())

@@ -12,7 +12,7 @@ invariant_of-self-2 c =
     let from = c.args.from in
     let told = old.told.items in
     let own : c.learn.new.self ≡ learns from c.args.teller c.args.flags old.own = c.learn.ensures in
-    let apart : old.own.me ≢ from = λ e. c.requires.1 (sym e ∙ ap (λ (z : TheCollecting). z.own.me) c.self.view_is) in
+    let apart : old.own.me ≢ from = λ e. c.requires.peer.1 (sym e ∙ ap (λ (z : TheCollecting). z.own.me) c.self.view_is) in
     rw own (record {
       wide = length-set told from c.add.new.self ∙ i.wide;
       heard_wide = length-set old.own.heard from c.args.teller ∙ i.heard_wide;
