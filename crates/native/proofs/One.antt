@@ -126,7 +126,7 @@ written_one o tasks code code' a b =
 -- ---- the code of slots
 
 -- two least typings have the same frame of each slot
-module _ {form : ImageForm} {slots : List (Option Insn)} {len : ℕ} {t u : Table} (a : IsLeastTyping form slots len t) (b : IsLeastTyping form slots len u) where
+module _ (form : ImageForm) (slots : List (Option Insn)) (len : ℕ) (t u : Table) (a : IsLeastTyping form slots len t) (b : IsLeastTyping form slots len u) where
   same_frame : (s : ℕ) → frame_at t s ≡ frame_at u s
   same_frame s = by_frame (frame_at t s) refl
     where
@@ -153,5 +153,5 @@ module _ {form : ImageForm} {slots : List (Option Insn)} {len : ℕ} {t u : Tabl
 
 pub one_code : IsOneCode
 one_code form slots len code code' a b =
-    let e = same_tasks a.least b.least (length slots) in
+    let e = same_tasks form slots len a.table b.table a.least b.least (length slots) in
     written_one opening.Bare (tasks_in slots b.table len (length slots)) code code' (subst (λ ts. IsWritten opening.Bare ts code) e a.written) b.written

@@ -98,7 +98,7 @@ filtered_is (Some f) g h = by_test (is_num (ten f)) refl h
     by_test true e h = cc
     by_test false e h = (h, (let q : f ≡ g = cc in ap (λ x. is_num (ten x)) (sym q) ∙ e))
 
-module _ {form : ImageForm} {slots : List (Option Insn)} {len : ℕ} {table : Table} (least : IsLeastTyping form slots len table) where
+module _ (form : ImageForm) (slots : List (Option Insn)) (len : ℕ) (table : Table) (least : IsLeastTyping form slots len table) where
   abbrev fewer : Table
   fewer = map filtered table
 
@@ -269,4 +269,4 @@ has_code form slots len table ops pool s g o least d there found =
     let st = d.each s g i there b.1 in
     let e : o ≡ dense_of len g.kinds s st.at i = let x : Some o ≡ Some (dense_of len g.kinds s st.at i) = sym found ∙ st.is in cc in
     let k = kept form slots len table s i g (typing_of form len slots (length slots) table least.types) there b.1 in
-    subst (HasCode pool s) (sym e) (insn_code form slots len pool s st.at g (ten_is_no_number least s g there) i k (rules_of form len i g k.local) st.within)
+    subst (HasCode pool s) (sym e) (insn_code form slots len pool s st.at g (ten_is_no_number form slots len table least s g there) i k (rules_of form len i g k.local) st.within)

@@ -59,7 +59,7 @@ module _ (len : ℕ) (kinds : List Kind) (pool : List ℕ) (slot at : ℕ) where
       let t : nat_lt at (length pool) ≡ true = grind (arith, nat_tests) in
       ap (λ b. cond b (Some (task.Wide dst (slice_index pool at))) None) t ∙ ap (λ n. Some (task.Wide dst n)) p
 
-module _ {form : ImageForm} {slots : List (Option Insn)} {len : ℕ} {table : Table} {ops : List Op} {pool : List ℕ} (least : IsLeastTyping form slots len table) (d : IsDense slots table len ops pool) (slot : ℕ) where
+module _ (form : ImageForm) {slots : List (Option Insn)} {len : ℕ} {table : Table} {ops : List Op} {pool : List ℕ} (least : IsLeastTyping form slots len table) (d : IsDense slots table len ops pool) (slot : ℕ) where
   -- where a call may come to, the slot's task is its operation's
   pub is_there : (g : Frame) (o : Op) → frame_at table slot ≡ Some g → slice_get ops slot ≡ Some o → task_for pool o ≡ Some (task_there len slot (frame_at table slot) (insn_at slots slot))
   is_there g o there found =
