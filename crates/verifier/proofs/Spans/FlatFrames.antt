@@ -11,7 +11,7 @@ use Rattle.regtypes.specs.declared.frame.Kind.TheVariants as flat
 use Rattle.regtypes.specs.declared.image_form.ImageForm.{ImageForm}
 use Rattle.regtypes.specs.declared.image_form.ImageForm.TheVariants.{Sbi1, Sbi2}
 use Rattle.regtypes.specs.Frame.{kind_at, LeqKind as FlatLeqKind, entry_frame as flat_entry, entry_kinds}
-use Rattle.regtypes.proofs.Parts.{after_helper}
+use Rattle.regtypes.specs.Ways.{after_helper}
 use Rattle.spans.specs.Span.{span, whole}
 use Rattle.spans.specs.declared.kind.SpanKind.{SpanKind}
 use Rattle.spans.specs.declared.kind.SpanKind.TheVariants.{Unset, Num, Place}
