@@ -3,7 +3,7 @@
 ghost use Rattle.std.specs.Prelude.{◌≡◌, ℕ, IfErr, IfOk};
 
 /// Why a function did nothing.
-pub trait Fault: Drop {
+pub trait Coded: Drop {
     /// Its number.
     ghost number_of: { Self → ℕ };
 
@@ -13,7 +13,7 @@ pub trait Fault: Drop {
 }
 
 /// The code of a result: 0, or the number of the fault.
-pub fn code<F: Fault>(done: Result<(), F>) -> u32
+pub fn code<F: Coded>(done: Result<(), F>) -> u32
     ensures done { IfOk done (λ _. result ≡ 0) }
     ensures fault { IfErr done (λ why. result ≡ F.number_of why) }
 {

@@ -20,5 +20,5 @@ mod loose;
 pub mod outbox;
 
 pub use buffer::{copy, measure, write};
-pub use fault::{Fault, code};
+pub use fault::{Coded, code};
 pub use loose::Loose;

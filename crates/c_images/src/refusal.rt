@@ -3,7 +3,7 @@
 ghost use Rattle.std.specs.Prelude.{◌≡◌};
 ghost use Rattle.c_images.specs.Exports.{refused_rule, refused_slot};
 
-use c_handles::Fault;
+use c_handles::Coded;
 use thiserror::Error;
 use verifier::ImageError;
 
@@ -37,7 +37,7 @@ pub enum ImageRefusal {
     Record,
 }
 
-impl Fault for ImageRefusal {
+impl Coded for ImageRefusal {
     ghost use Rattle.c_images.specs.Exports.{refusal_number};
 
     ghost number_of = { refusal_number };

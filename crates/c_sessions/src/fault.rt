@@ -1,6 +1,6 @@
 //! Why a function did nothing.
 
-use c_handles::Fault;
+use c_handles::Coded;
 use thiserror::Error;
 use world::Refusal;
 
@@ -27,7 +27,7 @@ pub enum SessionFault {
     Absent,
 }
 
-impl Fault for SessionFault {
+impl Coded for SessionFault {
     ghost use Rattle.c_sessions.specs.Session.{fault_number};
 
     ghost number_of = { fault_number };

@@ -7,7 +7,7 @@ use Rattle.decode.specs.Slots.{insn_at}
 use Rattle.regtypes.specs.declared.frame.Frame.{Frame}
 use Rattle.regtypes.specs.declared.rule.Rule.{Rule}
 use Rattle.regtypes.specs.declared.image_form.ImageForm.{ImageForm}
-use Rattle.regtypes.specs.Flow.{exits}
+use Rattle.regtypes.specs.Exits.{exits}
 use Rattle.regtypes.specs.Frame.{entry_frame, Leq}
 use Rattle.regtypes.specs.Typing.{Table, frame_at, broken, IsTyping}
 use Rattle.verifier.specs.Form.{Form}

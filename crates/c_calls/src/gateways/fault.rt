@@ -1,6 +1,6 @@
 //! Why a function did nothing.
 
-use c_handles::Fault;
+use c_handles::Coded;
 use std::alloc::AllocError;
 use thiserror::Error;
 
@@ -33,7 +33,7 @@ pub enum GatewayFault {
     Range,
 }
 
-impl Fault for GatewayFault {
+impl Coded for GatewayFault {
     ghost use Rattle.c_calls.specs.Gateways.Answers.{fault_number};
 
     ghost number_of = { fault_number };

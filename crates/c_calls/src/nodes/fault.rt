@@ -3,7 +3,7 @@
 ghost use Rattle.std.specs.Prelude.{◌≡◌, IfErr, IfOk};
 ghost use Rattle.c_calls.specs.Nodes.Answers.{fault_number, written};
 
-use c_handles::{Fault, code};
+use c_handles::{Coded, code};
 use thiserror::Error;
 
 /// Why a function did nothing, by number.
@@ -39,7 +39,7 @@ pub enum NodeFault {
     Left,
 }
 
-impl Fault for NodeFault {
+impl Coded for NodeFault {
     ghost use Rattle.c_calls.specs.Nodes.Answers.{fault_number};
 
     ghost number_of = { fault_number };
