@@ -15,7 +15,7 @@
 //! decide; [`steps_fit`] and [`calls_fit`] say that code with a typing never comes to a fault. No law says
 //! that the rules refuse no more than they have to.
 //!
-//! A call in words and one array (`specs/Calls`, run by `handlers`): the array has the message and
+//! A call in words and one array (`specs/Calls`, run by `interp`): the array has the message and
 //! zeros after it, the state, and the stack (`specs/Concrete`). A place is its address there, modulo
 //! 2 ^ 64 if it lies outside of its region, and a place in a word of the stack is its address in eight
 //! bytes (`specs/Shows`), so no operation has to know what is a place. Code of which there is a typing
