@@ -10,10 +10,10 @@ use crate::handler::OpenHandler;
 use crate::refusal::{ImageRefusal, refused_rule, refused_slot};
 use crate::report::{FAULT_SIZE, REPORT_LIMIT, put_fault};
 use helpers::{Effects, Who};
-use verifier::{FileForm, load_any};
 use interp::Handler as AnyHandler;
 use limits::PROCESSES;
 use std::alloc::Global;
+use verifier::{FileForm, load_any};
 
 /// The size of a message in bytes.
 pub const MESSAGE: usize = 64;

@@ -9,10 +9,10 @@ use crate::option_words::below_words;
 use crate::refusal::{Usage, UsageRefusal};
 use clap::error::ErrorKind;
 use clap::{ArgMatches, Error};
-use verifier::FileForm;
 use limits::{STATE_BYTES, WORKERS};
 use std::alloc::{AllocError, Global};
 use std::convert::AsStr;
+use verifier::FileForm;
 
 /// How an image is asked for. Each may be missing: the length of its state, at most 1,024, its form, and the name of an object file's
 /// function.

@@ -9,8 +9,8 @@ use crate::fault::Fault;
 use crate::files::Files;
 use crate::site::Site;
 use assemble::disassemble;
-use verifier::any_parts;
 use std::alloc::Global;
+use verifier::any_parts;
 
 /// The assembler text of the image in a file. It does not verify the code.
 pub fn disassemble_image<F: Files>(

@@ -8,8 +8,8 @@ use crate::flaw::{Flaw, flawed_word};
 use crate::span_cause::{SpanCause, WordFault};
 use decode::Insn;
 use regtypes::Region;
-use verifier::is_inside;
 use spans::{Cells, SpanKind};
+use verifier::is_inside;
 
 /// The cause at a payload's word that isn't known to be a number.
 fn payload_word(word: Option<usize>) -> SpanCause

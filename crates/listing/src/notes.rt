@@ -13,9 +13,9 @@ use crate::span_kinds::{distance_of, push_kind};
 use decode::{Insn, Reg, bytes_in};
 use limits::REGISTERS;
 use regtypes::{ImageForm, Region};
-use verifier::{is_inside, operand_kind, opposite, shown, whole_word};
 use spans::{Cells, Span, SpanKind};
 use std::alloc::AllocError;
+use verifier::{is_inside, operand_kind, opposite, shown, whole_word};
 
 /// Writes a register and what is known of it, if the instruction reads it.
 fn push_register(

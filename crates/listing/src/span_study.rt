@@ -8,9 +8,9 @@ ghost use Rattle.listing.specs.SpanStudy.{IsStudy};
 
 use decode::Insn;
 use limits::SLOTS;
-use verifier::{SpanFrames, span_frames_of};
 use spans::Cells;
 use std::alloc::{AllocError, Global};
+use verifier::{SpanFrames, span_frames_of};
 
 /// The slots of code, with the verifier's results for it.
 #[derive(Drop)]

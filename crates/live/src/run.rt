@@ -16,8 +16,8 @@ ghost use Rattle.results.specs.Results.{results_text};
 
 use crate::ended::{Ended, ends_of};
 use crate::feeds::feeds_of;
-use interp::Handler;
 use indexmap::IndexMap;
+use interp::Handler;
 use limits::{SEATS, WORKERS};
 use results::{note_refused, push_results};
 use scenario::{NamedProcess, Scenario};

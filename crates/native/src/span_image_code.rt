@@ -8,8 +8,8 @@ use crate::image_code::write_tasks;
 use crate::prologue::Opening;
 use crate::span_slot_tasks::tasks_of;
 use decode::lay_out;
-use verifier::SpanImage;
 use std::alloc::{AllocError, Global};
+use verifier::SpanImage;
 
 /// The machine code of an image. It fails only if memory runs out.
 pub fn span_compile(alloc: Global, image: &SpanImage) -> Result<Vec<u8>, AllocError>

@@ -9,8 +9,8 @@ ghost use Rattle.runner.specs.Inside.{AreNoted, IsNoted, notes_of, position_of};
 ghost use Rattle.runner.specs.Run.{IsChronicle, refused_moment, sent_by, sent_in};
 
 use crate::player::Player;
-use interp::Handler;
 use helpers::Payload;
+use interp::Handler;
 use scenario::{Scenario, Step};
 use sessions::{Slip, copied};
 use std::alloc::{AllocError, Global};

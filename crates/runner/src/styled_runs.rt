@@ -14,8 +14,8 @@ ghost use Rattle.runner.specs.Reports.{IsTelling, outputs_told, process_told, re
 
 use crate::chronicle::Moment;
 use crate::player::Player;
-use interp::Handler;
 use indexmap::IndexMap;
+use interp::Handler;
 use scenario::{NamedProcess, Scenario, Style, name_at};
 use sessions::{Service, copied};
 use std::alloc::{AllocError, Global};
