@@ -1,3 +1,2 @@
 mod AsBox
-mod Packets
 pub mod Called

@@ -1,5 +1,5 @@
 use Rattle.process.proofs.Fronts.{stays-front}
-use Rattle.c_calls.proofs.nodes.results.OutboxOutgoing.take_first.Goals as goal
+use Rattle.c_calls.proofs.nodes.results.OutboxOutgoingMember.take_first.Goals as goal
 
 pub returns : goal.returns
 returns c = λ to packet waits.
