@@ -49,6 +49,12 @@ region_len low len Message = low
 region_len low len State = len
 region_len low len Stack = STACK_BYTES
 
+-- where a region begins in the array of a call, which has the message, then a state of `len` bytes, then the stack
+abbrev pub region_start : ℕ → Region → ℕ
+region_start len Message = 0
+region_start len State = PAYLOAD_BYTES
+region_start len Stack = PAYLOAD_BYTES + len
+
 -- the n bytes from a place on are in the region
 abbrev pub lie_inside : ℕ → ℕ → ℤ → Bool
 lie_inside size n (pos a) = nat_le (a + n) size

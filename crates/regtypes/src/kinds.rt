@@ -1,10 +1,10 @@
 //! What the rules ask of a kind.
 
 ghost use Rattle.std.specs.Prelude.{◌≡◌, ◌≤◌, IsTrue};
-ghost use Rattle.regtypes.specs.Rules.{is_unset, is_len, is_place, is_in_message, is_message, is_sized, has_bytes, moved, is_near, region_len};
+ghost use Rattle.regtypes.specs.Rules.{is_unset, is_len, is_place, is_in_message, is_message, is_sized, has_bytes, moved, is_near, region_len, region_start};
 
 use crate::frame::{Kind, Region, is_num};
-use limits::{PAYLOAD_BYTES, STACK_BYTES};
+use limits::{MEMORY_BYTES, PAYLOAD_BYTES, STACK_BYTES, STATE_BYTES};
 
 pub fn is_unset(kind: Kind) -> bool
     ensures { result ≡ is_unset kind }
@@ -44,6 +44,19 @@ fn region_len(region: Region, low: u16, state_len: u16) -> usize
         Region::Message => low as usize,
         Region::State => state_len as usize,
         Region::Stack => STACK_BYTES,
+    }
+}
+
+/// Where a region begins in the array of a call, which has the message, then a state of this length, then the stack.
+pub fn region_start(region: Region, len: u16) -> u16
+    requires { len ≤ STATE_BYTES }
+    ensures value { result ≡ region_start len region }
+    ensures within { result + region_len PAYLOAD_BYTES len region ≤ MEMORY_BYTES }
+{
+    match region {
+        Region::Message => 0,
+        Region::State => PAYLOAD_BYTES as u16,
+        Region::Stack => PAYLOAD_BYTES as u16 + len,
     }
 }
 

@@ -28,6 +28,7 @@ mod ways;
 
 pub use frame::{Frame, Kind, Region, join, leq};
 pub use image_form::ImageForm;
+pub use kinds::region_start;
 pub use laws::rules_are_monotone;
 pub use rule::Rule;
 pub use targets::leads;
