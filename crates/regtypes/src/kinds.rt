@@ -1,6 +1,6 @@
 //! What the rules ask of a kind.
 
-ghost use Rattle.std.specs.Prelude.{◌≡◌, ◌≤◌, IsTrue};
+ghost use Rattle.std.specs.Prelude.{◌≡◌, ◌≤◌, ◌+◌, IsTrue};
 ghost use Rattle.regtypes.specs.Rules.{is_unset, is_len, is_place, is_in_message, is_message, is_sized, has_bytes, moved, is_near, region_len, region_start};
 
 use crate::frame::{Kind, Region, is_num};
