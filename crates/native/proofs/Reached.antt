@@ -25,15 +25,16 @@ use Rattle.decode.specs.declared.flow.Flow.TheVariants as flow
 use Rattle.regtypes.specs.Frame.{kind_at, is_num, entry_frame, LeqKind}
 use Rattle.decode.specs.Flow.{flow_of}
 use Rattle.regtypes.specs.Exits.{exits_by}
-use Rattle.regtypes.specs.Ways.{after, given, next, taken}
-use Rattle.regtypes.specs.Rules.{is_unset, is_place, is_frame_pointer, has}
+use Rattle.regtypes.specs.Ways.{after, after_called, given, next, taken}
+use Rattle.regtypes.specs.Rules.{is_unset, is_place, is_frame_pointer, has, called}
 use Rattle.regtypes.specs.Typing.{Table, frame_at, Enters, IsTyping, is_target}
 use Rattle.decode.specs.declared.alu_form.Form.{Form}
 use Rattle.decode.specs.declared.alu_form.Form.TheVariants.{Copies, Moves, Sets, Computes}
 use Rattle.decode.specs.AluForm.{form_of}
+use Rattle.decode.specs.declared.attributes.Attributes.{Attributes}
 use Rattle.decode.specs.Attributes.{attributes_of, alu_attributes}
 use Rattle.regtypes.proofs.Parts.{jump_tests, writes_frame_pointer}
-use Rattle.regtypes.proofs.Monotone.{after_cases, none_holds}
+use Rattle.regtypes.proofs.Monotone.{none_holds}
 use Rattle.verifier.specs.Least.{IsLeastTyping}
 use Rattle.verifier.proofs.LeastTypings.{of_typing, typing_of}
 use Rattle.verifier.specs.Places.{target_of}
@@ -76,8 +77,11 @@ written_ten (Some r) f k h = get_or-set_other f r.number 10 k Unset (not_ten r h
 
 -- an instruction that may stand leaves what is known of r10
 after_ten : (i : Insn) (f : List Kind) → writes_frame_pointer (attributes_of i).written ≡ false → kind_at (after i f) 10 ≡ kind_at f 10
-after_ten i f h =
-    after_cases (λ (a : List Kind → List Kind). kind_at (a f) 10 ≡ kind_at f 10) i (get_or-drop 6 f 4 Unset) (written_ten (attributes_of i).written f (given f (attributes_of i)) h)
+after_ten i f h = after_either (called i) (attributes_of i) h
+  where
+    after_either : (helper : Option ℤ) (a : Attributes) → writes_frame_pointer a.written ≡ false → kind_at (after_called helper a f) 10 ≡ kind_at f 10
+    after_either (Some z) a h = get_or-drop 6 f 4 Unset
+    after_either None a h = written_ten a.written f (given f a) h
 
 -- the frames that know r10 to be a number are left out
 abbrev filtered : Option Frame → Option Frame
