@@ -48,7 +48,8 @@ static void make_text_room(struct client *client) {
     client->from = 0;
 }
 
-void client_read(struct client *client) {
+void client_read(struct client *client, const struct watch *watch) {
+    if (!client->tls && !watch_tells(watch, client->in)) return;
     make_text_room(client);
     size_t room = sizeof client->text - client->have;
     char *at = client->text + client->have;

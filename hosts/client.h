@@ -28,8 +28,8 @@ struct client {
 void client_open(struct client *client, int in, int out, struct tls *tls);
 void client_close(struct client *client);
 
-/* Reads what is there. */
-void client_read(struct client *client);
+/* Reads what is there, if what was waited for tells that something is. */
+void client_read(struct client *client, const struct watch *watch);
 
 /* The next whole request; false if there is none, or no room for its answer beside those that are promised. After what is no frame nothing
    more is read, and the connection ends once that was answered. */

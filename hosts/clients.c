@@ -17,8 +17,8 @@ int clients_open(struct clients *clients, const struct address *address) {
     return address_listen(address, &clients->listener);
 }
 
-void clients_welcome(struct clients *clients) {
-    if (clients->listener < 0) return;
+void clients_welcome(struct clients *clients, const struct watch *watch) {
+    if (clients->listener < 0 || !watch_tells(watch, clients->listener)) return;
     for (int i = 0; i < CLIENTS_LIMIT; i++) {
         struct client *client = &clients->all[i];
         if (client->out >= 0) continue;

@@ -18,8 +18,8 @@ struct clients {
 /* Takes the address; a status, and why is reported. */
 int clients_open(struct clients *clients, const struct address *address);
 
-/* Takes in those that connect. */
-void clients_welcome(struct clients *clients);
+/* Takes in those that connect; what was waited for tells whether some do. */
+void clients_welcome(struct clients *clients, const struct watch *watch);
 
 /* The one that takes outputs; null if there is none. */
 struct client *clients_consumer(struct clients *clients);

@@ -11,6 +11,9 @@
    which the store is written anew. */
 enum { TURN = 1024, AHEAD = 1024, BEHIND = 1 << 24 };
 
+/* Packets and answers of a turn that is so small that nothing is gained by going on while it becomes durable. */
+enum { FEW = 8 };
+
 /* Whether inputs may be handed in: so many may run ahead of the processes. */
 static bool may_read(const struct gateway_host *host) {
     for (int p = 1; p <= host->cluster->count; p++)
@@ -65,7 +68,7 @@ static void obey(struct gateway_host *host, struct client *client, const struct 
 static void read_requests(struct gateway_host *host, struct client *client) {
     struct request request;
     if (!may_read(host)) return;
-    client_read(client);
+    client_read(client, &host->watch);
     while (may_read(host) && client_request(client, host->cluster, &request)) {
         size_t answers = host->answers.count;
         obey(host, client, &request);
@@ -134,12 +137,14 @@ static int wait_for_disk(struct gateway_host *host) {
 }
 
 /* All that happened in this turn is one record: so an output that was handed out is durable before it is printed. */
-static int commit(struct gateway_host *host) {
+static int commit(struct gateway_host *host, int received) {
     size_t size;
+    bool is_alone = host->turns.count == 0 && (size_t)received + host->answers.count <= FEW;
     uint32_t code = gateway_bytes(host, sblog_gateway_changes, &size);
     if (code != SBLOG_GATEWAY_DONE) return code_refused("changes", code, 0);
     counts_take(&host->counts, host->bytes, size);
-    int status = gateway_store_append(&host->store, host->bytes, size, &host->waiting, size > 0);
+    enum sync sync = size == 0 ? SYNC_NONE : is_alone ? SYNC_NOW : SYNC_SOON;
+    int status = gateway_store_append(&host->store, host->bytes, size, &host->waiting, sync);
     if (status == STATUS_DONE) status = wait_for_disk(host);
     outputs_forget(&host->waiting);
     bool is_long = host->store.behind > BEHIND && host->store.behind > host->store.whole;
@@ -165,7 +170,7 @@ static int go_on(struct gateway_host *host) {
    in between prints that one line again. */
 static int note_printed(struct gateway_host *host) {
     if (!outputs_take_printed(&host->waiting)) return STATUS_DONE;
-    int status = gateway_store_append(&host->store, NULL, 0, &host->waiting, false);
+    int status = gateway_store_append(&host->store, NULL, 0, &host->waiting, SYNC_NONE);
     outputs_forget(&host->waiting);
     return status;
 }
@@ -212,12 +217,12 @@ static int turn(struct gateway_host *host, bool *is_more) {
     int status = go_on(host); /* what is durable goes before more is taken in */
     transport_serve(&host->transport);
     transport_reload(&host->transport);
-    clients_welcome(&host->clients);
+    clients_welcome(&host->clients, &host->watch);
     for (int i = 0; i < CLIENTS_LIMIT && !signal_stop; i++) read_requests(host, &host->clients.all[i]);
     int received = receive(host);
     if (status == STATUS_DONE) status = membership_welcome(&owner, &host->folder, &host->ids, &host->transport);
     bool is_cut = hand_out(host);
-    if (status == STATUS_DONE) status = commit(host);
+    if (status == STATUS_DONE) status = commit(host, received);
     if (status != STATUS_DONE) return status;
     tick(host, clock_now());
     status = give_out(host);
@@ -227,13 +232,14 @@ static int turn(struct gateway_host *host, bool *is_more) {
 }
 
 static void wait(struct gateway_host *host, bool is_more) {
-    struct watch watch;
-    watch_begin(&watch, is_more ? 0 : host->has_tick ? UINT64_MAX : pace_due(&host->pace));
-    watch_file(&watch, host->store.syncer.event, POLLIN);
-    if (host->turns.count < TURNS_LIMIT) transport_watch(&host->transport, &watch);
-    metrics_watch(&host->metrics, &watch);
-    clients_watch(&host->clients, may_read(host), host->waiting.printed < host->waiting.stored, &watch);
-    watch_wait(&watch);
+    struct watch *watch = &host->watch;
+    watch_begin(watch, is_more ? 0 : host->has_tick ? UINT64_MAX : pace_due(&host->pace));
+    watch_file(watch, host->store.syncer.event, POLLIN);
+    if (host->turns.count < TURNS_LIMIT) transport_watch(&host->transport, watch);
+    metrics_watch(&host->metrics, watch);
+    clients_watch(&host->clients, may_read(host), host->waiting.printed < host->waiting.stored, watch);
+    watch_wait(watch);
+    transport_learn(&host->transport, watch);
 }
 
 /* All that was asked for becomes durable, and what waits for that goes out; then what the outputs printed last leave to note. */

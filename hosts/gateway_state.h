@@ -32,6 +32,7 @@ struct gateway_host {
     struct outputs waiting;
     struct bytes heard; /* what bundles of this turn tell the pace */
     struct turns turns;
+    struct watch watch; /* as it was waited for last */
     bool has_tick; /* whether the packets of one wait */
     uint8_t *bytes;
     size_t room;

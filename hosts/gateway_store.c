@@ -92,7 +92,7 @@ static uint32_t record_checksum(uint64_t generation, uint64_t at, const uint8_t 
     return checksum(checksum(0, front, sizeof front), items, size);
 }
 
-int gateway_store_append(struct gateway_store *store, const uint8_t *changes, size_t size, const struct outputs *outputs, bool synced) {
+int gateway_store_append(struct gateway_store *store, const uint8_t *changes, size_t size, const struct outputs *outputs, enum sync sync) {
     static const uint8_t zeros[RECORD];
     int which = (int)(store->generation % 2);
     struct bytes *record = &store->record;
@@ -113,7 +113,8 @@ int gateway_store_append(struct gateway_store *store, const uint8_t *changes, si
     }
     store->at += record->size;
     store->behind += record->size;
-    if (synced && !store_is_remote(store->folder)) store->asked = syncer_ask(&store->syncer);
+    if (sync != SYNC_NONE && !store_is_remote(store->folder))
+        store->asked = sync == SYNC_NOW ? syncer_sync(&store->syncer) : syncer_ask(&store->syncer);
     return STATUS_DONE;
 }
 

@@ -31,9 +31,13 @@ struct gateway_store {
 int gateway_store_open(struct gateway_store *store, const struct store *folder, struct bytes *whole, struct bytes *changes,
                        struct outputs *outputs);
 
-/* One record: changes, outputs that weren't in one yet, and which are taken. If it is to be synced, that is done once store->asked syncs
-   are; else it may be lost with the power. Elsewhere than in a folder gateway_store_confirm asks. */
-int gateway_store_append(struct gateway_store *store, const uint8_t *changes, size_t size, const struct outputs *outputs, bool synced);
+/* How a record becomes durable: never by itself, so it may be lost with the power; by the thread; or before this program goes on, if the
+   thread rests. */
+enum sync { SYNC_NONE, SYNC_SOON, SYNC_NOW };
+
+/* One record: changes, outputs that weren't in one yet, and which are taken. It is durable once store->asked syncs are done. Elsewhere
+   than in a folder gateway_store_confirm asks for them. */
+int gateway_store_append(struct gateway_store *store, const uint8_t *changes, size_t size, const struct outputs *outputs, enum sync sync);
 
 /* A whole store and the outputs that nobody has taken, in place of all before. It is durable when this answers, and so is all that
    was appended. */

@@ -158,4 +158,4 @@ void nats_serve(struct transport *transport, struct way *way) {
 
 #endif
 
-const struct inlet nats_inlet = {nats_open, datagram_receive, datagram_watch, NULL};
+const struct inlet nats_inlet = {nats_open, datagram_receive, datagram_watch, datagram_learn, NULL};

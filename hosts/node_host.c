@@ -16,6 +16,9 @@
 
 enum { TURN = 512, REPLAYS = 1024, LATE = 5 * SECOND }; /* messages of a turn; microseconds after which a way back is long */
 
+/* A volatile node has this share of its time for checkpoints; if they take longer, it makes them so many times more rarely at most. */
+enum { SHARE = 10, MORE_RARELY = 16 };
+
 static const char *const STAGES[] = {"up", "busy", "frozen", "collecting", "replaying", "resuming"};
 
 static const char *name_of(const struct node_host *host) { return host->cluster->processes[host->options->me].name; }
@@ -23,13 +26,16 @@ static const char *name_of(const struct node_host *host) { return host->cluster-
 /* A checkpoint is made, is durable, and counts. Where it isn't the time, there is none; one that can't be stored ends the life. */
 static int keep(struct node_host *host) {
     size_t size;
+    uint64_t since = clock_now();
     uint32_t code = node_bytes(host, sblog_node_checkpoint, &size);
     if (code == SBLOG_NODE_UNREADY || code == SBLOG_NODE_MEMORY) return STATUS_DONE;
     if (code != SBLOG_NODE_DONE) return code_refused("checkpoint", code, 0);
-    uint64_t since = clock_now();
+    uint64_t made = clock_now();
     int status = slots_write(&host->slots, host->bytes, size);
-    histogram_add(&host->syncs, clock_now() - since);
+    uint64_t now = clock_now();
+    histogram_add(&host->syncs, now - made);
     if (status != STATUS_DONE) return status;
+    host->next_checkpoint = now + SHARE * (now - since);
     host->has_written = true;
     host->checkpoints++;
     code = sblog_node_saved(&host->node);
@@ -193,8 +199,11 @@ static void tick(struct node_host *host, uint64_t now, int received) {
 }
 
 static bool is_time_to_keep(const struct node_host *host) {
-    uint64_t most = host->options->durable ? 1 : host->options->checkpoint_every;
-    return host->standing.stage == SBLOG_NODE_UP && host->standing.receipts >= most;
+    uint64_t receipts = host->standing.receipts, least = host->options->checkpoint_every, most = MORE_RARELY * least;
+    if (host->standing.stage != SBLOG_NODE_UP) return false;
+    if (host->options->durable) return receipts > 0;
+    if (most > RECEIPTS) most = RECEIPTS;
+    return receipts >= most || (receipts >= least && clock_now() >= host->next_checkpoint);
 }
 
 /* No packet goes out by a life that another one has followed, which a store elsewhere tells by refusing a write: it takes one first,
@@ -256,6 +265,7 @@ static int run(struct node_host *host) {
         transport_watch(&host->transport, &watch);
         metrics_watch(&host->metrics, &watch);
         watch_wait(&watch);
+        transport_learn(&host->transport, &watch);
     } while (status == STATUS_DONE && !signal_stop);
     return status == STATUS_DONE ? stop(host) : status;
 }

@@ -25,7 +25,7 @@ struct node_host {
     sblog_standing standing;
     uint8_t *image, *state, *bytes; /* state: what a new store begins with, or null: zeros */
     size_t image_size, state_size, room;
-    uint64_t started, next_tick, pause;
+    uint64_t started, next_tick, pause, next_checkpoint;
     uint64_t checkpoints;
     uint64_t untaken;   /* messages of a node that was resumed: no receiver had said that it took them */
     uint64_t confirmed; /* packets that were queued while the store was this life's */

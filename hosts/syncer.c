@@ -13,28 +13,34 @@ static int make_durable(const struct syncer *syncer, int file, const struct byte
     return syncer->store->storage->append(syncer->store, syncer->name, going->at, going->size);
 }
 
-/* All that was asked for meanwhile is one sync. */
+/* Whether all is done, or another thread does it. */
+static bool rests(const struct syncer *syncer) { return syncer->synced >= syncer->asked || syncer->is_busy; }
+
+/* All that was asked for is one sync. The lock is held before and after it. */
+static void sync_once(struct syncer *syncer) {
+    uint64_t asked = syncer->asked, since = clock_now();
+    int file = syncer->file;
+    struct bytes going = syncer->waiting;
+    syncer->waiting = (struct bytes){0};
+    syncer->is_busy = true;
+    pthread_mutex_unlock(&syncer->lock);
+    int fault = make_durable(syncer, file, &going);
+    bytes_end(&going);
+    pthread_mutex_lock(&syncer->lock);
+    syncer->is_busy = false;
+    histogram_add(&syncer->took, clock_now() - since);
+    if (fault) syncer->fault = fault;
+    else if (syncer->synced < asked) syncer->synced = asked;
+}
+
 static void *sync_on(void *of) {
     struct syncer *syncer = of;
     pthread_mutex_lock(&syncer->lock);
     for (;;) {
-        while (syncer->synced >= syncer->asked && !syncer->is_over) pthread_cond_wait(&syncer->wanted, &syncer->lock);
-        if (syncer->synced >= syncer->asked || syncer->fault) break;
-        uint64_t asked = syncer->asked;
-        int file = syncer->file;
-        struct bytes going = syncer->waiting;
-        syncer->waiting = (struct bytes){0};
-        syncer->is_busy = true;
-        pthread_mutex_unlock(&syncer->lock);
-        uint64_t since = clock_now();
-        int fault = make_durable(syncer, file, &going);
-        bytes_end(&going);
-        pthread_mutex_lock(&syncer->lock);
-        syncer->is_busy = false;
+        while (rests(syncer) && !syncer->is_over) pthread_cond_wait(&syncer->wanted, &syncer->lock);
+        if (rests(syncer) || syncer->fault) break;
+        sync_once(syncer);
         pthread_cond_signal(&syncer->rests);
-        histogram_add(&syncer->took, clock_now() - since);
-        if (fault) syncer->fault = fault;
-        else if (syncer->synced < asked) syncer->synced = asked;
         eventfd_write(syncer->event, 1);
     }
     pthread_mutex_unlock(&syncer->lock);
@@ -85,12 +91,25 @@ uint64_t syncer_ask(struct syncer *syncer) {
     return asked;
 }
 
+uint64_t syncer_sync(struct syncer *syncer) {
+    pthread_mutex_lock(&syncer->lock);
+    bool is_first = rests(syncer) && !syncer->is_busy && !syncer->store && !syncer->fault;
+    bool is_told = syncer->told == syncer->synced;
+    uint64_t asked = ++syncer->asked;
+    if (is_first) sync_once(syncer);
+    else pthread_cond_signal(&syncer->wanted);
+    if (is_first && is_told) syncer->told = syncer->synced;
+    pthread_mutex_unlock(&syncer->lock);
+    return asked;
+}
+
 uint64_t syncer_synced(struct syncer *syncer, int *fault) {
     eventfd_t count;
-    eventfd_read(syncer->event, &count);
     pthread_mutex_lock(&syncer->lock);
     uint64_t synced = syncer->synced;
     *fault = syncer->fault;
+    if (synced != syncer->told || *fault) eventfd_read(syncer->event, &count);
+    syncer->told = synced;
     pthread_mutex_unlock(&syncer->lock);
     return synced;
 }

@@ -18,7 +18,7 @@ struct syncer {
     const struct store *store;    /* the store, */
     const char *name;             /* the name of what is put to, */
     struct bytes waiting;         /* and what waits to be put there */
-    uint64_t asked, synced; /* how often that was asked for, and up to where it is done */
+    uint64_t asked, synced, told; /* how often that was asked for, up to where it is done, and up to where that was told */
     int fault;              /* of the first sync that failed, as errno has it, or of a store elsewhere a status; 0 for none */
     struct histogram took;  /* each sync */
     bool has_thread, is_busy, is_over;
@@ -39,6 +39,9 @@ void syncer_turns_to(struct syncer *syncer, int file);
 
 /* What was written up to now is to be durable: once so much is synced. */
 uint64_t syncer_ask(struct syncer *syncer);
+
+/* The same; of a file it is done when this answers, if the thread has nothing to do: that spares two changes of threads. */
+uint64_t syncer_sync(struct syncer *syncer);
 
 /* Up to where it is done; and the fault, if there is one. */
 uint64_t syncer_synced(struct syncer *syncer, int *fault);

@@ -107,8 +107,8 @@ static size_t guest_frame(struct guest *guest, const uint8_t **frame) {
 
 /* Each guest in its turn, all that came of it. */
 static size_t tcp_receive(struct transport *transport, const uint8_t **frame) {
-    if (!transport->has_welcomed) welcome(transport);
-    transport->has_welcomed = true;
+    if (!transport->is_dry) welcome(transport);
+    transport->is_dry = true;
     for (int i = 0; i < TCP_GUESTS; i++) {
         struct guest *guest = &transport->guests[transport->guest];
         size_t size = guest_frame(guest, frame);
@@ -122,7 +122,7 @@ static size_t tcp_receive(struct transport *transport, const uint8_t **frame) {
 
 /* When the program has waited, more may be there. */
 static void tcp_watch(struct transport *transport, struct watch *watch) {
-    transport->has_welcomed = false;
+    transport->is_dry = false;
     watch_file(watch, transport->file, POLLIN);
     for (int i = 0; i < TCP_GUESTS; i++) {
         transport->guests[i].is_dry = false;
@@ -130,7 +130,14 @@ static void tcp_watch(struct transport *transport, struct watch *watch) {
     }
 }
 
-const struct inlet tcp_inlet = {tcp_open, tcp_receive, tcp_watch, tcp_settle};
+/* By tls some may be there that was read from its file before. */
+static void tcp_learn(struct transport *transport, const struct watch *watch) {
+    transport->is_dry = !watch_tells(watch, transport->file);
+    for (struct guest *guest = transport->guests; guest < transport->guests + TCP_GUESTS; guest++)
+        guest->is_dry = guest->file >= 0 && !guest->tls && !watch_tells(watch, guest->file);
+}
+
+const struct inlet tcp_inlet = {tcp_open, tcp_receive, tcp_watch, tcp_learn, tcp_settle};
 
 void tcp_renew(struct transport *transport) {
     for (struct guest *guest = transport->guests; guest < transport->guests + TCP_GUESTS; guest++)

@@ -16,12 +16,18 @@ static const struct inlet *const INLETS[] = {&unix_inlet, &tcp_inlet, &tcp_inlet
 static void (*const SERVES[])(struct transport *, struct way *) = {unix_serve, tcp_serve, tcp_serve, nats_serve};
 
 size_t datagram_receive(struct transport *transport, const uint8_t **frame) {
+    if (transport->is_dry) return 0;
     ssize_t size = recv(transport->file, transport->bytes, sizeof transport->bytes, MSG_DONTWAIT);
     *frame = transport->bytes;
     return size < 0 ? 0 : (size_t)size;
 }
 
-void datagram_watch(struct transport *transport, struct watch *watch) { watch_file(watch, transport->file, POLLIN); }
+void datagram_watch(struct transport *transport, struct watch *watch) {
+    transport->is_dry = false;
+    watch_file(watch, transport->file, POLLIN);
+}
+
+void datagram_learn(struct transport *transport, const struct watch *watch) { transport->is_dry = !watch_tells(watch, transport->file); }
 
 static void serve_way(struct transport *transport, struct way *way) {
     if (way->first) SERVES[way->address->carrier](transport, way);
@@ -202,6 +208,8 @@ void transport_watch(struct transport *transport, struct watch *watch) {
     for (int p = 0; p <= transport->cluster->count; p++)
         if (transport->ways[p].first) watch_file(watch, transport->ways[p].file, transport->ways[p].wants);
 }
+
+void transport_learn(struct transport *transport, const struct watch *watch) { transport->inlet->learn(transport, watch); }
 
 void transport_serve(struct transport *transport) {
     for (int p = 0; p <= transport->cluster->count; p++) serve_way(transport, &transport->ways[p]);

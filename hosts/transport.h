@@ -34,6 +34,7 @@ struct inlet {
     int (*open)(struct transport *transport, const struct address *own);
     size_t (*receive)(struct transport *transport, const uint8_t **frame);
     void (*watch)(struct transport *transport, struct watch *watch);
+    void (*learn)(struct transport *transport, const struct watch *watch); /* after the wait: what has nothing new is left alone */
     void (*settle)(struct transport *transport, int peer); /* the last frame was of this peer; null if that tells nothing */
 };
 
@@ -57,8 +58,8 @@ struct transport {
     struct way ways[PROCESS_LIMIT + 1];
     const struct inlet *inlet;
     int file; /* that frames come from, or connections */
+    bool is_dry; /* nothing has come there */
     struct guest guests[TCP_GUESTS];
-    bool has_welcomed; /* by tcp */
     int guest;         /* whose turn it is */
     uint32_t speakers; /* who may have sent the last frame: bit p is process p's; by a carrier that doesn't tell anybody */
     struct nats_link *links;
@@ -93,8 +94,9 @@ bool transport_greeted(struct transport *transport, struct greeting *greeting);
 /* After a SIGHUP certificates are read again, and connections by tls begin anew. */
 void transport_reload(struct transport *transport);
 
-/* What is to be waited for, and what is to be done then. */
+/* What is to be waited for, what came of that, and what is to be done then. */
 void transport_watch(struct transport *transport, struct watch *watch);
+void transport_learn(struct transport *transport, const struct watch *watch);
 void transport_serve(struct transport *transport);
 
 /* Sends what it can of what waits, for at most a fifth of a second. */
@@ -104,6 +106,7 @@ void transport_close(struct transport *transport);
 /* The next datagram of the transport's file. */
 size_t datagram_receive(struct transport *transport, const uint8_t **frame);
 void datagram_watch(struct transport *transport, struct watch *watch);
+void datagram_learn(struct transport *transport, const struct watch *watch);
 
 /* The peer is away: what waits for it is lost, and it is tried again after so many microseconds. */
 void way_ends(struct transport *transport, struct way *way, uint64_t again);

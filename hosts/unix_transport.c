@@ -21,7 +21,7 @@ static int unix_open(struct transport *transport, const struct address *own) {
     return transport->file < 0 ? STATUS_IO : STATUS_DONE;
 }
 
-const struct inlet unix_inlet = {unix_open, datagram_receive, datagram_watch, NULL};
+const struct inlet unix_inlet = {unix_open, datagram_receive, datagram_watch, datagram_learn, NULL};
 
 static bool is_connected(struct way *way) {
     struct sockaddr_un path = unix_path(way->address->where);

@@ -27,5 +27,11 @@ void watch_time(struct watch *watch, uint64_t until) {
 void watch_wait(struct watch *watch) {
     uint64_t now = clock_now(), left = watch->until > now ? watch->until - now : 0;
     struct timespec wait = {.tv_sec = (time_t)(left / SECOND), .tv_nsec = (long)(left % SECOND) * THOUSAND};
-    ppoll(watch->files, (nfds_t)watch->count, &wait, NULL);
+    if (ppoll(watch->files, (nfds_t)watch->count, &wait, NULL) < 0) watch->count = 0;
+}
+
+bool watch_tells(const struct watch *watch, int file) {
+    for (int i = 0; i < watch->count; i++)
+        if (watch->files[i].fd == file) return watch->files[i].revents != 0;
+    return true;
 }

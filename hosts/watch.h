@@ -3,6 +3,7 @@
 #define WATCH_H
 
 #include <poll.h>
+#include <stdbool.h>
 #include <stdint.h>
 
 enum { WATCH_LIMIT = 256, SECOND = 1000000 }; /* files; microseconds */
@@ -27,5 +28,8 @@ void watch_time(struct watch *watch, uint64_t until);
 
 /* Waits. A signal ends it as well. */
 void watch_wait(struct watch *watch);
+
+/* Whether something can be done with a file after the wait. Of one that wasn't waited for that isn't known: so it may. */
+bool watch_tells(const struct watch *watch, int file);
 
 #endif
