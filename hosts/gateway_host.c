@@ -77,16 +77,15 @@ static void read_requests(struct gateway_host *host, struct client *client) {
     }
 }
 
-/* What bundles tell the pace counts once it is durable. Without memory for that, it is lost. */
+/* What bundles tell the pace counts once it is durable. */
 static int receive(struct gateway_host *host) {
     int count = 0, from, most = host->turns.count < TURNS_LIMIT ? TURN : 0;
     struct packets packets;
-    struct news news;
     while (count < most && transport_receive(&host->transport, &packets, &from)) {
         sblog_tally tally = {0};
         sblog_gateway_receive_all(&host->gateway, packets.at, packets.size, &tally);
         transport_refuses(&host->transport, packets, tally.refused);
-        if (pace_reads(&host->pace, from, packets, &news)) bytes_add(&host->heard, &news, sizeof news);
+        pace_read(&host->pace, from, packets, &host->heard);
         count += (int)(tally.taken + tally.refused + tally.lost);
     }
     return count;

@@ -60,15 +60,13 @@ static uint32_t work(struct node_host *host, int most) {
 /* Bundles that came together: each packet is received, and worked on before the next. */
 static int receive(struct node_host *host) {
     int count = 0, from;
-    uint64_t now = clock_now();
     struct packets packets;
-    struct news news;
     while (count < TURN && transport_receive(&host->transport, &packets, &from)) {
         sblog_tally tally = {0};
         sblog_node_receive_all(&host->node, packets.at, packets.size, &tally);
         if (tally.lost > 0) lacks(host, SBLOG_NODE_MEMORY);
         transport_refuses(&host->transport, packets, tally.refused);
-        if (pace_reads(&host->pace, from, packets, &news)) pace_hear(&host->pace, &news, now);
+        pace_read(&host->pace, from, packets, &host->heard);
         count += (int)(tally.taken + tally.refused + tally.lost);
     }
     return count;
@@ -91,6 +89,8 @@ static void put_out(struct node_host *host) {
     uint64_t now = clock_now();
     struct packets packets;
     while (take_packets(host, &to, &packets)) pace_send(&host->pace, to, packets, now);
+    pace_hear(&host->pace, &host->heard, now);
+    host->heard.size = 0;
 }
 
 /* What anybody has of a durable process stays; of another one, what its checkpoint covers. */

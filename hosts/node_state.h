@@ -23,6 +23,7 @@ struct node_host {
     struct histogram syncs;
     sblog_node node;
     sblog_standing standing;
+    struct bytes heard; /* what bundles of this turn tell the pace */
     uint8_t *image, *state, *bytes; /* state: what a new store begins with, or null: zeros */
     size_t image_size, state_size, room;
     uint64_t started, next_tick, pause, next_checkpoint;

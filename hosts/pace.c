@@ -14,6 +14,12 @@ struct waiting {
     size_t size;
 };
 
+/* What packets of a peer tell of its flow: the last SSN that it has, and the last number that it acknowledges; 0 for none. */
+struct news {
+    int from;
+    uint64_t answered, acknowledged;
+};
+
 /* Puts a copy at the end; false if there is no room or no memory. */
 static bool hold(struct held *held, uint64_t ssn, struct packets message) {
     struct bytes *bytes = &held->bytes;
@@ -254,33 +260,36 @@ static void send_held(struct pace *pace, int to, uint64_t now) {
 }
 
 /* Of each kind the last one tells most. So the last ones are looked at, until all that is open was answered. */
-bool pace_reads(const struct pace *pace, int from, struct packets packets, struct news *news) {
+void pace_read(const struct pace *pace, int from, struct packets packets, struct bytes *news) {
     static struct packets all[PACKETS_MOST];
     const struct flow *flow = &pace->flows[from];
     bool awaits_number = flow->sent > flow->answered, awaits_acknowledgement = flow->told > flow->acknowledged;
     size_t count = 0, size;
     const uint8_t *packet;
-    *news = (struct news){.from = from};
+    struct news one = {.from = from};
     while ((size = packets_next(&packets, &packet)) > 0) all[count++] = (struct packets){packet, size};
     while (count > 0 && (awaits_number || awaits_acknowledgement)) {
         const struct packets *last = &all[--count];
         const sblog_label label = label_of(last->at, last->size);
         bool is_number = label.kind == SBLOG_PACKET_NUMBER || label.kind == SBLOG_PACKET_SAVED;
-        if (is_number && awaits_number) news->answered = label.ssn;
+        if (is_number && awaits_number) one.answered = label.ssn;
         awaits_number &= !is_number;
-        if (label.kind == SBLOG_PACKET_ACKNOWLEDGEMENT && awaits_acknowledgement) news->acknowledged = label.number;
+        if (label.kind == SBLOG_PACKET_ACKNOWLEDGEMENT && awaits_acknowledgement) one.acknowledged = label.number;
         awaits_acknowledgement &= label.kind != SBLOG_PACKET_ACKNOWLEDGEMENT;
     }
-    return news->answered > 0 || news->acknowledged > 0;
+    if (one.answered > 0 || one.acknowledged > 0) bytes_add(news, &one, sizeof one);
 }
 
-void pace_hear(struct pace *pace, const struct news *news, uint64_t now) {
-    struct flow *flow = &pace->flows[news->from];
-    is_answered(pace, flow, news->answered, now);
-    is_acknowledged(flow, news->acknowledged, now);
-    flow->since = now;
-    flow->tries = 0;
-    send_held(pace, news->from, now);
+void pace_hear(struct pace *pace, const struct bytes *news, uint64_t now) {
+    const struct news *all = (const struct news *)(const void *)news->at;
+    for (size_t i = 0; i < news->size / sizeof *all; i++) {
+        struct flow *flow = &pace->flows[all[i].from];
+        is_answered(pace, flow, all[i].answered, now);
+        is_acknowledged(flow, all[i].acknowledged, now);
+        flow->since = now;
+        flow->tries = 0;
+        send_held(pace, all[i].from, now);
+    }
 }
 
 /* What is open goes again when its answer takes far longer than usual (RFC 6298), then twice as long, and so on. */

@@ -51,12 +51,6 @@ struct pace {
     struct flow flows[PROCESS_LIMIT + 1];
 };
 
-/* What packets of a peer tell of its flow: the last SSN that it has, and the last number that it acknowledges; 0 for none. */
-struct news {
-    int from;
-    uint64_t answered, acknowledged;
-};
-
 void pace_begin(struct pace *pace, struct transport *transport, uint64_t shortest);
 
 /* Sends packets that the library put out, or keeps some until their time has come; and those of a tick, after it began. */
@@ -64,9 +58,12 @@ void pace_send(struct pace *pace, int to, struct packets packets, uint64_t now);
 void pace_tick_begins(struct pace *pace, uint64_t now);
 void pace_tick_sends(struct pace *pace, int to, struct packets packets, uint64_t now);
 
-/* Whether packets of a peer tell something; and learns that, once they count, and sends what may go then. */
-bool pace_reads(const struct pace *pace, int from, struct packets packets, struct news *news);
-void pace_hear(struct pace *pace, const struct news *news, uint64_t now);
+/* Adds what packets of a peer tell to the news; without memory it is lost. */
+void pace_read(const struct pace *pace, int from, struct packets packets, struct bytes *news);
+
+/* Learns the news, once they count, and sends what may go then. The acknowledgements that the library has put out for these packets have to
+   go before: else the peer has more open numbers than it takes, and drops what follows. */
+void pace_hear(struct pace *pace, const struct bytes *news, uint64_t now);
 
 /* A pause that is up to a quarter longer, by chance: programs that lost something together don't send it again together. */
 uint64_t pace_spread(struct pace *pace, uint64_t pause);

@@ -43,8 +43,7 @@ void turn_goes(const struct turn *turn, struct pace *pace, uint64_t now) {
         if (turn->is_tick) pace_tick_sends(pace, batch.to, packets, now);
         else pace_send(pace, batch.to, packets, now);
     }
-    const struct news *heard = (const struct news *)(const void *)turn->heard.at;
-    for (size_t i = 0; i < turn->heard.size / sizeof *heard; i++) pace_hear(pace, &heard[i], now);
+    pace_hear(pace, &turn->heard, now);
 }
 
 void turn_answers(const struct turn *turn, const struct cluster *cluster, bool is_pipe) {
