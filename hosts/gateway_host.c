@@ -11,9 +11,6 @@
    which the store is written anew. */
 enum { TURN = 1024, AHEAD = 1024, BEHIND = 1 << 24 };
 
-/* Packets and answers of a turn that is so small that nothing is gained by going on while it becomes durable. */
-enum { FEW = 8 };
-
 /* Whether inputs may be handed in: so many may run ahead of the processes. */
 static bool may_read(const struct gateway_host *host) {
     for (int p = 1; p <= host->cluster->count; p++)
@@ -135,10 +132,11 @@ static int wait_for_disk(struct gateway_host *host) {
     return STATUS_DONE;
 }
 
-/* All that happened in this turn is one record: so an output that was handed out is durable before it is printed. */
-static int commit(struct gateway_host *host, int received) {
+/* All that happened in this turn is one record: so an output that was handed out is durable before it is printed. If few came and nothing
+   else waits, nothing is gained by going on meanwhile. */
+static int commit(struct gateway_host *host) {
     size_t size;
-    bool is_alone = host->turns.count == 0 && (size_t)received + host->answers.count <= FEW;
+    bool is_alone = host->turns.count == 0 && host->came <= FEW;
     uint32_t code = gateway_bytes(host, sblog_gateway_changes, &size);
     if (code != SBLOG_GATEWAY_DONE) return code_refused("changes", code, 0);
     counts_take(&host->counts, host->bytes, size);
@@ -221,7 +219,8 @@ static int turn(struct gateway_host *host, bool *is_more) {
     int received = receive(host);
     if (status == STATUS_DONE) status = membership_welcome(&owner, &host->folder, &host->ids, &host->transport);
     bool is_cut = hand_out(host);
-    if (status == STATUS_DONE) status = commit(host, received);
+    host->came = (size_t)received + host->answers.count;
+    if (status == STATUS_DONE) status = commit(host);
     if (status != STATUS_DONE) return status;
     tick(host, clock_now());
     status = give_out(host);
@@ -237,6 +236,7 @@ static void wait(struct gateway_host *host, bool is_more) {
     if (host->turns.count < TURNS_LIMIT) transport_watch(&host->transport, watch);
     metrics_watch(&host->metrics, watch);
     clients_watch(&host->clients, may_read(host), host->waiting.printed < host->waiting.stored, watch);
+    watch_came(watch, host->came);
     watch_wait(watch);
     transport_learn(&host->transport, watch);
 }

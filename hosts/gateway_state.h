@@ -33,6 +33,7 @@ struct gateway_host {
     struct bytes heard; /* what bundles of this turn tell the pace */
     struct turns turns;
     struct watch watch; /* as it was waited for last */
+    size_t came;        /* packets and answers of this turn */
     bool has_tick; /* whether the packets of one wait */
     uint8_t *bytes;
     size_t room;

@@ -218,6 +218,7 @@ static int confirm(struct node_host *host) {
 /* One turn; whether there is more to do at once. */
 static int turn(struct node_host *host, bool *is_more) {
     int received = receive(host), status = STATUS_DONE;
+    host->came = (size_t)received;
     *is_more = work(host, REPLAYS) == SBLOG_NODE_DONE || received >= TURN;
     sblog_node_standing(&host->node, &host->standing);
     if (is_time_to_keep(host)) {
@@ -264,6 +265,7 @@ static int run(struct node_host *host) {
         watch_begin(&watch, is_more || signal_stop ? 0 : host->next_tick);
         transport_watch(&host->transport, &watch);
         metrics_watch(&host->metrics, &watch);
+        watch_came(&watch, host->came);
         watch_wait(&watch);
         transport_learn(&host->transport, &watch);
     } while (status == STATUS_DONE && !signal_stop);

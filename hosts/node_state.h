@@ -30,6 +30,7 @@ struct node_host {
     uint64_t checkpoints;
     uint64_t untaken;   /* messages of a node that was resumed: no receiver had said that it took them */
     uint64_t confirmed; /* packets that were queued while the store was this life's */
+    size_t came;        /* packets, in this turn */
     bool has_written;   /* in this turn */
     bool is_resumed;
     bool was_up, was_exact, store_is_inexact, wants_memory, has_told_waits;

@@ -4,14 +4,17 @@
 
 #include <poll.h>
 #include <stdbool.h>
+#include <stddef.h>
 #include <stdint.h>
 
-enum { WATCH_LIMIT = 256, SECOND = 1000000 }; /* files; microseconds */
+/* Files; microseconds; what a turn has that is small: of messages that go one by one. */
+enum { WATCH_LIMIT = 256, SECOND = 1000000, FEW = 8 };
 
 struct watch {
     struct pollfd files[WATCH_LIMIT];
     int count;
     uint64_t until; /* in microseconds of the clock */
+    bool is_eager;
 };
 
 /* Microseconds of a clock that never goes back. */
@@ -25,6 +28,10 @@ void watch_file(struct watch *watch, int file, short events);
 
 /* Wakes up at this time, or before. */
 void watch_time(struct watch *watch, uint64_t until);
+
+/* So many came in this turn. After few, the next one comes soon: a program on a machine with processors to spare looks for it for a moment,
+   and then sleeps. That spares the way back from sleep. */
+void watch_came(struct watch *watch, size_t count);
 
 /* Waits. A signal ends it as well. */
 void watch_wait(struct watch *watch);
