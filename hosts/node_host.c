@@ -186,12 +186,20 @@ static void send_again(struct node_host *host, uint64_t now) {
     while (take_packets(host, &to, &packets)) pace_tick_sends(&host->pace, to, packets, now);
 }
 
+/* When one that comes back asks again. Each answer brings the next question with it; but others than the one that is waited for may send, too. */
+static uint64_t due(const struct node_host *host, uint64_t now, int received) {
+    uint64_t next = now + host->pause, latest = host->pace.last + LONGEST_PAUSE / 4 * host->pause;
+    if (host->next_tick == 0) return next; /* its life began with the first question */
+    if (received == 0) return host->next_tick;
+    return next < latest ? next : latest;
+}
+
 /* One that comes back asks again and again, less and less often while nothing comes; one that is up keeps a pace. */
 static void tick(struct node_host *host, uint64_t now, int received) {
     bool is_up = host->standing.stage <= SBLOG_NODE_FROZEN, was_up = host->was_up;
     if (received > 0) host->pause = host->options->tick;
-    if (is_up) host->next_tick = was_up ? pace_due(&host->pace) : now;
-    else if (received > 0 && host->next_tick > now + host->pause) host->next_tick = now + host->pause;
+    if (!is_up) host->next_tick = due(host, now, received);
+    else host->next_tick = was_up ? pace_due(&host->pace) : now;
     if (now < host->next_tick) return;
     send_again(host, now);
     if (host->pause < LONGEST_PAUSE * host->options->tick) host->pause *= 2;
