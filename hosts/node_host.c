@@ -17,7 +17,7 @@
 enum { TURN = 512, REPLAYS = 1024, LATE = 5 * SECOND }; /* messages of a turn; microseconds after which a way back is long */
 
 /* A volatile node has this share of its time for checkpoints; if they take longer, it makes them so many times more rarely at most. */
-enum { SHARE = 10, MORE_RARELY = 16 };
+enum { SHARE = 10, MORE_RARELY = 4 };
 
 static const char *const STAGES[] = {"up", "busy", "frozen", "collecting", "replaying", "resuming"};
 

@@ -12,7 +12,7 @@
 #include <sys/uio.h>
 #include <unistd.h>
 
-enum { LEAST = 1 << 16 }; /* bytes of a slot */
+enum { LEAST = 1 << 18 }; /* bytes of a slot */
 
 static const char *const KEPT = "kept", MAGIC[] = "SBS2";
 

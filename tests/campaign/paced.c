@@ -56,7 +56,7 @@ void transport_send(struct transport *transport, int to, struct packets packets)
 
 /* What the peer has is heard, in the midst of what tells nothing, until nothing more comes of that. */
 static void hear(void) {
-    struct news news;
+    static struct bytes news;
     uint8_t all[3 * ONE];
     while (model.has_news && model.numbered < model.got) {
         size_t size = 0;
@@ -65,7 +65,9 @@ static void hear(void) {
         model.numbered = model.got;
         put(all, &size, &(sblog_label){.kind = SBLOG_PACKET_NUMBER, .from = PEER, .ssn = model.numbered});
         put(all, &size, &(sblog_label){.kind = SBLOG_PACKET_ASK, .from = PEER});
-        if (pace_reads(&model.pace, PEER, (struct packets){all, size}, &news)) pace_hear(&model.pace, &news, ++model.now);
+        news.size = 0;
+        pace_read(&model.pace, PEER, (struct packets){all, size}, &news);
+        if (news.size > 0) pace_hear(&model.pace, &news, ++model.now);
     }
     model.has_news = false;
 }
