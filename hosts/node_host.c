@@ -188,8 +188,9 @@ static void send_again(struct node_host *host, uint64_t now) {
 
 /* When one that comes back asks again. Each answer brings the next question with it; but others than the one that is waited for may send, too. */
 static uint64_t due(const struct node_host *host, uint64_t now, int received) {
-    uint64_t next = now + host->pause, latest = host->pace.last + LONGEST_PAUSE / 4 * host->pause;
-    if (host->next_tick == 0) return next; /* its life began with the first question */
+    uint64_t asked = host->pace.last > host->started ? host->pace.last : host->started; /* a life begins with the first question */
+    uint64_t next = now + host->pause, latest = asked + LONGEST_PAUSE / 4 * host->pause;
+    if (host->next_tick == 0) return next;
     if (received == 0) return host->next_tick;
     return next < latest ? next : latest;
 }
