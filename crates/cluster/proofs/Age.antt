@@ -9,7 +9,7 @@ use Rattle.world.specs.History.{nth}
 use Rattle.world.specs.Plan.{first_below, logged_as, message_of}
 use Rattle.theorems.proofs.Changes.{choose}
 use Rattle.cluster.specs.Parcels.{Body, Delivery, Number, Acknowledgement, Ask, Told, Resume, Restored, Saved, Parcel, parcel, In}
-use Rattle.cluster.specs.Cluster.{Stage, Live, Frozen, Dead, Collecting, Collected, Cluster, seen, runs, is_well}
+use Rattle.cluster.specs.Cluster.{Stage, Live, Frozen, Dead, Collecting, Collected, Cluster, runs, is_well}
 use Rattle.cluster.specs.Rules.{Act, Puts, Arrives, Replays, Recovers, Freezes, Thaws, Dies, Opens, IsAll, MayPut, May, does, with_page, put2}
 use Rattle.cluster.proofs.Facts.{choose2, well-is, takes-well, takes-is, true-not-false}
 use Rattle.cluster.proofs.Growth.{either-way}
@@ -37,7 +37,7 @@ log-ends w p q (suc n) = more (log-ends w p q n) (w.numbers q p n) refl
 
 module _ (born : ℕ → ℕ) (now : ℕ) (s : Telling) (h : Aged born now s) where
   -- what is put out
-  fine-put : (p d : ℕ) (x : Body) → p ≤ s.cluster.count → MayPut s.cluster p d x → Fine born s.cluster p d x
+  fine-put : (p d : ℕ) (x : Body) → p ≤ s.cluster.world.count → MayPut s.cluster p d x → Fine born s.cluster p d x
   fine-put p d (Ask i k) l may = ((some p may.0, l), let e : i ≡ s.cluster.stored p = may.1 in omega arith)
     where
       some : (p : ℕ) → s.cluster.stage p ≡ Collecting → 0 < p
@@ -47,7 +47,7 @@ module _ (born : ℕ → ℕ) (now : ℕ) (s : Telling) (h : Aged born now s) wh
       let a : s.cluster.heard p d ≤ s.cluster.stored d = h.plain.low p d in
       let b : i ≡ s.cluster.heard p d = may.1 in
       let e : j ≡ s.cluster.stored p = may.2 ∙ h.plain.settled p (well-is s.cluster p may.0).0 in
-      let r = log-ends (seen s.cluster) d p (suc (length (sent (seen s.cluster) p d))) in
+      let r = log-ends s.cluster.world d p (suc (length (sent s.cluster.world p d))) in
       ((omega arith), (omega arith), (r.0, λ m l a g. may.4 m a g ∙ r.1 m l), λ g. inl (sym b ∙ g, e))
   fine-put p d (Restored i j n r u f) l may = let e : j ≡ s.cluster.stored p = may.4 ∙ h.plain.settled p (well-is s.cluster p may.0).0 in omega arith
   fine-put p d other l may = tt
@@ -67,9 +67,9 @@ module _ (born : ℕ → ℕ) (now : ℕ) (s : Telling) (h : Aged born now s) wh
   under-act (Arrives q p (Restored i j m r (Some u) f)) may = λ p q y i. inl i
   under-act (Puts p d x) may = one-more s.cluster p d x may.2 (fine-put p d x may.0 may.3)
   under-act (Arrives p zero (Delivery i ssn x)) may = λ p q y i. inl i
-  under-act (Replays p j) may = either-way (nat_lt (s.cluster.saved p + suc j) (length (s.cluster.history p))) _ _ Under (λ p q y i. inl i) (λ p q y i. inl i)
+  under-act (Replays p j) may = either-way (nat_lt (s.cluster.world.saved p + suc j) (length (s.cluster.world.history p))) _ _ Under (λ p q y i. inl i) (λ p q y i. inl i)
   under-act (Arrives r t (Number i ssn k)) may = one-more s.cluster t r (Acknowledgement i k) (λ e. (fine r t (Number i ssn k) may.0).0 (sym e)) tt
-  under-act (Recovers p k) may = either-way (nat_lt (s.cluster.saved p) k) _ _ Under (λ p q y i. inl i) (λ p q y i. inl i)
+  under-act (Recovers p k) may = either-way (nat_lt (s.cluster.world.saved p) k) _ _ Under (λ p q y i. inl i) (λ p q y i. inl i)
   under-act (Arrives zero p (Restored i j m r None f)) may = λ p q y i. inl i
   under-act act may = λ p q y i. inl i
 
@@ -107,7 +107,7 @@ module _ (born : ℕ → ℕ) (now : ℕ) (s : Telling) (h : Aged born now s) wh
   IsPage x a b = ⊥
 
   abbrev Was : Act → Cluster → Type 0
-  Was a d = (p q : ℕ) → q ≤ s.cluster.count → p ≢ q → has_told d p q ≡ true → (has_told s.cluster p q ≡ true) ⊎ IsPage a p q
+  Was a d = (p q : ℕ) → q ≤ s.cluster.world.count → p ≢ q → has_told d p q ≡ true → (has_told s.cluster p q ≡ true) ⊎ IsPage a p q
 
   was-stage : (a : Act) (p : ℕ) (x : Stage) → ((b : Bool) → at_stage x b ≡ true → at_stage (s.cluster.stage p) b ≡ true) → Was a (record s.cluster { stage = put s.cluster.stage p x })
   was-stage a p x t = λ i j l n e. choose p (λ i b. at_stage (if b then x else s.cluster.stage i) (is_some (s.cluster.told i j)) ≡ true → (at_stage (s.cluster.stage i) (is_some (s.cluster.told i j)) ≡ true) ⊎ IsPage a i j) (λ f. inl (t _ f)) (λ i _ f. inl f) i e
@@ -125,7 +125,7 @@ module _ (born : ℕ → ℕ) (now : ℕ) (s : Telling) (h : Aged born now s) wh
   was-act : (a : Act) → May s.cluster a → Was a (does s.cluster a)
   was-act (Arrives q p (Restored i j m r (Some u) f)) may = λ i j l n e. inl e
   was-act (Arrives p zero (Delivery i ssn x)) may = λ i j l n e. inl e
-  was-act (Replays p j) may = either-way (nat_lt (s.cluster.saved p + suc j) (length (s.cluster.history p))) _ _ (Was (Replays p j)) (λ i j l n e. inl e) (λ i j l n e. inl e)
+  was-act (Replays p j) may = either-way (nat_lt (s.cluster.world.saved p + suc j) (length (s.cluster.world.history p))) _ _ (Was (Replays p j)) (λ i j l n e. inl e) (λ i j l n e. inl e)
   was-act (Arrives p q (Ask i k)) may = λ x y l n e. choose2 q p (λ a b t. at_stage (s.cluster.stage a) (is_some (if t then None else s.cluster.told a b)) ≡ true → (at_stage (s.cluster.stage a) (is_some (s.cluster.told a b)) ≡ true) ⊎ IsPage (Arrives p q (Ask i k)) a b)
       (λ f. inl (less (s.cluster.stage q) (is_some (s.cluster.told q p)) f)) (λ a b _ f. inl f) x y e
     where
@@ -136,7 +136,7 @@ module _ (born : ℕ → ℕ) (now : ℕ) (s : Telling) (h : Aged born now s) wh
       less Collecting b e = absurd (cc)
   was-act (Arrives q p (Told i j k u f)) may = λ x y l n e. choose2 p q (λ a b t. at_stage (s.cluster.stage a) (is_some (if t then Some (with_page (s.cluster.told p q) k u f) else s.cluster.told a b)) ≡ true → (at_stage (s.cluster.stage a) (is_some (s.cluster.told a b)) ≡ true) ⊎ ((a ≡ p) × (b ≡ q)))
       (λ f. inr (refl, refl)) (λ a b _ f. inl f) x y e
-  was-act (Recovers p k) may = either-way (nat_lt (s.cluster.saved p) k) _ _ (Was (Recovers p k)) (was-recovers p k may) (was-recovers p k may)
+  was-act (Recovers p k) may = either-way (nat_lt (s.cluster.world.saved p) k) _ _ (Was (Recovers p k)) (was-recovers p k may) (was-recovers p k may)
   was-act (Arrives zero p (Restored i j m r None f)) may = λ i j l n e. inl e
   was-act (Freezes p) may = was-stage (Freezes p) p Frozen (λ b _. let t = takes-is s.cluster p may.1 in rw t.0 refl)
   was-act (Thaws p) may = was-stage (Thaws p) p Live (λ b _. rw may.1 refl)

@@ -31,11 +31,11 @@ Plain c =
     record {
       low : Low c;
       begun : 0 < c.stored 0;
-      settled : (p : ℕ) → runs (c.stage p) ≡ true → c.life p ≡ c.stored p;
-      gateway : (c.stage 0 ≡ Live) × (c.greeted 0 ≡ true) × (c.phase 0 ≡ Up);
-      sound : (p : ℕ) → IsSound (c.phase p);
+      settled : (p : ℕ) → runs (c.stage p) ≡ true → c.world.incarnation p ≡ c.stored p;
+      gateway : (c.stage 0 ≡ Live) × (c.greeted 0 ≡ true) × (c.world.phase 0 ≡ Up);
+      sound : (p : ℕ) → IsSound (c.world.phase p);
       todo : Todo c;
-      within : (p : ℕ) → c.saved p ≤ length (c.history p);
+      within : (p : ℕ) → c.world.saved p ≤ length (c.world.history p);
       ends : (p q : ℕ) → IsEnding (c.told p q);
       own : (p : ℕ) → c.told p p ≡ None;
     }
@@ -44,7 +44,7 @@ Plain c =
 abbrev pub On : Cluster → Cluster → Type 0
 On c d =
     record {
-      count : d.count ≡ c.count;
+      count : d.world.count ≡ c.world.count;
       stored : (p : ℕ) → d.stored p ≡ c.stored p;
       heard : (p q : ℕ) → c.heard p q ≤ d.heard p q;
       low : Low d;
@@ -93,9 +93,9 @@ module _ (born : ℕ → ℕ) where
     pub plain : Plain s.cluster
     pub parcels : (p d : ℕ) (x : Body) → In (parcel p d x) s.cluster.parcels → (p ≢ d) × Fine s.cluster p d x
     pub said : (y : Flagged) → Said y s.said → y.lost ≡ false → Real s.cluster y.packet.from y.packet.to y.packet.body
-    pub knows : (p q : ℕ) → q ≤ s.cluster.count → p ≢ q → has_told s.cluster p q ≡ true → Knows s.cluster p q
+    pub knows : (p q : ℕ) → q ≤ s.cluster.world.count → p ≢ q → has_told s.cluster p q ≡ true → Knows s.cluster p q
     -- of those that p asked and has no loss of, while it isn't up
-    pub later : (p q : ℕ) → q ≤ s.cluster.count → p ≢ q → has_told s.cluster p q ≡ true → is_well s.cluster p ≡ false → s.lost p q ≡ false → Later s.cluster p q
+    pub later : (p q : ℕ) → q ≤ s.cluster.world.count → p ≢ q → has_told s.cluster p q ≡ true → is_well s.cluster p ≡ false → s.lost p q ≡ false → Later s.cluster p q
 
   module _ (c d : Cluster) (o : On c d) where
     pub known-on : (p q : ℕ) → c.heard q p ≡ c.stored p → d.heard q p ≡ d.stored p
@@ -110,8 +110,8 @@ module _ (born : ℕ → ℕ) where
     pub fine-on : (p q : ℕ) (x : Body) → Fine c p q x → Fine d p q x
     fine-on p q (Ask i k) f =
         let a : d.stored p ≡ c.stored p = o.stored p in
-        let n : d.count ≡ c.count = o.count in
-        let b : p ≤ c.count = f.0.1 in
+        let n : d.world.count ≡ c.world.count = o.count in
+        let b : p ≤ c.world.count = f.0.1 in
         let l : i ≤ c.stored p = f.1 in
         ((f.0.0, omega arith), omega arith)
     fine-on p q (Told i j k u g) f =
@@ -134,8 +134,8 @@ module _ (born : ℕ → ℕ) where
   pub aged-on : (now : ℕ) (s t : Telling) → Aged now s → On s.cluster t.cluster → Plain t.cluster
       → ((p d : ℕ) (x : Body) → In (parcel p d x) t.cluster.parcels → In (parcel p d x) s.cluster.parcels ⊎ ((p ≢ d) × Fine t.cluster p d x))
       → ((y : Flagged) → Said y t.said → y.lost ≡ false → Said y s.said ⊎ Real t.cluster y.packet.from y.packet.to y.packet.body)
-      → ((p q : ℕ) → q ≤ s.cluster.count → p ≢ q → has_told t.cluster p q ≡ true → (has_told s.cluster p q ≡ true) ⊎ Knows t.cluster p q)
-      → ((p q : ℕ) → q ≤ s.cluster.count → p ≢ q → has_told t.cluster p q ≡ true → is_well t.cluster p ≡ false → t.lost p q ≡ false → ((has_told s.cluster p q ≡ true) × (s.lost p q ≡ false)) ⊎ Later t.cluster p q)
+      → ((p q : ℕ) → q ≤ s.cluster.world.count → p ≢ q → has_told t.cluster p q ≡ true → (has_told s.cluster p q ≡ true) ⊎ Knows t.cluster p q)
+      → ((p q : ℕ) → q ≤ s.cluster.world.count → p ≢ q → has_told t.cluster p q ≡ true → is_well t.cluster p ≡ false → t.lost p q ≡ false → ((has_told s.cluster p q ≡ true) × (s.lost p q ≡ false)) ⊎ Later t.cluster p q)
       → Aged now t
   aged-on now s t h o plain parcels said knows later =
       record {
@@ -143,9 +143,9 @@ module _ (born : ℕ → ℕ) where
         plain = plain;
         parcels = λ p d x i. elim (parcels p d x i) [ inl e ↦ let f = h.parcels p d x e in (f.0, fine-on s.cluster t.cluster o p d x f.1) | inr f ↦ f ];
         said = λ y i e. elim (said y i e) [ inl f ↦ real-on s.cluster t.cluster o y.packet.from y.packet.to y.packet.body (h.said y f e) | inr f ↦ f ];
-        knows = λ p q l n e. let m : q ≤ s.cluster.count = (let c : t.cluster.count ≡ s.cluster.count = o.count in omega arith) in elim (knows p q m n e) [ inl f ↦ knows-on s.cluster t.cluster o p q (h.knows p q m n f) | inr f ↦ f ];
+        knows = λ p q l n e. let m : q ≤ s.cluster.world.count = (let c : t.cluster.world.count ≡ s.cluster.world.count = o.count in omega arith) in elim (knows p q m n e) [ inl f ↦ knows-on s.cluster t.cluster o p q (h.knows p q m n f) | inr f ↦ f ];
         later = λ p q l n e w f.
-            let m : q ≤ s.cluster.count = (let c : t.cluster.count ≡ s.cluster.count = o.count in omega arith) in
+            let m : q ≤ s.cluster.world.count = (let c : t.cluster.world.count ≡ s.cluster.world.count = o.count in omega arith) in
             elim (later p q m n e w f) [ inl g ↦ later-on s.cluster t.cluster o p q (h.later p q m n g.0 (un p q e w) g.1) | inr g ↦ g ];
       }
     where

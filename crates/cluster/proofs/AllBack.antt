@@ -20,7 +20,7 @@ Ends s = AllUp s.cluster
 module _ (born : ℕ → ℕ) (now : ℕ) where
   -- of those that aren't up none began after b
   abbrev Old : ℕ → Cluster → Type 0
-  Old b c = (q : ℕ) → q ≤ c.count → is_well c q ≡ false → born q ≤ b
+  Old b c = (q : ℕ) → q ≤ c.world.count → is_well c q ≡ false → born q ≤ b
 
   -- a node that began last can come back
   stands : (s : Telling) → Aged born now s → AllAwake s.cluster → (p : ℕ) → IsNode s.cluster p → is_well s.cluster p ≡ false → Old (born p) s.cluster → Stand born now p s
@@ -33,7 +33,7 @@ module _ (born : ℕ → ℕ) (now : ℕ) where
         lost = λ q a n w. told q a n w (s.lost p q) refl;
       }
     where
-      told : (q : ℕ) → q ≤ s.cluster.count → q ≢ p → is_well s.cluster q ≡ false → (b : Bool) → s.lost p q ≡ b → s.lost p q ≡ true
+      told : (q : ℕ) → q ≤ s.cluster.world.count → q ≢ p → is_well s.cluster q ≡ false → (b : Bool) → s.lost p q ≡ b → s.lost p q ≡ true
       told q a n w true e = e
       told q a n w false e =
           let t : has_told s.cluster p q ≡ true = ap (λ x. at_stage x (is_some (s.cluster.told p q))) (awake p node.1).0 in
@@ -42,10 +42,10 @@ module _ (born : ℕ → ℕ) (now : ℕ) where
 
   -- it is up, and all is as it was of the others
   raised-awake : (p : ℕ) (s t : Telling) → Raised born now p s t → AllAwake s.cluster → AllAwake t.cluster
-  raised-awake p s t r awake q a = let same : t.cluster.count ≡ s.cluster.count = r.0.count in split (q == p) refl (awake q (omega arith))
+  raised-awake p s t r awake q a = let same : t.cluster.world.count ≡ s.cluster.world.count = r.0.count in split (q == p) refl (awake q (omega arith))
     where
       split : (b : Bool) → (q == p) ≡ b → IsAwake s.cluster q → IsAwake t.cluster q
-      split true e w = let z : p ≡ q = grind (arith, nat_tests) in let P : ℕ → Type 0 = λ i. t.cluster.phase i ≡ Up in (r.0.stage q ∙ w.0, λ _. subst P z r.2)
+      split true e w = let z : p ≡ q = grind (arith, nat_tests) in let P : ℕ → Type 0 = λ i. t.cluster.world.phase i ≡ Up in (r.0.stage q ∙ w.0, λ _. subst P z r.2)
       split false e w = let z : q ≢ p = grind (arith, nat_tests) in (r.0.stage q ∙ w.0, λ v. r.0.phase q z ∙ w.1 (sym (well-kept born now p s t r.0 q z) ∙ v))
 
   -- whoever isn't up after it wasn't so before, and isn't p
@@ -58,29 +58,29 @@ module _ (born : ℕ → ℕ) (now : ℕ) where
 
   -- of those that aren't up and began at b none is at m or above
   abbrev Below : ℕ → ℕ → Cluster → Type 0
-  Below b m c = (q : ℕ) → m ≤ q → q ≤ c.count → is_well c q ≡ false → born q < b
+  Below b m c = (q : ℕ) → m ≤ q → q ≤ c.world.count → is_well c q ≡ false → born q < b
 
   -- those that began at b come back, one after the other
-  these : (b m : ℕ) (s : Telling) → Aged born now s → AllAwake s.cluster → m ≤ suc s.cluster.count → Old b s.cluster → Below b m s.cluster
+  these : (b m : ℕ) (s : Telling) → Aged born now s → AllAwake s.cluster → m ≤ suc s.cluster.world.count → Old b s.cluster → Below b m s.cluster
       → ((t : Telling) → Aged born now t → AllAwake t.cluster → Below b 0 t.cluster → CanGo t Ends) → CanGo s Ends
   these b zero s h awake l old below more = more s h awake below
   these b (suc m) s h awake l old below more = split (λ t x y z v w. these b m t x y z v w more) (is_well s.cluster m) refl (born m == b) refl
     where
-      past : (t : Telling) → t.cluster.count ≡ s.cluster.count → ((q : ℕ) → is_well t.cluster q ≡ false → is_well s.cluster q ≡ false) → (is_well t.cluster m ≡ false → born m < b) → Below b m t.cluster
+      past : (t : Telling) → t.cluster.world.count ≡ s.cluster.world.count → ((q : ℕ) → is_well t.cluster q ≡ false → is_well s.cluster q ≡ false) → (is_well t.cluster m ≡ false → born m < b) → Below b m t.cluster
       past t same un here q a c w = one (q == m) refl
         where
           one : (x : Bool) → (q == m) ≡ x → born q < b
           one true e = let z : m ≡ q = grind (arith, nat_tests) in let P : ℕ → Type 0 = λ i. is_well t.cluster i ≡ false → born i < b in subst P z here w
           one false e = let z : q ≢ m = grind (arith, nat_tests) in below q (omega arith) (omega arith) (un q w)
 
-      split : ((t : Telling) → Aged born now t → AllAwake t.cluster → m ≤ suc t.cluster.count → Old b t.cluster → Below b m t.cluster → CanGo t Ends) → (x : Bool) → is_well s.cluster m ≡ x → (y : Bool) → (born m == b) ≡ y → CanGo s Ends
+      split : ((t : Telling) → Aged born now t → AllAwake t.cluster → m ≤ suc t.cluster.world.count → Old b t.cluster → Below b m t.cluster → CanGo t Ends) → (x : Bool) → is_well s.cluster m ≡ x → (y : Bool) → (born m == b) ≡ y → CanGo s Ends
       split go true e y f = go s h awake (omega arith) old (past s refl (λ q w. w) (λ w. absurd (true-not-false e w)))
       split go false e false f = go s h awake (omega arith) old (past s refl (λ q w. w) (λ w. let d : born m ≢ b = grind (arith, nat_tests) in let o : born m ≤ b = old m (omega arith) w in omega arith))
       split go false e true f =
           let is : born m ≡ b = grind (arith, nat_tests) in
           let node : IsNode s.cluster m = (some m e, omega arith) in
           go-on s (Raised born now m s) Ends (raise born now m s (stands s h awake m node e (λ q a w. let o : born q ≤ b = old q a w in omega arith))) (λ t r.
-          let same : t.cluster.count ≡ s.cluster.count = r.0.count in
+          let same : t.cluster.world.count ≡ s.cluster.world.count = r.0.count in
           go t r.0.aged (raised-awake m s t r awake) (omega arith) (λ q a w. old q (omega arith) (raised-un m s t r q w).1)
           (past t same (λ q w. (raised-un m s t r q w).1) (λ w. absurd ((raised-un m s t r m w).0 refl))))
         where
@@ -90,18 +90,18 @@ module _ (born : ℕ → ℕ) (now : ℕ) where
 
   -- those that began later come first
   latest-first : (b : ℕ) (s : Telling) → Aged born now s → AllAwake s.cluster → Old b s.cluster → CanGo s Ends
-  latest-first zero s h awake old = these 0 (suc s.cluster.count) s h awake (omega arith) old (λ q a c w. absurd (omega arith)) (λ t g up below.
+  latest-first zero s h awake old = these 0 (suc s.cluster.world.count) s h awake (omega arith) old (λ q a c w. absurd (omega arith)) (λ t g up below.
       ([], tt, tt, λ q a. all t below q a (is_well t.cluster q) refl))
     where
-      all : (t : Telling) → Below 0 0 t.cluster → (q : ℕ) → q ≤ t.cluster.count → (b : Bool) → is_well t.cluster q ≡ b → is_well t.cluster q ≡ true
+      all : (t : Telling) → Below 0 0 t.cluster → (q : ℕ) → q ≤ t.cluster.world.count → (b : Bool) → is_well t.cluster q ≡ b → is_well t.cluster q ≡ true
       all t below q a true e = e
       all t below q a false e = let l : born q < 0 = below q (omega arith) a e in absurd (omega arith)
-  latest-first (suc b) s h awake old = these (suc b) (suc s.cluster.count) s h awake (omega arith) old (λ q a c w. absurd (omega arith)) (λ t g up below.
+  latest-first (suc b) s h awake old = these (suc b) (suc s.cluster.world.count) s h awake (omega arith) old (λ q a c w. absurd (omega arith)) (λ t g up below.
       latest-first b t g up (λ q a w. let l : born q < suc b = below q (omega arith) a w in omega arith))
 
 pub all-come-back : AllComeBack
 all-come-back n f durable xs r =
     go-on (after_steps (starts n f durable) xs) (λ t. Orderly t × AllReady t.cluster) Ends
-    (rouse-all (after_steps (starts n f durable) xs).cluster.count (after_steps (starts n f durable) xs) (always-orderly n f durable xs r) (omega arith) (λ q a b. absurd (omega arith))) (λ t u.
-    go-on t (λ t. Orderly t × AllAwake t.cluster) Ends (recover-all t.cluster.count t u.0 (omega arith) u.1 (λ q a b. absurd (omega arith))) (λ v w.
+    (rouse-all (after_steps (starts n f durable) xs).cluster.world.count (after_steps (starts n f durable) xs) (always-orderly n f durable xs r) (omega arith) (λ q a b. absurd (omega arith))) (λ t u.
+    go-on t (λ t. Orderly t × AllAwake t.cluster) Ends (recover-all t.cluster.world.count t u.0 (omega arith) u.1 (λ q a b. absurd (omega arith))) (λ v w.
     latest-first w.0.0 w.0.1 w.0.1 v w.0.2 w.1 (λ q a e. w.0.2.past q)))

@@ -37,7 +37,7 @@ module _ (born : ℕ → ℕ) (now : ℕ) (s : Telling) (h : Aged born now s) (r
             (let x : (if b == 0 then 1 else 0) ≤ s.cluster.stored b = one b (b == 0) refl in let y : s.cluster.stored b ≤ (does s.cluster (Opens r n)).stored b = more b in omega arith)
             (λ j _. let x : s.cluster.heard j b ≤ s.cluster.stored b = h.plain.low j b in let y : s.cluster.stored b ≤ (does s.cluster (Opens r n)).stored b = more b in omega arith) a;
         begun = let x : 0 < s.cluster.stored 0 = h.plain.begun in let y : s.cluster.stored 0 ≤ (does s.cluster (Opens r n)).stored 0 = more 0 in omega arith;
-        settled = choose r (λ j b. runs (if b then Collecting else s.cluster.stage j) ≡ true → s.cluster.life j ≡ (if b then suc (n + s.cluster.stored r) else s.cluster.stored j)) (λ e. absurd (let z : false ≡ true = e in cc)) (λ j _. h.plain.settled j);
+        settled = choose r (λ j b. runs (if b then Collecting else s.cluster.stage j) ≡ true → s.cluster.world.incarnation j ≡ (if b then suc (n + s.cluster.stored r) else s.cluster.stored j)) (λ e. absurd (let z : false ≡ true = e in cc)) (λ j _. h.plain.settled j);
         gateway = (put-other s.cluster.stage r Collecting 0 gate ∙ h.plain.gateway.0, h.plain.gateway.1, h.plain.gateway.2);
         sound = h.plain.sound;
         todo = h.plain.todo;
@@ -146,7 +146,7 @@ module _ (born : ℕ → ℕ) (now : ℕ) (s : Telling) (h : Aged born now s) (r
         later = λ p q l m e w f.
             let t = told-before p q e in
             let g : put s.cluster.stage r Collecting p ≡ s.cluster.stage p = put-other s.cluster.stage r Collecting p t.0 in
-            let u : is_well s.cluster p ≡ false = sym (ap (λ x. runs x && (s.cluster.greeted p && is_up (s.cluster.phase p))) g) ∙ w in
+            let u : is_well s.cluster p ≡ false = sym (ap (λ x. runs x && (s.cluster.greeted p && is_up (s.cluster.world.phase p))) g) ∙ w in
             let none : ℕ → Bool = λ _. false in
             let v : s.lost p q ≡ false = sym (ap (λ (x : ℕ → Bool). x q) (put-other s.lost r none p t.0)) ∙ f in
             later-same p q t.0 (h.later p q l m t.1 u v);

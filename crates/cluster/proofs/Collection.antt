@@ -36,13 +36,13 @@ abbrev Heard : ℕ → ℕ → ℕ → Telling → Telling → Type 0
 Heard p q k s u =
     record {
       orderly : Orderly u;
-      count : u.cluster.count ≡ s.cluster.count;
+      count : u.cluster.world.count ≡ s.cluster.world.count;
       stage : (r : ℕ) → u.cluster.stage r ≡ s.cluster.stage r;
       ready : AllReady u.cluster;
       heard : u.cluster.heard q p ≡ u.cluster.stored p;
       told : (r : ℕ) → u.cluster.told p r ≡ s.cluster.told p r;
       asked : In (parcel p q (Ask (u.cluster.stored p) k)) u.cluster.parcels;
-      asks : Asks (u.cluster.saved p) (u.cluster.told p q) k;
+      asks : Asks (u.cluster.world.saved p) (u.cluster.told p q) k;
     }
 
 -- q has told p all
@@ -50,7 +50,7 @@ abbrev pub Answered : ℕ → ℕ → Telling → Telling → Type 0
 Answered p q s u =
     record {
       orderly : Orderly u;
-      count : u.cluster.count ≡ s.cluster.count;
+      count : u.cluster.world.count ≡ s.cluster.world.count;
       stage : (r : ℕ) → u.cluster.stage r ≡ s.cluster.stage r;
       ready : AllReady u.cluster;
       whole : IsAll (u.cluster.told p q);
@@ -58,14 +58,14 @@ Answered p q s u =
     }
 
 module _ (p q : ℕ) (ne : q ≢ p) where
-  module _ (s : Telling) (h : Orderly s) (node : IsNode s.cluster p) (a : q ≤ s.cluster.count) (ready : AllReady s.cluster) (coll : s.cluster.stage p ≡ Collecting) where
+  module _ (s : Telling) (h : Orderly s) (node : IsNode s.cluster p) (a : q ≤ s.cluster.world.count) (ready : AllReady s.cluster) (coll : s.cluster.stage p ≡ Collecting) where
     abbrev ask : ℕ → Step
     ask k = Takes true false (Puts p q (Ask (s.cluster.stored p) k))
 
     abbrev asked : ℕ → Telling
     asked k = step s (Takes true false (Puts p q (Ask (s.cluster.stored p) k)))
 
-    hear : (k : ℕ) → Asks (s.cluster.saved p) (s.cluster.told p q) k → CanGo s (Heard p q k s)
+    hear : (k : ℕ) → Asks (s.cluster.world.saved p) (s.cluster.told p q) k → CanGo s (Heard p q k s)
     hear k asks = go-first s (Heard p q k s) (ask k) may refl (split (nat_lt (s.cluster.heard q p) (s.cluster.stored p)) refl)
       where
         may : MayStep s (Takes true false (Puts p q (Ask (s.cluster.stored p) k)))
@@ -91,7 +91,7 @@ module _ (p q : ℕ) (ne : q ≢ p) where
                 heard = put2-same s.cluster.heard q p (s.cluster.stored p);
                 told = λ r. put2-row s.cluster.told q p None p r (λ z. ne (sym z));
                 asked = inl refl;
-                asks = let P : Option Collected → Type 0 = λ x. Asks (s.cluster.saved p) x k in subst P (sym (put2-row s.cluster.told q p None p q (λ z. ne (sym z)))) asks;
+                asks = let P : Option Collected → Type 0 = λ x. Asks (s.cluster.world.saved p) x k in subst P (sym (put2-row s.cluster.told q p None p q (λ z. ne (sym z)))) asks;
               },
             )
 
@@ -107,9 +107,9 @@ module _ (p q : ℕ) (ne : q ≢ p) where
                 orderly = orderly-step (asked k) (Meeting q p (s.cluster.stored p) k) g m;
                 count = refl;
                 stage = λ r. refl;
-                ready = choose q (λ j b. j ≤ s.cluster.count → (s.cluster.stage j ≡ Collecting) ⊎ ((s.cluster.stage j ≡ Live)
-                    × ((runs (s.cluster.stage j) && (s.cluster.greeted j && is_up (if b then restores_anew (s.cluster.phase q) p else s.cluster.phase j))) ≡ true → (if b then restores_anew (s.cluster.phase q) p else s.cluster.phase j) ≡ Up)))
-                    (λ _. inr (live, λ w. absurd (down (runs (s.cluster.stage q)) (s.cluster.greeted q) (is_up (restores_anew (s.cluster.phase q) p)) (anew-up (s.cluster.phase q) p) w))) (λ j _. ready j);
+                ready = choose q (λ j b. j ≤ s.cluster.world.count → (s.cluster.stage j ≡ Collecting) ⊎ ((s.cluster.stage j ≡ Live)
+                    × ((runs (s.cluster.stage j) && (s.cluster.greeted j && is_up (if b then restores_anew (s.cluster.world.phase q) p else s.cluster.world.phase j))) ≡ true → (if b then restores_anew (s.cluster.world.phase q) p else s.cluster.world.phase j) ≡ Up)))
+                    (λ _. inr (live, λ w. absurd (down (runs (s.cluster.stage q)) (s.cluster.greeted q) (is_up (restores_anew (s.cluster.world.phase q) p)) (anew-up (s.cluster.world.phase q) p) w))) (λ j _. ready j);
                 heard = put2-same s.cluster.heard q p (s.cluster.stored p);
                 told = λ r. refl;
                 asked = inl refl;
@@ -137,7 +137,7 @@ module _ (p q : ℕ) (ne : q ≢ p) where
 
     -- a page is collected
     collect : (i j k : ℕ) (f : ℕ → Option Message) (exact lost : Bool) → In (parcel q p (Told i j k None f)) s.cluster.parcels → Said (flagged (parcel q p (Told i j k None f)) exact lost) s.said
-        → i ≡ s.cluster.stored p → s.cluster.heard p q ≤ j → Asks (s.cluster.saved p) (s.cluster.told p q) k → CanGo s (Answered p q s)
+        → i ≡ s.cluster.stored p → s.cluster.heard p q ≤ j → Asks (s.cluster.world.saved p) (s.cluster.told p q) k → CanGo s (Answered p q s)
     collect i j k f exact lost there said e low asks =
         let x : Step = Takes exact lost (Arrives q p (Told i j k None f)) in
         let m : MayStep s (Takes exact lost (Arrives q p (Told i j k None f))) = ((there, (coll, e, low, asks)), said) in
@@ -155,12 +155,12 @@ module _ (p q : ℕ) (ne : q ≢ p) where
           },
         )
 
-  module _ (s : Telling) (h : Orderly s) (node : IsNode s.cluster p) (a : q ≤ s.cluster.count) (ready : AllReady s.cluster) (coll : s.cluster.stage p ≡ Collecting) where
+  module _ (s : Telling) (h : Orderly s) (node : IsNode s.cluster p) (a : q ≤ s.cluster.world.count) (ready : AllReady s.cluster) (coll : s.cluster.stage p ≡ Collecting) where
     -- q tells what its log holds where it is up, and else that it lost that
-    tells : (k : ℕ) → s.cluster.heard q p ≡ s.cluster.stored p → In (parcel p q (Ask (s.cluster.stored p) k)) s.cluster.parcels → Asks (s.cluster.saved p) (s.cluster.told p q) k → CanGo s (Answered p q s)
+    tells : (k : ℕ) → s.cluster.heard q p ≡ s.cluster.stored p → In (parcel p q (Ask (s.cluster.stored p) k)) s.cluster.parcels → Asks (s.cluster.world.saved p) (s.cluster.told p q) k → CanGo s (Answered p q s)
     tells k e there asks = elim (ready q a) [ inl c ↦ loses (s.cluster.stored q) (inr (c, refl)) (h.2.plain.low p q) | inr w ↦ split w.0 (is_well s.cluster q) refl ]
       where
-        loses : (j : ℕ) → (((s.cluster.stage q ≡ Live) × (is_well s.cluster q ≡ false)) × (j ≡ s.cluster.life q)) ⊎ ((s.cluster.stage q ≡ Collecting) × (j ≡ s.cluster.stored q)) → s.cluster.heard p q ≤ j → CanGo s (Answered p q s)
+        loses : (j : ℕ) → (((s.cluster.stage q ≡ Live) × (is_well s.cluster q ≡ false)) × (j ≡ s.cluster.world.incarnation q)) ⊎ ((s.cluster.stage q ≡ Collecting) × (j ≡ s.cluster.stored q)) → s.cluster.heard p q ≤ j → CanGo s (Answered p q s)
         loses j back low =
             let m : MayStep s (Losing q p (s.cluster.stored p) j k) = (there, sym e, back) in
             go-first s (Answered p q s) (Losing q p (s.cluster.stored p) j k) m refl
@@ -169,27 +169,27 @@ module _ (p q : ℕ) (ne : q ≢ p) where
         split : s.cluster.stage q ≡ Live → (b : Bool) → is_well s.cluster q ≡ b → CanGo s (Answered p q s)
         split live b f =
             let l : s.cluster.heard p q ≤ s.cluster.stored q = h.2.plain.low p q in
-            let o : s.cluster.life q ≡ s.cluster.stored q = h.2.plain.settled q (ap runs live) in
+            let o : s.cluster.world.incarnation q ≡ s.cluster.stored q = h.2.plain.settled q (ap runs live) in
             one b f (omega arith)
           where
-            one : (b : Bool) → is_well s.cluster q ≡ b → s.cluster.heard p q ≤ s.cluster.life q → CanGo s (Answered p q s)
-            one false f low = loses (s.cluster.life q) (inl ((live, f), refl)) low
+            one : (b : Bool) → is_well s.cluster q ≡ b → s.cluster.heard p q ≤ s.cluster.world.incarnation q → CanGo s (Answered p q s)
+            one false f low = loses (s.cluster.world.incarnation q) (inl ((live, f), refl)) low
             one true f low =
-                let x : Body = Told (s.cluster.stored p) (s.cluster.life q) k None (entry_of s.cluster q p) in
-                let m : MayStep s (Takes true false (Puts q p (Told (s.cluster.stored p) (s.cluster.life q) k None (entry_of s.cluster q p)))) =
+                let x : Body = Told (s.cluster.stored p) (s.cluster.world.incarnation q) k None (entry_of s.cluster q p) in
+                let m : MayStep s (Takes true false (Puts q p (Told (s.cluster.stored p) (s.cluster.world.incarnation q) k None (entry_of s.cluster q p)))) =
                 ((a, node.1, ne, (f, sym e, refl, (λ v z. absurd (let y : None ≡ Some v = z in cc)), (λ m _ _. refl))), tt) in
-                go-first s (Answered p q s) (Takes true false (Puts q p (Told (s.cluster.stored p) (s.cluster.life q) k None (entry_of s.cluster q p)))) m refl
-                (collect (step s (Takes true false (Puts q p (Told (s.cluster.stored p) (s.cluster.life q) k None (entry_of s.cluster q p)))))
-                (orderly-step s (Takes true false (Puts q p (Told (s.cluster.stored p) (s.cluster.life q) k None (entry_of s.cluster q p)))) h m) node a ready coll
-                (s.cluster.stored p) (s.cluster.life q) k (entry_of s.cluster q p) (s.exact q) false (inl refl) (inl refl) refl low asks)
+                go-first s (Answered p q s) (Takes true false (Puts q p (Told (s.cluster.stored p) (s.cluster.world.incarnation q) k None (entry_of s.cluster q p)))) m refl
+                (collect (step s (Takes true false (Puts q p (Told (s.cluster.stored p) (s.cluster.world.incarnation q) k None (entry_of s.cluster q p)))))
+                (orderly-step s (Takes true false (Puts q p (Told (s.cluster.stored p) (s.cluster.world.incarnation q) k None (entry_of s.cluster q p)))) h m) node a ready coll
+                (s.cluster.stored p) (s.cluster.world.incarnation q) k (entry_of s.cluster q p) (s.exact q) false (inl refl) (inl refl) refl low asks)
 
   -- so p asks it
-  module _ (s : Telling) (h : Orderly s) (node : IsNode s.cluster p) (a : q ≤ s.cluster.count) (ready : AllReady s.cluster) (coll : s.cluster.stage p ≡ Collecting) where
-    asks-for : (k : ℕ) → Asks (s.cluster.saved p) (s.cluster.told p q) k → CanGo s (Answered p q s)
+  module _ (s : Telling) (h : Orderly s) (node : IsNode s.cluster p) (a : q ≤ s.cluster.world.count) (ready : AllReady s.cluster) (coll : s.cluster.stage p ≡ Collecting) where
+    asks-for : (k : ℕ) → Asks (s.cluster.world.saved p) (s.cluster.told p q) k → CanGo s (Answered p q s)
     asks-for k asks =
         go-on s (Heard p q k s) (Answered p q s) (hear s h node a ready coll k asks) (λ u r.
-        let same : u.cluster.count ≡ s.cluster.count = r.count in
-        let there : IsNode u.cluster p = (node.0, (let l : p ≤ s.cluster.count = node.1 in omega arith)) in
+        let same : u.cluster.world.count ≡ s.cluster.world.count = r.count in
+        let there : IsNode u.cluster p = (node.0, (let l : p ≤ s.cluster.world.count = node.1 in omega arith)) in
         go-on u (Answered p q u) (Answered p q s) (tells u r.orderly there (omega arith) r.ready (r.stage p ∙ coll) k r.heard r.asked r.asks) (λ t v. (
           [],
           tt,
@@ -203,8 +203,8 @@ module _ (p q : ℕ) (ne : q ≢ p) where
       where
         page : (x : Collected) → s.cluster.told p q ≡ Some x → (u : Option ℕ) → x.upto ≡ u → CanGo s (Answered p q s)
         page x e None f = ([], tt, tt, record { orderly = h; count = refl; stage = λ r. refl; ready = ready; whole = let P : Option Collected → Type 0 = λ y. IsAll y in subst P (sym e) f; told = λ r n. refl })
-        page x e (Some v) f = asks-for v (let P : Option Collected → Type 0 = λ y. Asks (s.cluster.saved p) y v in subst P (sym e) f)
+        page x e (Some v) f = asks-for v (let P : Option Collected → Type 0 = λ y. Asks (s.cluster.world.saved p) y v in subst P (sym e) f)
 
         split : (x : Option Collected) → s.cluster.told p q ≡ x → CanGo s (Answered p q s)
-        split None e = asks-for (s.cluster.saved p) (let P : Option Collected → Type 0 = λ y. Asks (s.cluster.saved p) y (s.cluster.saved p) in subst P (sym e) refl)
+        split None e = asks-for (s.cluster.world.saved p) (let P : Option Collected → Type 0 = λ y. Asks (s.cluster.world.saved p) y (s.cluster.world.saved p) in subst P (sym e) refl)
         split (Some x) e = page x e x.upto refl

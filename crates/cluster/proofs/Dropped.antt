@@ -15,7 +15,7 @@ use Rattle.theorems.proofs.PhaseLemmas.{with-restored, resync-phase}
 use Rattle.theorems.proofs.Resyncs.{without-has}
 use Rattle.theorems.proofs.Tests.{different}
 use Rattle.cluster.specs.Parcels.{Body, Delivery, Number, Acknowledgement, Restored, Saved, Parcel, parcel, In}
-use Rattle.cluster.specs.Cluster.{Stage, Live, Frozen, Dead, Collecting, Cluster, opening, seen, runs, is_well}
+use Rattle.cluster.specs.Cluster.{Stage, Live, Frozen, Dead, Collecting, Cluster, opening, runs, is_well}
 use Rattle.cluster.specs.Rules.{Act, Puts, Arrives, Works, Replays, Recovers, Freezes, Keeps, Thaws, Dies, Opens, MayPut, Awaits, May, does, goes_on, takes_in, taken_back, put2, Run, after_run}
 use Rattle.cluster.specs.Memory.{unsaved, ToldIsDropped}
 use Rattle.cluster.specs.Inside.Agrees.{Beside, world, is_answered, Agrees}
@@ -35,10 +35,10 @@ count-begins s xs ys b = let P : List Message → Type 0 = λ zs. count_of s xs 
     more (x ∷ xs) rest = let r : count_of s xs ≤ count_of s (xs ++ rest) = more xs rest in omega arith
 
 -- what is covered stays covered
-covered-grows : (c v : Cluster) → Continues c v → (p d : ℕ) → covered (seen c) p d ≤ covered (seen v) p d
+covered-grows : (c v : Cluster) → Continues c v → (p d : ℕ) → covered c.world p d ≤ covered v.world p d
 covered-grows c v k p d = split (d == 0)
   where
-    split : (t : Bool) → count_of p (if t then c.shown else take (c.saved d) (c.history d)) ≤ count_of p (if t then v.shown else take (v.saved d) (v.history d))
+    split : (t : Bool) → count_of p (if t then c.world.shown else take (c.world.saved d) (c.world.history d)) ≤ count_of p (if t then v.world.shown else take (v.world.saved d) (v.world.history d))
     split true = count-begins p _ _ k.shown
     split false = count-begins p _ _ (k.messages d)
 
@@ -53,40 +53,40 @@ module _ (p d k : ℕ) (other : d ≢ p) where
   abbrev pub Dropped : Cluster → Type 0
   Dropped c =
       record {
-        inside : d ≤ c.count;
-        covers : k ≤ covered (seen c) p d;
-        gone : runs (c.stage p) ≡ true → is_answered c p d ≡ true → k ≤ c.trims p d;
-        told : (i j n s : ℕ) (u : Option ℕ) (f : ℕ → Option ℕ) → In (parcel d p (Restored i j n s u f)) c.parcels → c.stage p ≢ Dead → i ≡ c.stored p → ((runs (c.stage p) ≡ true) × (k ≤ c.trims p d)) ⊎ (k ≤ n);
+        inside : d ≤ c.world.count;
+        covers : k ≤ covered c.world p d;
+        gone : runs (c.stage p) ≡ true → is_answered c p d ≡ true → k ≤ c.world.trims p d;
+        told : (i j n s : ℕ) (u : Option ℕ) (f : ℕ → Option ℕ) → In (parcel d p (Restored i j n s u f)) c.parcels → c.stage p ≢ Dead → i ≡ c.stored p → ((runs (c.stage p) ≡ true) × (k ≤ c.world.trims p d)) ⊎ (k ≤ n);
       }
 
   module _ (c : Cluster) (b : Beside) (agrees : Agrees c b) (lawful : Lawful (world c b)) (h : Dropped c) where
-    covers-more : (a : Act) → k ≤ covered (seen (does c a)) p d
-    covers-more a = let x : covered (seen c) p d ≤ covered (seen (does c a)) p d = covered-grows c (does c a) (does-continue c a lawful.sound.saved) p d in let y : k ≤ covered (seen c) p d = h.covers in omega arith
+    covers-more : (a : Act) → k ≤ covered (does c a).world p d
+    covers-more a = let x : covered c.world p d ≤ covered (does c a).world p d = covered-grows c (does c a) (does-continue c a lawful.sound.saved) p d in let y : k ≤ covered c.world p d = h.covers in omega arith
 
     -- the phase of q changes; and if it is p, nobody is new among those that p restored its numbers from
-    turns : (q : ℕ) (x : Phase) → (p ≡ q → (d == 0) ≡ false → is_restored x d ≡ true → is_restored (c.phase q) d ≡ true) → is_answered (record c { phase = put c.phase q x }) p d ≡ true → is_answered c p d ≡ true
+    turns : (q : ℕ) (x : Phase) → (p ≡ q → (d == 0) ≡ false → is_restored x d ≡ true → is_restored (c.world.phase q) d ≡ true) → is_answered (record c { world = record c.world { phase = put c.world.phase q x } }) p d ≡ true → is_answered c p d ≡ true
     turns q x f = split (p == q) refl (d == 0) refl
       where
-        split : (t : Bool) → (p == q) ≡ t → (w : Bool) → (d == 0) ≡ w → (if w then c.greeted p else is_restored (if t then x else c.phase p) d) ≡ true → (if w then c.greeted p else is_restored (c.phase p) d) ≡ true
+        split : (t : Bool) → (p == q) ≡ t → (w : Bool) → (d == 0) ≡ w → (if w then c.greeted p else is_restored (if t then x else c.world.phase p) d) ≡ true → (if w then c.greeted p else is_restored (c.world.phase p) d) ≡ true
         split t e true g y = y
         split false e false g y = y
-        split true e false g y = let same : p ≡ q = grind (arith, nat_tests) in let P : ℕ → Type 0 = λ z. is_restored (c.phase z) d ≡ true in subst P (sym same) (f same g y)
+        split true e false g y = let same : p ≡ q = grind (arith, nat_tests) in let P : ℕ → Type 0 = λ z. is_restored (c.world.phase z) d ≡ true in subst P (sym same) (f same g y)
 
-    turned : (q : ℕ) (x : Phase) → (p ≡ q → (d == 0) ≡ false → is_restored x d ≡ true → is_restored (c.phase q) d ≡ true) → Dropped (record c { phase = put c.phase q x })
+    turned : (q : ℕ) (x : Phase) → (p ≡ q → (d == 0) ≡ false → is_restored x d ≡ true → is_restored (c.world.phase q) d ≡ true) → Dropped (record c { world = record c.world { phase = put c.world.phase q x } })
     turned q x f = record { inside = h.inside; covers = h.covers; gone = λ r e. h.gone r (turns q x f e); told = h.told }
 
     -- more is dropped from some log
-    dropped-more : (q r : ℕ) (n : ℕ) → c.trims q r ≤ n → c.trims p d ≤ put2 c.trims q r n p d
-    dropped-more q r n l = choose2 q r (λ x y t. c.trims x y ≤ (if t then n else c.trims x y)) l (λ x y _. omega arith) p d
+    dropped-more : (q r : ℕ) (n : ℕ) → c.world.trims q r ≤ n → c.world.trims p d ≤ put2 c.world.trims q r n p d
+    dropped-more q r n l = choose2 q r (λ x y t. c.world.trims x y ≤ (if t then n else c.world.trims x y)) l (λ x y _. omega arith) p d
 
-    trims-more : (q r n : ℕ) → c.trims q r ≤ n → Dropped (record c { trims = put2 c.trims q r n })
+    trims-more : (q r n : ℕ) → c.world.trims q r ≤ n → Dropped (record c { world = record c.world { trims = put2 c.world.trims q r n } })
     trims-more q r n l =
-        let m : c.trims p d ≤ put2 c.trims q r n p d = dropped-more q r n l in
+        let m : c.world.trims p d ≤ put2 c.world.trims q r n p d = dropped-more q r n l in
         record {
           inside = h.inside;
           covers = h.covers;
-          gone = λ x y. let g : k ≤ c.trims p d = h.gone x y in omega arith;
-          told = λ i j n s u f x y z. elim (h.told i j n s u f x y z) [ inl e ↦ inl (e.0, let g : k ≤ c.trims p d = e.1 in omega arith) | inr e ↦ inr e ];
+          gone = λ x y. let g : k ≤ c.world.trims p d = h.gone x y in omega arith;
+          told = λ i j n s u f x y z. elim (h.told i j n s u f x y z) [ inl e ↦ inl (e.0, let g : k ≤ c.world.trims p d = e.1 in omega arith) | inr e ↦ inr e ];
         }
 
     -- one parcel more
@@ -98,8 +98,8 @@ module _ (p d k : ℕ) (other : d ≢ p) where
     puts q r x may i j n s u f e =
         let P : Parcel → Type 0 = λ z. MayPut c z.from z.to z.body in
         let m : MayPut c d p (Restored i j n s u f) = subst P (sym e) may in
-        let z : n ≡ covered (seen c) p d = m.5 in
-        let y : k ≤ covered (seen c) p d = h.covers in
+        let z : n ≡ covered c.world p d = m.5 in
+        let y : k ≤ covered c.world p d = h.covers in
         omega arith
 
     records : (s r i m : ℕ) → (i' j n t : ℕ) (u : Option ℕ) (f : ℕ → Option ℕ) → parcel d p (Restored i' j n t u f) ≡ parcel s r (Acknowledgement i m) → k ≤ n
@@ -121,7 +121,7 @@ module _ (p d k : ℕ) (other : d ≢ p) where
           told = λ i j n s u f a y z. alive n (p == q) y (λ o. h.told i j n s u f a o z);
         }
       where
-        alive : (n : ℕ) (t : Bool) → (if t then Dead else c.stage p) ≢ Dead → (c.stage p ≢ Dead → ((runs (c.stage p) ≡ true) × (k ≤ c.trims p d)) ⊎ (k ≤ n)) → ((runs (if t then Dead else c.stage p) ≡ true) × (k ≤ c.trims p d)) ⊎ (k ≤ n)
+        alive : (n : ℕ) (t : Bool) → (if t then Dead else c.stage p) ≢ Dead → (c.stage p ≢ Dead → ((runs (c.stage p) ≡ true) × (k ≤ c.world.trims p d)) ⊎ (k ≤ n)) → ((runs (if t then Dead else c.stage p) ≡ true) × (k ≤ c.world.trims p d)) ⊎ (k ≤ n)
         alive n true y m = absurd (y refl)
         alive n false y m = m y
 
@@ -132,25 +132,25 @@ module _ (p d k : ℕ) (other : d ≢ p) where
           inside = h.inside;
           covers = h.covers;
           gone = λ r e. h.gone (choose q (λ j t. runs (if t then Collecting else c.stage j) ≡ true → runs (c.stage j) ≡ true) (λ y. absurd (cc)) (λ j _ y. y) p r) e;
-          told = λ i j n s u f a y z. later i n (p == q) refl (let g : i ≤ c.life p = (agrees.parcels d p (Restored i j n s u f) a).3.past in let o : c.life p ≤ c.stored p = agrees.stages.lives p in omega arith) y z (λ o w. h.told i j n s u f a o w);
+          told = λ i j n s u f a y z. later i n (p == q) refl (let g : i ≤ c.world.incarnation p = (agrees.parcels d p (Restored i j n s u f) a).3.past in let o : c.world.incarnation p ≤ c.stored p = agrees.stages.lives p in omega arith) y z (λ o w. h.told i j n s u f a o w);
         }
       where
         later : (i n : ℕ) (t : Bool) → (p == q) ≡ t → i ≤ c.stored p → (if t then Collecting else c.stage p) ≢ Dead → i ≡ (if t then suc (m + c.stored q) else c.stored p)
-            → (c.stage p ≢ Dead → i ≡ c.stored p → ((runs (c.stage p) ≡ true) × (k ≤ c.trims p d)) ⊎ (k ≤ n)) → ((runs (if t then Collecting else c.stage p) ≡ true) × (k ≤ c.trims p d)) ⊎ (k ≤ n)
+            → (c.stage p ≢ Dead → i ≡ c.stored p → ((runs (c.stage p) ≡ true) × (k ≤ c.world.trims p d)) ⊎ (k ≤ n)) → ((runs (if t then Collecting else c.stage p) ≡ true) × (k ≤ c.world.trims p d)) ⊎ (k ≤ n)
         later i n true e l y z old = let same : p ≡ q = grind (arith, nat_tests) in let P : ℕ → Type 0 = λ x. i ≤ c.stored x in let r : i ≤ c.stored q = subst P same l in absurd (omega arith)
         later i n false e l y z old = old y z
 
     -- who recovers has no answer yet
-    recovers : (q m : ℕ) → May c (Recovers q m) → (x : Phase) → ((r : ℕ) → 0 < r → r ≤ c.count → r ≢ q → is_restored x r ≡ true → ⊥) → Dropped (record (taken_back c q m) { phase = put c.phase q x })
+    recovers : (q m : ℕ) → May c (Recovers q m) → (x : Phase) → ((r : ℕ) → 0 < r → r ≤ c.world.count → r ≢ q → is_restored x r ≡ true → ⊥) → Dropped (record (taken_back c q m) { world = record (taken_back c q m).world { phase = put c.world.phase q x } })
     recovers q m may x unrestored =
         record {
           inside = h.inside;
-          covers = (let y : covered (seen c) p d ≤ covered (seen (taken_back c q m)) p d = covered-grows c (taken_back c q m) (takes-back c q m (lawful.sound.saved q)) p d in let z : k ≤ covered (seen c) p d = h.covers in omega arith);
+          covers = (let y : covered c.world p d ≤ covered (taken_back c q m).world p d = covered-grows c (taken_back c q m) (takes-back c q m (lawful.sound.saved q)) p d in let z : k ≤ covered c.world p d = h.covers in omega arith);
           gone = back (p == q) refl;
           told = λ i j n s u f a y z. again i n (p == q) refl y z (λ o. h.told i j n s u f a o z);
         }
       where
-        back : (t : Bool) → (p == q) ≡ t → runs (if t then Live else c.stage p) ≡ true → (if d == 0 then (if t then false else c.greeted p) else is_restored (if t then x else c.phase p) d) ≡ true → k ≤ (if t then c.saved_trims q else c.trims p) d
+        back : (t : Bool) → (p == q) ≡ t → runs (if t then Live else c.stage p) ≡ true → (if d == 0 then (if t then false else c.greeted p) else is_restored (if t then x else c.world.phase p) d) ≡ true → k ≤ (if t then c.world.saved_trims q else c.world.trims p) d
         back false e r y = h.gone r y
         back true e r y = absurd (none (d == 0) refl y)
           where
@@ -161,8 +161,8 @@ module _ (p d k : ℕ) (other : d ≢ p) where
             none true g w = cc
             none false g w = unrestored d (grind (arith, nat_tests)) h.inside (λ o. other (o ∙ sym same)) w
 
-        again : (i n : ℕ) (t : Bool) → (p == q) ≡ t → (if t then Live else c.stage p) ≢ Dead → i ≡ c.stored p → (c.stage p ≢ Dead → ((runs (c.stage p) ≡ true) × (k ≤ c.trims p d)) ⊎ (k ≤ n))
-            → ((runs (if t then Live else c.stage p) ≡ true) × (k ≤ (if t then c.saved_trims q else c.trims p) d)) ⊎ (k ≤ n)
+        again : (i n : ℕ) (t : Bool) → (p == q) ≡ t → (if t then Live else c.stage p) ≢ Dead → i ≡ c.stored p → (c.stage p ≢ Dead → ((runs (c.stage p) ≡ true) × (k ≤ c.world.trims p d)) ⊎ (k ≤ n))
+            → ((runs (if t then Live else c.stage p) ≡ true) × (k ≤ (if t then c.world.saved_trims q else c.world.trims p) d)) ⊎ (k ≤ n)
         again i n false e y z old = old y
         again i n true e y z old =
             let same : p ≡ q = grind (arith, nat_tests) in
@@ -171,72 +171,72 @@ module _ (p d k : ℕ) (other : d ≢ p) where
             elim (old (λ o. cc)) [ inl g ↦ absurd (let w : runs (c.stage p) ≡ false = ap runs at in true-not-false g.0 w) | inr g ↦ inr g ]
 
     -- the answer that p waited for tells it
-    answered : (q r i j n s : ℕ) (u : Option ℕ) (f : ℕ → Option ℕ) → In (parcel r q (Restored i j n s u f)) c.parcels → c.stage q ≡ Live → i ≡ c.life q → p ≡ q → d ≡ r → k ≤ max (c.trims q r) n
+    answered : (q r i j n s : ℕ) (u : Option ℕ) (f : ℕ → Option ℕ) → In (parcel r q (Restored i j n s u f)) c.parcels → c.stage q ≡ Live → i ≡ c.world.incarnation q → p ≡ q → d ≡ r → k ≤ max (c.world.trims q r) n
     answered q r i j n s u f a live e same here =
         let P : ℕ → Type 0 = λ x. In (parcel d x (Restored i j n s u f)) c.parcels in
         let Q : ℕ → Type 0 = λ x. In (parcel x q (Restored i j n s u f)) c.parcels in
         let R : ℕ → Type 0 = λ x. c.stage x ≡ Live in
-        let S : ℕ → Type 0 = λ x. i ≡ c.life x in
+        let S : ℕ → Type 0 = λ x. i ≡ c.world.incarnation x in
         let at : c.stage p ≡ Live = subst R (sym same) live in
-        let now : i ≡ c.life p = subst S (sym same) e in
-        let stored : c.life p ≡ c.stored p = agrees.stages.settled p (ap runs at) in
-        let t : k ≤ max (c.trims p d) n = elim (h.told i j n s u f (subst P (sym same) (subst Q (sym here) a)) (λ o. cc) (now ∙ stored)) [ inl g ↦ (let l : k ≤ c.trims p d = g.1 in omega arith) | inr g ↦ omega arith ] in
-        let T : ℕ → Type 0 = λ x. k ≤ max (c.trims x d) n in
-        let U : ℕ → Type 0 = λ x. k ≤ max (c.trims q x) n in
+        let now : i ≡ c.world.incarnation p = subst S (sym same) e in
+        let stored : c.world.incarnation p ≡ c.stored p = agrees.stages.settled p (ap runs at) in
+        let t : k ≤ max (c.world.trims p d) n = elim (h.told i j n s u f (subst P (sym same) (subst Q (sym here) a)) (λ o. cc) (now ∙ stored)) [ inl g ↦ (let l : k ≤ c.world.trims p d = g.1 in omega arith) | inr g ↦ omega arith ] in
+        let T : ℕ → Type 0 = λ x. k ≤ max (c.world.trims x d) n in
+        let U : ℕ → Type 0 = λ x. k ≤ max (c.world.trims q x) n in
         subst U here (subst T same t)
 
-    restores : (q r i j n s : ℕ) (f : ℕ → Option ℕ) → In (parcel r q (Restored i j n s None f)) c.parcels × Awaits c q r i j s → Dropped (goes_on (takes_in c q r j n s None f) q (without (todo_of (c.phase q)) r))
+    restores : (q r i j n s : ℕ) (f : ℕ → Option ℕ) → In (parcel r q (Restored i j n s None f)) c.parcels × Awaits c q r i j s → Dropped (goes_on (takes_in c q r j n s None f) q (without (todo_of (c.world.phase q)) r))
     restores q r i j n s f may =
-        let more : Dropped (record c { trims = put2 c.trims q r (max (c.trims q r) n) }) = trims-more q r (max (c.trims q r) n) (omega arith) in
+        let more : Dropped (record c { world = record c.world { trims = put2 c.world.trims q r (max (c.world.trims q r) n) } }) = trims-more q r (max (c.world.trims q r) n) (omega arith) in
         record { inside = h.inside; covers = h.covers; gone = back (p == q) refl (d == r) refl; told = more.told }
       where
         rest : List ℕ
-        rest = without (todo_of (c.phase q)) r
+        rest = without (todo_of (c.world.phase q)) r
 
-        before : d ≢ r → is_restored (phase_with rest) d ≡ true → is_restored (c.phase q) d ≡ true
+        before : d ≢ r → is_restored (phase_with rest) d ≡ true → is_restored (c.world.phase q) d ≡ true
         before o e =
-            let t = resync-phase (c.phase q) r may.1.3 in
-            let g : has (without (todo_of (c.phase q)) r) d ≡ false = with-restored rest d e in
-            let l : has (todo_of (c.phase q)) d ≡ false = without-has (todo_of (c.phase q)) r d o g in
+            let t = resync-phase (c.world.phase q) r may.1.3 in
+            let g : has (without (todo_of (c.world.phase q)) r) d ≡ false = with-restored rest d e in
+            let l : has (todo_of (c.world.phase q)) d ≡ false = without-has (todo_of (c.world.phase q)) r d o g in
             let P : Phase → Type 0 = λ x. has (todo_of x) d ≡ false in
             let m : has t.0 d ≡ false = subst P t.1 l in
             rw t.1 (rw m refl)
 
-        back : (t : Bool) → (p == q) ≡ t → (w : Bool) → (d == r) ≡ w → runs (c.stage p) ≡ true → (if d == 0 then c.greeted p else is_restored (if t then phase_with rest else c.phase p) d) ≡ true → k ≤ (if t && w then max (c.trims q r) n else c.trims p d)
+        back : (t : Bool) → (p == q) ≡ t → (w : Bool) → (d == r) ≡ w → runs (c.stage p) ≡ true → (if d == 0 then c.greeted p else is_restored (if t then phase_with rest else c.world.phase p) d) ≡ true → k ≤ (if t && w then max (c.world.trims q r) n else c.world.trims p d)
         back false e w g run y = h.gone run y
         back true e true g run y = answered q r i j n s None f may.0 may.1.1 may.1.2 (grind (arith, nat_tests)) (grind (arith, nat_tests))
         back true e false g run y = h.gone run (split (d == 0) y)
           where
-            split : (v : Bool) → (if v then c.greeted p else is_restored (phase_with rest) d) ≡ true → (if v then c.greeted p else is_restored (c.phase p) d) ≡ true
+            split : (v : Bool) → (if v then c.greeted p else is_restored (phase_with rest) d) ≡ true → (if v then c.greeted p else is_restored (c.world.phase p) d) ≡ true
             split true z = z
-            split false z = let same : p ≡ q = grind (arith, nat_tests) in let P : ℕ → Type 0 = λ x. is_restored (c.phase x) d ≡ true in subst P (sym same) (before (different d r g) z)
+            split false z = let same : p ≡ q = grind (arith, nat_tests) in let P : ℕ → Type 0 = λ x. is_restored (c.world.phase x) d ≡ true in subst P (sym same) (before (different d r g) z)
 
     greets : (q i j n s : ℕ) (f : ℕ → Option ℕ) → May c (Arrives zero q (Restored i j n s None f)) → Dropped (does c (Arrives zero q (Restored i j n s None f)))
     greets q i j n s f may =
-        let more : Dropped (record c { trims = put2 c.trims q 0 (max (c.trims q 0) n) }) = trims-more q 0 (max (c.trims q 0) n) (omega arith) in
+        let more : Dropped (record c { world = record c.world { trims = put2 c.world.trims q 0 (max (c.world.trims q 0) n) } }) = trims-more q 0 (max (c.world.trims q 0) n) (omega arith) in
         record { inside = h.inside; covers = h.covers; gone = λ run. back (p == q) refl (d == 0) refl (h.gone run); told = more.told }
       where
-        back : (t : Bool) → (p == q) ≡ t → (w : Bool) → (d == 0) ≡ w → ((if w then c.greeted p else is_restored (c.phase p) d) ≡ true → k ≤ c.trims p d) → (if w then (if t then true else c.greeted p) else is_restored (c.phase p) d) ≡ true
-            → k ≤ (if t && w then max (c.trims q 0) n else c.trims p d)
+        back : (t : Bool) → (p == q) ≡ t → (w : Bool) → (d == 0) ≡ w → ((if w then c.greeted p else is_restored (c.world.phase p) d) ≡ true → k ≤ c.world.trims p d) → (if w then (if t then true else c.greeted p) else is_restored (c.world.phase p) d) ≡ true
+            → k ≤ (if t && w then max (c.world.trims q 0) n else c.world.trims p d)
         back false e w g old y = old y
         back true e true g old y = answered q 0 i j n s None f may.0 may.1.0 may.1.1 (grind (arith, nat_tests)) (grind (arith, nat_tests))
         back true e false g old y = old y
 
     -- each step leaves it so
     dropped-step : (a : Act) → May c a → Dropped (does c a)
-    dropped-step (Arrives r q (Restored i j n s (Some u) f)) may = trims-more q r (max (c.trims q r) n) (omega arith)
+    dropped-step (Arrives r q (Restored i j n s (Some u) f)) may = trims-more q r (max (c.world.trims q r) n) (omega arith)
     dropped-step (Puts q r x) may = put-more q r x (puts q r x may.3)
     dropped-step (Arrives q (suc r) (Delivery i ssn x)) may = turned (suc r) _ (λ _ _ _. rw may.1.2 refl)
     dropped-step (Arrives q zero (Delivery i ssn x)) may = record { inside = h.inside; covers = covers-more (Arrives q zero (Delivery i ssn x)); gone = h.gone; told = h.told }
     dropped-step (Works q m) may = record { inside = h.inside; covers = covers-more (Works q m); gone = λ r e. h.gone r (turns q Up (λ _ _ _. rw may.2 refl) e); told = h.told }
     dropped-step (Replays q j) may =
-        either-way (nat_lt (c.saved q + suc j) (length (c.history q))) _ _ (λ v. Dropped v) (turned q (Replaying (suc j) false false) (λ _ _ e. absurd (cc)))
-        (turned q (phase_with (peers (seen c) q false)) (λ same g e. absurd (true-not-false (is-peer (seen c) q d (grind (arith, nat_tests)) h.inside (λ o. other (o ∙ sym same))) (with-restored (peers (seen c) q false) d e))))
+        either-way (nat_lt (c.world.saved q + suc j) (length (c.world.history q))) _ _ (λ v. Dropped v) (turned q (Replaying (suc j) false false) (λ _ _ e. absurd (cc)))
+        (turned q (phase_with (peers c.world q false)) (λ same g e. absurd (true-not-false (is-peer c.world q d (grind (arith, nat_tests)) h.inside (λ o. other (o ∙ sym same))) (with-restored (peers c.world q false) d e))))
     dropped-step (Arrives r s (Number i ssn m)) may = put-more s r (Acknowledgement i m) (records s r i m)
     dropped-step (Arrives q r (Saved n)) may = trims-more r q _ (omega arith)
     dropped-step (Recovers q m) may =
-        either-way (nat_lt (c.saved q) m) _ _ (λ v. Dropped v) (recovers q m may (Replaying 0 false false) (λ r _ _ _ e. cc))
-        (recovers q m may (phase_with (peers (seen c) q false)) (λ r a l o e. true-not-false (is-peer (seen c) q r a l o) (with-restored (peers (seen c) q false) r e)))
+        either-way (nat_lt (c.world.saved q) m) _ _ (λ v. Dropped v) (recovers q m may (Replaying 0 false false) (λ r _ _ _ e. cc))
+        (recovers q m may (phase_with (peers c.world q false)) (λ r a l o e. true-not-false (is-peer c.world q r a l o) (with-restored (peers c.world q false) r e)))
     dropped-step (Arrives (suc r) q (Restored i j n s None f)) may = restores q (suc r) i j n s f may
     dropped-step (Arrives zero q (Restored i j n s None f)) may = greets q i j n s f may
     dropped-step (Freezes q) may = let live : c.stage q ≡ Live = (takes-is c q may.1).0 in restages q Frozen (sym (ap runs live)) (λ o. cc)
@@ -246,7 +246,7 @@ module _ (p d k : ℕ) (other : d ≢ p) where
     dropped-step (Opens q m) may = opens q m
     dropped-step act may = h
 
-  dropped-run : (c : Cluster) (acts : List Act) → c.count ≤ 15 → Holds c → Run c acts → Dropped c → Dropped (after_run c acts)
+  dropped-run : (c : Cluster) (acts : List Act) → c.world.count ≤ 15 → Holds c → Run c acts → Dropped c → Dropped (after_run c acts)
   dropped-run c [] n h r t = t
   dropped-run c (a ∷ acts) n h r t = let s = step-holds c a n h r.0 in dropped-run (does c a) acts s.1 s.0 r.1 (dropped-step c h.beside h.agrees h.lawful t a r.0)
 
@@ -254,12 +254,12 @@ module _ (p d k : ℕ) (other : d ≢ p) where
 starts-dropped : (c : Cluster) (b : Beside) (p d k : ℕ) → Agrees c b → Lawful (world c b) → (other : d ≢ p) → May c (Arrives d p (Saved k)) → Dropped p d k other (does c (Arrives d p (Saved k)))
 starts-dropped c b p d k agrees lawful other may =
     let x = agrees.parcels d p (Saved k) may.0 in
-    let fine : k ≤ covered (seen c) p d = x.3 in
-    let parts : count_of p (if d == 0 then c.shown else c.history d) ≡ covered (seen c) p d + unsaved c p d = taken-parts c b agrees lawful p d in
-    let most : count_of p (if d == 0 then c.shown else c.history d) ≤ sent_in_all (seen c) p d = taken-sent c b agrees lawful p d in
-    let all : length (sent (seen c) p d) ≡ sent_in_all (seen c) p d = well-sent c b agrees lawful p d (takes-well c p may.1) in
-    let new : ℕ = max (c.trims p d) (min k (length (sent (seen c) p d))) in
-    let now : k ≤ put2 c.trims p d new p d = choose2 p d (λ a e t. a ≡ p → e ≡ d → k ≤ (if t then new else c.trims a e)) (λ _ _. omega arith) (λ a e o i j. absurd (o i j)) p d refl refl in
+    let fine : k ≤ covered c.world p d = x.3 in
+    let parts : count_of p (if d == 0 then c.world.shown else c.world.history d) ≡ covered c.world p d + unsaved c p d = taken-parts c b agrees lawful p d in
+    let most : count_of p (if d == 0 then c.world.shown else c.world.history d) ≤ sent_in_all c.world p d = taken-sent c b agrees lawful p d in
+    let all : length (sent c.world p d) ≡ sent_in_all c.world p d = well-sent c b agrees lawful p d (takes-well c p may.1) in
+    let new : ℕ = max (c.world.trims p d) (min k (length (sent c.world p d))) in
+    let now : k ≤ put2 c.world.trims p d new p d = choose2 p d (λ a e t. a ≡ p → e ≡ d → k ≤ (if t then new else c.world.trims a e)) (λ _ _. omega arith) (λ a e o i j. absurd (o i j)) p d refl refl in
     record { inside = x.0; covers = fine; gone = λ _ _. now; told = λ i j n s u f _ _ _. inl (takes-runs c p may.1, now) }
 
 pub told-is-dropped : ToldIsDropped
@@ -268,10 +268,10 @@ told-is-dropped n f acts more p d k from well =
     let t = run-append (opening n f) acts (Arrives d p (Saved k) ∷ more) from.run in
     let c : Cluster = after_run (opening n f) acts in
     let h : Holds c = run-holds n f acts l from.grows t.0 in
-    let e : c.count ≡ n = run-count (opening n f) acts in
+    let e : c.world.count ≡ n = run-count (opening n f) acts in
     let other : d ≢ p = (h.agrees.parcels d p (Saved k) t.1.0.0).2 in
     let s = step-holds c (Arrives d p (Saved k)) (omega arith) h t.1.0 in
     let v : Cluster = after_run (does c (Arrives d p (Saved k))) more in
     let o : Dropped p d k other v = dropped-run p d k other (does c (Arrives d p (Saved k))) more s.1 s.0 t.1.1 (starts-dropped c h.beside p d k h.agrees h.lawful other t.1.0) in
-    let P : Cluster → Type 0 = λ w. is_well w p ≡ true → k ≤ w.trims p d in
+    let P : Cluster → Type 0 = λ w. is_well w p ≡ true → k ≤ w.world.trims p d in
     subst P (sym t.2) (λ w. o.gone (well-is v p w).0 (back-answered v p d (well-back v p w))) well

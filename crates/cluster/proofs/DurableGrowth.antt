@@ -12,11 +12,11 @@ use Rattle.cluster.specs.Overlap.{Event, Acts, goes, kept_sends}
 use Rattle.cluster.proofs.Firsts.{append_nil}
 
 -- an act takes back no input, and nothing that was shown or that a checkpoint covers; nor does an event
-pub goes-continue : (c : Cluster) (e : Event) → ((p : ℕ) → c.saved p ≤ length (c.history p)) → Continues c (goes c e)
+pub goes-continue : (c : Cluster) (e : Event) → ((p : ℕ) → c.world.saved p ≤ length (c.world.history p)) → Continues c (goes c e)
 goes-continue c (Acts a) within = does-continue c a within
 goes-continue c other within = still c
 
-pub goes-handlers : (c : Cluster) (e : Event) → (goes c e).handlers ≡ c.handlers
+pub goes-handlers : (c : Cluster) (e : Event) → (goes c e).world.handlers ≡ c.world.handlers
 goes-handlers c (Acts a) = does-handlers c a
 goes-handlers c other = refl
 
@@ -28,18 +28,18 @@ sends-more f grows p d g (m ∷ rest) =
     subst P (append_assoc g (m ∷ []) rest) (begins-trans _ _ _ (grows p g m d) (sends-more f grows p d (g ++ m ∷ []) rest))
 
 -- so what that sends is still sent, with more behind it at most
-pub sends-continue : (c v : Cluster) → Grows c.handlers → v.handlers ≡ c.handlers → Continues c v → (p d : ℕ) → Begins (kept_sends c p d) (kept_sends v p d)
+pub sends-continue : (c v : Cluster) → Grows c.world.handlers → v.world.handlers ≡ c.world.handlers → Continues c v → (p d : ℕ) → Begins (kept_sends c p d) (kept_sends v p d)
 sends-continue c v grows same k p d =
-    let P : Handlers → Type 0 = λ f. Begins (kept_sends c p d) (if p == 0 then v.inputs d else f.sends p (take (v.saved p) (v.history p)) d) in
+    let P : Handlers → Type 0 = λ f. Begins (kept_sends c p d) (if p == 0 then v.world.inputs d else f.sends p (take (v.world.saved p) (v.world.history p)) d) in
     subst P (sym same) (split (p == 0))
   where
-    split : (b : Bool) → Begins (if b then c.inputs d else c.handlers.sends p (take (c.saved p) (c.history p)) d) (if b then v.inputs d else c.handlers.sends p (take (v.saved p) (v.history p)) d)
+    split : (b : Bool) → Begins (if b then c.world.inputs d else c.world.handlers.sends p (take (c.world.saved p) (c.world.history p)) d) (if b then v.world.inputs d else c.world.handlers.sends p (take (v.world.saved p) (v.world.history p)) d)
     split true = k.inputs d
     split false =
-        let m : Begins (take (c.saved p) (c.history p)) (take (v.saved p) (v.history p)) = k.messages p in
-        let Q : List Message → Type 0 = λ h. Begins (c.handlers.sends p (take (c.saved p) (c.history p)) d) (c.handlers.sends p h d) in
-        subst Q m.1 (sends-more c.handlers grows p d (take (c.saved p) (c.history p)) m.0)
+        let m : Begins (take (c.world.saved p) (c.world.history p)) (take (v.world.saved p) (v.world.history p)) = k.messages p in
+        let Q : List Message → Type 0 = λ h. Begins (c.world.handlers.sends p (take (c.world.saved p) (c.world.history p)) d) (c.world.handlers.sends p h d) in
+        subst Q m.1 (sends-more c.world.handlers grows p d (take (c.world.saved p) (c.world.history p)) m.0)
 
 -- and no event takes back what is sent so
-pub goes-sends : (c : Cluster) (e : Event) → Grows c.handlers → ((p : ℕ) → c.saved p ≤ length (c.history p)) → (p d : ℕ) → Begins (kept_sends c p d) (kept_sends (goes c e) p d)
+pub goes-sends : (c : Cluster) (e : Event) → Grows c.world.handlers → ((p : ℕ) → c.world.saved p ≤ length (c.world.history p)) → (p d : ℕ) → Begins (kept_sends c p d) (kept_sends (goes c e) p d)
 goes-sends c e grows within = sends-continue c (goes c e) grows (goes-handlers c e) (goes-continue c e within)

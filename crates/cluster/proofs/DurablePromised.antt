@@ -8,7 +8,7 @@ use Rattle.world.specs.Logs.{payloads, released_to}
 use Rattle.theorems.specs.Growth.{Begins, Grows}
 use Rattle.theorems.proofs.ListLemmas.{take-all, nth-prefix, begins-self, begins-trans, begins-length}
 use Rattle.theorems.proofs.LogLemmas.{payloads-prefix}
-use Rattle.cluster.specs.Cluster.{Cluster, opening, seen}
+use Rattle.cluster.specs.Cluster.{Cluster, opening}
 use Rattle.cluster.specs.Overlap.{Event, Might, renews, goes, steps, kept_sends, Events, after_events}
 use Rattle.cluster.specs.DurablePromises.{lasts, Stays, DurableKeep, CheckpointsStay, AllDurableKeep}
 use Rattle.cluster.proofs.Firm.{Firm, Held}
@@ -39,12 +39,12 @@ opens-durable n f durable g =
     }
 
 -- what those release whose messages last is sent by what their checkpoints cover
-released-kept : (durable : ℕ → Bool) (c : Cluster) → Held durable c → (p d : ℕ) → lasts durable p ≡ true → released_to (seen c) p d ≤ length (kept_sends c p d)
+released-kept : (durable : ℕ → Bool) (c : Cluster) → Held durable c → (p d : ℕ) → lasts durable p ≡ true → released_to c.world p d ≤ length (kept_sends c p d)
 released-kept durable c h p d = split (p == 0) refl
   where
-    split : (b : Bool) → (p == 0) ≡ b → (b || durable p) ≡ true → (if b then length (c.inputs d) else c.released p d) ≤ length (if b then c.inputs d else c.handlers.sends p (take (c.saved p) (c.history p)) d)
+    split : (b : Bool) → (p == 0) ≡ b → (b || durable p) ≡ true → (if b then length (c.world.inputs d) else c.world.released p d) ≤ length (if b then c.world.inputs d else c.world.handlers.sends p (take (c.world.saved p) (c.world.history p)) d)
     split true f e = omega arith
-    split false f e = let P : Bool → Type 0 = λ b. c.released p d ≤ length (if b then c.inputs d else c.handlers.sends p (take (c.saved p) (c.history p)) d) in subst P f (h p d e)
+    split false f e = let P : Bool → Type 0 = λ b. c.world.released p d ≤ length (if b then c.world.inputs d else c.world.handlers.sends p (take (c.world.saved p) (c.world.history p)) d) in subst P f (h p d e)
 
 pub step-durable : (durable : ℕ → Bool) (c : Cluster) (e : Event) → Durable durable c → Might c e → Durable durable (steps durable c e)
 step-durable durable c e h may =
@@ -53,7 +53,7 @@ step-durable durable c e h may =
       held = λ p d l. rw l (split p d (renews e p) (h.held p d l));
     }
   where
-    split : (p d : ℕ) (b : Bool) → c.released p d ≤ length (kept_sends c p d) → (if b then length (kept_sends (goes c e) p d) else c.released p d) ≤ length (kept_sends (goes c e) p d)
+    split : (p d : ℕ) (b : Bool) → c.world.released p d ≤ length (kept_sends c p d) → (if b then length (kept_sends (goes c e) p d) else c.world.released p d) ≤ length (kept_sends (goes c e) p d)
     split p d true l = omega arith
     split p d false l = let n : length (kept_sends c p d) ≤ length (kept_sends (goes c e) p d) = begins-length _ _ (goes-sends c e h.firm.grows h.firm.within p d) in omega arith
 
@@ -84,17 +84,17 @@ checkpoints-stay n f durable es more p g r =
     subst P (sym t.2) (events-stay durable (after_events durable (opening n f) es) more p (events-durable durable (opening n f) es (opens-durable n f durable g) t.0) t.1)
 
 -- a checkpoint covers a beginning of what was received
-pub kept-whole : (c : Cluster) → Grows c.handlers → (p d : ℕ) → c.saved p ≤ length (c.history p) → Begins (kept_sends c p d) (payloads (seen c) p (c.history p) d)
+pub kept-whole : (c : Cluster) → Grows c.world.handlers → (p d : ℕ) → c.world.saved p ≤ length (c.world.history p) → Begins (kept_sends c p d) (payloads c.world p (c.world.history p) d)
 kept-whole c g p d within =
-    let P : List Message → Type 0 = λ h. Begins (kept_sends c p d) (payloads (seen c) p h d) in
-    subst P (take-all (c.history p)) (payloads-prefix (seen c) g p (c.history p) d (c.saved p) (length (c.history p)) within)
+    let P : List Message → Type 0 = λ h. Begins (kept_sends c p d) (payloads c.world p h d) in
+    subst P (take-all (c.world.history p)) (payloads-prefix c.world g p (c.world.history p) d (c.world.saved p) (length (c.world.history p)) within)
 
 pub all-durable-keep : AllDurableKeep
 all-durable-keep n f es g r =
     let c : Cluster = after_events (λ _. true) (opening n f) es in
     let h : Firm (lasts (λ _. true)) c = (events-durable (λ _. true) (opening n f) es (opens-durable n f (λ _. true) g) r).firm in
     let all : (p : ℕ) → lasts (λ _. true) p ≡ true = λ p. every (p == 0) in
-    let whole : (p d : ℕ) → Begins (kept_sends c p d) (payloads (seen c) p (c.history p) d) = λ p d. kept-whole c h.grows p d (h.within p) in (
+    let whole : (p d : ℕ) → Begins (kept_sends c p d) (payloads c.world p (c.world.history p) d) = λ p d. kept-whole c h.grows p d (h.within p) in (
       record {
         received = λ p i m e. nth-prefix _ _ m.ssn m.payload (whole m.sender p) ((h.received m.sender p (all m.sender)).each i m e refl);
         shown = λ i m e. nth-prefix _ _ m.ssn m.payload (whole m.sender 0) ((h.shown m.sender (all m.sender)).each i m e refl);

@@ -8,7 +8,7 @@ use Rattle.world.specs.World.{put}
 use Rattle.world.specs.Calls.{phase_with, peers}
 use Rattle.theorems.proofs.Changes.{choose, elsewhere}
 use Rattle.cluster.specs.Parcels.{Body, Delivery, Ask, Told, Restored, parcel, In}
-use Rattle.cluster.specs.Cluster.{Stage, Live, Frozen, Dead, Collecting, Collected, Cluster, seen, runs, is_well}
+use Rattle.cluster.specs.Cluster.{Stage, Live, Frozen, Dead, Collecting, Collected, Cluster, runs, is_well}
 use Rattle.cluster.specs.Rules.{Act, Arrives, Works, Replays, Recovers, Freezes, Keeps, Thaws, Dies, Opens, IsNode, May, does, message, with_page, kept_by, put2}
 use Rattle.cluster.proofs.Facts.{choose2, well-is, is-well, takes-is, true-not-false}
 use Rattle.cluster.proofs.Growth.{either-way}
@@ -35,24 +35,24 @@ plain-told : (c : Cluster) (told : ℕ → ℕ → Option Collected) → ((p q :
 plain-told c told ends own h = record { low = h.low; begun = h.begun; settled = h.settled; gateway = h.gateway; sound = h.sound; todo = h.todo; within = h.within; ends = ends; own = own }
 
 -- and where a history or what a checkpoint covers is another
-plain-within : (c : Cluster) (history : ℕ → List Message) (saved : ℕ → ℕ) → ((p : ℕ) → saved p ≤ length (history p)) → Plain c → Plain (record c { history = history; saved = saved })
+plain-within : (c : Cluster) (history : ℕ → List Message) (saved : ℕ → ℕ) → ((p : ℕ) → saved p ≤ length (history p)) → Plain c → Plain (record c { world = record c.world { history = history; saved = saved } })
 plain-within c history saved within h = record { low = h.low; begun = h.begun; settled = h.settled; gateway = h.gateway; sound = h.sound; todo = h.todo; within = within; ends = h.ends; own = h.own }
 
 module _ (c : Cluster) where
-  sound-turn : (p : ℕ) (x : Phase) → IsSound x → ((j : ℕ) → IsSound (c.phase j)) → (j : ℕ) → IsSound (put c.phase p x j)
-  sound-turn p x s h = choose p (λ j b. IsSound (if b then x else c.phase j)) s (λ j _. h j)
+  sound-turn : (p : ℕ) (x : Phase) → IsSound x → ((j : ℕ) → IsSound (c.world.phase j)) → (j : ℕ) → IsSound (put c.world.phase p x j)
+  sound-turn p x s h = choose p (λ j b. IsSound (if b then x else c.world.phase j)) s (λ j _. h j)
 
   -- p turns to another phase; it wasn't up before, or is so after it
-  well-turn : (p : ℕ) (x : Phase) → (is_up (c.phase p) ≡ true → is_up x ≡ true) → (q : ℕ) → is_well c q ≡ true → (is_well (record c { phase = put c.phase p x }) q ≡ true) ⊎ (c.stage q ≡ Dead)
-  well-turn p x up = choose p (λ j b. is_well c j ≡ true → ((runs (c.stage j) && (c.greeted j && is_up (if b then x else c.phase j))) ≡ true) ⊎ (c.stage j ≡ Dead))
+  well-turn : (p : ℕ) (x : Phase) → (is_up (c.world.phase p) ≡ true → is_up x ≡ true) → (q : ℕ) → is_well c q ≡ true → (is_well (record c { world = record c.world { phase = put c.world.phase p x } }) q ≡ true) ⊎ (c.stage q ≡ Dead)
+  well-turn p x up = choose p (λ j b. is_well c j ≡ true → ((runs (c.stage j) && (c.greeted j && is_up (if b then x else c.world.phase j))) ≡ true) ⊎ (c.stage j ≡ Dead))
       (λ w. let t = well-is c p w in let u : is_up x ≡ true = up t.2 in inl (rw (t.0, t.1, u) refl)) (λ j _ w. inl w)
 
-  on-turn : (p : ℕ) (x : Phase) → Low c → (is_up (c.phase p) ≡ true → is_up x ≡ true) → On c (record c { phase = put c.phase p x })
+  on-turn : (p : ℕ) (x : Phase) → Low c → (is_up (c.world.phase p) ≡ true → is_up x ≡ true) → On c (record c { world = record c.world { phase = put c.world.phase p x } })
   on-turn p x l up = record { count = refl; stored = λ p. refl; heard = λ p q. omega arith; low = l; well = well-turn p x up; dead = λ p e. e }
 
-  plain-turn : (p : ℕ) (x : Phase) → 0 ≢ p → IsSound x → ((q : ℕ) → has (todo_of x) q ≡ true → IsNode c q × (q ≢ p)) → Plain c → Plain (record c { phase = put c.phase p x })
+  plain-turn : (p : ℕ) (x : Phase) → 0 ≢ p → IsSound x → ((q : ℕ) → has (todo_of x) q ≡ true → IsNode c q × (q ≢ p)) → Plain c → Plain (record c { world = record c.world { phase = put c.world.phase p x } })
   plain-turn p x n s t h =
-      record { low = h.low; begun = h.begun; settled = h.settled; gateway = (h.gateway.0, h.gateway.1, put-other c.phase p x 0 n ∙ h.gateway.2); sound = sound-turn p x s h.sound; todo = todo-turn c p x t h.todo; within = h.within; ends = h.ends; own = h.own }
+      record { low = h.low; begun = h.begun; settled = h.settled; gateway = (h.gateway.0, h.gateway.1, put-other c.world.phase p x 0 n ∙ h.gateway.2); sound = sound-turn p x s h.sound; todo = todo-turn c p x t h.todo; within = h.within; ends = h.ends; own = h.own }
 
   pub low-hears : (a b i : ℕ) → Low c → i ≤ c.stored b → Low (record c { heard = put2 c.heard a b i })
   low-hears a b i l n = choose2 a b (λ x y t. (if t then i else c.heard x y) ≤ c.stored y) n (λ x y _. l x y)
@@ -68,8 +68,8 @@ module _ (c : Cluster) where
   not-gate : (p : ℕ) → IsNode c p → 0 ≢ p
   not-gate p n e = let l : 0 < p = n.0 in omega arith
 
-  not-up : (p q : ℕ) → has (todo_of (c.phase p)) q ≡ true → is_up (c.phase p) ≡ false
-  not-up p q e = split (c.phase p) e
+  not-up : (p q : ℕ) → has (todo_of (c.world.phase p)) q ≡ true → is_up (c.world.phase p) ≡ false
+  not-up p q e = split (c.world.phase p) e
     where
       split : (x : Phase) → has (todo_of x) q ≡ true → is_up x ≡ false
       split Up e = absurd (cc)
@@ -79,10 +79,10 @@ module _ (c : Cluster) where
       split (Resync qs) e = refl
 
   -- who restores numbers isn't the gateway
-  restores-gate : (p q : ℕ) → Plain c → has (todo_of (c.phase p)) q ≡ true → 0 ≢ p
+  restores-gate : (p q : ℕ) → Plain c → has (todo_of (c.world.phase p)) q ≡ true → 0 ≢ p
   restores-gate p q h e z =
-      let u : is_up (c.phase p) ≡ false = not-up p q e in
-      let P : ℕ → Type 0 = λ i. is_up (c.phase i) ≡ true in
+      let u : is_up (c.world.phase p) ≡ false = not-up p q e in
+      let P : ℕ → Type 0 = λ i. is_up (c.world.phase i) ≡ true in
       true-not-false (subst P z (ap is_up h.gateway.2)) u
 
   stage-gate : (p : ℕ) (x : Stage) → 0 ≢ p → Plain c → put c.stage p x 0 ≡ Live
@@ -90,7 +90,7 @@ module _ (c : Cluster) where
 
   -- p turns to another stage
   well-stage : (p : ℕ) (x : Stage) → runs x ≡ true → (q : ℕ) → is_well c q ≡ true → (is_well (record c { stage = put c.stage p x }) q ≡ true) ⊎ (put c.stage p x q ≡ Dead)
-  well-stage p x r = choose p (λ j b. is_well c j ≡ true → ((runs (if b then x else c.stage j) && (c.greeted j && is_up (c.phase j))) ≡ true) ⊎ ((if b then x else c.stage j) ≡ Dead))
+  well-stage p x r = choose p (λ j b. is_well c j ≡ true → ((runs (if b then x else c.stage j) && (c.greeted j && is_up (c.world.phase j))) ≡ true) ⊎ ((if b then x else c.stage j) ≡ Dead))
       (λ w. let t = well-is c p w in inl (rw (r, t.1, t.2) refl)) (λ j _ w. inl w)
 
   on-stage : (p : ℕ) (x : Stage) → Low c → runs x ≡ true → c.stage p ≢ Dead → On c (record c { stage = put c.stage p x })
@@ -104,10 +104,10 @@ module _ (c : Cluster) where
         dead = choose p (λ j b. c.stage j ≡ Dead → (if b then x else c.stage j) ≡ Dead) (λ e. absurd (n e)) (λ j _ e. e);
       }
 
-  settled-stage : (p : ℕ) (x : Stage) → (runs x ≡ true → c.life p ≡ c.stored p) → Plain c → (q : ℕ) → runs (put c.stage p x q) ≡ true → c.life q ≡ c.stored q
-  settled-stage p x s h = choose p (λ j b. runs (if b then x else c.stage j) ≡ true → c.life j ≡ c.stored j) s (λ j _. h.settled j)
+  settled-stage : (p : ℕ) (x : Stage) → (runs x ≡ true → c.world.incarnation p ≡ c.stored p) → Plain c → (q : ℕ) → runs (put c.stage p x q) ≡ true → c.world.incarnation q ≡ c.stored q
+  settled-stage p x s h = choose p (λ j b. runs (if b then x else c.stage j) ≡ true → c.world.incarnation j ≡ c.stored j) s (λ j _. h.settled j)
 
-  plain-stage : (p : ℕ) (x : Stage) → 0 ≢ p → (runs x ≡ true → c.life p ≡ c.stored p) → Plain c → Plain (record c { stage = put c.stage p x })
+  plain-stage : (p : ℕ) (x : Stage) → 0 ≢ p → (runs x ≡ true → c.world.incarnation p ≡ c.stored p) → Plain c → Plain (record c { stage = put c.stage p x })
   plain-stage p x n s h =
       record { low = h.low; begun = h.begun; settled = settled-stage p x s h; gateway = (stage-gate p x n h, h.gateway.1, h.gateway.2); sound = h.sound; todo = h.todo; within = h.within; ends = h.ends; own = h.own }
 
@@ -138,17 +138,17 @@ is_frozen Frozen = true
 is_frozen x = false
 
 module _ (born : ℕ → ℕ) (c : Cluster) (h : Plain c) (fine : (p d : ℕ) (x : Body) → In (parcel p d x) c.parcels → (p ≢ d) × Fine born c p d x) where
-  replaying-up : (p j : ℕ) (x : Phase) → c.phase p ≡ Replaying j false false → is_up (c.phase p) ≡ true → is_up x ≡ true
+  replaying-up : (p j : ℕ) (x : Phase) → c.world.phase p ≡ Replaying j false false → is_up (c.world.phase p) ≡ true → is_up x ≡ true
   replaying-up p j x e u = absurd (true-not-false u (ap is_up e))
 
-  on-recovers : (p k : ℕ) (x : Phase) → c.stage p ≡ Collecting → On c (record c { stage = put c.stage p Live; greeted = put c.greeted p false; phase = put c.phase p x })
+  on-recovers : (p k : ℕ) (x : Phase) → c.stage p ≡ Collecting → On c (record c { stage = put c.stage p Live; greeted = put c.greeted p false; world = record c.world { phase = put c.world.phase p x } })
   on-recovers p k x e =
       record {
         count = refl;
         stored = λ p. refl;
         heard = λ p q. omega arith;
         low = h.low;
-        well = choose p (λ j b. is_well c j ≡ true → ((runs (if b then Live else c.stage j) && ((if b then false else c.greeted j) && is_up (if b then x else c.phase j))) ≡ true) ⊎ ((if b then Live else c.stage j) ≡ Dead))
+        well = choose p (λ j b. is_well c j ≡ true → ((runs (if b then Live else c.stage j) && ((if b then false else c.greeted j) && is_up (if b then x else c.world.phase j))) ≡ true) ⊎ ((if b then Live else c.stage j) ≡ Dead))
             (λ w. absurd (true-not-false (well-is c p w).0 (ap runs e))) (λ j _ w. inl w);
         dead = choose p (λ j b. c.stage j ≡ Dead → (if b then Live else c.stage j) ≡ Dead) (λ f. absurd (true-not-false (ap is_collecting e) (ap is_collecting f))) (λ j _ f. f);
       }
@@ -157,15 +157,15 @@ module _ (born : ℕ → ℕ) (c : Cluster) (h : Plain c) (fine : (p d : ℕ) (x
   on-act (Arrives q p (Restored i j m s (Some u) f)) n may = on-hears c p q j h.low may.1.5 (fine q p (Restored i j m s (Some u) f) may.0).1
   on-act (Arrives p (suc d) (Delivery i ssn x)) n may = on-turn c (suc d) (Busy (message p ssn x)) h.low (λ _. refl)
   on-act (Works p m) n may = on-turn c p Up h.low (λ _. refl)
-  on-act (Replays p j) n may = either-way (nat_lt (c.saved p + suc j) (length (c.history p))) _ _ (On c)
+  on-act (Replays p j) n may = either-way (nat_lt (c.world.saved p + suc j) (length (c.world.history p))) _ _ (On c)
       (on-turn c p (Replaying (suc j) false false) h.low (replaying-up p j (Replaying (suc j) false false) may.2))
-      (on-turn c p (phase_with (peers (seen c) p false)) h.low (replaying-up p j (phase_with (peers (seen c) p false)) may.2))
+      (on-turn c p (phase_with (peers c.world p false)) h.low (replaying-up p j (phase_with (peers c.world p false)) may.2))
   on-act (Arrives p q (Ask i k)) n may = let l : c.heard q p < i = may.1.0 in on-hears c q p i h.low (omega arith) (fine p q (Ask i k) may.0).1.1
   on-act (Arrives q p (Told i j k u f)) n may = on-hears c p q j h.low may.1.2 (fine q p (Told i j k u f) may.0).1.1
-  on-act (Recovers p k) n may = either-way (nat_lt (c.saved p) k) _ _ (On c) (on-recovers p k (Replaying 0 false false) may.1) (on-recovers p k (phase_with (peers (seen c) p false)) may.1)
+  on-act (Recovers p k) n may = either-way (nat_lt (c.world.saved p) k) _ _ (On c) (on-recovers p k (Replaying 0 false false) may.1) (on-recovers p k (phase_with (peers c.world p false)) may.1)
   on-act (Arrives (suc q) p (Restored i j m s None f)) n may =
       let o = on-hears c p (suc q) j h.low may.1.5 (fine (suc q) p (Restored i j m s None f) may.0).1 in
-      let x : Phase = phase_with (without (todo_of (c.phase p)) (suc q)) in
+      let x : Phase = phase_with (without (todo_of (c.world.phase p)) (suc q)) in
       record { count = refl; stored = λ p. refl; heard = o.heard; low = o.low; well = well-turn c p x (λ u. absurd (true-not-false u (not-up c p (suc q) may.1.3))); dead = λ p e. e }
   on-act (Arrives zero p (Restored i j m s None f)) n may =
       record {
@@ -173,7 +173,7 @@ module _ (born : ℕ → ℕ) (c : Cluster) (h : Plain c) (fine : (p d : ℕ) (x
         stored = λ p. refl;
         heard = λ p q. omega arith;
         low = h.low;
-        well = choose p (λ j b. is_well c j ≡ true → ((runs (c.stage j) && ((if b then true else c.greeted j) && is_up (c.phase j))) ≡ true) ⊎ (c.stage j ≡ Dead))
+        well = choose p (λ j b. is_well c j ≡ true → ((runs (c.stage j) && ((if b then true else c.greeted j) && is_up (c.world.phase j))) ≡ true) ⊎ (c.stage j ≡ Dead))
             (λ w. let t = well-is c p w in inl (rw (t.0, t.2) refl)) (λ j _ w. inl w);
         dead = λ p e. e;
       }
@@ -185,36 +185,36 @@ module _ (born : ℕ → ℕ) (c : Cluster) (h : Plain c) (fine : (p d : ℕ) (x
         stored = λ p. refl;
         heard = λ p q. omega arith;
         low = h.low;
-        well = choose p (λ j b. is_well c j ≡ true → ((runs (if b then Dead else c.stage j) && (c.greeted j && is_up (c.phase j))) ≡ true) ⊎ ((if b then Dead else c.stage j) ≡ Dead)) (λ w. inr refl) (λ j _ w. inl w);
+        well = choose p (λ j b. is_well c j ≡ true → ((runs (if b then Dead else c.stage j) && (c.greeted j && is_up (c.world.phase j))) ≡ true) ⊎ ((if b then Dead else c.stage j) ≡ Dead)) (λ w. inr refl) (λ j _ w. inl w);
         dead = choose p (λ j b. c.stage j ≡ Dead → (if b then Dead else c.stage j) ≡ Dead) (λ e. refl) (λ j _ e. e);
       }
   on-act (Opens p m) n may = absurd (cc)
   on-act act n may = on-same c h.low
 
   plain-recovers : (p k : ℕ) (x : Phase) → May c (Recovers p k) → IsSound x → ((q : ℕ) → has (todo_of x) q ≡ true → IsNode c q × (q ≢ p))
-      → Plain (record c { stage = put c.stage p Live; life = put c.life p (c.stored p); history = put c.history p (kept_by c p k); greeted = put c.greeted p false; told = put c.told p (λ _. None); phase = put c.phase p x })
+      → Plain (record c { stage = put c.stage p Live; greeted = put c.greeted p false; told = put c.told p (λ _. None); world = record c.world { incarnation = put c.world.incarnation p (c.stored p); history = put c.world.history p (kept_by c p k); phase = put c.world.phase p x } })
   plain-recovers p k x may s t =
       let n : 0 ≢ p = not-gate c p may.0 in
       let long : length (kept_by c p k) ≡ k = may.4 in
-      let within : c.saved p ≤ k = may.3 in
+      let within : c.world.saved p ≤ k = may.3 in
       let none : ℕ → Option Collected = λ _. None in
       record {
         low = h.low;
         begun = h.begun;
-        settled = choose p (λ j b. runs (if b then Live else c.stage j) ≡ true → (if b then c.stored p else c.life j) ≡ c.stored j) (λ _. refl) (λ j _. h.settled j);
-        gateway = (stage-gate c p Live n h, put-other c.greeted p false 0 n ∙ h.gateway.1, put-other c.phase p x 0 n ∙ h.gateway.2);
+        settled = choose p (λ j b. runs (if b then Live else c.stage j) ≡ true → (if b then c.stored p else c.world.incarnation j) ≡ c.stored j) (λ _. refl) (λ j _. h.settled j);
+        gateway = (stage-gate c p Live n h, put-other c.greeted p false 0 n ∙ h.gateway.1, put-other c.world.phase p x 0 n ∙ h.gateway.2);
         sound = sound-turn c p x s h.sound;
         todo = todo-turn c p x t h.todo;
-        within = choose p (λ j b. c.saved j ≤ length (if b then kept_by c p k else c.history j)) (omega arith) (λ j _. h.within j);
+        within = choose p (λ j b. c.world.saved j ≤ length (if b then kept_by c p k else c.world.history j)) (omega arith) (λ j _. h.within j);
         ends = λ j q. choose p (λ j b. IsEnding ((if b then none else c.told j) q)) tt (λ j _. h.ends j q) j;
         own = choose p (λ j b. (if b then none else c.told j) j ≡ None) refl (λ j _. h.own j);
       }
 
-  peers-todo : (p q : ℕ) → has (todo_of (phase_with (peers (seen c) p false))) q ≡ true → IsNode c q × (q ≢ p)
-  peers-todo p = todo-with c p (peers (seen c) p false) (peers-nodes c p)
+  peers-todo : (p q : ℕ) → has (todo_of (phase_with (peers c.world p false))) q ≡ true → IsNode c q × (q ≢ p)
+  peers-todo p = todo-with c p (peers c.world p false) (peers-nodes c p)
 
-  rest-todo : (p r q : ℕ) → has (todo_of (phase_with (without (todo_of (c.phase p)) r))) q ≡ true → IsNode c q × (q ≢ p)
-  rest-todo p r = todo-with c p (without (todo_of (c.phase p)) r) (λ q e. h.todo p q (without-less (todo_of (c.phase p)) r q e))
+  rest-todo : (p r q : ℕ) → has (todo_of (phase_with (without (todo_of (c.world.phase p)) r))) q ≡ true → IsNode c q × (q ≢ p)
+  rest-todo p r = todo-with c p (without (todo_of (c.world.phase p)) r) (λ q e. h.todo p q (without-less (todo_of (c.world.phase p)) r q e))
 
   none-todo : (p : ℕ) (x : Phase) → todo_of x ≡ [] → (q : ℕ) → has (todo_of x) q ≡ true → IsNode c q × (q ≢ p)
   none-todo p x e q t = absurd (let z : false ≡ true = sym (ap (λ xs. has xs q) e) ∙ t in cc)
@@ -224,12 +224,12 @@ module _ (born : ℕ → ℕ) (c : Cluster) (h : Plain c) (fine : (p d : ℕ) (x
   plain-act (Arrives p (suc d) (Delivery i ssn x)) n may = plain-turn c (suc d) (Busy (message p ssn x)) (not-gate c (suc d) may.1.0) tt (none-todo (suc d) (Busy (message p ssn x)) refl) h
   plain-act (Works p m) n may =
       let g = plain-turn c p Up (not-gate c p may.0) tt (none-todo p Up refl) h in
-      let longer : length (c.history p ++ m ∷ []) ≡ length (c.history p) + 1 = length-append _ _ in
-      let l : c.saved p ≤ length (c.history p) = h.within p in
-      plain-within (record c { phase = put c.phase p Up }) (put c.history p (c.history p ++ m ∷ [])) c.saved (choose p (λ j b. c.saved j ≤ length (if b then c.history p ++ m ∷ [] else c.history j)) (omega arith) (λ j _. h.within j)) g
-  plain-act (Replays p j) n may = either-way (nat_lt (c.saved p + suc j) (length (c.history p))) _ _ Plain
+      let longer : length (c.world.history p ++ m ∷ []) ≡ length (c.world.history p) + 1 = length-append _ _ in
+      let l : c.world.saved p ≤ length (c.world.history p) = h.within p in
+      plain-within (record c { world = record c.world { phase = put c.world.phase p Up } }) (put c.world.history p (c.world.history p ++ m ∷ [])) c.world.saved (choose p (λ j b. c.world.saved j ≤ length (if b then c.world.history p ++ m ∷ [] else c.world.history j)) (omega arith) (λ j _. h.within j)) g
+  plain-act (Replays p j) n may = either-way (nat_lt (c.world.saved p + suc j) (length (c.world.history p))) _ _ Plain
       (plain-turn c p (Replaying (suc j) false false) (not-gate c p may.0) (refl, refl) (none-todo p (Replaying (suc j) false false) refl) h)
-      (plain-turn c p (phase_with (peers (seen c) p false)) (not-gate c p may.0) (sound-with _) (peers-todo p) h)
+      (plain-turn c p (phase_with (peers c.world p false)) (not-gate c p may.0) (sound-with _) (peers-todo p) h)
   plain-act (Arrives p q (Ask i k)) n may =
       let f = fine p q (Ask i k) may.0 in
       plain-told (record c { heard = put2 c.heard q p i }) (put2 c.told q p None) (told-ends c q p None tt h.ends) (un-own c q p None (λ e. f.0 (sym e)) h.own) (plain-heard c (put2 c.heard q p i) (low-hears c q p i h.low f.1.1) h)
@@ -238,11 +238,11 @@ module _ (born : ℕ → ℕ) (c : Cluster) (h : Plain c) (fine : (p d : ℕ) (x
       let page : Option Collected = Some (with_page (c.told p q) k u f) in
       plain-told (record c { heard = put2 c.heard p q j }) (put2 c.told p q page) (told-ends c p q page (page-ends c (c.told p q) k u f t.1.2) h.ends) (un-own c p q page (λ e. t.0 (sym e)) h.own)
       (plain-heard c (put2 c.heard p q j) (low-hears c p q j h.low t.1.1) h)
-  plain-act (Recovers p k) n may = either-way (nat_lt (c.saved p) k) _ _ Plain
-      (plain-recovers p k (Replaying 0 false false) may (refl, refl) (none-todo p (Replaying 0 false false) refl)) (plain-recovers p k (phase_with (peers (seen c) p false)) may (sound-with _) (peers-todo p))
+  plain-act (Recovers p k) n may = either-way (nat_lt (c.world.saved p) k) _ _ Plain
+      (plain-recovers p k (Replaying 0 false false) may (refl, refl) (none-todo p (Replaying 0 false false) refl)) (plain-recovers p k (phase_with (peers c.world p false)) may (sound-with _) (peers-todo p))
   plain-act (Arrives (suc q) p (Restored i j m s None f)) n may =
-      let g = plain-turn c p (phase_with (without (todo_of (c.phase p)) (suc q))) (restores-gate c p (suc q) h may.1.3) (sound-with _) (rest-todo p (suc q)) h in
-      plain-heard (record c { phase = put c.phase p (phase_with (without (todo_of (c.phase p)) (suc q))) }) (put2 c.heard p (suc q) j) (low-hears c p (suc q) j h.low (fine (suc q) p (Restored i j m s None f) may.0).1) g
+      let g = plain-turn c p (phase_with (without (todo_of (c.world.phase p)) (suc q))) (restores-gate c p (suc q) h may.1.3) (sound-with _) (rest-todo p (suc q)) h in
+      plain-heard (record c { world = record c.world { phase = put c.world.phase p (phase_with (without (todo_of (c.world.phase p)) (suc q))) } }) (put2 c.heard p (suc q) j) (low-hears c p (suc q) j h.low (fine (suc q) p (Restored i j m s None f) may.0).1) g
   plain-act (Arrives zero p (Restored i j m s None f)) n may =
       record {
         low = h.low;
@@ -256,7 +256,7 @@ module _ (born : ℕ → ℕ) (c : Cluster) (h : Plain c) (fine : (p d : ℕ) (x
         own = h.own;
       }
   plain-act (Freezes p) n may = plain-stage c p Frozen (not-gate c p may.0) (λ _. h.settled p (ap runs (takes-is c p may.1).0)) h
-  plain-act (Keeps p) n may = plain-within c c.history (put c.saved p (length (c.history p))) (choose p (λ j b. (if b then length (c.history p) else c.saved j) ≤ length (c.history j)) (omega arith) (λ j _. h.within j)) h
+  plain-act (Keeps p) n may = plain-within c c.world.history (put c.world.saved p (length (c.world.history p))) (choose p (λ j b. (if b then length (c.world.history p) else c.world.saved j) ≤ length (c.world.history j)) (omega arith) (λ j _. h.within j)) h
   plain-act (Thaws p) n may = plain-stage c p Live (not-gate c p may.0) (λ _. h.settled p (ap runs may.1)) h
   plain-act (Dies p) n may = plain-stage c p Dead (not-gate c p may.0) (λ e. absurd (let z : false ≡ true = e in cc)) h
   plain-act (Opens p m) n may = absurd (cc)
@@ -285,23 +285,23 @@ module _ (born : ℕ → ℕ) (c : Cluster) (h : Plain c) (fine : (p d : ℕ) (x
       let z : is_well c 0 ≡ false = subst P (sym e) w in
       true-not-false (is-well c 0 (ap runs h.gateway.0) h.gateway.1 (ap is_up h.gateway.2)) z
 
-  meets-well : (q : ℕ) (x : Phase) → is_well c q ≡ false → (r : ℕ) → is_well c r ≡ true → (is_well (record c { phase = put c.phase q x }) r ≡ true) ⊎ (c.stage r ≡ Dead)
-  meets-well q x un = choose q (λ j b. is_well c j ≡ true → ((runs (c.stage j) && (c.greeted j && is_up (if b then x else c.phase j))) ≡ true) ⊎ (c.stage j ≡ Dead)) (λ w. absurd (true-not-false w un)) (λ j _ w. inl w)
+  meets-well : (q : ℕ) (x : Phase) → is_well c q ≡ false → (r : ℕ) → is_well c r ≡ true → (is_well (record c { world = record c.world { phase = put c.world.phase q x } }) r ≡ true) ⊎ (c.stage r ≡ Dead)
+  meets-well q x un = choose q (λ j b. is_well c j ≡ true → ((runs (c.stage j) && (c.greeted j && is_up (if b then x else c.world.phase j))) ≡ true) ⊎ (c.stage j ≡ Dead)) (λ w. absurd (true-not-false w un)) (λ j _ w. inl w)
 
   pub on-event : (e : Event) → opens e ≡ false → Might c e → On c (goes c e)
   on-event (Acts a) n may = on-act a n may
   on-event (Meets q p i k) n may =
       let l : c.heard q p < i = may.2 in
       let o = on-hears c q p i h.low (omega arith) (fine p q (Ask i k) may.0).1.1 in
-      record { count = refl; stored = λ p. refl; heard = o.heard; low = o.low; well = meets-well q (restores_anew (c.phase q) p) may.1.1; dead = λ p e. e }
+      record { count = refl; stored = λ p. refl; heard = o.heard; low = o.low; well = meets-well q (restores_anew (c.world.phase q) p) may.1.1; dead = λ p e. e }
   on-event (Loses q p i j k) n may = on-same c h.low
-  on-event (Leaves p q) n may = on-turn c p (phase_with (without (todo_of (c.phase p)) q)) h.low (λ u. absurd (true-not-false u (not-up c p q may.1)))
+  on-event (Leaves p q) n may = on-turn c p (phase_with (without (todo_of (c.world.phase p)) q)) h.low (λ u. absurd (true-not-false u (not-up c p q may.1)))
 
   pub plain-event : (e : Event) → opens e ≡ false → Might c e → Plain (goes c e)
   plain-event (Acts a) n may = plain-act a n may
   plain-event (Meets q p i k) n may =
       let f = fine p q (Ask i k) may.0 in
-      let g = plain-turn c q (restores_anew (c.phase q) p) (un-gate q may.1.1) (anew-sound (c.phase q) p (h.sound q)) (λ r e. elim (anew (c.phase q) p r e) [ inl z ↦ (let P : ℕ → Type 0 = λ i. IsNode c i × (i ≢ q) in subst P (sym z) (f.1.0, f.0)) | inr t ↦ h.todo q r t ]) h in
-      plain-heard (record c { phase = put c.phase q (restores_anew (c.phase q) p) }) (put2 c.heard q p i) (low-hears c q p i h.low f.1.1) g
+      let g = plain-turn c q (restores_anew (c.world.phase q) p) (un-gate q may.1.1) (anew-sound (c.world.phase q) p (h.sound q)) (λ r e. elim (anew (c.world.phase q) p r e) [ inl z ↦ (let P : ℕ → Type 0 = λ i. IsNode c i × (i ≢ q) in subst P (sym z) (f.1.0, f.0)) | inr t ↦ h.todo q r t ]) h in
+      plain-heard (record c { world = record c.world { phase = put c.world.phase q (restores_anew (c.world.phase q) p) } }) (put2 c.heard q p i) (low-hears c q p i h.low f.1.1) g
   plain-event (Loses q p i j k) n may = h
-  plain-event (Leaves p q) n may = plain-turn c p (phase_with (without (todo_of (c.phase p)) q)) (restores-gate c p q h may.1) (sound-with _) (rest-todo p q) h
+  plain-event (Leaves p q) n may = plain-turn c p (phase_with (without (todo_of (c.world.phase p)) q)) (restores-gate c p q h may.1) (sound-with _) (rest-todo p q) h

@@ -41,20 +41,20 @@ IsGoodSoFar last k p (Some t) = (m : ℕ) (x : Message) → reaches t.upto m ≡
 abbrev pub Firm : (ℕ → Bool) → Cluster → Type 0
 Firm last c =
     record {
-      grows : Grows c.handlers;
-      within : (p : ℕ) → c.saved p ≤ length (c.history p);
+      grows : Grows c.world.handlers;
+      within : (p : ℕ) → c.world.saved p ≤ length (c.world.history p);
       parcels : (p d : ℕ) (x : Body) → In (parcel p d x) c.parcels → (p ≢ d) × IsTrue last (kept_sends c) p d x;
-      jobs : (d : ℕ) (m : Message) → c.phase d ≡ Busy m → IsGood last (kept_sends c) d m × (m.ssn ≡ suc (count_of m.sender (c.history d)));
-      numbers : (s d ssn m : ℕ) → c.numbers s d ssn ≡ Some m → IsThere last (kept_sends c) s d ssn;
+      jobs : (d : ℕ) (m : Message) → c.world.phase d ≡ Busy m → IsGood last (kept_sends c) d m × (m.ssn ≡ suc (count_of m.sender (c.world.history d)));
+      numbers : (s d ssn m : ℕ) → c.world.numbers s d ssn ≡ Some m → IsThere last (kept_sends c) s d ssn;
       told : (p q : ℕ) → IsGoodSoFar last (kept_sends c) p (c.told p q);
       own : (p : ℕ) → c.told p p ≡ None;
-      received : (p d : ℕ) → last p ≡ true → AreFirst (c.history d) p (kept_sends c p d);
-      shown : (p : ℕ) → last p ≡ true → AreFirst c.shown p (kept_sends c p 0);
+      received : (p d : ℕ) → last p ≡ true → AreFirst (c.world.history d) p (kept_sends c p d);
+      shown : (p : ℕ) → last p ≡ true → AreFirst c.world.shown p (kept_sends c p 0);
     }
 
 -- no more is released than these
 abbrev pub Held : (ℕ → Bool) → Cluster → Type 0
-Held durable c = (p d : ℕ) → durable p ≡ true → c.released p d ≤ length (kept_sends c p d)
+Held durable c = (p d : ℕ) → durable p ≡ true → c.world.released p d ≤ length (kept_sends c p d)
 
 -- where checkpoints send more, all of it still holds
 module _ (last : ℕ → Bool) (k l : Sends) (more : (p d : ℕ) → Begins (k p d) (l p d)) where

@@ -19,7 +19,7 @@ use Rattle.theorems.proofs.PlanLemmas.{first_below-at, logged_as-at}
 use Rattle.theorems.proofs.Recoveries.{up_to-is}
 use Rattle.theorems.proofs.Tests.{both}
 use Rattle.cluster.specs.Parcels.{Body, Delivery, Number, Ask, Told, Resume, Restored, Parcel, parcel, In, reaches}
-use Rattle.cluster.specs.Cluster.{Stage, Live, Frozen, Dead, Collecting, Collected, Cluster, opening, seen, runs, is_well}
+use Rattle.cluster.specs.Cluster.{Stage, Live, Frozen, Dead, Collecting, Collected, Cluster, opening, runs, is_well}
 use Rattle.cluster.specs.Rules.{Act, Puts, Arrives, Works, Replays, Recovers, Freezes, Keeps, Thaws, Dies, Opens, MayPut, May, does, Asks, entry_of, entry_in, with_page, entered, taken_back, kept_by, put2, Run, after_run}
 use Rattle.cluster.specs.Memory.{receipts, how_many, is_of, counts, taken_since, holds, ToldIsNew}
 use Rattle.cluster.specs.Inside.Agrees.{Beside, world, restored_so_far, is_back, Agrees}
@@ -92,8 +92,8 @@ module _ (p : ℕ) where
   abbrev pub Of : Cluster → ℕ → List Message → Type 0
   Of c saved took =
       record {
-        begins : (m : ℕ) (x : Message) → nth (c.history p) m ≡ Some x → nth took m ≡ Some x;
-        numbers : (q ssn m : ℕ) → q ≤ c.count → q ≢ p → c.numbers q p ssn ≡ Some m → saved < m → Names took m q ssn;
+        begins : (m : ℕ) (x : Message) → nth (c.world.history p) m ≡ Some x → nth took m ≡ Some x;
+        numbers : (q ssn m : ℕ) → q ≤ c.world.count → q ≢ p → c.world.numbers q p ssn ≡ Some m → saved < m → Names took m q ssn;
         told : (q i j k : ℕ) (u : Option ℕ) (f : ℕ → Option Message) → In (parcel q p (Told i j k u f)) c.parcels → c.stage p ≡ Collecting → i ≡ c.stored p
             → ((v : ℕ) → u ≡ Some v → k < v) × ((m : ℕ) (x : Message) → k < m → reaches u m ≡ true → f m ≡ Some x → saved < m → Names took m q x.ssn);
         collected : (q : ℕ) → c.stage p ≡ Collecting → IsOf saved took q (c.told p q);
@@ -104,18 +104,18 @@ module _ (p : ℕ) where
   Fresh c k =
       record {
         took : List Message;
-        of : Of c (c.saved p) took;
-        few : (test : Message → Bool) → how_many test (drop (c.saved p) took) ≤ k test;
+        of : Of c (c.world.saved p) took;
+        few : (test : Message → Bool) → how_many test (drop (c.world.saved p) took) ≤ k test;
         new : (test : Message → Bool) → how_many test (receipts c p) ≤ k test;
         frozen : (q : ℕ) → c.stage q ≡ Frozen → c.greeted q ≡ true;
       }
 
-  names-more : (c : Cluster) (saved : ℕ) (took : List Message) → Of c saved took → (m q ssn : ℕ) → Names (c.history p) m q ssn → Names took m q ssn
+  names-more : (c : Cluster) (saved : ℕ) (took : List Message) → Of c saved took → (m q ssn : ℕ) → Names (c.world.history p) m q ssn → Names took m q ssn
   names-more c saved took h m q ssn n = record { message = n.message; at = h.begins m n.message n.at; sender = n.sender; ssn = n.ssn }
 
   module _ (c : Cluster) (b : Beside) (agrees : Agrees c b) (lawful : Lawful (world c b)) where
     -- where p is up, these are the messages that it received
-    of-well : p ≤ c.count → is_well c p ≡ true → Of c (c.saved p) (c.history p)
+    of-well : p ≤ c.world.count → is_well c p ≡ true → Of c (c.world.saved p) (c.world.history p)
     of-well pa well =
         record {
           begins = λ m x e. e;
@@ -132,106 +132,106 @@ module _ (p : ℕ) where
         collecting : c.stage p ≡ Collecting → ⊥
         collecting s = true-not-false well (not-well-collecting c b agrees p s)
 
-        so-far : (q ssn m : ℕ) → restored_so_far c q p ssn ≡ Some m → Names (c.history p) m q ssn
+        so-far : (q ssn m : ℕ) → restored_so_far c q p ssn ≡ Some m → Names (c.world.history p) m q ssn
         so-far q ssn m = split (nat_lt 0 ssn && nat_le ssn (c.restoring q p))
           where
-            split : (t : Bool) → (if t then rsn_of (c.history p) q ssn else None) ≡ Some m → Names (c.history p) m q ssn
-            split true g = names-found (c.history p) q ssn m g
+            split : (t : Bool) → (if t then rsn_of (c.world.history p) q ssn else None) ≡ Some m → Names (c.world.history p) m q ssn
+            split true g = names-found (c.world.history p) q ssn m g
             split false g = absurd (cc)
 
-    module _ (took : List Message) (h : Of c (c.saved p) took) where
+    module _ (took : List Message) (h : Of c (c.world.saved p) took) where
       -- other numbers in logs: each was there, or names what p received
-      numbered : (numbers : ℕ → ℕ → ℕ → Option ℕ) → ((q ssn m : ℕ) → numbers q p ssn ≡ Some m → (c.numbers q p ssn ≡ Some m) ⊎ Names (c.history p) m q ssn) → (q ssn m : ℕ) → q ≤ c.count → q ≢ p → numbers q p ssn ≡ Some m → c.saved p < m → Names took m q ssn
-      numbered numbers old q ssn m qa ne e low = elim (old q ssn m e) [ inl y ↦ h.numbers q ssn m qa ne y low | inr y ↦ names-more c (c.saved p) took h m q ssn y ]
+      numbered : (numbers : ℕ → ℕ → ℕ → Option ℕ) → ((q ssn m : ℕ) → numbers q p ssn ≡ Some m → (c.world.numbers q p ssn ≡ Some m) ⊎ Names (c.world.history p) m q ssn) → (q ssn m : ℕ) → q ≤ c.world.count → q ≢ p → numbers q p ssn ≡ Some m → c.world.saved p < m → Names took m q ssn
+      numbered numbers old q ssn m qa ne e low = elim (old q ssn m e) [ inl y ↦ h.numbers q ssn m qa ne y low | inr y ↦ names-more c (c.world.saved p) took h m q ssn y ]
 
       -- a page that is put out
-      puts : (r d : ℕ) (x : Body) → May c (Puts r d x) → Of (does c (Puts r d x)) (c.saved p) took
+      puts : (r d : ℕ) (x : Body) → May c (Puts r d x) → Of (does c (Puts r d x)) (c.world.saved p) took
       puts r d x may =
           record { begins = h.begins; numbers = h.numbers; told = λ q i j k u f a s e. elim a [ inl y ↦ page q i j k u f y | inr y ↦ h.told q i j k u f y s e ]; collected = h.collected }
         where
-          page : (q i j k : ℕ) (u : Option ℕ) (f : ℕ → Option Message) → parcel q p (Told i j k u f) ≡ parcel r d x → ((v : ℕ) → u ≡ Some v → k < v) × ((m : ℕ) (y : Message) → k < m → reaches u m ≡ true → f m ≡ Some y → c.saved p < m → Names took m q y.ssn)
+          page : (q i j k : ℕ) (u : Option ℕ) (f : ℕ → Option Message) → parcel q p (Told i j k u f) ≡ parcel r d x → ((v : ℕ) → u ≡ Some v → k < v) × ((m : ℕ) (y : Message) → k < m → reaches u m ≡ true → f m ≡ Some y → c.world.saved p < m → Names took m q y.ssn)
           page q i j k u f y =
-              let P : Parcel → Type 0 = λ z. (z.from ≤ c.count) × (z.to ≤ c.count) × (z.from ≢ z.to) × MayPut c z.from z.to z.body in
-              let t : (q ≤ c.count) × (p ≤ c.count) × (q ≢ p) × MayPut c q p (Told i j k u f) = subst P (sym y) may in
+              let P : Parcel → Type 0 = λ z. (z.from ≤ c.world.count) × (z.to ≤ c.world.count) × (z.from ≢ z.to) × MayPut c z.from z.to z.body in
+              let t : (q ≤ c.world.count) × (p ≤ c.world.count) × (q ≢ p) × MayPut c q p (Told i j k u f) = subst P (sym y) may in
               (t.3.3, λ m z above far g low. entry m q z t.0 t.2 low (sym (t.3.4 m above far) ∙ g))
             where
-              entry : (m q : ℕ) (z : Message) → q ≤ c.count → q ≢ p → c.saved p < m → entry_of c q p m ≡ Some z → Names took m q z.ssn
+              entry : (m q : ℕ) (z : Message) → q ≤ c.world.count → q ≢ p → c.world.saved p < m → entry_of c q p m ≡ Some z → Names took m q z.ssn
               entry m q z qa ne low g =
-                  let r = first_below-at (logged_as (seen c) p m q) (suc (length (sent (seen c) q p))) z g in
-                  let t = logged_as-at (seen c) p m q r.0 z r.2 in
+                  let r = first_below-at (logged_as c.world p m q) (suc (length (sent c.world q p))) z g in
+                  let t = logged_as-at c.world p m q r.0 z r.2 in
                   let P : ℕ → Type 0 = λ i. Names took m q i in
                   subst P (sym t.3) (h.numbers q r.0 m qa ne t.1 low)
 
       -- p is in another stage, and doesn't collect
-      restages : (r : ℕ) (x : Stage) → (x ≡ Collecting → ⊥) → Of (record c { stage = put c.stage r x }) (c.saved p) took
+      restages : (r : ℕ) (x : Stage) → (x ≡ Collecting → ⊥) → Of (record c { stage = put c.stage r x }) (c.world.saved p) took
       restages r x other =
           let back : put c.stage r x p ≡ Collecting → c.stage p ≡ Collecting = choose r (λ j t. (if t then x else c.stage j) ≡ Collecting → c.stage j ≡ Collecting) (λ e. absurd (other e)) (λ j _ e. e) p in
           record { begins = h.begins; numbers = h.numbers; told = λ q i j k u f a s e. h.told q i j k u f a (back s) e; collected = λ q s. h.collected q (back s) }
 
-      records : (r s i ssn k : ℕ) → May c (Arrives r s (Number i ssn k)) → Of (does c (Arrives r s (Number i ssn k))) (c.saved p) took
+      records : (r s i ssn k : ℕ) → May c (Arrives r s (Number i ssn k)) → Of (does c (Arrives r s (Number i ssn k))) (c.world.saved p) took
       records r s i ssn k may =
           record {
             begins = h.begins;
-            numbers = numbered (does c (Arrives r s (Number i ssn k))).numbers (λ x j m e. choose2 s r (λ y z t. (if t then put (c.numbers s r) ssn (Some k) else c.numbers y z) j ≡ Some m → (c.numbers y z j ≡ Some m) ⊎ Names (c.history z) m y j)
-                (λ f. choose ssn (λ n t. (if t then Some k else c.numbers s r n) ≡ Some m → (c.numbers s r n ≡ Some m) ⊎ Names (c.history r) m s n)
-                (λ g. let same : k ≡ m = cc in let P : ℕ → Type 0 = λ n. Names (c.history r) n s ssn in inr (subst P same (names c b r s i ssn k agrees lawful may))) (λ n _ g. inl g) j f)
+            numbers = numbered (does c (Arrives r s (Number i ssn k))).world.numbers (λ x j m e. choose2 s r (λ y z t. (if t then put (c.world.numbers s r) ssn (Some k) else c.world.numbers y z) j ≡ Some m → (c.world.numbers y z j ≡ Some m) ⊎ Names (c.world.history z) m y j)
+                (λ f. choose ssn (λ n t. (if t then Some k else c.world.numbers s r n) ≡ Some m → (c.world.numbers s r n ≡ Some m) ⊎ Names (c.world.history r) m s n)
+                (λ g. let same : k ≡ m = cc in let P : ℕ → Type 0 = λ n. Names (c.world.history r) n s ssn in inr (subst P same (names c b r s i ssn k agrees lawful may))) (λ n _ g. inl g) j f)
                 (λ y z _ f. inl f) x p e);
             told = λ q i' j k' u f a t e. elim a [ inl y ↦ absurd (let z : true ≡ false = ap (λ (x : Parcel). is_told x.body) y in cc) | inr y ↦ h.told q i' j k' u f y t e ];
             collected = h.collected;
           }
 
       -- what one told is forgotten
-      hears : (u v i k : ℕ) → Of (does c (Arrives u v (Ask i k))) (c.saved p) took
+      hears : (u v i k : ℕ) → Of (does c (Arrives u v (Ask i k))) (c.world.saved p) took
       hears u v i k =
           record { begins = h.begins; numbers = h.numbers; told = h.told; collected = λ q s. forgets q ((p == v) && (q == u)) (h.collected q s) }
         where
-          forgets : (q : ℕ) (t : Bool) → IsOf (c.saved p) took q (c.told p q) → IsOf (c.saved p) took q (if t then None else c.told p q)
+          forgets : (q : ℕ) (t : Bool) → IsOf (c.world.saved p) took q (c.told p q) → IsOf (c.world.saved p) took q (if t then None else c.told p q)
           forgets q true y = tt
           forgets q false y = y
 
       -- one page more
-      page-of : (q k : ℕ) (u : Option ℕ) (f : ℕ → Option Message) (o : Option Collected) → Asks (c.saved p) o k → IsOf (c.saved p) took q o → ((v : ℕ) → u ≡ Some v → k < v)
-          → ((m : ℕ) (x : Message) → k < m → reaches u m ≡ true → f m ≡ Some x → c.saved p < m → Names took m q x.ssn) → IsOf (c.saved p) took q (Some (with_page o k u f))
-      page-of q k u f o asks old ahead is = record { past = λ v e. let l : c.saved p ≤ k = low o asks old in let a : k < v = ahead v e in omega arith; names = λ m x far e. split (nat_le m k) m refl x far e }
+      page-of : (q k : ℕ) (u : Option ℕ) (f : ℕ → Option Message) (o : Option Collected) → Asks (c.world.saved p) o k → IsOf (c.world.saved p) took q o → ((v : ℕ) → u ≡ Some v → k < v)
+          → ((m : ℕ) (x : Message) → k < m → reaches u m ≡ true → f m ≡ Some x → c.world.saved p < m → Names took m q x.ssn) → IsOf (c.world.saved p) took q (Some (with_page o k u f))
+      page-of q k u f o asks old ahead is = record { past = λ v e. let l : c.world.saved p ≤ k = low o asks old in let a : k < v = ahead v e in omega arith; names = λ m x far e. split (nat_le m k) m refl x far e }
         where
-          low : (o : Option Collected) → Asks (c.saved p) o k → IsOf (c.saved p) took q o → c.saved p ≤ k
+          low : (o : Option Collected) → Asks (c.world.saved p) o k → IsOf (c.world.saved p) took q o → c.world.saved p ≤ k
           low None asks old = omega arith
-          low (Some t) asks old = let l : c.saved p < k = old.past k asks in omega arith
+          low (Some t) asks old = let l : c.world.saved p < k = old.past k asks in omega arith
 
-          before : (o : Option Collected) → Asks (c.saved p) o k → IsOf (c.saved p) took q o → (m : ℕ) (x : Message) → nat_le m k ≡ true → entry_in o m ≡ Some x → (c.saved p < m) × Names took m q x.ssn
+          before : (o : Option Collected) → Asks (c.world.saved p) o k → IsOf (c.world.saved p) took q o → (m : ℕ) (x : Message) → nat_le m k ≡ true → entry_in o m ≡ Some x → (c.world.saved p < m) × Names took m q x.ssn
           before None asks old m x l e = absurd (cc)
           before (Some t) asks old m x l e = old.names m x (rw asks l) e
 
-          split : (t : Bool) → (m : ℕ) → nat_le m k ≡ t → (x : Message) → reaches u m ≡ true → (if t then entry_in o m else f m) ≡ Some x → (c.saved p < m) × Names took m q x.ssn
+          split : (t : Bool) → (m : ℕ) → nat_le m k ≡ t → (x : Message) → reaches u m ≡ true → (if t then entry_in o m else f m) ≡ Some x → (c.world.saved p < m) × Names took m q x.ssn
           split true m l x far e = before o asks old m x l e
-          split false m l x far e = let a : k < m = grind (arith, nat_tests) in let z : c.saved p ≤ k = low o asks old in (omega arith, is m x a far e (omega arith))
+          split false m l x far e = let a : k < m = grind (arith, nat_tests) in let z : c.world.saved p ≤ k = low o asks old in (omega arith, is m x a far e (omega arith))
 
-      collects : (r v i j k : ℕ) (u : Option ℕ) (f : ℕ → Option Message) → May c (Arrives r v (Told i j k u f)) → Of (does c (Arrives r v (Told i j k u f))) (c.saved p) took
+      collects : (r v i j k : ℕ) (u : Option ℕ) (f : ℕ → Option Message) → May c (Arrives r v (Told i j k u f)) → Of (does c (Arrives r v (Told i j k u f))) (c.world.saved p) took
       collects r v i j k u f may =
           record { begins = h.begins; numbers = h.numbers; told = h.told; collected = λ q s. split q (p == v) refl (q == r) refl s }
         where
-          split : (q : ℕ) (t : Bool) → (p == v) ≡ t → (w : Bool) → (q == r) ≡ w → c.stage p ≡ Collecting → IsOf (c.saved p) took q (if t && w then Some (with_page (c.told v r) k u f) else c.told p q)
+          split : (q : ℕ) (t : Bool) → (p == v) ≡ t → (w : Bool) → (q == r) ≡ w → c.stage p ≡ Collecting → IsOf (c.world.saved p) took q (if t && w then Some (with_page (c.told v r) k u f) else c.told p q)
           split q false e w g s = h.collected q s
           split q true e false g s = h.collected q s
           split q true e true g s =
               let same : v ≡ p = grind (arith, nat_tests) in
               let here : r ≡ q = grind (arith, nat_tests) in
-              let P : ℕ → ℕ → Type 0 = λ x y. In (parcel y x (Told i j k u f)) c.parcels × (i ≡ c.stored x) × Asks (c.saved x) (c.told x y) k in
+              let P : ℕ → ℕ → Type 0 = λ x y. In (parcel y x (Told i j k u f)) c.parcels × (i ≡ c.stored x) × Asks (c.world.saved x) (c.told x y) k in
               let Q : ℕ → Type 0 = λ x. P x r in
               let R : ℕ → Type 0 = λ y. P p y in
               let t : P p q = subst R here (subst Q same (may.0, may.1.1, may.1.3)) in
               let m = h.told q i j k u f t.0 s t.1 in
-              let S : ℕ → ℕ → Type 0 = λ x y. IsOf (c.saved p) took q (Some (with_page (c.told x y) k u f)) in
+              let S : ℕ → ℕ → Type 0 = λ x y. IsOf (c.world.saved p) took q (Some (with_page (c.told x y) k u f)) in
               let U : ℕ → Type 0 = λ x. S x r in
               let V : ℕ → Type 0 = λ y. S p y in
               subst U (sym same) (subst V (sym here) (page-of q k u f (c.told p q) t.2 (h.collected q s) m.0 m.1))
 
       -- p keeps the first of what it had
-      recovers : (r n : ℕ) → May c (Recovers r n) → Of (taken_back c r n) (c.saved p) took
+      recovers : (r n : ℕ) → May c (Recovers r n) → Of (taken_back c r n) (c.world.saved p) took
       recovers r n may =
           record {
             begins = λ m x e. h.begins m x (kept (p == r) refl m x e);
-            numbers = λ q ssn m qa ne e low. h.numbers q ssn m qa ne (choose r (λ j t. (if t then (λ (a i : ℕ). None) else c.numbers j) p ssn ≡ Some m → c.numbers j p ssn ≡ Some m) (λ f. absurd (cc)) (λ j _ f. f) q e) low;
+            numbers = λ q ssn m qa ne e low. h.numbers q ssn m qa ne (choose r (λ j t. (if t then (λ (a i : ℕ). None) else c.world.numbers j) p ssn ≡ Some m → c.world.numbers j p ssn ≡ Some m) (λ f. absurd (cc)) (λ j _ f. f) q e) low;
             told = λ q i j k u f a s e. h.told q i j k u f a (back s) e;
             collected = λ q s. again (p == r) q s;
           }
@@ -239,55 +239,55 @@ module _ (p : ℕ) where
           back : put c.stage r Live p ≡ Collecting → c.stage p ≡ Collecting
           back = choose r (λ j t. (if t then Live else c.stage j) ≡ Collecting → c.stage j ≡ Collecting) (λ e. absurd (cc)) (λ j _ e. e) p
 
-          kept : (t : Bool) → (p == r) ≡ t → (m : ℕ) (x : Message) → nth (if t then kept_by c r n else c.history p) m ≡ Some x → nth (c.history p) m ≡ Some x
+          kept : (t : Bool) → (p == r) ≡ t → (m : ℕ) (x : Message) → nth (if t then kept_by c r n else c.world.history p) m ≡ Some x → nth (c.world.history p) m ≡ Some x
           kept false e m x f = f
           kept true e m x f =
               let same : r ≡ p = grind (arith, nat_tests) in
               let P : List Message → Type 0 = λ z. nth z m ≡ Some x in
-              let Q : ℕ → Type 0 = λ j. nth (c.history j) m ≡ Some x in
-              subst Q same (nth-take (c.history r) n m x (subst P (kept-is c b r n agrees lawful may) f))
+              let Q : ℕ → Type 0 = λ j. nth (c.world.history j) m ≡ Some x in
+              subst Q same (nth-take (c.world.history r) n m x (subst P (kept-is c b r n agrees lawful may) f))
 
-          again : (t : Bool) (q : ℕ) → (if t then Live else c.stage p) ≡ Collecting → IsOf (c.saved p) took q ((if t then (λ (i : ℕ). None) else c.told p) q)
+          again : (t : Bool) (q : ℕ) → (if t then Live else c.stage p) ≡ Collecting → IsOf (c.world.saved p) took q ((if t then (λ (i : ℕ). None) else c.told p) q)
           again true q s = tt
           again false q s = h.collected q s
 
       -- numbers above k are forgotten
-      obeys : (u v i k s : ℕ) → Of (does c (Arrives u v (Resume i k s))) (c.saved p) took
+      obeys : (u v i k s : ℕ) → Of (does c (Arrives u v (Resume i k s))) (c.world.saved p) took
       obeys u v i k s =
           record {
             begins = h.begins;
-            numbers = numbered (does c (Arrives u v (Resume i k s))).numbers (λ x j m e. choose2 v u (λ y z t. (if t then (λ n. up_to k (c.numbers v u n)) else c.numbers y z) j ≡ Some m → (c.numbers y z j ≡ Some m) ⊎ Names (c.history z) m y j)
-                (λ f. inl (up_to-is k m (c.numbers v u j) f).0) (λ y z _ f. inl f) x p e);
+            numbers = numbered (does c (Arrives u v (Resume i k s))).world.numbers (λ x j m e. choose2 v u (λ y z t. (if t then (λ n. up_to k (c.world.numbers v u n)) else c.world.numbers y z) j ≡ Some m → (c.world.numbers y z j ≡ Some m) ⊎ Names (c.world.history z) m y j)
+                (λ f. inl (up_to-is k m (c.world.numbers v u j) f).0) (λ y z _ f. inl f) x p e);
             told = h.told;
             collected = h.collected;
           }
 
       -- a page of numbers arrives: those under which q has the messages of r
-      enters : (q r i j n s : ℕ) (u : Option ℕ) (f : ℕ → Option ℕ) → In (parcel q r (Restored i j n s u f)) c.parcels → i ≡ c.life r → has (todo_of (c.phase r)) q ≡ true → Of (record c { numbers = put2 c.numbers r q (entered c r q s u f) }) (c.saved p) took
+      enters : (q r i j n s : ℕ) (u : Option ℕ) (f : ℕ → Option ℕ) → In (parcel q r (Restored i j n s u f)) c.parcels → i ≡ c.world.incarnation r → has (todo_of (c.world.phase r)) q ≡ true → Of (record c { world = record c.world { numbers = put2 c.world.numbers r q (entered c r q s u f) } }) (c.world.saved p) took
       enters q r i j n s u f a now has_ =
           record {
             begins = h.begins;
-            numbers = numbered (put2 c.numbers r q (entered c r q s u f)) (λ x y m e. choose2 r q (λ z w t. (if t then entered c r q s u f else c.numbers z w) y ≡ Some m → (c.numbers z w y ≡ Some m) ⊎ Names (c.history w) m z y)
+            numbers = numbered (put2 c.world.numbers r q (entered c r q s u f)) (λ x y m e. choose2 r q (λ z w t. (if t then entered c r q s u f else c.world.numbers z w) y ≡ Some m → (c.world.numbers z w y ≡ Some m) ⊎ Names (c.world.history w) m z y)
                 (entry y m (nat_lt s y) refl (reaches u y) refl) (λ z w _ g. inl g) x p e);
             told = h.told;
             collected = h.collected;
           }
         where
           unback : is_back c r ≡ false
-          unback = rw (resync-phase (c.phase r) q has_).1 refl
+          unback = rw (resync-phase (c.world.phase r) q has_).1 refl
 
-          entry : (y m : ℕ) (t : Bool) → nat_lt s y ≡ t → (w : Bool) → reaches u y ≡ w → (if t && w then f y else c.numbers r q y) ≡ Some m → (c.numbers r q y ≡ Some m) ⊎ Names (c.history q) m r y
+          entry : (y m : ℕ) (t : Bool) → nat_lt s y ≡ t → (w : Bool) → reaches u y ≡ w → (if t && w then f y else c.world.numbers r q y) ≡ Some m → (c.world.numbers r q y ≡ Some m) ⊎ Names (c.world.history q) m r y
           entry y m false e w g o = inl o
           entry y m true e false g o = inl o
-          entry y m true e true g o = inr (names-found (c.history q) r y m (sym (((agrees.parcels q r (Restored i j n s u f) a).3.now now unback).2 y (grind (arith, nat_tests)) g) ∙ o))
+          entry y m true e true g o = inr (names-found (c.world.history q) r y m (sym (((agrees.parcels q r (Restored i j n s u f) a).3.now now unback).2 y (grind (arith, nat_tests)) g) ∙ o))
 
       -- what was told before p was opened is to an earlier incarnation
-      opens : (r n : ℕ) → Of (does c (Opens r n)) (c.saved p) took
+      opens : (r n : ℕ) → Of (does c (Opens r n)) (c.world.saved p) took
       opens r n =
           record { begins = h.begins; numbers = h.numbers; told = λ q i j k u f a s e. later q i j k u f a (p == r) refl s e; collected = λ q s. new (p == r) q s }
         where
           later : (q i j k : ℕ) (u : Option ℕ) (f : ℕ → Option Message) → In (parcel q p (Told i j k u f)) c.parcels → (t : Bool) → (p == r) ≡ t → (if t then Collecting else c.stage p) ≡ Collecting → i ≡ (if t then suc (n + c.stored r) else c.stored p)
-              → ((v : ℕ) → u ≡ Some v → k < v) × ((m : ℕ) (x : Message) → k < m → reaches u m ≡ true → f m ≡ Some x → c.saved p < m → Names took m q x.ssn)
+              → ((v : ℕ) → u ≡ Some v → k < v) × ((m : ℕ) (x : Message) → k < m → reaches u m ≡ true → f m ≡ Some x → c.world.saved p < m → Names took m q x.ssn)
           later q i j k u f a false e s g = h.told q i j k u f a s g
           later q i j k u f a true e s g =
               let same : p ≡ r = grind (arith, nat_tests) in
@@ -296,19 +296,19 @@ module _ (p : ℕ) where
               let m : i ≤ c.stored r = subst P same l in
               absurd (omega arith)
 
-          new : (t : Bool) (q : ℕ) → (if t then Collecting else c.stage p) ≡ Collecting → IsOf (c.saved p) took q ((if t then (λ (i : ℕ). None) else c.told p) q)
+          new : (t : Bool) (q : ℕ) → (if t then Collecting else c.stage p) ≡ Collecting → IsOf (c.world.saved p) took q ((if t then (λ (i : ℕ). None) else c.told p) q)
           new true q s = tt
           new false q s = h.collected q s
 
       -- another works, or has a durable checkpoint
-      works : (r : ℕ) (m : Message) → (p == r) ≡ false → Of (does c (Works r m)) (c.saved p) took
-      works r m e = let P : List Message → Type 0 = λ z. (m : ℕ) (x : Message) → nth z m ≡ Some x → nth took m ≡ Some x in record { begins = subst P (unput r (c.history r ++ m ∷ []) e) h.begins; numbers = h.numbers; told = h.told; collected = h.collected }
+      works : (r : ℕ) (m : Message) → (p == r) ≡ false → Of (does c (Works r m)) (c.world.saved p) took
+      works r m e = let P : List Message → Type 0 = λ z. (m : ℕ) (x : Message) → nth z m ≡ Some x → nth took m ≡ Some x in record { begins = subst P (unput r (c.world.history r ++ m ∷ []) e) h.begins; numbers = h.numbers; told = h.told; collected = h.collected }
         where
-          unput : (r : ℕ) (x : List Message) → (p == r) ≡ false → c.history p ≡ put c.history r x p
+          unput : (r : ℕ) (x : List Message) → (p == r) ≡ false → c.world.history p ≡ put c.world.history r x p
           unput r x e = rw e refl
 
-      keeps : (r : ℕ) → (p == r) ≡ false → Of (does c (Keeps r)) ((does c (Keeps r)).saved p) took
-      keeps r e = let P : ℕ → Type 0 = λ z. Of (does c (Keeps r)) z took in let same : c.saved p ≡ put c.saved r (length (c.history r)) p = rw e refl in subst P same record { begins = h.begins; numbers = h.numbers; told = h.told; collected = h.collected }
+      keeps : (r : ℕ) → (p == r) ≡ false → Of (does c (Keeps r)) ((does c (Keeps r)).world.saved p) took
+      keeps r e = let P : ℕ → Type 0 = λ z. Of (does c (Keeps r)) z took in let same : c.world.saved p ≡ put c.world.saved r (length (c.world.history r)) p = rw e refl in subst P same record { begins = h.begins; numbers = h.numbers; told = h.told; collected = h.collected }
 
     -- whether the act is that p takes a message, or that a checkpoint of p becomes durable: then p is up
     abbrev renews : Act → Bool
@@ -317,16 +317,16 @@ module _ (p : ℕ) where
     renews a = false
 
     -- all others leave such messages
-    of-step : (took : List Message) → Of c (c.saved p) took → (a : Act) → May c a → renews a ≡ false → Of (does c a) ((does c a).saved p) took
+    of-step : (took : List Message) → Of c (c.world.saved p) took → (a : Act) → May c a → renews a ≡ false → Of (does c a) ((does c a).world.saved p) took
     of-step took h (Arrives q r (Restored i j n s (Some u) f)) may e = enters took h q r i j n s (Some u) f may.0 may.1.2 may.1.3
     of-step took h (Puts r d x) may e = puts took h r d x may
     of-step took h (Arrives q zero (Delivery i ssn x)) may e = h
     of-step took h (Works r m) may e = works took h r m e
-    of-step took h (Replays r j) may e = either-way (nat_lt (c.saved r + suc j) (length (c.history r))) _ _ (λ v. Of v (v.saved p) took) h h
+    of-step took h (Replays r j) may e = either-way (nat_lt (c.world.saved r + suc j) (length (c.world.history r))) _ _ (λ v. Of v (v.world.saved p) took) h h
     of-step took h (Arrives r s (Number i ssn k)) may e = records took h r s i ssn k may
     of-step took h (Arrives u v (Ask i k)) may e = hears took h u v i k
     of-step took h (Arrives r v (Told i j k u f)) may e = collects took h r v i j k u f may
-    of-step took h (Recovers r n) may e = either-way (nat_lt (c.saved r) n) _ _ (λ v. Of v (v.saved p) took) (recovers took h r n may) (recovers took h r n may)
+    of-step took h (Recovers r n) may e = either-way (nat_lt (c.world.saved r) n) _ _ (λ v. Of v (v.world.saved p) took) (recovers took h r n may) (recovers took h r n may)
     of-step took h (Arrives u v (Resume i k s)) may e = obeys took h u v i k s
     of-step took h (Arrives (suc q) r (Restored i j n s None f)) may e = enters took h (suc q) r i j n s None f may.0 may.1.2 may.1.3
     of-step took h (Freezes r) may e = restages took h r Frozen (λ y. cc)
@@ -336,12 +336,12 @@ module _ (p : ℕ) where
     of-step took h (Opens r n) may e = opens took h r n
     of-step took h act may e = h
 
-    few-step : (took : List Message) (k : (Message → Bool) → ℕ) → ((test : Message → Bool) → how_many test (drop (c.saved p) took) ≤ k test) → (a : Act) → renews a ≡ false → (test : Message → Bool) → how_many test (drop ((does c a).saved p) took) ≤ counts test p a (k test)
+    few-step : (took : List Message) (k : (Message → Bool) → ℕ) → ((test : Message → Bool) → how_many test (drop (c.world.saved p) took) ≤ k test) → (a : Act) → renews a ≡ false → (test : Message → Bool) → how_many test (drop ((does c a).world.saved p) took) ≤ counts test p a (k test)
     few-step took k h (Arrives q r (Restored i j n s (Some u) f)) e test = h test
     few-step took k h (Arrives q zero (Delivery i ssn x)) e test = h test
     few-step took k h (Works r m) e test = rw e (h test)
-    few-step took k h (Replays r j) e test = either-way (nat_lt (c.saved r + suc j) (length (c.history r))) _ _ (λ v. how_many test (drop (v.saved p) took) ≤ k test) (h test) (h test)
-    few-step took k h (Recovers r n) e test = either-way (nat_lt (c.saved r) n) _ _ (λ v. how_many test (drop (v.saved p) took) ≤ k test) (h test) (h test)
+    few-step took k h (Replays r j) e test = either-way (nat_lt (c.world.saved r + suc j) (length (c.world.history r))) _ _ (λ v. how_many test (drop (v.world.saved p) took) ≤ k test) (h test) (h test)
+    few-step took k h (Recovers r n) e test = either-way (nat_lt (c.world.saved r) n) _ _ (λ v. how_many test (drop (v.world.saved p) took) ≤ k test) (h test) (h test)
     few-step took k h (Arrives zero r (Restored i j n s None f)) e test = h test
     few-step took k h (Keeps r) e test = rw e (h test)
     few-step took k h act e test = h test
@@ -350,10 +350,10 @@ module _ (p : ℕ) where
     frozen-step : ((q : ℕ) → c.stage q ≡ Frozen → c.greeted q ≡ true) → (a : Act) → May c a → (q : ℕ) → (does c a).stage q ≡ Frozen → (does c a).greeted q ≡ true
     frozen-step h (Arrives q r (Restored i j n s (Some u) f)) may = h
     frozen-step h (Arrives q zero (Delivery i ssn x)) may = h
-    frozen-step h (Replays r j) may = either-way (nat_lt (c.saved r + suc j) (length (c.history r))) _ _ (λ v. (q : ℕ) → v.stage q ≡ Frozen → v.greeted q ≡ true) h h
+    frozen-step h (Replays r j) may = either-way (nat_lt (c.world.saved r + suc j) (length (c.world.history r))) _ _ (λ v. (q : ℕ) → v.stage q ≡ Frozen → v.greeted q ≡ true) h h
     frozen-step h (Recovers r n) may =
         let lives : (q : ℕ) → (taken_back c r n).stage q ≡ Frozen → (taken_back c r n).greeted q ≡ true = choose r (λ j t. (if t then Live else c.stage j) ≡ Frozen → (if t then false else c.greeted j) ≡ true) (λ e. absurd (cc)) (λ j _. h j) in
-        either-way (nat_lt (c.saved r) n) _ _ (λ v. (q : ℕ) → v.stage q ≡ Frozen → v.greeted q ≡ true) lives lives
+        either-way (nat_lt (c.world.saved r) n) _ _ (λ v. (q : ℕ) → v.stage q ≡ Frozen → v.greeted q ≡ true) lives lives
     frozen-step h (Arrives zero r (Restored i j n s None f)) may = choose r (λ j t. c.stage j ≡ Frozen → (if t then true else c.greeted j) ≡ true) (λ _. refl) (λ j _. h j)
     frozen-step h (Freezes r) may = choose r (λ j t. (if t then Frozen else c.stage j) ≡ Frozen → c.greeted j ≡ true) (λ _. (takes-is c r may.1).1) (λ j _. h j)
     frozen-step h (Thaws r) may = choose r (λ j t. (if t then Live else c.stage j) ≡ Frozen → c.greeted j ≡ true) (λ e. absurd (cc)) (λ j _. h j)
@@ -368,7 +368,7 @@ module _ (p : ℕ) where
         let t = takes-is c r may.1 in
         let P : ℕ → Type 0 = λ j. (runs (c.stage j) ≡ true) × (c.greeted j ≡ true) in
         let w : (runs (c.stage p) ≡ true) × (c.greeted p ≡ true) = subst P same (ap runs t.0, t.1) in
-        is-well (does c (Works r m)) p w.0 w.1 (let Q : Bool → Type 0 = λ z. is_up (if z then Up else c.phase p) ≡ true in subst Q (sym e) refl)
+        is-well (does c (Works r m)) p w.0 w.1 (let Q : Bool → Type 0 = λ z. is_up (if z then Up else c.world.phase p) ≡ true in subst Q (sym e) refl)
     renews-well frozen (Keeps r) may e =
         let same : r ≡ p = grind (arith, nat_tests) in
         let P : ℕ → Type 0 = λ j. c.stage j ≡ Frozen in
@@ -378,7 +378,7 @@ module _ (p : ℕ) where
     renews-well frozen (Arrives zero r (Restored i j n s None f)) may e = absurd (cc)
     renews-well frozen act may e = absurd (cc)
 
-  fresh-step : (c : Cluster) (h : Holds c) (a : Act) (may : May c a) (v : Holds (does c a)) → p ≤ (does c a).count → (k : (Message → Bool) → ℕ) → Fresh c k → Fresh (does c a) (λ test. counts test p a (k test))
+  fresh-step : (c : Cluster) (h : Holds c) (a : Act) (may : May c a) (v : Holds (does c a)) → p ≤ (does c a).world.count → (k : (Message → Bool) → ℕ) → Fresh c k → Fresh (does c a) (λ test. counts test p a (k test))
   fresh-step c h a may v pa k f = split (renews c h.beside h.agrees h.lawful a) refl
     where
       new : (test : Message → Bool) → how_many test (receipts (does c a) p) ≤ counts test p a (k test)
@@ -387,7 +387,7 @@ module _ (p : ℕ) where
       split : (t : Bool) → renews c h.beside h.agrees h.lawful a ≡ t → Fresh (does c a) (λ test. counts test p a (k test))
       split true e =
           let well : is_well (does c a) p ≡ true = renews-well c h.beside h.agrees h.lawful f.frozen a may e in
-          record { took = (does c a).history p; of = of-well (does c a) v.beside v.agrees v.lawful pa well; few = new; new = new; frozen = frozen-step c h.beside h.agrees h.lawful f.frozen a may }
+          record { took = (does c a).world.history p; of = of-well (does c a) v.beside v.agrees v.lawful pa well; few = new; new = new; frozen = frozen-step c h.beside h.agrees h.lawful f.frozen a may }
       split false e =
           record {
             took = f.took;
@@ -397,29 +397,29 @@ module _ (p : ℕ) where
             frozen = frozen-step c h.beside h.agrees h.lawful f.frozen a may;
           }
 
-  fresh-run : (c : Cluster) (acts : List Act) → c.count ≤ 15 → p ≤ c.count → Holds c → Run c acts → (k : (Message → Bool) → ℕ) → Fresh c k → Fresh (after_run c acts) (λ test. taken_since test p (k test) acts)
+  fresh-run : (c : Cluster) (acts : List Act) → c.world.count ≤ 15 → p ≤ c.world.count → Holds c → Run c acts → (k : (Message → Bool) → ℕ) → Fresh c k → Fresh (after_run c acts) (λ test. taken_since test p (k test) acts)
   fresh-run c [] n pa h r k f = f
   fresh-run c (a ∷ acts) n pa h r k f =
       let s = step-holds c a n h r.0 in
-      let e : (does c a).count ≡ c.count = does-count c a in
+      let e : (does c a).world.count ≡ c.world.count = does-count c a in
       fresh-run (does c a) acts s.1 (omega arith) s.0 r.1 (λ test. counts test p a (k test)) (fresh-step c h a r.0 s.0 (omega arith) k f)
 
 -- so of each peer it holds no more than it took of that one
-few-held : (c : Cluster) (p q k : ℕ) (took : List Message) → IsOf (c.saved p) took q (c.told p q) → count_below (holds (c.told p q)) k ≤ how_many (is_of q) (drop (c.saved p) took)
-few-held c p q k took is = few-numbers (is_of q) (c.saved p) took (holds (c.told p q)) (each (c.told p q) is) k
+few-held : (c : Cluster) (p q k : ℕ) (took : List Message) → IsOf (c.world.saved p) took q (c.told p q) → count_below (holds (c.told p q)) k ≤ how_many (is_of q) (drop (c.world.saved p) took)
+few-held c p q k took is = few-numbers (is_of q) (c.world.saved p) took (holds (c.told p q)) (each (c.told p q) is) k
   where
-    each : (o : Option Collected) → IsOf (c.saved p) took q o → (m : ℕ) → holds o m ≡ true → (c.saved p < m) × (x : Message) × (nth took m ≡ Some x) × (is_of q x ≡ true)
+    each : (o : Option Collected) → IsOf (c.world.saved p) took q o → (m : ℕ) → holds o m ≡ true → (c.world.saved p < m) × (x : Message) × (nth took m ≡ Some x) × (is_of q x ≡ true)
     each None is m e = absurd (cc)
     each (Some t) is m e = let y = both (reaches t.upto m) (is_some (t.entries m)) e in entry (t.entries m) refl y.1 y.0
       where
-        entry : (o : Option Message) → t.entries m ≡ o → is_some o ≡ true → reaches t.upto m ≡ true → (c.saved p < m) × (x : Message) × (nth took m ≡ Some x) × (is_of q x ≡ true)
+        entry : (o : Option Message) → t.entries m ≡ o → is_some o ≡ true → reaches t.upto m ≡ true → (c.world.saved p < m) × (x : Message) × (nth took m ≡ Some x) × (is_of q x ≡ true)
         entry None g s far = absurd (cc)
         entry (Some x) g s far = let n = is.names m x far g in let z : n.1.message.sender ≡ q = n.1.sender in (n.0, n.1.message, n.1.at, grind (arith, nat_tests))
 
 pub told-is-new : ToldIsNew
 told-is-new n f acts p q k s node at =
-    let e : (after_run (opening n f) acts).count ≡ n = run-count (opening n f) acts in
-    let pa : p ≤ (after_run (opening n f) acts).count = node.1 in
+    let e : (after_run (opening n f) acts).world.count ≡ n = run-count (opening n f) acts in
+    let pa : p ≤ (after_run (opening n f) acts).world.count = node.1 in
     let start : Fresh p (opening n f) (λ test. 0) = record {
       took = [];
       of = record { begins = λ m x y. y; numbers = λ q ssn m _ _ y _. absurd (cc); told = λ q i j m u h a s y. absurd a; collected = λ q s. tt };
@@ -428,6 +428,6 @@ told-is-new n f acts p q k s node at =
       frozen = λ q y. absurd (cc);
     } in
     let t : Fresh p (after_run (opening n f) acts) (λ test. taken_since test p 0 acts) = fresh-run p (opening n f) acts s.few (omega arith) (opens-holds n f s.grows) s.run (λ test. 0) start in
-    let a : count_below (holds ((after_run (opening n f) acts).told p q)) k ≤ how_many (is_of q) (drop ((after_run (opening n f) acts).saved p) t.took) = few-held (after_run (opening n f) acts) p q k t.took (t.of.collected q at) in
-    let z : how_many (is_of q) (drop ((after_run (opening n f) acts).saved p) t.took) ≤ taken_since (is_of q) p 0 acts = t.few (is_of q) in
+    let a : count_below (holds ((after_run (opening n f) acts).told p q)) k ≤ how_many (is_of q) (drop ((after_run (opening n f) acts).world.saved p) t.took) = few-held (after_run (opening n f) acts) p q k t.took (t.of.collected q at) in
+    let z : how_many (is_of q) (drop ((after_run (opening n f) acts).world.saved p) t.took) ≤ taken_since (is_of q) p 0 acts = t.few (is_of q) in
     omega arith

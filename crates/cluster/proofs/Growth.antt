@@ -14,9 +14,9 @@ use Rattle.cluster.specs.Rules.{Act, Input, Arrives, Works, Replays, Recovers, K
 abbrev pub Continues : Cluster → Cluster → Type 0
 Continues c v =
     record {
-      inputs : (d : ℕ) → Begins (c.inputs d) (v.inputs d);
-      shown : Begins c.shown v.shown;
-      messages : (p : ℕ) → Begins (take (c.saved p) (c.history p)) (take (v.saved p) (v.history p));
+      inputs : (d : ℕ) → Begins (c.world.inputs d) (v.world.inputs d);
+      shown : Begins c.world.shown v.world.shown;
+      messages : (p : ℕ) → Begins (take (c.world.saved p) (c.world.history p)) (take (v.world.saved p) (v.world.history p));
     }
 
 -- where no history, checkpoint and input changes
@@ -47,41 +47,41 @@ plan-begins f h (suc k) = begins-trans _ _ _ (plan-begins f h k) (more (if_next 
     more (Some x) = (x ∷ [], refl)
 
 -- a recovery keeps them
-pub kept-begins : (c : Cluster) (p k : ℕ) → c.saved p ≤ length (c.history p) → Begins (take (c.saved p) (c.history p)) (take (c.saved p) (kept_by c p k))
+pub kept-begins : (c : Cluster) (p k : ℕ) → c.world.saved p ≤ length (c.world.history p) → Begins (take (c.world.saved p) (c.world.history p)) (take (c.world.saved p) (kept_by c p k))
 kept-begins c p k within =
-    let long : length (take (c.saved p) (c.history p)) ≡ c.saved p = take-length (c.history p) (c.saved p) within in
+    let long : length (take (c.world.saved p) (c.world.history p)) ≡ c.world.saved p = take-length (c.world.history p) (c.world.saved p) within in
     same-begins _ _
-    (sym (begins-take (take (c.saved p) (c.history p)) (kept_by c p k) (plan-begins (told_by c p) (take (c.saved p) (c.history p)) (k - c.saved p)) (c.saved p) (omega arith)
-    ∙ take-take (c.history p) (c.saved p) (c.saved p) (omega arith)))
+    (sym (begins-take (take (c.world.saved p) (c.world.history p)) (kept_by c p k) (plan-begins (told_by c p) (take (c.world.saved p) (c.world.history p)) (k - c.world.saved p)) (c.world.saved p) (omega arith)
+    ∙ take-take (c.world.history p) (c.world.saved p) (c.world.saved p) (omega arith)))
 
 -- a node that recovers keeps what its checkpoint covers
-pub takes-back : (c : Cluster) (p k : ℕ) → c.saved p ≤ length (c.history p) → Continues c (taken_back c p k)
+pub takes-back : (c : Cluster) (p k : ℕ) → c.world.saved p ≤ length (c.world.history p) → Continues c (taken_back c p k)
 takes-back c p k within =
     record {
       inputs = λ d. begins-self _;
       shown = begins-self _;
-      messages = choose p (λ q t. Begins (take (c.saved q) (c.history q)) (take (c.saved q) (if t then kept_by c p k else c.history q))) (kept-begins c p k within) (λ q _. begins-self _);
+      messages = choose p (λ q t. Begins (take (c.world.saved q) (c.world.history q)) (take (c.world.saved q) (if t then kept_by c p k else c.world.history q))) (kept-begins c p k within) (λ q _. begins-self _);
     }
 
 -- no act takes back an input, or what a checkpoint covers
-pub does-continue : (c : Cluster) (a : Act) → ((p : ℕ) → c.saved p ≤ length (c.history p)) → Continues c (does c a)
+pub does-continue : (c : Cluster) (a : Act) → ((p : ℕ) → c.world.saved p ≤ length (c.world.history p)) → Continues c (does c a)
 does-continue c (Arrives q p (Restored i j n s (Some u) f)) within = still c
-does-continue c (Input d x) within = record { inputs = choose d (λ j t. Begins (c.inputs j) (if t then c.inputs d ++ x ∷ [] else c.inputs j)) (x ∷ [], refl) (λ j _. begins-self _); shown = begins-self _; messages = λ p. begins-self _ }
+does-continue c (Input d x) within = record { inputs = choose d (λ j t. Begins (c.world.inputs j) (if t then c.world.inputs d ++ x ∷ [] else c.world.inputs j)) (x ∷ [], refl) (λ j _. begins-self _); shown = begins-self _; messages = λ p. begins-self _ }
 does-continue c (Arrives p zero (Delivery i ssn x)) within = record { inputs = λ d. begins-self _; shown = (message p ssn x ∷ [], refl); messages = λ p. begins-self _ }
 does-continue c (Works p m) within =
     record {
       inputs = λ d. begins-self _;
       shown = begins-self _;
-      messages = choose p (λ j t. Begins (take (c.saved j) (c.history j)) (take (c.saved j) (if t then c.history p ++ m ∷ [] else c.history j))) (same-begins _ _ (sym (take-push (c.history p) (m ∷ []) (c.saved p) (within p)))) (λ j _. begins-self _);
+      messages = choose p (λ j t. Begins (take (c.world.saved j) (c.world.history j)) (take (c.world.saved j) (if t then c.world.history p ++ m ∷ [] else c.world.history j))) (same-begins _ _ (sym (take-push (c.world.history p) (m ∷ []) (c.world.saved p) (within p)))) (λ j _. begins-self _);
     }
-does-continue c (Replays p j) within = either-way (nat_lt (c.saved p + suc j) (length (c.history p))) _ _ (Continues c) (still c) (still c)
-does-continue c (Recovers p k) within = either-way (nat_lt (c.saved p) k) _ _ (Continues c) (takes-back c p k (within p)) (takes-back c p k (within p))
+does-continue c (Replays p j) within = either-way (nat_lt (c.world.saved p + suc j) (length (c.world.history p))) _ _ (Continues c) (still c) (still c)
+does-continue c (Recovers p k) within = either-way (nat_lt (c.world.saved p) k) _ _ (Continues c) (takes-back c p k (within p)) (takes-back c p k (within p))
 does-continue c (Arrives zero p (Restored i j n s None f)) within = still c
 does-continue c (Keeps p) within =
     record {
       inputs = λ d. begins-self _;
       shown = begins-self _;
-      messages = choose p (λ j t. Begins (take (c.saved j) (c.history j)) (take (if t then length (c.history p) else c.saved j) (c.history j)))
-          (begins-trans _ _ _ (take-begins (c.saved p) (c.history p)) (same-begins _ _ (sym (take-all (c.history p))))) (λ j _. begins-self _);
+      messages = choose p (λ j t. Begins (take (c.world.saved j) (c.world.history j)) (take (if t then length (c.world.history p) else c.world.saved j) (c.world.history j)))
+          (begins-trans _ _ _ (take-begins (c.world.saved p) (c.world.history p)) (same-begins _ _ (sym (take-all (c.world.history p))))) (λ j _. begins-self _);
     }
 does-continue c act within = still c

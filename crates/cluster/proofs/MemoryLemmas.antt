@@ -13,7 +13,7 @@ use Rattle.theorems.proofs.ListLemmas.{take-all, begins-length}
 use Rattle.theorems.proofs.PhaseLemmas.{up-length}
 use Rattle.theorems.proofs.TidyLemmas.{sent-more}
 use Rattle.cluster.specs.Parcels.{Delivery, Restored}
-use Rattle.cluster.specs.Cluster.{Cluster, opening, seen, is_well, waiting, WINDOW}
+use Rattle.cluster.specs.Cluster.{Cluster, opening, is_well, waiting, WINDOW}
 use Rattle.cluster.specs.Rules.{Act, Arrives, Works, Replays as ReplaysOne, Recovers, Keeps, May, does, kept_by, Run, after_run}
 use Rattle.cluster.specs.Memory.{receipts, how_many, is_of, counts, taken_since, unsaved, LogHas, ReceiptsAreNew, LogsWait, FewWait}
 use Rattle.cluster.specs.Inside.Agrees.{Beside, world, Agrees}
@@ -54,28 +54,28 @@ many-none test [] = refl
 many-none test (x ∷ h) = many-none test h
 
 module _ (test : Message → Bool) (p : ℕ) (c : Cluster) (b : Beside) (agrees : Agrees c b) (lawful : Lawful (world c b)) (k : ℕ) (h : how_many test (receipts c p) ≤ k) where
-  works : (q : ℕ) (m : Message) (t : Bool) → (p == q) ≡ t → how_many test (drop (c.saved p) (if t then c.history q ++ m ∷ [] else c.history p)) ≤ (if t then (if test m then 1 else 0) + k else k)
+  works : (q : ℕ) (m : Message) (t : Bool) → (p == q) ≡ t → how_many test (drop (c.world.saved p) (if t then c.world.history q ++ m ∷ [] else c.world.history p)) ≤ (if t then (if test m then 1 else 0) + k else k)
   works q m false e = h
   works q m true e =
       let same : p ≡ q = grind (arith, nat_tests) in
-      let P : ℕ → Type 0 = λ j. how_many test (drop (c.saved p) (c.history j ++ m ∷ [])) ≤ (if test m then 1 else 0) + how_many test (receipts c p) in
-      let r : how_many test (drop (c.saved p) (c.history q ++ m ∷ [])) ≤ (if test m then 1 else 0) + how_many test (receipts c p) = subst P same (many-push test (c.saved p) (c.history p) m) in
+      let P : ℕ → Type 0 = λ j. how_many test (drop (c.world.saved p) (c.world.history j ++ m ∷ [])) ≤ (if test m then 1 else 0) + how_many test (receipts c p) in
+      let r : how_many test (drop (c.world.saved p) (c.world.history q ++ m ∷ [])) ≤ (if test m then 1 else 0) + how_many test (receipts c p) = subst P same (many-push test (c.world.saved p) (c.world.history p) m) in
       omega arith
 
-  keeps : (q : ℕ) (t : Bool) → (p == q) ≡ t → how_many test (drop (if t then length (c.history q) else c.saved p) (c.history p)) ≤ (if t then 0 else k)
+  keeps : (q : ℕ) (t : Bool) → (p == q) ≡ t → how_many test (drop (if t then length (c.world.history q) else c.world.saved p) (c.world.history p)) ≤ (if t then 0 else k)
   keeps q false e = h
   keeps q true e =
       let same : p ≡ q = grind (arith, nat_tests) in
-      let P : ℕ → Type 0 = λ j. how_many test (drop (length (c.history j)) (c.history p)) ≤ 0 in
-      let r : how_many test (drop (length (c.history p)) (c.history p)) ≡ 0 = many-none test (c.history p) in
+      let P : ℕ → Type 0 = λ j. how_many test (drop (length (c.world.history j)) (c.world.history p)) ≤ 0 in
+      let r : how_many test (drop (length (c.world.history p)) (c.world.history p)) ≡ 0 = many-none test (c.world.history p) in
       subst P same (omega arith)
 
-  recovers : (q n : ℕ) → May c (Recovers q n) → (t : Bool) → (p == q) ≡ t → how_many test (drop (c.saved p) (if t then kept_by c q n else c.history p)) ≤ k
+  recovers : (q n : ℕ) → May c (Recovers q n) → (t : Bool) → (p == q) ≡ t → how_many test (drop (c.world.saved p) (if t then kept_by c q n else c.world.history p)) ≤ k
   recovers q n may false e = h
   recovers q n may true e =
       let same : p ≡ q = grind (arith, nat_tests) in
-      let P : ℕ → Type 0 = λ j. how_many test (drop (c.saved p) (take n (c.history j))) ≤ k in
-      let r : how_many test (drop (c.saved p) (take n (c.history p))) ≤ how_many test (receipts c p) = many-take test (c.saved p) n (c.history p) in
+      let P : ℕ → Type 0 = λ j. how_many test (drop (c.world.saved p) (take n (c.world.history j))) ≤ k in
+      let r : how_many test (drop (c.world.saved p) (take n (c.world.history p))) ≤ how_many test (receipts c p) = many-take test (c.world.saved p) n (c.world.history p) in
       rw (kept-is c b q n agrees lawful may) (subst P same (omega arith))
 
   -- each step keeps at most what it may
@@ -83,14 +83,14 @@ module _ (test : Message → Bool) (p : ℕ) (c : Cluster) (b : Beside) (agrees 
   receipts-step (Arrives q r (Restored i j n s (Some u) f)) may = h
   receipts-step (Arrives q zero (Delivery i ssn x)) may = h
   receipts-step (Works q m) may = works q m (p == q) refl
-  receipts-step (ReplaysOne q j) may = either-way (nat_lt (c.saved q + suc j) (length (c.history q))) _ _ (λ v. how_many test (receipts v p) ≤ k) h h
-  receipts-step (Recovers q n) may = either-way (nat_lt (c.saved q) n) _ _ (λ v. how_many test (receipts v p) ≤ k) (recovers q n may (p == q) refl) (recovers q n may (p == q) refl)
+  receipts-step (ReplaysOne q j) may = either-way (nat_lt (c.world.saved q + suc j) (length (c.world.history q))) _ _ (λ v. how_many test (receipts v p) ≤ k) h h
+  receipts-step (Recovers q n) may = either-way (nat_lt (c.world.saved q) n) _ _ (λ v. how_many test (receipts v p) ≤ k) (recovers q n may (p == q) refl) (recovers q n may (p == q) refl)
   receipts-step (Arrives zero q (Restored i j n s None f)) may = h
   receipts-step (Keeps q) may = keeps q (p == q) refl
   receipts-step act may = h
 
 -- and so each run
-receipts-run : (test : Message → Bool) (p : ℕ) (c : Cluster) (acts : List Act) → c.count ≤ 15 → Holds c → Run c acts → (k : ℕ) → how_many test (receipts c p) ≤ k → how_many test (receipts (after_run c acts) p) ≤ taken_since test p k acts
+receipts-run : (test : Message → Bool) (p : ℕ) (c : Cluster) (acts : List Act) → c.world.count ≤ 15 → Holds c → Run c acts → (k : ℕ) → how_many test (receipts c p) ≤ k → how_many test (receipts (after_run c acts) p) ≤ taken_since test p k acts
 receipts-run test p c [] n h r k l = l
 receipts-run test p c (a ∷ acts) n h r k l = let s = step-holds c a n h r.0 in receipts-run test p (does c a) acts s.1 s.0 r.1 (counts test p a k) (receipts-step test p c h.beside h.agrees h.lawful k l a r.0)
 
@@ -126,51 +126,51 @@ within-history other h saved l r = omega arith
 
 module _ (c : Cluster) (b : Beside) (agrees : Agrees c b) (lawful : Lawful (world c b)) where
   -- what anyone took was sent
-  pub taken-sent : (p d : ℕ) → count_of p (if d == 0 then c.shown else c.history d) ≤ sent_in_all (seen c) p d
+  pub taken-sent : (p d : ℕ) → count_of p (if d == 0 then c.world.shown else c.world.history d) ≤ sent_in_all c.world p d
   taken-sent p d = split (d == 0) refl
     where
-      split : (t : Bool) → (d == 0) ≡ t → count_of p (if t then c.shown else c.history d) ≤ sent_in_all (seen c) p d
+      split : (t : Bool) → (d == 0) ≡ t → count_of p (if t then c.world.shown else c.world.history d) ≤ sent_in_all c.world p d
       split true e =
           let z : 0 ≡ d = grind (arith, nat_tests) in
-          let P : ℕ → Type 0 = λ j. count_of p c.shown ≤ sent_in_all (seen c) p j in
-          let l : length (payloads_of p c.shown) ≤ sent_in_all (seen c) p 0 = begins-length _ _ (output-once-node c b agrees lawful p) in
-          let q : length (payloads_of p c.shown) ≡ count_of p c.shown = count-payloads p c.shown in
+          let P : ℕ → Type 0 = λ j. count_of p c.world.shown ≤ sent_in_all c.world p j in
+          let l : length (payloads_of p c.world.shown) ≤ sent_in_all c.world p 0 = begins-length _ _ (output-once-node c b agrees lawful p) in
+          let q : length (payloads_of p c.world.shown) ≡ count_of p c.world.shown = count-payloads p c.world.shown in
           subst P z (omega arith)
       split false e =
-          let l : length (payloads_of p (c.history d)) ≤ sent_in_all (seen c) p d = begins-length _ _ ((received-once-node c b agrees lawful).order p d) in
-          let q : length (payloads_of p (c.history d)) ≡ count_of p (c.history d) = count-payloads p (c.history d) in
+          let l : length (payloads_of p (c.world.history d)) ≤ sent_in_all c.world p d = begins-length _ _ ((received-once-node c b agrees lawful).order p d) in
+          let q : length (payloads_of p (c.world.history d)) ≡ count_of p (c.world.history d) = count-payloads p (c.world.history d) in
           omega arith
 
   -- what anyone took it has for good, or took since its checkpoint
-  pub taken-parts : (p d : ℕ) → count_of p (if d == 0 then c.shown else c.history d) ≡ covered (seen c) p d + unsaved c p d
+  pub taken-parts : (p d : ℕ) → count_of p (if d == 0 then c.world.shown else c.world.history d) ≡ covered c.world p d + unsaved c p d
   taken-parts p d = split (d == 0)
     where
-      split : (t : Bool) → count_of p (if t then c.shown else c.history d) ≡ count_of p (if t then c.shown else take (c.saved d) (c.history d)) + (if t then 0 else how_many (is_of p) (receipts c d))
+      split : (t : Bool) → count_of p (if t then c.world.shown else c.world.history d) ≡ count_of p (if t then c.world.shown else take (c.world.saved d) (c.world.history d)) + (if t then 0 else how_many (is_of p) (receipts c d))
       split true = omega arith
-      split false = count-parts p (c.saved d) (c.history d)
+      split false = count-parts p (c.world.saved d) (c.world.history d)
 
   -- one that is up has sent all that its history sends
-  pub well-sent : (p d : ℕ) → is_well c p ≡ true → length (sent (seen c) p d) ≡ sent_in_all (seen c) p d
+  pub well-sent : (p d : ℕ) → is_well c p ≡ true → length (sent c.world p d) ≡ sent_in_all c.world p d
   well-sent p d w =
-      let n : length_in (c.history p) (c.saved p) (c.phase p) ≡ length (c.history p) = up-length (c.phase p) (well-is c p w).2 (c.history p) (c.saved p) in
-      rw n (rw (take-all (c.history p)) refl)
+      let n : length_in (c.world.history p) (c.world.saved p) (c.world.phase p) ≡ length (c.world.history p) = up-length (c.world.phase p) (well-is c p w).2 (c.world.history p) (c.world.saved p) in
+      rw n (rw (take-all (c.world.history p)) refl)
 
   log-has : (p d : ℕ) → LogHas c p d
   log-has p d =
-      let trimmed : c.trims p d ≤ covered (seen c) p d = agrees.trimmed.trimmed p d in
-      let parts : count_of p (if d == 0 then c.shown else c.history d) ≡ covered (seen c) p d + unsaved c p d = taken-parts p d in
-      let all : count_of p (if d == 0 then c.shown else c.history d) ≤ sent_in_all (seen c) p d = taken-sent p d in
-      let few : length (sent (seen c) p d) ≤ sent_in_all (seen c) p d = so-far in
-      record { most = omega arith; whole = λ w. let e : length (sent (seen c) p d) ≡ sent_in_all (seen c) p d = well-sent p d w in omega arith }
+      let trimmed : c.world.trims p d ≤ covered c.world p d = agrees.trimmed.trimmed p d in
+      let parts : count_of p (if d == 0 then c.world.shown else c.world.history d) ≡ covered c.world p d + unsaved c p d = taken-parts p d in
+      let all : count_of p (if d == 0 then c.world.shown else c.world.history d) ≤ sent_in_all c.world p d = taken-sent p d in
+      let few : length (sent c.world p d) ≤ sent_in_all c.world p d = so-far in
+      record { most = omega arith; whole = λ w. let e : length (sent c.world p d) ≡ sent_in_all c.world p d = well-sent p d w in omega arith }
     where
-      so-far : length (sent (seen c) p d) ≤ sent_in_all (seen c) p d
+      so-far : length (sent c.world p d) ≤ sent_in_all c.world p d
       so-far =
-          let l : length_in (c.history p) (c.saved p) (c.phase p) ≤ length (c.history p) = within-history (c.phase p) (c.history p) (c.saved p) (lawful.sound.saved p) (lawful.sound.replays p) in
-          let P : List Message → Type 0 = λ h. length (sent (seen c) p d) ≤ length (payloads (seen c) p h d) in
-          subst P (take-all (c.history p)) (sent-more (seen c) lawful.sound.grows p (c.history p) d _ _ l)
+          let l : length_in (c.world.history p) (c.world.saved p) (c.world.phase p) ≤ length (c.world.history p) = within-history (c.world.phase p) (c.world.history p) (c.world.saved p) (lawful.sound.saved p) (lawful.sound.replays p) in
+          let P : List Message → Type 0 = λ h. length (sent c.world p d) ≤ length (payloads c.world p h d) in
+          subst P (take-all (c.world.history p)) (sent-more c.world lawful.sound.grows p (c.world.history p) d _ _ l)
 
-  few-wait : (p : ℕ) → (0 < p) × (p ≤ c.count) → waiting c p ≤ WINDOW
-  few-wait p i = let l : waiting c p + one_if (is_busy (c.phase p)) ≤ WINDOW = agrees.wired.window p i in omega arith
+  few-wait : (p : ℕ) → (0 < p) × (p ≤ c.world.count) → waiting c p ≤ WINDOW
+  few-wait p i = let l : waiting c p + one_if (is_busy (c.world.phase p)) ≤ WINDOW = agrees.wired.window p i in omega arith
 
 pub logs-wait : LogsWait
 logs-wait n f acts p d s = let h = run-holds n f acts s.few s.grows s.run in log-has _ h.beside h.agrees h.lawful p d

@@ -47,17 +47,17 @@ order-plan f h (suc k) o = more (if_next (plan f h k) (f (suc (length (plan f h 
 
 -- all of a cluster's
 abbrev Ordered : Cluster → Type 0
-Ordered c = ((p : ℕ) → InOrder (c.history p)) × InOrder c.shown
+Ordered c = ((p : ℕ) → InOrder (c.world.history p)) × InOrder c.world.shown
 
 -- an act leaves it so, if the open jobs are on messages that are their senders' next
-does-order : (c : Cluster) (a : Act) → ((d : ℕ) (m : Message) → c.phase d ≡ Busy m → m.ssn ≡ suc (count_of m.sender (c.history d))) → May c a → Ordered c → Ordered (does c a)
+does-order : (c : Cluster) (a : Act) → ((d : ℕ) (m : Message) → c.world.phase d ≡ Busy m → m.ssn ≡ suc (count_of m.sender (c.world.history d))) → May c a → Ordered c → Ordered (does c a)
 does-order c (Arrives q p (Restored i j n s (Some u) f)) jobs may o = o
-does-order c (Arrives p zero (Delivery i ssn x)) jobs may o = (o.0, order-push c.shown (message p ssn x) may.1.1 o.1)
-does-order c (Works p m) jobs may o = (choose p (λ j t. InOrder (if t then c.history p ++ m ∷ [] else c.history j)) (order-push (c.history p) m (jobs p m may.2) (o.0 p)) (λ j _. o.0 j), o.1)
-does-order c (Replays p j) jobs may o = either-way (nat_lt (c.saved p + suc j) (length (c.history p))) _ _ Ordered o o
+does-order c (Arrives p zero (Delivery i ssn x)) jobs may o = (o.0, order-push c.world.shown (message p ssn x) may.1.1 o.1)
+does-order c (Works p m) jobs may o = (choose p (λ j t. InOrder (if t then c.world.history p ++ m ∷ [] else c.world.history j)) (order-push (c.world.history p) m (jobs p m may.2) (o.0 p)) (λ j _. o.0 j), o.1)
+does-order c (Replays p j) jobs may o = either-way (nat_lt (c.world.saved p + suc j) (length (c.world.history p))) _ _ Ordered o o
 does-order c (Recovers p k) jobs may o =
-    let kept : (q : ℕ) → InOrder (put c.history p (kept_by c p k) q) = choose p (λ j t. InOrder (if t then kept_by c p k else c.history j)) (order-plan (told_by c p) (take (c.saved p) (c.history p)) (k - c.saved p) (order-take (c.history p) (c.saved p) (o.0 p))) (λ j _. o.0 j) in
-    either-way (nat_lt (c.saved p) k) _ _ Ordered (kept, o.1) (kept, o.1)
+    let kept : (q : ℕ) → InOrder (put c.world.history p (kept_by c p k) q) = choose p (λ j t. InOrder (if t then kept_by c p k else c.world.history j)) (order-plan (told_by c p) (take (c.world.saved p) (c.world.history p)) (k - c.world.saved p) (order-take (c.world.history p) (c.world.saved p) (o.0 p))) (λ j _. o.0 j) in
+    either-way (nat_lt (c.world.saved p) k) _ _ Ordered (kept, o.1) (kept, o.1)
 does-order c (Arrives zero p (Restored i j n s None f)) jobs may o = o
 does-order c act jobs may o = o
 

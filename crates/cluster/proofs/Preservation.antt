@@ -20,7 +20,7 @@ use Rattle.theorems.proofs.HistoryLemmas.{count-mono}
 use Rattle.theorems.proofs.ListLemmas.{begins-self, nth-within, take-all}
 use Rattle.theorems.proofs.Tests.{is_at_most, different}
 use Rattle.cluster.specs.Parcels.{reaches}
-use Rattle.cluster.specs.Cluster.{Cluster, Frozen, Collecting, Collected, seen, waiting, WINDOW}
+use Rattle.cluster.specs.Cluster.{Cluster, Frozen, Collecting, Collected, waiting, WINDOW}
 use Rattle.cluster.specs.Rules.{Keeps, May, does, IsNode}
 use Rattle.cluster.specs.Inside.Journals.{entry, Leads}
 use Rattle.cluster.specs.Inside.Agrees.{Beside, world, CollectedAs, IsTold, OnWire, owner, packets_of, Agrees}
@@ -131,42 +131,42 @@ module _ (c : Cluster) (b : Beside) (p : ℕ) (h : Agrees c b) (l : Lawful (worl
   abbrev b' : Beside
   b' = record b { saved_trims = put b.saved_trims p (b.trims p); wire = cleaned b.wire p WIRE }
 
-  up : c.phase p ≡ Up
+  up : c.world.phase p ≡ Up
   up = h.stages.frozen p may.1
 
   not-p : (r : ℕ) → c.stage r ≡ Collecting → r ≢ p
   not-p r e f = let P : ℕ → Type 0 = λ x. c.stage x ≡ Collecting in let g : Frozen ≡ Collecting = sym may.1 ∙ subst P f e in cc
 
-  covers : (s q : ℕ) → covered (seen c) s q ≤ covered (seen c') s q
-  covers s q = choose 0 (λ j t. count_of s (if t then c.shown else take (c.saved j) (c.history j)) ≤ count_of s (if t then c.shown else take (c'.saved j) (c.history j))) (omega arith)
-      (λ j _. choose p (λ i t. count_of s (take (c.saved i) (c.history i)) ≤ count_of s (take (if t then length (c.history p) else c.saved i) (c.history i))) (count-mono s (c.history p) _ _ (l.sound.saved p)) (λ i _. omega arith) j) q
+  covers : (s q : ℕ) → covered c.world s q ≤ covered c'.world s q
+  covers s q = choose 0 (λ j t. count_of s (if t then c.world.shown else take (c.world.saved j) (c.world.history j)) ≤ count_of s (if t then c.world.shown else take (c'.world.saved j) (c.world.history j))) (omega arith)
+      (λ j _. choose p (λ i t. count_of s (take (c.world.saved i) (c.world.history i)) ≤ count_of s (take (if t then length (c.world.history p) else c.world.saved i) (c.world.history i))) (count-mono s (c.world.history p) _ _ (l.sound.saved p)) (λ i _. omega arith) j) q
 
   told-on : (q r : ℕ) (reach : ℕ → Bool) (f : ℕ → Option Message) → c.stage r ≡ Collecting → IsTold c b q r reach f → IsTold c' b' q r reach f
   told-on q r reach f s y = elsewhere p (λ j t. IsTold c b q j reach f → record {
-    only : (k : ℕ) (x : Message) → reach k ≡ true → (if t then length (c.history p) else c.saved j) < k → k ≤ suc (length (c.history j)) → f k ≡ Some x → (nth (c.history j) k ≡ Some x) × (x.sender ≡ q) × (b.numbers q j x.ssn ≡ Some k);
-    all : (k : ℕ) (x : Message) → reach k ≡ true → (if t then length (c.history p) else c.saved j) < k → nth (c.history j) k ≡ Some x → x.sender ≡ q → b.numbers q j x.ssn ≡ Some k → f k ≡ Some x;
+    only : (k : ℕ) (x : Message) → reach k ≡ true → (if t then length (c.world.history p) else c.world.saved j) < k → k ≤ suc (length (c.world.history j)) → f k ≡ Some x → (nth (c.world.history j) k ≡ Some x) × (x.sender ≡ q) × (b.numbers q j x.ssn ≡ Some k);
+    all : (k : ℕ) (x : Message) → reach k ≡ true → (if t then length (c.world.history p) else c.world.saved j) < k → nth (c.world.history j) k ≡ Some x → x.sender ≡ q → b.numbers q j x.ssn ≡ Some k → f k ≡ Some x;
   }) (λ j y. y) r (not-p r s) y
 
   kept : (r q : ℕ) → c.stage r ≡ Collecting → (o : Option Collected) → CollectedAs c b r q o → CollectedAs c' b' r q o
   kept r q s None t = tt
   kept r q s (Some f) t = record { heard = t.heard; gave = t.gave; is = told-on q r (reaches f.upto) f.entries s t.is }
 
-  more : (q k : ℕ) → c.acknowledged q k ≡ true → c'.acknowledged q k ≡ true
-  more q k = choose p (λ j t. c.acknowledged j k ≡ true → (if t then (λ (k : ℕ). nat_le k (length (c.history p))) else c.acknowledged j) k ≡ true) (λ e. is_at_most k _ (l.sound.acknowledged p k e)) (λ j _ e. e) q
+  more : (q k : ℕ) → c.world.acknowledged q k ≡ true → c'.world.acknowledged q k ≡ true
+  more q k = choose p (λ j t. c.world.acknowledged j k ≡ true → (if t then (λ (k : ℕ). nat_le k (length (c.world.history p))) else c.world.acknowledged j) k ≡ true) (λ e. is_at_most k _ (l.sound.acknowledged p k e)) (λ j _ e. e) q
 
-  all : (k : ℕ) → k ≤ length (c.history p) → c'.acknowledged p k ≡ true
-  all k e = at-itself p (λ t. (if t then (λ (k : ℕ). nat_le k (length (c.history p))) else c.acknowledged p) k ≡ true) (is_at_most k _ e)
+  all : (k : ℕ) → k ≤ length (c.world.history p) → c'.world.acknowledged p k ≡ true
+  all k e = at-itself p (λ t. (if t then (λ (k : ℕ). nat_le k (length (c.world.history p))) else c.world.acknowledged p) k ≡ true) (is_at_most k _ e)
 
-  acks : (s q k : ℕ) → OnWire b.wire (AcknowledgementPacket s q k (b.incarnation q)) → (c'.acknowledged q k ≡ true) ⊎ OnWire b'.wire (AcknowledgementPacket s q k (b.incarnation q))
+  acks : (s q k : ℕ) → OnWire b.wire (AcknowledgementPacket s q k (b.incarnation q)) → (c'.world.acknowledged q k ≡ true) ⊎ OnWire b'.wire (AcknowledgementPacket s q k (b.incarnation q))
   acks s q k o = split (q == p) refl
     where
-      split : (t : Bool) → (q == p) ≡ t → (c'.acknowledged q k ≡ true) ⊎ OnWire b'.wire (AcknowledgementPacket s q k (b.incarnation q))
+      split : (t : Bool) → (q == p) ≡ t → (c'.world.acknowledged q k ≡ true) ⊎ OnWire b'.wire (AcknowledgementPacket s q k (b.incarnation q))
       split true e =
           let same : p ≡ q = grind (arith, nat_tests) in
           let t = rw o.is at (l.exact.packets o.key) refl in
-          let P : ℕ → Type 0 = λ z. k ≤ length (c.history z) in
-          let Q : ℕ → Type 0 = λ z. c'.acknowledged z k ≡ true in
-          inl (subst Q same (all k (subst P (sym same) (nth-within (c.history q) k t.message t.at).1)))
+          let P : ℕ → Type 0 = λ z. k ≤ length (c.world.history z) in
+          let Q : ℕ → Type 0 = λ z. c'.world.acknowledged z k ≡ true in
+          inl (subst Q same (all k (subst P (sym same) (nth-within (c.world.history q) k t.message t.at).1)))
       split false e = inr (still-cleaned c p may.0.0 b.wire (AcknowledgementPacket s q k (b.incarnation q)) (λ f. different q p e f) o)
 
   agrees-keeps : Agrees c' b'
@@ -175,11 +175,11 @@ module _ (c : Cluster) (b : Beside) (p : ℕ) (h : Agrees c b) (l : Lawful (worl
         phases = h.phases;
         stages = h.stages;
         trimmed = record {
-          trimmed = λ s d. let x : c.trims s d ≤ covered (seen c) s d = h.trimmed.trimmed s d in let y : covered (seen c) s d ≤ covered (seen c') s d = covers s d in omega arith;
-          saved_trimmed = λ s d. let y : covered (seen c) s d ≤ covered (seen c') s d = covers s d in
-              choose p (λ j t. covered (seen c) j d ≤ covered (seen c') j d → (if t then c.trims p else c.saved_trims j) d ≤ covered (seen c') j d)
-              (λ z. let x : c.trims p d ≤ covered (seen c) p d = h.trimmed.trimmed p d in omega arith)
-              (λ j _ z. let x : c.saved_trims j d ≤ covered (seen c) j d = h.trimmed.saved_trimmed j d in omega arith) s y;
+          trimmed = λ s d. let x : c.world.trims s d ≤ covered c.world s d = h.trimmed.trimmed s d in let y : covered c.world s d ≤ covered c'.world s d = covers s d in omega arith;
+          saved_trimmed = λ s d. let y : covered c.world s d ≤ covered c'.world s d = covers s d in
+              choose p (λ j t. covered c.world j d ≤ covered c'.world j d → (if t then c.world.trims p else c.world.saved_trims j) d ≤ covered c'.world j d)
+              (λ z. let x : c.world.trims p d ≤ covered c.world p d = h.trimmed.trimmed p d in omega arith)
+              (λ j _ z. let x : c.world.saved_trims j d ≤ covered c.world j d = h.trimmed.saved_trimmed j d in omega arith) s y;
         };
         untrimmed = record { trims = h.untrimmed.trims; saved_trims = λ s d. choose p (λ j t. (if t then b.trims p else b.saved_trims j) d ≡ 0) (h.untrimmed.trims p d) (λ j _. h.untrimmed.saved_trims j d) s; feed = h.untrimmed.feed; free = h.untrimmed.free };
         numbered = record {
@@ -188,7 +188,7 @@ module _ (c : Cluster) (b : Beside) (p : ℕ) (h : Agrees c b) (l : Lawful (worl
             | inl z ↦ inl z
             | inr (inl z) ↦ inr (inl z)
             | inr (inr (inr z)) ↦ inr (inr (inr z))
-            | inr (inr (inl z)) ↦ inr (inr (inl (choose p (λ j t. m ≤ c.saved j → m ≤ (if t then length (c.history p) else c.saved j)) (λ u. let v : c.saved p ≤ length (c.history p) = l.sound.saved p in omega arith) (λ j _ u. u) r z)))
+            | inr (inr (inl z)) ↦ inr (inr (inl (choose p (λ j t. m ≤ c.world.saved j → m ≤ (if t then length (c.world.history p) else c.world.saved j)) (λ u. let v : c.world.saved p ≤ length (c.world.history p) = l.sound.saved p in omega arith) (λ j _ u. u) r z)))
           ];
           fresh = h.numbered.fresh;
           partly = h.numbered.partly;
@@ -198,7 +198,7 @@ module _ (c : Cluster) (b : Beside) (p : ℕ) (h : Agrees c b) (l : Lawful (worl
         hearing = record { heard = h.hearing.heard; coming = h.hearing.coming; collected = λ r q x y n e. kept r q e (c.told r q) (h.hearing.collected r q x y n e); own = h.hearing.own; gaves = h.hearing.gaves; given = h.hearing.given };
         wired = record {
           wire = λ q k x a e f. choose p (λ j t. j ≡ q → OnWire b'.wire (NumberPacket q x.sender x.ssn k (b.incarnation q)) ⊎ OnWire b'.wire (AcknowledgementPacket x.sender q k (b.incarnation q)))
-              (λ g. absurd (let P : ℕ → Type 0 = λ z. k ≤ length (c.history z) in let Q : ℕ → Type 0 = λ z. c'.acknowledged z k ≡ true in true-not-false (subst Q g (all k (subst P (sym g) (nth-within (c.history q) k x e).1))) f))
+              (λ g. absurd (let P : ℕ → Type 0 = λ z. k ≤ length (c.world.history z) in let Q : ℕ → Type 0 = λ z. c'.world.acknowledged z k ≡ true in true-not-false (subst Q g (all k (subst P (sym g) (nth-within (c.world.history q) k x e).1))) f))
               (λ j n g. let m : q ≢ p = λ z. n (g ∙ z) in elim (h.wired.wire q k x a e (was q k f)) [
                 | inl o ↦ inl (still-cleaned c p may.0.0 b.wire (NumberPacket q x.sender x.ssn k (b.incarnation q)) m o)
                 | inr o ↦ inr (still-cleaned c p may.0.0 b.wire (AcknowledgementPacket x.sender q k (b.incarnation q)) m o)
@@ -207,7 +207,7 @@ module _ (c : Cluster) (b : Beside) (p : ℕ) (h : Agrees c b) (l : Lawful (worl
           room = λ q a. choose p (λ j t. j ≡ q → packets_of b'.wire q ≤ waiting c' q)
               (λ g. let P : ℕ → Type 0 = λ z. packets_of b'.wire z ≤ waiting c' z in subst P g (let e : packets_of b'.wire p ≡ 0 = none-cleaned c p may.0.0 b.wire in omega arith))
               (λ j n g. let m : q ≢ p = λ z. n (g ∙ z) in let x : packets_of b'.wire q ≤ packets_of b.wire q = others-cleaned c p may.0.0 b.wire q a.0 in let y : packets_of b.wire q ≤ waiting c q = h.wired.room q a in let z : waiting c q ≡ waiting c' q = others q m in omega arith) q refl;
-          window = λ q a. let x : waiting c' q ≤ waiting c q = waits-less q in let y : waiting c q + one_if (is_busy (c.phase q)) ≤ WINDOW = h.wired.window q a in omega arith;
+          window = λ q a. let x : waiting c' q ≤ waiting c q = waits-less q in let y : waiting c q + one_if (is_busy (c.world.phase q)) ≤ WINDOW = h.wired.window q a in omega arith;
         };
         parcels = parcels-goes {c = c} {b = b} {d = c'} {e = b'} (record {
           count = refl;
@@ -217,8 +217,8 @@ module _ (c : Cluster) (b : Beside) (p : ℕ) (h : Agrees c b) (l : Lawful (worl
           history = λ q _. begins-self _;
           up = λ q _ e. e;
           back = λ q _ _. refl;
-          released = λ q r _. gate (q == 0) (length (c.inputs r)) (c.released q r) (c'.released q r) (rises q r);
-          sends = λ q r _. choose p (λ j t. Begins (sent (seen c) j r) (payloads (seen c) j (take (length_in (c.history j) (if t then length (c.history p) else c.saved j) (c.phase j)) (c.history j)) r)) (rw up (begins-self _)) (λ j _. begins-self _) q;
+          released = λ q r _. gate (q == 0) (length (c.world.inputs r)) (c.world.released q r) (c'.world.released q r) (rises q r);
+          sends = λ q r _. choose p (λ j t. Begins (sent c.world j r) (payloads c.world j (take (length_in (c.world.history j) (if t then length (c.world.history p) else c.world.saved j) (c.world.phase j)) (c.world.history j)) r)) (rw up (begins-self _)) (λ j _. begins-self _) q;
           acknowledged = λ q k _ e. more q k e;
           wire = λ s q k _ y. acks s q k y;
           told = λ q r reach f x y s z n. (x, λ v. (refl, v, λ g. told-on q r reach f x g));
@@ -226,46 +226,46 @@ module _ (c : Cluster) (b : Beside) (p : ℕ) (h : Agrees c b) (l : Lawful (worl
         }) refl h.parcels;
       }
     where
-      saved-more : (r m : ℕ) → m ≤ c.saved r → m ≤ c'.saved r
-      saved-more r m = choose p (λ j t. m ≤ c.saved j → m ≤ (if t then length (c.history p) else c.saved j)) (λ u. let v : c.saved p ≤ length (c.history p) = l.sound.saved p in omega arith) (λ j _ u. u) r
+      saved-more : (r m : ℕ) → m ≤ c.world.saved r → m ≤ c'.world.saved r
+      saved-more r m = choose p (λ j t. m ≤ c.world.saved j → m ≤ (if t then length (c.world.history p) else c.world.saved j)) (λ u. let v : c.world.saved p ≤ length (c.world.history p) = l.sound.saved p in omega arith) (λ j _ u. u) r
 
-      was : (q k : ℕ) → c'.acknowledged q k ≡ false → c.acknowledged q k ≡ false
-      was q k e = split (c.acknowledged q k) refl
+      was : (q k : ℕ) → c'.world.acknowledged q k ≡ false → c.world.acknowledged q k ≡ false
+      was q k e = split (c.world.acknowledged q k) refl
         where
-          split : (t : Bool) → c.acknowledged q k ≡ t → t ≡ false
+          split : (t : Bool) → c.world.acknowledged q k ≡ t → t ≡ false
           split true f = absurd (true-not-false (more q k f) e)
           split false f = refl
 
       others : (q : ℕ) → q ≢ p → waiting c q ≡ waiting c' q
-      others q n = elsewhere p (λ j t. waiting c j ≡ count_below (λ m. not ((if t then (λ (k : ℕ). nat_le k (length (c.history p))) else c.acknowledged j) (suc m))) (length (c.history j))) (λ j. refl) q n
+      others q n = elsewhere p (λ j t. waiting c j ≡ count_below (λ m. not ((if t then (λ (k : ℕ). nat_le k (length (c.world.history p))) else c.world.acknowledged j) (suc m))) (length (c.world.history j))) (λ j. refl) q n
 
       waits-less : (q : ℕ) → waiting c' q ≤ waiting c q
-      waits-less q = count-less (λ j. not (c'.acknowledged q (suc j))) (λ j. not (c.acknowledged q (suc j))) (length (c.history q)) (λ j _ e. each j e (c.acknowledged q (suc j)) refl)
+      waits-less q = count-less (λ j. not (c'.world.acknowledged q (suc j))) (λ j. not (c.world.acknowledged q (suc j))) (length (c.world.history q)) (λ j _ e. each j e (c.world.acknowledged q (suc j)) refl)
         where
-          each : (j : ℕ) → not (c'.acknowledged q (suc j)) ≡ true → (t : Bool) → c.acknowledged q (suc j) ≡ t → not t ≡ true
-          each j e true f = absurd (let g : c'.acknowledged q (suc j) ≡ true = more q (suc j) f in let u : not (c'.acknowledged q (suc j)) ≡ false = rw g refl in true-not-false e u)
+          each : (j : ℕ) → not (c'.world.acknowledged q (suc j)) ≡ true → (t : Bool) → c.world.acknowledged q (suc j) ≡ t → not t ≡ true
+          each j e true f = absurd (let g : c'.world.acknowledged q (suc j) ≡ true = more q (suc j) f in let u : not (c'.world.acknowledged q (suc j)) ≡ false = rw g refl in true-not-false e u)
           each j e false f = refl
 
       gate : (t : Bool) (x m n : ℕ) → m ≤ n → (if t then x else m) ≤ (if t then x else n)
       gate true x m n e = omega arith
       gate false x m n e = e
 
-      rises : (q r : ℕ) → c.released q r ≤ c'.released q r
-      rises q r = choose p (λ j t. c.released j r ≤ (if t then sent_in_all (seen c) p else c.released j) r)
-          (let x : c.released p r ≤ length (sent w p r) = (l.tidy p).gated r in let e : sent_in_all (seen c) p r ≡ length (sent w p r) = whole r in omega arith) (λ j _. omega arith) q
+      rises : (q r : ℕ) → c.world.released q r ≤ c'.world.released q r
+      rises q r = choose p (λ j t. c.world.released j r ≤ (if t then sent_in_all c.world p else c.world.released j) r)
+          (let x : c.world.released p r ≤ length (sent w p r) = (l.tidy p).gated r in let e : sent_in_all c.world p r ≡ length (sent w p r) = whole r in omega arith) (λ j _. omega arith) q
         where
-          whole : (r : ℕ) → sent_in_all (seen c) p r ≡ length (sent w p r)
-          whole r = rw (up, take-all (c.history p)) refl
+          whole : (r : ℕ) → sent_in_all c.world p r ≡ length (sent w p r)
+          whole r = rw (up, take-all (c.world.history p)) refl
 
   pub step-keeps : IsJournalOf (world c b) (does c (Keeps p))
   step-keeps =
       record {
         beside = b';
-        leads = leads-by w (world c' b') (entry (Checkpoint p) (SavedAnswer (length (c.history p))))
-            (step-of w (Checkpoint p) (SavedAnswer (length (c.history p))) (open_jobs w + 1) (inside may.0.0 may.0.1, (rw up refl, (rw up refl, (below-self (open_jobs w + 1), tt)))) refl refl)
+        leads = leads-by w (world c' b') (entry (Checkpoint p) (SavedAnswer (length (c.world.history p))))
+            (step-of w (Checkpoint p) (SavedAnswer (length (c.world.history p))) (open_jobs w + 1) (inside may.0.0 may.0.1, (rw up refl, (rw up refl, (below-self (open_jobs w + 1), tt)))) refl refl)
             (lose-all (checkpoint w p) p may.0.0 WIRE);
         agrees = agrees-keeps;
       }
     where
-      inside : 0 < p → p ≤ c.count → not (is_inside w p) ≡ false
+      inside : 0 < p → p ≤ c.world.count → not (is_inside w p) ≡ false
       inside x y = grind (arith, nat_tests)

@@ -19,7 +19,7 @@ use Rattle.theorems.proofs.HistoryLemmas.{names-found}
 use Rattle.theorems.proofs.PlanLemmas.{first_below-at, logged_as-at}
 use Rattle.theorems.proofs.Recoveries.{up_to-is}
 use Rattle.cluster.specs.Parcels.{Body, Delivery, Number, Acknowledgement, Ask, Told, Resume, Restored, Parcel, parcel, In, reaches}
-use Rattle.cluster.specs.Cluster.{Collected, Cluster, seen, is_well}
+use Rattle.cluster.specs.Cluster.{Collected, Cluster, is_well}
 use Rattle.cluster.specs.Rules.{Act, Input, Puts, Arrives, Works, Replays, Recovers, Keeps, Opens, MayPut, May, does, message, entry_of, entry_in, with_page, Asks, IsAll, told_by, kept_by, entered, put2, goes_on, takes_in, taken_back}
 use Rattle.cluster.proofs.Facts.{choose2, well-is}
 use Rattle.cluster.proofs.Growth.{either-way, plan-begins, takes-back}
@@ -49,39 +49,39 @@ module _ (last : ℕ → Bool) (c : Cluster) (h : Firm last c) where
 
   -- the job of each is one that may be
   abbrev Jobs : (ℕ → Phase) → Type 0
-  Jobs f = (d : ℕ) (m : Message) → f d ≡ Busy m → IsGood last k d m × (m.ssn ≡ suc (count_of m.sender (c.history d)))
+  Jobs f = (d : ℕ) (m : Message) → f d ≡ Busy m → IsGood last k d m × (m.ssn ≡ suc (count_of m.sender (c.world.history d)))
 
-  jobs-idle : (p : ℕ) (x : Phase) → IsIdle x → Jobs (put c.phase p x)
-  jobs-idle p x idle = choose p (λ j t. (m : Message) → (if t then x else c.phase j) ≡ Busy m → IsGood last k j m × (m.ssn ≡ suc (count_of m.sender (c.history j)))) (λ m e. absurd (idle m e)) (λ j _. h.jobs j)
+  jobs-idle : (p : ℕ) (x : Phase) → IsIdle x → Jobs (put c.world.phase p x)
+  jobs-idle p x idle = choose p (λ j t. (m : Message) → (if t then x else c.world.phase j) ≡ Busy m → IsGood last k j m × (m.ssn ≡ suc (count_of m.sender (c.world.history j)))) (λ m e. absurd (idle m e)) (λ j _. h.jobs j)
 
   -- what a node that is up sent begins with what its checkpoint covers
-  kept-sent : (p d : ℕ) → is_well c p ≡ true → Begins (k p d) (sent (seen c) p d)
+  kept-sent : (p d : ℕ) → is_well c p ≡ true → Begins (k p d) (sent c.world p d)
   kept-sent p d well =
-      let n : length_of (seen c) p ≡ length (c.history p) = up-length (c.phase p) (well-is c p well).2 (c.history p) (c.saved p) in
-      let i : c.saved p ≤ length (c.history p) = h.within p in
-      payloads-prefix (seen c) h.grows p (c.history p) d (c.saved p) (length_of (seen c) p) (omega arith)
+      let n : length_of c.world p ≡ length (c.world.history p) = up-length (c.world.phase p) (well-is c p well).2 (c.world.history p) (c.world.saved p) in
+      let i : c.world.saved p ≤ length (c.world.history p) = h.within p in
+      payloads-prefix c.world h.grows p (c.world.history p) d (c.world.saved p) (length_of c.world p) (omega arith)
 
   -- what p has of d is there
-  named : (p d ssn m : ℕ) → Names (c.history p) m d ssn → IsThere last k d p ssn
+  named : (p d ssn m : ℕ) → Names (c.world.history p) m d ssn → IsThere last k d p ssn
   named p d ssn m n e =
-      let a = at-number (c.history p) m n.message n.at in
-      let f : AreFirst (c.history p) d (k d p) = h.received d p e in
+      let a = at-number (c.world.history p) m n.message n.at in
+      let f : AreFirst (c.world.history p) d (k d p) = h.received d p e in
       let P : ℕ → Type 0 = λ i. (0 < i) × (i ≤ length (k d p)) in
       subst P n.ssn (nth-within (k d p) n.message.ssn n.message.payload (f.each a.0 n.message a.2 n.sender))
 
   -- what p sends where it has it there is good
-  there-good : (p d ssn : ℕ) (x : Payload) → is_well c p ≡ true → nth (sent (seen c) p d) ssn ≡ Some x → 0 < ssn → ssn ≤ length (k p d) → nth (k p d) ssn ≡ Some x
+  there-good : (p d ssn : ℕ) (x : Payload) → is_well c p ≡ true → nth (sent c.world p d) ssn ≡ Some x → 0 < ssn → ssn ≤ length (k p d) → nth (k p d) ssn ≡ Some x
   there-good p d ssn x well at a b =
       let n = nth-of (k p d) ssn a b in
-      let same : n.0 ≡ x = some-same n.0 x _ (nth-prefix (k p d) (sent (seen c) p d) ssn n.0 (kept-sent p d well) n.1) at in
+      let same : n.0 ≡ x = some-same n.0 x _ (nth-prefix (k p d) (sent c.world p d) ssn n.0 (kept-sent p d well) n.1) at in
       let P : Payload → Type 0 = λ y. nth (k p d) ssn ≡ Some y in
       subst P same n.1
 
   -- an entry of a log
   entry-good : (p d m : ℕ) (x : Message) → is_well c p ≡ true → entry_of c p d m ≡ Some x → IsGood last k d x
   entry-good p d m x well e l =
-      let b = first_below-at (logged_as (seen c) d m p) (suc (length (sent (seen c) p d))) x e in
-      let t = logged_as-at (seen c) d m p b.0 x b.2 in
+      let b = first_below-at (logged_as c.world d m p) (suc (length (sent c.world p d))) x e in
+      let t = logged_as-at c.world d m p b.0 x b.2 in
       let P : ℕ → Type 0 = λ s. last s ≡ true in
       let r : (0 < b.0) × (b.0 ≤ length (k p d)) = h.numbers p d b.0 m t.1 (subst P t.2 l) in
       let Q : ℕ → ℕ → Type 0 = λ s i. nth (k s d) i ≡ Some x.payload in
@@ -90,11 +90,11 @@ module _ (last : ℕ → Bool) (c : Cluster) (h : Firm last c) where
       let Q2 : ℕ → Type 0 = λ i. Q x.sender i in
       subst Q2 (sym t.3) (subst Q1 (sym t.2) g)
 
-  put-true : (released : (p d : ℕ) → last p ≡ true → released_to (seen c) p d ≤ length (k p d)) (p d : ℕ) (x : Body) → MayPut c p d x → IsTrue last k p d x
-  put-true released p d (Delivery i ssn x) may = λ e. let r : released_to (seen c) p d ≤ length (k p d) = released p d e in let s : ssn ≤ released_to (seen c) p d = may.2 in let t : c.trims p d < ssn = may.3 in there-good p d ssn x may.0 may.4 (omega arith) (omega arith)
+  put-true : (released : (p d : ℕ) → last p ≡ true → released_to c.world p d ≤ length (k p d)) (p d : ℕ) (x : Body) → MayPut c p d x → IsTrue last k p d x
+  put-true released p d (Delivery i ssn x) may = λ e. let r : released_to c.world p d ≤ length (k p d) = released p d e in let s : ssn ≤ released_to c.world p d = may.2 in let t : c.world.trims p d < ssn = may.3 in there-good p d ssn x may.0 may.4 (omega arith) (omega arith)
   put-true released p d (Number i ssn n) may = named p d ssn n may.2
   put-true released p d (Told i j n u f) may = λ m x a b e. entry-good p d m x may.0 (sym (may.4 m a b) ∙ e)
-  put-true released p d (Restored i j n s u f) may = λ ssn m a b e. named p d ssn m (names-found (c.history p) d ssn m (sym (may.7 ssn a b) ∙ e))
+  put-true released p d (Restored i j n s u f) may = λ ssn m a b e. named p d ssn m (names-found (c.world.history p) d ssn m (sym (may.7 ssn a b) ∙ e))
   put-true released p d other may = tt
 
   -- one parcel more
@@ -110,11 +110,11 @@ module _ (last : ℕ → Bool) (c : Cluster) (h : Firm last c) where
   own-changed p q o none a = choose2 p q (λ a b t. a ≡ b → (if t then o else c.told a b) ≡ None) none (λ a b _ e. let P : ℕ → Type 0 = λ z. c.told a z ≡ None in subst P e (h.own a)) a a refl
 
   -- a page more
-  page-good : (p q n : ℕ) (u : Option ℕ) (f : ℕ → Option Message) → Asks (c.saved p) (c.told p q) n → ((m : ℕ) (x : Message) → n < m → reaches u m ≡ true → f m ≡ Some x → IsGood last k p x)
+  page-good : (p q n : ℕ) (u : Option ℕ) (f : ℕ → Option Message) → Asks (c.world.saved p) (c.told p q) n → ((m : ℕ) (x : Message) → n < m → reaches u m ≡ true → f m ≡ Some x → IsGood last k p x)
       → (m : ℕ) (x : Message) → reaches u m ≡ true → (if nat_le m n then entry_in (c.told p q) m else f m) ≡ Some x → IsGood last k p x
   page-good p q n u f asks page m x r = split (nat_le m n) refl
     where
-      before : (o : Option Collected) → IsGoodSoFar last k p o → Asks (c.saved p) o n → nat_le m n ≡ true → entry_in o m ≡ Some x → IsGood last k p x
+      before : (o : Option Collected) → IsGoodSoFar last k p o → Asks (c.world.saved p) o n → nat_le m n ≡ true → entry_in o m ≡ Some x → IsGood last k p x
       before None g a l e = absurd (let z : None ≡ Some x = e in cc)
       before (Some t) g a l e = let P : Option ℕ → Type 0 = λ v. reaches v m ≡ true in g m x (subst P (sym a) l) e
 
@@ -123,14 +123,14 @@ module _ (last : ℕ → Bool) (c : Cluster) (h : Firm last c) where
       split false l e = page m x (grind (arith, nat_tests)) r e
 
   -- what all that were asked told
-  all-good : (p : ℕ) → ((q : ℕ) → q ≤ c.count → q ≢ p → IsAll (c.told p q)) → (m : ℕ) (x : Message) → told_by c p m ≡ Some x → IsGood last k p x
-  all-good p all m x e = let b = first_below-at (λ q. entry_in (c.told p q) m) (suc c.count) x e in let l : b.0 < suc c.count = b.1 in one b.0 (omega arith) b.2
+  all-good : (p : ℕ) → ((q : ℕ) → q ≤ c.world.count → q ≢ p → IsAll (c.told p q)) → (m : ℕ) (x : Message) → told_by c p m ≡ Some x → IsGood last k p x
+  all-good p all m x e = let b = first_below-at (λ q. entry_in (c.told p q) m) (suc c.world.count) x e in let l : b.0 < suc c.world.count = b.1 in one b.0 (omega arith) b.2
     where
       told : (o : Option Collected) → IsGoodSoFar last k p o → IsAll o → entry_in o m ≡ Some x → IsGood last k p x
       told None g a e = absurd (a)
       told (Some t) g a e = let P : Option ℕ → Type 0 = λ v. reaches v m ≡ true in g m x (subst P (sym a) refl) e
 
-      one : (q : ℕ) → q ≤ c.count → entry_in (c.told p q) m ≡ Some x → IsGood last k p x
+      one : (q : ℕ) → q ≤ c.world.count → entry_in (c.told p q) m ≡ Some x → IsGood last k p x
       one q l e = split (q == p) refl
         where
           split : (b : Bool) → (q == p) ≡ b → IsGood last k p x
@@ -144,10 +144,10 @@ module _ (last : ℕ → Bool) (c : Cluster) (h : Firm last c) where
 
   -- numbers that are entered
   page-there : (p q s : ℕ) (u : Option ℕ) (f : ℕ → Option ℕ) → ((ssn m : ℕ) → s < ssn → reaches u ssn ≡ true → f ssn ≡ Some m → IsThere last k p q ssn)
-      → (a b ssn m : ℕ) → put2 c.numbers p q (entered c p q s u f) a b ssn ≡ Some m → IsThere last k a b ssn
-  page-there p q s u f page = choose2 p q (λ a b t. (ssn m : ℕ) → (if t then entered c p q s u f else c.numbers a b) ssn ≡ Some m → IsThere last k a b ssn) (λ ssn m. split ssn m (nat_lt s ssn) refl (reaches u ssn) refl) (λ a b _ ssn m e. h.numbers a b ssn m e)
+      → (a b ssn m : ℕ) → put2 c.world.numbers p q (entered c p q s u f) a b ssn ≡ Some m → IsThere last k a b ssn
+  page-there p q s u f page = choose2 p q (λ a b t. (ssn m : ℕ) → (if t then entered c p q s u f else c.world.numbers a b) ssn ≡ Some m → IsThere last k a b ssn) (λ ssn m. split ssn m (nat_lt s ssn) refl (reaches u ssn) refl) (λ a b _ ssn m e. h.numbers a b ssn m e)
     where
-      split : (ssn m : ℕ) (x : Bool) → nat_lt s ssn ≡ x → (y : Bool) → reaches u ssn ≡ y → (if x && y then f ssn else c.numbers p q ssn) ≡ Some m → IsThere last k p q ssn
+      split : (ssn m : ℕ) (x : Bool) → nat_lt s ssn ≡ x → (y : Bool) → reaches u ssn ≡ y → (if x && y then f ssn else c.world.numbers p q ssn) ≡ Some m → IsThere last k p q ssn
       split ssn m true a true b e = page ssn m (grind (arith, nat_tests)) b e
       split ssn m true a false b e = h.numbers p q ssn m e
       split ssn m false a y b e = h.numbers p q ssn m e
@@ -158,7 +158,7 @@ module _ (last : ℕ → Bool) (c : Cluster) (h : Firm last c) where
   with-parcel p d x ne t =
       record { grows = h.grows; within = h.within; parcels = parcel-more p d x ne t; jobs = h.jobs; numbers = h.numbers; told = h.told; own = h.own; received = h.received; shown = h.shown }
 
-  with-phase : (p : ℕ) (x : Phase) → IsIdle x → Firm last (record c { phase = put c.phase p x })
+  with-phase : (p : ℕ) (x : Phase) → IsIdle x → Firm last (record c { world = record c.world { phase = put c.world.phase p x } })
   with-phase p x idle =
       record { grows = h.grows; within = h.within; parcels = h.parcels; jobs = jobs-idle p x idle; numbers = h.numbers; told = h.told; own = h.own; received = h.received; shown = h.shown }
 
@@ -166,7 +166,7 @@ module _ (last : ℕ → Bool) (c : Cluster) (h : Firm last c) where
   with-told p q o none g =
       record { grows = h.grows; within = h.within; parcels = h.parcels; jobs = h.jobs; numbers = h.numbers; told = told-changed p q o g; own = own-changed p q o none; received = h.received; shown = h.shown }
 
-  with-numbers : (f : ℕ → ℕ → ℕ → Option ℕ) → ((s d ssn m : ℕ) → f s d ssn ≡ Some m → IsThere last k s d ssn) → Firm last (record c { numbers = f })
+  with-numbers : (f : ℕ → ℕ → ℕ → Option ℕ) → ((s d ssn m : ℕ) → f s d ssn ≡ Some m → IsThere last k s d ssn) → Firm last (record c { world = record c.world { numbers = f } })
   with-numbers f g =
       record { grows = h.grows; within = h.within; parcels = h.parcels; jobs = h.jobs; numbers = g; told = h.told; own = h.own; received = h.received; shown = h.shown }
 
@@ -174,13 +174,13 @@ module _ (last : ℕ → Bool) (c : Cluster) (h : Firm last c) where
   starts p e i ssn x may =
       let d : ℕ = suc e in
       let g : IsGood last k d (message p ssn x) = (h.parcels p d (Delivery i ssn x) may.0).1 in
-      let n : ssn ≡ suc (count_of p (c.history d)) = may.1.4 in
+      let n : ssn ≡ suc (count_of p (c.world.history d)) = may.1.4 in
       record {
         grows = h.grows;
         within = h.within;
         parcels = h.parcels;
-        jobs = choose d (λ j t. (m : Message) → (if t then Busy (message p ssn x) else c.phase j) ≡ Busy m → IsGood last k j m × (m.ssn ≡ suc (count_of m.sender (c.history j))))
-            (λ m e. let same : message p ssn x ≡ m = cc in let P : Message → Type 0 = λ y. IsGood last k d y × (y.ssn ≡ suc (count_of y.sender (c.history d))) in subst P same (g, n)) (λ j _. h.jobs j);
+        jobs = choose d (λ j t. (m : Message) → (if t then Busy (message p ssn x) else c.world.phase j) ≡ Busy m → IsGood last k j m × (m.ssn ≡ suc (count_of m.sender (c.world.history j))))
+            (λ m e. let same : message p ssn x ≡ m = cc in let P : Message → Type 0 = λ y. IsGood last k d y × (y.ssn ≡ suc (count_of y.sender (c.world.history d))) in subst P same (g, n)) (λ j _. h.jobs j);
         numbers = h.numbers;
         told = h.told;
         own = h.own;
@@ -200,7 +200,7 @@ module _ (last : ℕ → Bool) (c : Cluster) (h : Firm last c) where
         told = h.told;
         own = h.own;
         received = h.received;
-        shown = λ q l. first-push c.shown (message p ssn x) q (k q 0) may.1.1 (λ e. let P : ℕ → Type 0 = λ z. (last z ≡ true → nth (k z 0) ssn ≡ Some x) in subst P e g l) (h.shown q l);
+        shown = λ q l. first-push c.world.shown (message p ssn x) q (k q 0) may.1.1 (λ e. let P : ℕ → Type 0 = λ z. (last z ≡ true → nth (k z 0) ssn ≡ Some x) in subst P e g l) (h.shown q l);
       }
 
   records : (r s i ssn n : ℕ) → May c (Arrives r s (Number i ssn n)) → Firm last (does c (Arrives r s (Number i ssn n)))
@@ -211,8 +211,8 @@ module _ (last : ℕ → Bool) (c : Cluster) (h : Firm last c) where
         within = h.within;
         parcels = parcel-more s r (Acknowledgement i n) (λ e. t.0 (sym e)) tt;
         jobs = h.jobs;
-        numbers = choose2 s r (λ a b y. (j m : ℕ) → (if y then put (c.numbers s r) ssn (Some n) else c.numbers a b) j ≡ Some m → IsThere last k a b j)
-            (choose ssn (λ j y. (m : ℕ) → (if y then Some n else c.numbers s r j) ≡ Some m → IsThere last k s r j) (λ m _. t.1) (λ j _ m e. h.numbers s r j m e)) (λ a b _ j m e. h.numbers a b j m e);
+        numbers = choose2 s r (λ a b y. (j m : ℕ) → (if y then put (c.world.numbers s r) ssn (Some n) else c.world.numbers a b) j ≡ Some m → IsThere last k a b j)
+            (choose ssn (λ j y. (m : ℕ) → (if y then Some n else c.world.numbers s r j) ≡ Some m → IsThere last k s r j) (λ m _. t.1) (λ j _ m e. h.numbers s r j m e)) (λ a b _ j m e. h.numbers a b j m e);
         told = h.told;
         own = h.own;
         received = h.received;
@@ -221,17 +221,17 @@ module _ (last : ℕ → Bool) (c : Cluster) (h : Firm last c) where
 
   obeys : (p q i n s : ℕ) → Firm last (does c (Arrives p q (Resume i n s)))
   obeys p q i n s =
-      with-numbers (put2 c.numbers q p (λ ssn. up_to n (c.numbers q p ssn)))
-      (choose2 q p (λ a b t. (ssn m : ℕ) → (if t then (λ ssn. up_to n (c.numbers q p ssn)) else c.numbers a b) ssn ≡ Some m → IsThere last k a b ssn)
-      (λ ssn m e. h.numbers q p ssn m (up_to-is n m (c.numbers q p ssn) e).0) (λ a b _ ssn m e. h.numbers a b ssn m e))
+      with-numbers (put2 c.world.numbers q p (λ ssn. up_to n (c.world.numbers q p ssn)))
+      (choose2 q p (λ a b t. (ssn m : ℕ) → (if t then (λ ssn. up_to n (c.world.numbers q p ssn)) else c.world.numbers a b) ssn ≡ Some m → IsThere last k a b ssn)
+      (λ ssn m e. h.numbers q p ssn m (up_to-is n m (c.world.numbers q p ssn) e).0) (λ a b _ ssn m e. h.numbers a b ssn m e))
 
-  restores : (q p i j n s : ℕ) (f : ℕ → Option ℕ) → In (parcel q p (Restored i j n s None f)) c.parcels → Firm last (goes_on (takes_in c p q j n s None f) p (without (todo_of (c.phase p)) q))
+  restores : (q p i j n s : ℕ) (f : ℕ → Option ℕ) → In (parcel q p (Restored i j n s None f)) c.parcels → Firm last (goes_on (takes_in c p q j n s None f) p (without (todo_of (c.world.phase p)) q))
   restores q p i j n s f there =
       record {
         grows = h.grows;
         within = h.within;
         parcels = h.parcels;
-        jobs = jobs-idle p (phase_with (without (todo_of (c.phase p)) q)) (with-idle _);
+        jobs = jobs-idle p (phase_with (without (todo_of (c.world.phase p)) q)) (with-idle _);
         numbers = page-there p q s None f (h.parcels q p (Restored i j n s None f) there).1;
         told = h.told;
         own = h.own;
@@ -259,8 +259,8 @@ module _ (last : ℕ → Bool) (c : Cluster) (h : Firm last c) where
         grows = h.grows;
         within = h.within;
         parcels = h.parcels;
-        jobs = choose q (λ j t. (m : Message) → (if t then restores_anew (c.phase q) p else c.phase j) ≡ Busy m → IsGood last k j m × (m.ssn ≡ suc (count_of m.sender (c.history j)))) (λ m e. h.jobs q m (anew-idle (c.phase q) p m e)) (λ j _. h.jobs j);
-        numbers = choose2 q p (λ a b t. (ssn m : ℕ) → (if t then (λ _. None) else c.numbers a b) ssn ≡ Some m → IsThere last k a b ssn) (λ ssn m e. absurd (let z : None ≡ Some m = e in cc)) (λ a b _ ssn m e. h.numbers a b ssn m e);
+        jobs = choose q (λ j t. (m : Message) → (if t then restores_anew (c.world.phase q) p else c.world.phase j) ≡ Busy m → IsGood last k j m × (m.ssn ≡ suc (count_of m.sender (c.world.history j)))) (λ m e. h.jobs q m (anew-idle (c.world.phase q) p m e)) (λ j _. h.jobs j);
+        numbers = choose2 q p (λ a b t. (ssn m : ℕ) → (if t then (λ _. None) else c.world.numbers a b) ssn ≡ Some m → IsThere last k a b ssn) (λ ssn m e. absurd (let z : None ≡ Some m = e in cc)) (λ a b _ ssn m e. h.numbers a b ssn m e);
         told = h.told;
         own = h.own;
         received = h.received;
@@ -281,8 +281,8 @@ module _ (last : ℕ → Bool) (c : Cluster) (h : Firm last c) where
         numbers = λ s q ssn m e. there-more last k l more s q ssn (h.numbers s q ssn m e);
         told = λ p q. so-far-more last k l more p (c.told p q) (h.told p q);
         own = h.own;
-        received = λ p q t. first-more (c.history q) p (k p q) (l p q) (more p q) (h.received p q t);
-        shown = λ p t. first-more c.shown p (k p 0) (l p 0) (more p 0) (h.shown p t);
+        received = λ p q t. first-more (c.world.history q) p (k p q) (l p q) (more p q) (h.received p q t);
+        shown = λ p t. first-more c.world.shown p (k p 0) (l p 0) (more p 0) (h.shown p t);
       }
 
   keeps : (p : ℕ) → Firm last (does c (Keeps p))
@@ -291,14 +291,14 @@ module _ (last : ℕ → Bool) (c : Cluster) (h : Firm last c) where
       let more : (p q : ℕ) → Begins (k p q) (l p q) = goes-sends c (Acts (Keeps p)) h.grows h.within in
       record {
         grows = h.grows;
-        within = choose p (λ j t. (if t then length (c.history p) else c.saved j) ≤ length (c.history j)) (omega arith) (λ j _. h.within j);
+        within = choose p (λ j t. (if t then length (c.world.history p) else c.world.saved j) ≤ length (c.world.history j)) (omega arith) (λ j _. h.within j);
         parcels = λ p q y i. let t = h.parcels p q y i in (t.0, true-more last k l more p q y t.1);
         jobs = λ q m e. let t = h.jobs q m e in (good-more last k l more q m t.0, t.1);
         numbers = λ s q ssn m e. there-more last k l more s q ssn (h.numbers s q ssn m e);
         told = λ p q. so-far-more last k l more p (c.told p q) (h.told p q);
         own = h.own;
-        received = λ p q t. first-more (c.history q) p (k p q) (l p q) (more p q) (h.received p q t);
-        shown = λ p t. first-more c.shown p (k p 0) (l p 0) (more p 0) (h.shown p t);
+        received = λ p q t. first-more (c.world.history q) p (k p q) (l p q) (more p q) (h.received p q t);
+        shown = λ p t. first-more c.world.shown p (k p 0) (l p 0) (more p 0) (h.shown p t);
       }
 
   works : (p : ℕ) (m : Message) → May c (Works p m) → Firm last (does c (Works p m))
@@ -307,67 +307,67 @@ module _ (last : ℕ → Bool) (c : Cluster) (h : Firm last c) where
       let more : (p q : ℕ) → Begins (k p q) (l p q) = goes-sends c (Acts (Works p m)) h.grows h.within in
       let job = h.jobs p m may.2 in
       let good : IsGood last l p m = good-more last k l more p m job.0 in
-      let long : length (c.history p ++ m ∷ []) ≡ length (c.history p) + 1 = length-append _ _ in
-      let low : c.saved p ≤ length (c.history p) = h.within p in
+      let long : length (c.world.history p ++ m ∷ []) ≡ length (c.world.history p) + 1 = length-append _ _ in
+      let low : c.world.saved p ≤ length (c.world.history p) = h.within p in
       record {
         grows = h.grows;
-        within = choose p (λ j t. c.saved j ≤ length (if t then c.history p ++ m ∷ [] else c.history j)) (omega arith) (λ j _. h.within j);
+        within = choose p (λ j t. c.world.saved j ≤ length (if t then c.world.history p ++ m ∷ [] else c.world.history j)) (omega arith) (λ j _. h.within j);
         parcels = λ p q y i. let t = h.parcels p q y i in (t.0, true-more last k l more p q y t.1);
-        jobs = choose p (λ j t. (y : Message) → (if t then Up else c.phase j) ≡ Busy y → IsGood last l j y × (y.ssn ≡ suc (count_of y.sender (if t then c.history p ++ m ∷ [] else c.history j))))
+        jobs = choose p (λ j t. (y : Message) → (if t then Up else c.world.phase j) ≡ Busy y → IsGood last l j y × (y.ssn ≡ suc (count_of y.sender (if t then c.world.history p ++ m ∷ [] else c.world.history j))))
             (λ y e. absurd (let t : false ≡ true = ap is_busy e in cc)) (λ j _ y e. let t = h.jobs j y e in (good-more last k l more j y t.0, t.1));
         numbers = λ s q ssn m e. there-more last k l more s q ssn (h.numbers s q ssn m e);
         told = λ p q. so-far-more last k l more p (c.told p q) (h.told p q);
         own = h.own;
-        received = λ s d t. choose p (λ j y. AreFirst (if y then c.history p ++ m ∷ [] else c.history j) s (l s j))
-            (first-push (c.history p) m s (l s p) job.1 (λ e. let P : ℕ → Type 0 = λ z. (last z ≡ true → nth (l z p) m.ssn ≡ Some m.payload) in subst P e good t) (first-more (c.history p) s (k s p) (l s p) (more s p) (h.received s p t)))
-            (λ j _. first-more (c.history j) s (k s j) (l s j) (more s j) (h.received s j t)) d;
-        shown = λ p t. first-more c.shown p (k p 0) (l p 0) (more p 0) (h.shown p t);
+        received = λ s d t. choose p (λ j y. AreFirst (if y then c.world.history p ++ m ∷ [] else c.world.history j) s (l s j))
+            (first-push (c.world.history p) m s (l s p) job.1 (λ e. let P : ℕ → Type 0 = λ z. (last z ≡ true → nth (l z p) m.ssn ≡ Some m.payload) in subst P e good t) (first-more (c.world.history p) s (k s p) (l s p) (more s p) (h.received s p t)))
+            (λ j _. first-more (c.world.history j) s (k s j) (l s j) (more s j) (h.received s j t)) d;
+        shown = λ p t. first-more c.world.shown p (k p 0) (l p 0) (more p 0) (h.shown p t);
       }
 
   -- p has collected
   module _ (p n : ℕ) (may : May c (Recovers p n)) where
-    recovers : (x : Phase) → IsIdle x → ((q d : ℕ) → Begins (k q d) (kept_sends (record (taken_back c p n) { phase = put c.phase p x }) q d)) → Firm last (record (taken_back c p n) { phase = put c.phase p x })
+    recovers : (x : Phase) → IsIdle x → ((q d : ℕ) → Begins (k q d) (kept_sends (record (taken_back c p n) { world = record (taken_back c p n).world { phase = put c.world.phase p x } }) q d)) → Firm last (record (taken_back c p n) { world = record (taken_back c p n).world { phase = put c.world.phase p x } })
     recovers x idle more =
-        let l : Sends = kept_sends (record (taken_back c p n) { phase = put c.phase p x }) in
-        let low : c.saved p ≤ length (c.history p) = h.within p in
-        let b : Begins (take (c.saved p) (c.history p)) (kept_by c p n) = plan-begins (told_by c p) (take (c.saved p) (c.history p)) (n - c.saved p) in
-        let long : length (take (c.saved p) (c.history p)) ≡ c.saved p = take-length (c.history p) (c.saved p) low in
-        let longer : length (take (c.saved p) (c.history p)) ≤ length (kept_by c p n) = begins-length _ _ b in
+        let l : Sends = kept_sends (record (taken_back c p n) { world = record (taken_back c p n).world { phase = put c.world.phase p x } }) in
+        let low : c.world.saved p ≤ length (c.world.history p) = h.within p in
+        let b : Begins (take (c.world.saved p) (c.world.history p)) (kept_by c p n) = plan-begins (told_by c p) (take (c.world.saved p) (c.world.history p)) (n - c.world.saved p) in
+        let long : length (take (c.world.saved p) (c.world.history p)) ≡ c.world.saved p = take-length (c.world.history p) (c.world.saved p) low in
+        let longer : length (take (c.world.saved p) (c.world.history p)) ≤ length (kept_by c p n) = begins-length _ _ b in
         let good : (m : ℕ) (y : Message) → told_by c p m ≡ Some y → IsGood last k p y = all-good p may.2 in
         record {
           grows = h.grows;
-          within = choose p (λ j t. c.saved j ≤ length (if t then kept_by c p n else c.history j)) (omega arith) (λ j _. h.within j);
+          within = choose p (λ j t. c.world.saved j ≤ length (if t then kept_by c p n else c.world.history j)) (omega arith) (λ j _. h.within j);
           parcels = λ a d y i. let t = h.parcels a d y i in (t.0, true-more last k l more a d y t.1);
-          jobs = choose p (λ j t. (y : Message) → (if t then x else c.phase j) ≡ Busy y → IsGood last l j y × (y.ssn ≡ suc (count_of y.sender (if t then kept_by c p n else c.history j))))
+          jobs = choose p (λ j t. (y : Message) → (if t then x else c.world.phase j) ≡ Busy y → IsGood last l j y × (y.ssn ≡ suc (count_of y.sender (if t then kept_by c p n else c.world.history j))))
               (λ y e. absurd (idle y e)) (λ j _ y e. let t = h.jobs j y e in (good-more last k l more j y t.0, t.1));
-          numbers = λ s d ssn m. choose p (λ j t. (if t then (λ _ _. None) else c.numbers j) d ssn ≡ Some m → IsThere last l j d ssn) (λ e. absurd (let z : None ≡ Some m = e in cc)) (λ j _ e. there-more last k l more j d ssn (h.numbers j d ssn m e)) s;
+          numbers = λ s d ssn m. choose p (λ j t. (if t then (λ _ _. None) else c.world.numbers j) d ssn ≡ Some m → IsThere last l j d ssn) (λ e. absurd (let z : None ≡ Some m = e in cc)) (λ j _ e. there-more last k l more j d ssn (h.numbers j d ssn m e)) s;
           told = λ a d. choose p (λ j t. IsGoodSoFar last l j ((if t then (λ _. None) else c.told j) d)) tt (λ j _. so-far-more last k l more j (c.told j d) (h.told j d)) a;
           own = λ a. choose p (λ j t. (if t then (λ _. None) else c.told j) j ≡ None) refl (λ j _. h.own j) a;
-          received = λ s d t. choose p (λ j y. AreFirst (if y then kept_by c p n else c.history j) s (l s j))
-              (first-plan (told_by c p) (take (c.saved p) (c.history p)) (n - c.saved p) s (l s p)
+          received = λ s d t. choose p (λ j y. AreFirst (if y then kept_by c p n else c.world.history j) s (l s j))
+              (first-plan (told_by c p) (take (c.world.saved p) (c.world.history p)) (n - c.world.saved p) s (l s p)
               (λ m y e f. let P : ℕ → Type 0 = λ z. (last z ≡ true → nth (l z p) y.ssn ≡ Some y.payload) in subst P f (good-more last k l more p y (good m y e)) t)
-              (first-take (c.history p) (c.saved p) s (l s p) (first-more (c.history p) s (k s p) (l s p) (more s p) (h.received s p t))))
-              (λ j _. first-more (c.history j) s (k s j) (l s j) (more s j) (h.received s j t)) d;
-          shown = λ s t. first-more c.shown s (k s 0) (l s 0) (more s 0) (h.shown s t);
+              (first-take (c.world.history p) (c.world.saved p) s (l s p) (first-more (c.world.history p) s (k s p) (l s p) (more s p) (h.received s p t))))
+              (λ j _. first-more (c.world.history j) s (k s j) (l s j) (more s j) (h.received s j t)) d;
+          shown = λ s t. first-more c.world.shown s (k s 0) (l s 0) (more s 0) (h.shown s t);
         }
 
     recovers-firm : Firm last (does c (Recovers p n))
-    recovers-firm = either-way (nat_lt (c.saved p) n) _ _ (Firm last)
+    recovers-firm = either-way (nat_lt (c.world.saved p) n) _ _ (Firm last)
         (recovers (Replaying 0 false false) (λ m e. let t : false ≡ true = ap is_busy e in cc) more)
-        (recovers (phase_with (peers (seen c) p false)) (with-idle (peers (seen c) p false)) more)
+        (recovers (phase_with (peers c.world p false)) (with-idle (peers c.world p false)) more)
       where
         more : (q d : ℕ) → Begins (k q d) (kept_sends (taken_back c p n) q d)
         more = sends-continue c (taken_back c p n) h.grows refl (takes-back c p n (h.within p))
 
-  does-firm : (released : (p d : ℕ) → last p ≡ true → released_to (seen c) p d ≤ length (k p d)) (a : Act) → May c a → Firm last (does c a)
-  does-firm released (Arrives q p (Restored i j n s (Some u) f)) may = with-numbers (put2 c.numbers p q (entered c p q s (Some u) f)) (page-there p q s (Some u) f (h.parcels q p (Restored i j n s (Some u) f) may.0).1)
+  does-firm : (released : (p d : ℕ) → last p ≡ true → released_to c.world p d ≤ length (k p d)) (a : Act) → May c a → Firm last (does c a)
+  does-firm released (Arrives q p (Restored i j n s (Some u) f)) may = with-numbers (put2 c.world.numbers p q (entered c p q s (Some u) f)) (page-there p q s (Some u) f (h.parcels q p (Restored i j n s (Some u) f) may.0).1)
   does-firm released (Input d x) may = input-firm d x
   does-firm released (Puts p d x) may = with-parcel p d x may.2 (put-true released p d x may.3)
   does-firm released (Arrives p (suc d) (Delivery i ssn x)) may = starts p d i ssn x may
   does-firm released (Arrives p zero (Delivery i ssn x)) may = shows p i ssn x may
   does-firm released (Works p m) may = works p m may
-  does-firm released (Replays p j) may = either-way (nat_lt (c.saved p + suc j) (length (c.history p))) _ _ (Firm last)
-      (with-phase p (Replaying (suc j) false false) (λ m e. let t : false ≡ true = ap is_busy e in cc)) (with-phase p (phase_with (peers (seen c) p false)) (with-idle (peers (seen c) p false)))
+  does-firm released (Replays p j) may = either-way (nat_lt (c.world.saved p + suc j) (length (c.world.history p))) _ _ (Firm last)
+      (with-phase p (Replaying (suc j) false false) (λ m e. let t : false ≡ true = ap is_busy e in cc)) (with-phase p (phase_with (peers c.world p false)) (with-idle (peers c.world p false)))
   does-firm released (Arrives r s (Number i ssn n)) may = records r s i ssn n may
   does-firm released (Arrives p q (Ask i n)) may = with-told q p None (λ _. refl) tt
   does-firm released (Arrives q p (Told i j n u f)) may =
@@ -380,8 +380,8 @@ module _ (last : ℕ → Bool) (c : Cluster) (h : Firm last c) where
   does-firm released (Opens p n) may = opens p n
   does-firm released act may = h
 
-  pub goes-firm : (released : (p d : ℕ) → last p ≡ true → released_to (seen c) p d ≤ length (k p d)) (e : Event) → Might c e → Firm last (goes c e)
+  pub goes-firm : (released : (p d : ℕ) → last p ≡ true → released_to c.world p d ≤ length (k p d)) (e : Event) → Might c e → Firm last (goes c e)
   goes-firm released (Acts a) may = does-firm released a may
   goes-firm released (Meets q p i n) may = meets q p i n
   goes-firm released (Loses q p i j n) may = with-parcel q p (Told i j n None (λ _. None)) (λ e. (h.parcels p q (Ask i n) may.0).0 (sym e)) (λ m x _ _ e. absurd (let z : None ≡ Some x = e in cc))
-  goes-firm released (Leaves p q) may = with-phase p (phase_with (without (todo_of (c.phase p)) q)) (with-idle (without (todo_of (c.phase p)) q))
+  goes-firm released (Leaves p q) may = with-phase p (phase_with (without (todo_of (c.world.phase p)) q)) (with-idle (without (todo_of (c.world.phase p)) q))

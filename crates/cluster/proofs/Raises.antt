@@ -9,7 +9,7 @@ use Rattle.world.specs.World.{put}
 use Rattle.world.specs.Logs.{covered}
 use Rattle.world.specs.Calls.{phase_with, peers}
 use Rattle.cluster.specs.Parcels.{Body, Resume, Restored}
-use Rattle.cluster.specs.Cluster.{Live, Cluster, seen, runs, is_well}
+use Rattle.cluster.specs.Cluster.{Live, Cluster, runs, is_well}
 use Rattle.cluster.specs.Rules.{Puts, Arrives, Works, Replays, IsNode, goes_on}
 use Rattle.cluster.proofs.Facts.{well-is, is-well}
 use Rattle.cluster.specs.Exact.{Telling, Takes, Leaving, MayStep, step}
@@ -33,8 +33,8 @@ module _ (born : ℕ → ℕ) (now p : ℕ) where
         aged : Aged born now s;
         node : IsNode s.cluster p;
         live : s.cluster.stage p ≡ Live;
-        awake : (q : ℕ) → q ≤ s.cluster.count → q ≢ p → IsAwake s.cluster q;
-        lost : (q : ℕ) → q ≤ s.cluster.count → q ≢ p → is_well s.cluster q ≡ false → s.lost p q ≡ true;
+        awake : (q : ℕ) → q ≤ s.cluster.world.count → q ≢ p → IsAwake s.cluster q;
+        lost : (q : ℕ) → q ≤ s.cluster.world.count → q ≢ p → is_well s.cluster q ≡ false → s.lost p q ≡ true;
       }
 
   -- of the others all is as before
@@ -42,10 +42,10 @@ module _ (born : ℕ → ℕ) (now p : ℕ) where
   Kept s t =
       record {
         aged : Aged born now t;
-        count : t.cluster.count ≡ s.cluster.count;
+        count : t.cluster.world.count ≡ s.cluster.world.count;
         stage : (r : ℕ) → t.cluster.stage r ≡ s.cluster.stage r;
         greeted : (r : ℕ) → r ≢ p → t.cluster.greeted r ≡ s.cluster.greeted r;
-        phase : (r : ℕ) → r ≢ p → t.cluster.phase r ≡ s.cluster.phase r;
+        phase : (r : ℕ) → r ≢ p → t.cluster.world.phase r ≡ s.cluster.world.phase r;
         lost : (q : ℕ) → t.lost p q ≡ s.lost p q;
       }
 
@@ -65,8 +65,8 @@ module _ (born : ℕ → ℕ) (now p : ℕ) where
 
   stand-kept : (s t : Telling) → Stand s → Kept s t → Stand t
   stand-kept s t h k =
-      let same : t.cluster.count ≡ s.cluster.count = k.count in
-      let l : p ≤ s.cluster.count = h.node.1 in
+      let same : t.cluster.world.count ≡ s.cluster.world.count = k.count in
+      let l : p ≤ s.cluster.world.count = h.node.1 in
       record {
         aged = k.aged;
         node = (h.node.0, omega arith);
@@ -77,29 +77,29 @@ module _ (born : ℕ → ℕ) (now p : ℕ) where
 
   -- and p is up, and waits for messages
   abbrev pub Raised : Telling → Telling → Type 0
-  Raised s t = Kept s t × (is_well t.cluster p ≡ true) × (t.cluster.phase p ≡ Up)
+  Raised s t = Kept s t × (is_well t.cluster p ≡ true) × (t.cluster.world.phase p ≡ Up)
 
   -- p's life is the one that its peers heard of
-  heard-life : (s : Telling) → Stand s → (q : ℕ) → q ≤ s.cluster.count → q ≢ p → s.cluster.heard q p ≡ s.cluster.life p
+  heard-life : (s : Telling) → Stand s → (q : ℕ) → q ≤ s.cluster.world.count → q ≢ p → s.cluster.heard q p ≡ s.cluster.world.incarnation p
   heard-life s h q a n =
-      let l : s.cluster.life p ≡ s.cluster.stored p = h.aged.plain.settled p (ap runs h.live) in
+      let l : s.cluster.world.incarnation p ≡ s.cluster.stored p = h.aged.plain.settled p (ap runs h.live) in
       let t : has_told s.cluster p q ≡ true = ap (λ x. at_stage x (is_some (s.cluster.told p q))) h.live in
       let u : has_told s.cluster q p ≡ true = ap (λ x. at_stage x (is_some (s.cluster.told q p))) (h.awake q a n).0 in
       elim (h.aged.knows p q a (λ e. n (sym e)) t) [ inl e ↦ e.0 ∙ sym l | inr b ↦ elim (h.aged.knows q p h.node.1 n u) [ inl e ↦ e.1 ∙ sym l | inr d ↦ absurd (omega arith) ] ]
 
   -- it still restores its numbers from the others
   abbrev Fewer : ℕ → Telling → Telling → Type 0
-  Fewer q s t = Kept s t × (t.cluster.phase p ≡ phase_with (without (todo_of (s.cluster.phase p)) q))
+  Fewer q s t = Kept s t × (t.cluster.world.phase p ≡ phase_with (without (todo_of (s.cluster.world.phase p)) q))
 
   -- q, which is up, obeyed its Resume
   abbrev Obeyed : ℕ → Telling → Telling → Type 0
   Obeyed q s t =
       record {
         aged : Aged born now t;
-        count : t.cluster.count ≡ s.cluster.count;
+        count : t.cluster.world.count ≡ s.cluster.world.count;
         stage : (r : ℕ) → t.cluster.stage r ≡ s.cluster.stage r;
         greeted : (r : ℕ) → t.cluster.greeted r ≡ s.cluster.greeted r;
-        phase : (r : ℕ) → t.cluster.phase r ≡ s.cluster.phase r;
+        phase : (r : ℕ) → t.cluster.world.phase r ≡ s.cluster.world.phase r;
         lost : (q : ℕ) → t.lost p q ≡ s.lost p q;
         resumed : t.cluster.resumed q p ≡ true;
       }
@@ -107,33 +107,33 @@ module _ (born : ℕ → ℕ) (now p : ℕ) where
   obeyed-kept : (q : ℕ) (s t : Telling) → Obeyed q s t → Kept s t
   obeyed-kept q s t o = record { aged = o.aged; count = o.count; stage = o.stage; greeted = λ r _. o.greeted r; phase = λ r _. o.phase r; lost = o.lost }
 
-  not-busy : (c : Cluster) (q : ℕ) → c.phase q ≡ Up → (m : Message) → c.phase q ≡ Busy m → ⊥
+  not-busy : (c : Cluster) (q : ℕ) → c.world.phase q ≡ Up → (m : Message) → c.world.phase q ≡ Busy m → ⊥
   not-busy c q w m e = let t : false ≡ true = ap is_busy (sym w ∙ e) in cc
 
-  module _ (s : Telling) (h : Stand s) (un : is_well s.cluster p ≡ false) (q : ℕ) (a : q ≤ s.cluster.count) (n : q ≢ p) (well : is_well s.cluster q ≡ true) where
+  module _ (s : Telling) (h : Stand s) (un : is_well s.cluster p ≡ false) (q : ℕ) (a : q ≤ s.cluster.world.count) (n : q ≢ p) (well : is_well s.cluster q ≡ true) where
     obeys : CanGo s (Obeyed q s)
-    obeys = go-first s (Obeyed q s) (Takes true false (Puts p q (Resume (s.cluster.life p) (length (s.cluster.history p)) (s.cluster.restoring p q)))) may refl (split (s.cluster.resumed q p) refl)
+    obeys = go-first s (Obeyed q s) (Takes true false (Puts p q (Resume (s.cluster.world.incarnation p) (length (s.cluster.world.history p)) (s.cluster.restoring p q)))) may refl (split (s.cluster.resumed q p) refl)
       where
-        may : MayStep s (Takes true false (Puts p q (Resume (s.cluster.life p) (length (s.cluster.history p)) (s.cluster.restoring p q))))
+        may : MayStep s (Takes true false (Puts p q (Resume (s.cluster.world.incarnation p) (length (s.cluster.world.history p)) (s.cluster.restoring p q))))
         may = ((h.node.1, a, (λ e. n (sym e)), (h.live, un, refl, refl, refl)), tt)
 
-        aged : Aged born now (step s (Takes true false (Puts p q (Resume (s.cluster.life p) (length (s.cluster.history p)) (s.cluster.restoring p q)))))
-        aged = step-aged born now s (Takes true false (Puts p q (Resume (s.cluster.life p) (length (s.cluster.history p)) (s.cluster.restoring p q)))) refl h.aged may
+        aged : Aged born now (step s (Takes true false (Puts p q (Resume (s.cluster.world.incarnation p) (length (s.cluster.world.history p)) (s.cluster.restoring p q)))))
+        aged = step-aged born now s (Takes true false (Puts p q (Resume (s.cluster.world.incarnation p) (length (s.cluster.world.history p)) (s.cluster.restoring p q)))) refl h.aged may
 
-        split : (b : Bool) → s.cluster.resumed q p ≡ b → CanGo (step s (Takes true false (Puts p q (Resume (s.cluster.life p) (length (s.cluster.history p)) (s.cluster.restoring p q))))) (Obeyed q s)
+        split : (b : Bool) → s.cluster.resumed q p ≡ b → CanGo (step s (Takes true false (Puts p q (Resume (s.cluster.world.incarnation p) (length (s.cluster.world.history p)) (s.cluster.restoring p q))))) (Obeyed q s)
         split true e = ([], tt, tt, record { aged = aged; count = refl; stage = λ r. refl; greeted = λ r. refl; phase = λ r. refl; lost = λ r. refl; resumed = e })
         split false e =
             let w = h.awake q a n in
-            let up : s.cluster.phase q ≡ Up = w.1 well in
+            let up : s.cluster.world.phase q ≡ Up = w.1 well in
             let g : s.cluster.greeted q ≡ true = (well-is s.cluster q well).1 in
-            let m : MayStep (step s (Takes true false (Puts p q (Resume (s.cluster.life p) (length (s.cluster.history p)) (s.cluster.restoring p q))))) (Takes true false (Arrives p q (Resume (s.cluster.life p) (length (s.cluster.history p)) (s.cluster.restoring p q)))) =
+            let m : MayStep (step s (Takes true false (Puts p q (Resume (s.cluster.world.incarnation p) (length (s.cluster.world.history p)) (s.cluster.restoring p q))))) (Takes true false (Arrives p q (Resume (s.cluster.world.incarnation p) (length (s.cluster.world.history p)) (s.cluster.restoring p q)))) =
             ((inl refl, ((rw (w.0, g, up) refl), sym (heard-life s h q a n), e, (λ x f. absurd (not-busy s.cluster q up x f)))), tt) in
-            go-first (step s (Takes true false (Puts p q (Resume (s.cluster.life p) (length (s.cluster.history p)) (s.cluster.restoring p q))))) (Obeyed q s) (Takes true false (Arrives p q (Resume (s.cluster.life p) (length (s.cluster.history p)) (s.cluster.restoring p q)))) m refl (
+            go-first (step s (Takes true false (Puts p q (Resume (s.cluster.world.incarnation p) (length (s.cluster.world.history p)) (s.cluster.restoring p q))))) (Obeyed q s) (Takes true false (Arrives p q (Resume (s.cluster.world.incarnation p) (length (s.cluster.world.history p)) (s.cluster.restoring p q)))) m refl (
               [],
               tt,
               tt,
               record {
-                aged = step-aged born now _ (Takes true false (Arrives p q (Resume (s.cluster.life p) (length (s.cluster.history p)) (s.cluster.restoring p q)))) refl aged m;
+                aged = step-aged born now _ (Takes true false (Arrives p q (Resume (s.cluster.world.incarnation p) (length (s.cluster.world.history p)) (s.cluster.restoring p q)))) refl aged m;
                 count = refl;
                 stage = λ r. refl;
                 greeted = λ r. refl;
@@ -145,19 +145,19 @@ module _ (born : ℕ → ℕ) (now p : ℕ) where
 
     -- what it answers then
     abbrev answer : Body
-    answer = Restored (s.cluster.life p) (s.cluster.life q) (covered (seen s.cluster) p q) (s.cluster.restoring p q) None (rsn_of (s.cluster.history q) p)
+    answer = Restored (s.cluster.world.incarnation p) (s.cluster.world.incarnation q) (covered s.cluster.world p q) (s.cluster.restoring p q) None (rsn_of (s.cluster.world.history q) p)
 
     may-answer : s.cluster.resumed q p ≡ true → MayStep s (Takes true false (Puts q p answer))
     may-answer e =
-        let up : s.cluster.phase q ≡ Up = (h.awake q a n).1 well in
+        let up : s.cluster.world.phase q ≡ Up = (h.awake q a n).1 well in
         ((a, h.node.1, n, (well, sym (heard-life s h q a n), e, (λ m f. absurd (not-busy s.cluster q up m f)), refl, refl, (λ v f. absurd (let z : None ≡ Some v = f in cc)), (λ ssn _ _. refl))), tt)
 
-    low : s.cluster.heard p q ≤ s.cluster.life q
-    low = let l : s.cluster.heard p q ≤ s.cluster.stored q = h.aged.plain.low p q in let e : s.cluster.life q ≡ s.cluster.stored q = h.aged.plain.settled q (ap runs (h.awake q a n).0) in omega arith
+    low : s.cluster.heard p q ≤ s.cluster.world.incarnation q
+    low = let l : s.cluster.heard p q ≤ s.cluster.stored q = h.aged.plain.low p q in let e : s.cluster.world.incarnation q ≡ s.cluster.stored q = h.aged.plain.settled q (ap runs (h.awake q a n).0) in omega arith
 
   -- p takes it in, of another node
-  restores-one : (s : Telling) (h : Stand s) (un : is_well s.cluster p ≡ false) (q : ℕ) (a : q ≤ s.cluster.count) (n : q ≢ p) (well : is_well s.cluster q ≡ true)
-      → s.cluster.resumed q p ≡ true → IsNode s.cluster q → has (todo_of (s.cluster.phase p)) q ≡ true → CanGo s (Fewer q s)
+  restores-one : (s : Telling) (h : Stand s) (un : is_well s.cluster p ≡ false) (q : ℕ) (a : q ≤ s.cluster.world.count) (n : q ≢ p) (well : is_well s.cluster q ≡ true)
+      → s.cluster.resumed q p ≡ true → IsNode s.cluster q → has (todo_of (s.cluster.world.phase p)) q ≡ true → CanGo s (Fewer q s)
   restores-one s h un zero a n well e other todo = absurd (let l : 0 < 0 = other.0 in omega arith)
   restores-one s h un (suc v) a n well e other todo =
       let q : ℕ = suc v in
@@ -175,16 +175,16 @@ module _ (born : ℕ → ℕ) (now p : ℕ) where
             count = refl;
             stage = λ r. refl;
             greeted = λ r _. refl;
-            phase = λ r n. put-other s.cluster.phase p (phase_with (without (todo_of (s.cluster.phase p)) q)) r n;
+            phase = λ r n. put-other s.cluster.world.phase p (phase_with (without (todo_of (s.cluster.world.phase p)) q)) r n;
             lost = λ r. refl;
           },
-          put-same s.cluster.phase p (phase_with (without (todo_of (s.cluster.phase p)) q)),
+          put-same s.cluster.world.phase p (phase_with (without (todo_of (s.cluster.world.phase p)) q)),
         ),
       ))
 
   -- the gateway greets it
   abbrev Greeted : Telling → Telling → Type 0
-  Greeted s t = Kept s t × (t.cluster.greeted p ≡ true) × (t.cluster.phase p ≡ s.cluster.phase p)
+  Greeted s t = Kept s t × (t.cluster.greeted p ≡ true) × (t.cluster.world.phase p ≡ s.cluster.world.phase p)
 
   gate-other : (s : Telling) → Stand s → 0 ≢ p
   gate-other s h e = let l : 0 < p = h.node.0 in omega arith
@@ -192,11 +192,11 @@ module _ (born : ℕ → ℕ) (now p : ℕ) where
   gate-well : (s : Telling) → Stand s → is_well s.cluster 0 ≡ true
   gate-well s h = let g = h.aged.plain.gateway in rw (g.0, g.1, g.2) refl
 
-  greets-one : (s : Telling) (h : Stand s) (un : is_well s.cluster p ≡ false) → s.cluster.greeted p ≡ false → is_up (s.cluster.phase p) ≡ true → s.cluster.resumed 0 p ≡ true → CanGo s (Greeted s)
+  greets-one : (s : Telling) (h : Stand s) (un : is_well s.cluster p ≡ false) → s.cluster.greeted p ≡ false → is_up (s.cluster.world.phase p) ≡ true → s.cluster.resumed 0 p ≡ true → CanGo s (Greeted s)
   greets-one s h un g up e =
       let first : MayStep s (Takes true false (Puts 0 p (answer s h un 0 (omega arith) (gate-other s h) (gate-well s h)))) = may-answer s h un 0 (omega arith) (gate-other s h) (gate-well s h) e in
       let m : MayStep (step s (Takes true false (Puts 0 p (answer s h un 0 (omega arith) (gate-other s h) (gate-well s h))))) (Takes (s.exact 0) false (Arrives 0 p (answer s h un 0 (omega arith) (gate-other s h) (gate-well s h)))) =
-      ((inl refl, (h.live, refl, g, not-replaying (s.cluster.phase p) up)), inl refl) in
+      ((inl refl, (h.live, refl, g, not-replaying (s.cluster.world.phase p) up)), inl refl) in
       go-first s (Greeted s) (Takes true false (Puts 0 p (answer s h un 0 (omega arith) (gate-other s h) (gate-well s h)))) first refl
       (go-first (step s (Takes true false (Puts 0 p (answer s h un 0 (omega arith) (gate-other s h) (gate-well s h))))) (Greeted s) (Takes (s.exact 0) false (Arrives 0 p (answer s h un 0 (omega arith) (gate-other s h) (gate-well s h)))) m refl (
         [],
@@ -228,20 +228,20 @@ module _ (born : ℕ → ℕ) (now p : ℕ) where
   kept-here s h = record { aged = h.aged; count = refl; stage = λ r. refl; greeted = λ r _. refl; phase = λ r _. refl; lost = λ r. refl }
 
   -- it finishes the message that it works on
-  finish : (s : Telling) → Stand s → s.cluster.greeted p ≡ true → is_up (s.cluster.phase p) ≡ true → CanGo s (Raised s)
-  finish s h g up = split (s.cluster.phase p) refl up
+  finish : (s : Telling) → Stand s → s.cluster.greeted p ≡ true → is_up (s.cluster.world.phase p) ≡ true → CanGo s (Raised s)
+  finish s h g up = split (s.cluster.world.phase p) refl up
     where
-      split : (x : Phase) → s.cluster.phase p ≡ x → is_up x ≡ true → CanGo s (Raised s)
+      split : (x : Phase) → s.cluster.world.phase p ≡ x → is_up x ≡ true → CanGo s (Raised s)
       split Up e u = ([], tt, tt, (kept-here s h, (rw (h.live, g, e) refl), e))
       split (Busy m) e u =
           let may : MayStep s (Takes true false (Works p m)) = ((h.node, (rw (h.live, g, e) refl), e), tt) in
-          let there : put s.cluster.phase p Up p ≡ Up = put-same s.cluster.phase p Up in
+          let there : put s.cluster.world.phase p Up p ≡ Up = put-same s.cluster.world.phase p Up in
           go-first s (Raised s) (Takes true false (Works p m)) may refl (
             [],
             tt,
             tt,
             (
-              record { aged = step-aged born now s (Takes true false (Works p m)) refl h.aged may; count = refl; stage = λ r. refl; greeted = λ r _. refl; phase = λ r n. put-other s.cluster.phase p Up r n; lost = λ r. refl },
+              record { aged = step-aged born now s (Takes true false (Works p m)) refl h.aged may; count = refl; stage = λ r. refl; greeted = λ r _. refl; phase = λ r n. put-other s.cluster.world.phase p Up r n; lost = λ r. refl },
               is-well (step s (Takes true false (Works p m))).cluster p (ap runs h.live) g (ap is_up there),
               there,
             ),
@@ -249,7 +249,7 @@ module _ (born : ℕ → ℕ) (now p : ℕ) where
       split x e u = absurd (cc)
 
   -- before that, the gateway answers
-  lands : (s : Telling) → Stand s → is_up (s.cluster.phase p) ≡ true → CanGo s (Raised s)
+  lands : (s : Telling) → Stand s → is_up (s.cluster.world.phase p) ≡ true → CanGo s (Raised s)
   lands s h up = split (s.cluster.greeted p) refl
     where
       split : (b : Bool) → s.cluster.greeted p ≡ b → CanGo s (Raised s)
@@ -264,20 +264,20 @@ module _ (born : ℕ → ℕ) (now p : ℕ) where
           go-on u (Raised u) (Raised s) (finish u (stand-kept s u h w) r.1 (ap is_up r.2 ∙ ap is_up (o.phase p) ∙ up)) (λ x y. ([], tt, tt, (kept-kept s u x w y.0, y.1, y.2)))))
 
   -- and before that each of those from which it restores its numbers, or it leaves that one
-  fewer : (s : Telling) → Stand s → (q : ℕ) → has (todo_of (s.cluster.phase p)) q ≡ true → is_up (s.cluster.phase p) ≡ false → CanGo s (Fewer q s)
+  fewer : (s : Telling) → Stand s → (q : ℕ) → has (todo_of (s.cluster.world.phase p)) q ≡ true → is_up (s.cluster.world.phase p) ≡ false → CanGo s (Fewer q s)
   fewer s h q todo down = split (is_well s.cluster q) refl
     where
       split : (b : Bool) → is_well s.cluster q ≡ b → CanGo s (Fewer q s)
       split true w =
           let that = h.aged.plain.todo p q todo in
-          let un : is_well s.cluster p ≡ false = unphased (runs (s.cluster.stage p)) (s.cluster.greeted p) (is_up (s.cluster.phase p)) down in
+          let un : is_well s.cluster p ≡ false = unphased (runs (s.cluster.stage p)) (s.cluster.greeted p) (is_up (s.cluster.world.phase p)) down in
           go-on s (Obeyed q s) (Fewer q s) (obeys s h un q that.0.1 that.1 w) (λ t o.
           let k : Kept s t = obeyed-kept q s t o in
-          let same : t.cluster.count ≡ s.cluster.count = o.count in
-          let l : q ≤ s.cluster.count = that.0.1 in
+          let same : t.cluster.world.count ≡ s.cluster.world.count = o.count in
+          let l : q ≤ s.cluster.world.count = that.0.1 in
           let v : is_well t.cluster p ≡ false = (rw (o.stage p, o.greeted p, o.phase p) un) in
           let x : is_well t.cluster q ≡ true = (rw (o.stage q, o.greeted q, o.phase q) w) in
-          let here : has (todo_of (t.cluster.phase p)) q ≡ true = ap (λ x. has (todo_of x) q) (o.phase p) ∙ todo in
+          let here : has (todo_of (t.cluster.world.phase p)) q ≡ true = ap (λ x. has (todo_of x) q) (o.phase p) ∙ todo in
           go-on t (Fewer q t) (Fewer q s) (restores-one t (stand-kept s t h k) v q (omega arith) that.1 x o.resumed (that.0.0, omega arith) here) (λ u r.
           ([], tt, tt, (kept-kept s t u k r.0, r.1 ∙ ap (λ x. phase_with (without (todo_of x) q)) (o.phase p)))))
       split false w =
@@ -288,86 +288,86 @@ module _ (born : ℕ → ℕ) (now p : ℕ) where
             tt,
             tt,
             (
-              record { aged = step-aged born now s (Leaving p q) refl h.aged m; count = refl; stage = λ r. refl; greeted = λ r _. refl; phase = λ r n. put-other s.cluster.phase p (phase_with (without (todo_of (s.cluster.phase p)) q)) r n; lost = λ r. refl },
-              put-same s.cluster.phase p (phase_with (without (todo_of (s.cluster.phase p)) q)),
+              record { aged = step-aged born now s (Leaving p q) refl h.aged m; count = refl; stage = λ r. refl; greeted = λ r _. refl; phase = λ r n. put-other s.cluster.world.phase p (phase_with (without (todo_of (s.cluster.world.phase p)) q)) r n; lost = λ r. refl },
+              put-same s.cluster.world.phase p (phase_with (without (todo_of (s.cluster.world.phase p)) q)),
             ),
           )
 
-  restores : (k : ℕ) (s : Telling) → Stand s → (rs : List ℕ) → length rs ≤ k → s.cluster.phase p ≡ phase_with rs → CanGo s (Raised s)
+  restores : (k : ℕ) (s : Telling) → Stand s → (rs : List ℕ) → length rs ≤ k → s.cluster.world.phase p ≡ phase_with rs → CanGo s (Raised s)
   restores k s h [] l e = lands s h (ap is_up e)
   restores zero s h (q ∷ rs) l e = absurd (omega arith)
   restores (suc k) s h (q ∷ rs) l e =
-      let todo : todo_of (s.cluster.phase p) ≡ q ∷ rs = ap todo_of e in
+      let todo : todo_of (s.cluster.world.phase p) ≡ q ∷ rs = ap todo_of e in
       let me : (q == q) ≡ true = grind (arith, nat_tests) in
-      let it : has (todo_of (s.cluster.phase p)) q ≡ true = ap (λ xs. has xs q) todo ∙ (rw me refl) in
+      let it : has (todo_of (s.cluster.world.phase p)) q ≡ true = ap (λ xs. has xs q) todo ∙ (rw me refl) in
       let less : length (without (q ∷ rs) q) ≤ length rs = rw me (without-shorter rs q) in
       let P : List ℕ → Type 0 = λ xs. length (without xs q) ≤ length rs in
-      let m : length (without (todo_of (s.cluster.phase p)) q) ≤ length rs = subst P (sym todo) less in
+      let m : length (without (todo_of (s.cluster.world.phase p)) q) ≤ length rs = subst P (sym todo) less in
       go-on s (Fewer q s) (Raised s) (fewer s h q it (ap is_up e)) (λ t r.
-      go-on t (Raised t) (Raised s) (restores k t (stand-kept s t h r.0) (without (todo_of (s.cluster.phase p)) q) (omega arith) r.1) (λ u x. ([], tt, tt, (kept-kept s t u r.0 x.0, x.1, x.2))))
+      go-on t (Raised t) (Raised s) (restores k t (stand-kept s t h r.0) (without (todo_of (s.cluster.world.phase p)) q) (omega arith) r.1) (λ u x. ([], tt, tt, (kept-kept s t u r.0 x.0, x.1, x.2))))
 
   -- and before that it replays
   abbrev Replayed : ℕ → Telling → Cluster → Type 0
   Replayed j s d =
       record {
-        count : d.count ≡ s.cluster.count;
+        count : d.world.count ≡ s.cluster.world.count;
         stage : (r : ℕ) → d.stage r ≡ s.cluster.stage r;
         greeted : (r : ℕ) → d.greeted r ≡ s.cluster.greeted r;
-        phase : (r : ℕ) → r ≢ p → d.phase r ≡ s.cluster.phase r;
-        history : length (d.history p) ≡ length (s.cluster.history p);
-        saved : d.saved p ≡ s.cluster.saved p;
-        next : ((s.cluster.saved p + suc j < length (s.cluster.history p)) × (d.phase p ≡ Replaying (suc j) false false)) ⊎ (d.phase p ≡ phase_with (peers (seen s.cluster) p false));
+        phase : (r : ℕ) → r ≢ p → d.world.phase r ≡ s.cluster.world.phase r;
+        history : length (d.world.history p) ≡ length (s.cluster.world.history p);
+        saved : d.world.saved p ≡ s.cluster.world.saved p;
+        next : ((s.cluster.world.saved p + suc j < length (s.cluster.world.history p)) × (d.world.phase p ≡ Replaying (suc j) false false)) ⊎ (d.world.phase p ≡ phase_with (peers s.cluster.world p false));
       }
 
-  replays-one : (s : Telling) → Stand s → (j : ℕ) → s.cluster.phase p ≡ Replaying j false false → CanGo s (λ t. Aged born now t × Replayed j s t.cluster × ((q : ℕ) → t.lost p q ≡ s.lost p q))
+  replays-one : (s : Telling) → Stand s → (j : ℕ) → s.cluster.world.phase p ≡ Replaying j false false → CanGo s (λ t. Aged born now t × Replayed j s t.cluster × ((q : ℕ) → t.lost p q ≡ s.lost p q))
   replays-one s h j e =
       let m : MayStep s (Takes true false (Replays p j)) = ((h.node, h.live, e), tt) in
       go-first s (λ t. Aged born now t × Replayed j s t.cluster × ((q : ℕ) → t.lost p q ≡ s.lost p q)) (Takes true false (Replays p j)) m refl
-      ([], tt, tt, (step-aged born now s (Takes true false (Replays p j)) refl h.aged m, split (nat_lt (s.cluster.saved p + suc j) (length (s.cluster.history p))) refl, λ q. refl))
+      ([], tt, tt, (step-aged born now s (Takes true false (Replays p j)) refl h.aged m, split (nat_lt (s.cluster.world.saved p + suc j) (length (s.cluster.world.history p))) refl, λ q. refl))
     where
-      turned : (x : Phase) → ((s.cluster.saved p + suc j < length (s.cluster.history p)) × (x ≡ Replaying (suc j) false false)) ⊎ (x ≡ phase_with (peers (seen s.cluster) p false)) → Replayed j s (record s.cluster { phase = put s.cluster.phase p x })
+      turned : (x : Phase) → ((s.cluster.world.saved p + suc j < length (s.cluster.world.history p)) × (x ≡ Replaying (suc j) false false)) ⊎ (x ≡ phase_with (peers s.cluster.world p false)) → Replayed j s (record s.cluster { world = record s.cluster.world { phase = put s.cluster.world.phase p x } })
       turned x n =
           record {
             count = refl;
             stage = λ r. refl;
             greeted = λ r. refl;
-            phase = λ r o. put-other s.cluster.phase p x r o;
+            phase = λ r o. put-other s.cluster.world.phase p x r o;
             history = refl;
             saved = refl;
-            next = elim n [ inl f ↦ inl (f.0, put-same s.cluster.phase p x ∙ f.1) | inr f ↦ inr (put-same s.cluster.phase p x ∙ f) ];
+            next = elim n [ inl f ↦ inl (f.0, put-same s.cluster.world.phase p x ∙ f.1) | inr f ↦ inr (put-same s.cluster.world.phase p x ∙ f) ];
           }
 
-      split : (b : Bool) → nat_lt (s.cluster.saved p + suc j) (length (s.cluster.history p)) ≡ b → Replayed j s (if b then record s.cluster { phase = put s.cluster.phase p (Replaying (suc j) false false) } else goes_on s.cluster p (peers (seen s.cluster) p false))
+      split : (b : Bool) → nat_lt (s.cluster.world.saved p + suc j) (length (s.cluster.world.history p)) ≡ b → Replayed j s (if b then record s.cluster { world = record s.cluster.world { phase = put s.cluster.world.phase p (Replaying (suc j) false false) } } else goes_on s.cluster p (peers s.cluster.world p false))
       split true f = turned (Replaying (suc j) false false) (inl ((grind (arith, nat_tests)), refl))
-      split false f = turned (phase_with (peers (seen s.cluster) p false)) (inr refl)
+      split false f = turned (phase_with (peers s.cluster.world p false)) (inr refl)
 
-  replays-on : (s : Telling) → Stand s → (j : ℕ) → s.cluster.phase p ≡ Replaying j false false
-      → ((t : Telling) → Replayed j s t.cluster → Stand t → s.cluster.saved p + suc j < length (s.cluster.history p) → t.cluster.phase p ≡ Replaying (suc j) false false → CanGo t (Raised t)) → CanGo s (Raised s)
+  replays-on : (s : Telling) → Stand s → (j : ℕ) → s.cluster.world.phase p ≡ Replaying j false false
+      → ((t : Telling) → Replayed j s t.cluster → Stand t → s.cluster.world.saved p + suc j < length (s.cluster.world.history p) → t.cluster.world.phase p ≡ Replaying (suc j) false false → CanGo t (Raised t)) → CanGo s (Raised s)
   replays-on s h j e more =
       go-on s (λ t. Aged born now t × Replayed j s t.cluster × ((q : ℕ) → t.lost p q ≡ s.lost p q)) (Raised s) (replays-one s h j e) (λ t r.
       let w : Kept s t = record { aged = r.0; count = r.1.count; stage = r.1.stage; greeted = λ x _. r.1.greeted x; phase = r.1.phase; lost = r.2 } in
-      go-on t (Raised t) (Raised s) (elim r.1.next [ inl f ↦ more t r.1 (stand-kept s t h w) f.0 f.1 | inr f ↦ restores (length (peers (seen s.cluster) p false)) t (stand-kept s t h w) (peers (seen s.cluster) p false) (omega arith) f ])
+      go-on t (Raised t) (Raised s) (elim r.1.next [ inl f ↦ more t r.1 (stand-kept s t h w) f.0 f.1 | inr f ↦ restores (length (peers s.cluster.world p false)) t (stand-kept s t h w) (peers s.cluster.world p false) (omega arith) f ])
       (λ u x. ([], tt, tt, (kept-kept s t u w x.0, x.1, x.2))))
 
-  replays : (k : ℕ) (s : Telling) → Stand s → (j : ℕ) → length (s.cluster.history p) ≤ s.cluster.saved p + j + k → s.cluster.phase p ≡ Replaying j false false → CanGo s (Raised s)
+  replays : (k : ℕ) (s : Telling) → Stand s → (j : ℕ) → length (s.cluster.world.history p) ≤ s.cluster.world.saved p + j + k → s.cluster.world.phase p ≡ Replaying j false false → CanGo s (Raised s)
   replays zero s h j l e = replays-on s h j e (λ t r g b f. absurd (omega arith))
   replays (suc k) s h j l e = replays-on s h j e (λ t r g b f.
-      let n : length (t.cluster.history p) ≡ length (s.cluster.history p) = r.history in
-      let m : t.cluster.saved p ≡ s.cluster.saved p = r.saved in
+      let n : length (t.cluster.world.history p) ≡ length (s.cluster.world.history p) = r.history in
+      let m : t.cluster.world.saved p ≡ s.cluster.world.saved p = r.saved in
       replays k t g (suc j) (omega arith) f)
 
   -- wherever it is
   pub raise : (s : Telling) → Stand s → CanGo s (Raised s)
-  raise s h = split (s.cluster.phase p) refl (h.aged.plain.sound p)
+  raise s h = split (s.cluster.world.phase p) refl (h.aged.plain.sound p)
     where
-      split : (x : Phase) → s.cluster.phase p ≡ x → IsSound x → CanGo s (Raised s)
+      split : (x : Phase) → s.cluster.world.phase p ≡ x → IsSound x → CanGo s (Raised s)
       split Up e o = lands s h (ap is_up e)
       split (Busy m) e o = lands s h (ap is_up e)
       split Down e o = absurd (o)
       split (Replaying j w a) e o = at w a e o
         where
-          at : (w a : Bool) → s.cluster.phase p ≡ Replaying j w a → (w ≡ false) × (a ≡ false) → CanGo s (Raised s)
-          at false false e o = replays (length (s.cluster.history p)) s h j (omega arith) e
+          at : (w a : Bool) → s.cluster.world.phase p ≡ Replaying j w a → (w ≡ false) × (a ≡ false) → CanGo s (Raised s)
+          at false false e o = replays (length (s.cluster.world.history p)) s h j (omega arith) e
           at true a e o = absurd (let z : true ≡ false = o.0 in cc)
           at false true e o = absurd (let z : true ≡ false = o.1 in cc)
       split (Resync []) e o = absurd (o)

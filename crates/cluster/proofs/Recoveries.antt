@@ -10,7 +10,7 @@ use Rattle.world.specs.Calls.{phase_with, peers}
 use Rattle.theorems.proofs.Changes.{choose}
 use Rattle.theorems.proofs.ListLemmas.{take-length}
 use Rattle.cluster.specs.Parcels.{reaches}
-use Rattle.cluster.specs.Cluster.{Live, Collecting, Collected, Cluster, seen, runs}
+use Rattle.cluster.specs.Cluster.{Live, Collecting, Collected, Cluster, runs}
 use Rattle.cluster.specs.Rules.{Recovers, IsNode, IsAll, entry_in, told_by, taken_back, goes_on}
 use Rattle.cluster.proofs.Growth.{either-way}
 use Rattle.cluster.specs.Exact.{Telling, Takes, MayStep}
@@ -27,27 +27,27 @@ abbrev Gathered : ℕ → Telling → Telling → Type 0
 Gathered p s u =
     record {
       orderly : Orderly u;
-      count : u.cluster.count ≡ s.cluster.count;
+      count : u.cluster.world.count ≡ s.cluster.world.count;
       stage : (r : ℕ) → u.cluster.stage r ≡ s.cluster.stage r;
       ready : AllReady u.cluster;
-      whole : (q : ℕ) → q ≤ u.cluster.count → q ≢ p → IsAll (u.cluster.told p q);
+      whole : (q : ℕ) → q ≤ u.cluster.world.count → q ≢ p → IsAll (u.cluster.told p q);
     }
 
 -- those from m on have told all: it asks the others, one after the other
-gather : (p m : ℕ) (s : Telling) → Orderly s → IsNode s.cluster p → AllReady s.cluster → s.cluster.stage p ≡ Collecting → m ≤ suc s.cluster.count → ((q : ℕ) → m ≤ q → q ≤ s.cluster.count → q ≢ p → IsAll (s.cluster.told p q)) → CanGo s (Gathered p s)
+gather : (p m : ℕ) (s : Telling) → Orderly s → IsNode s.cluster p → AllReady s.cluster → s.cluster.stage p ≡ Collecting → m ≤ suc s.cluster.world.count → ((q : ℕ) → m ≤ q → q ≤ s.cluster.world.count → q ≢ p → IsAll (s.cluster.told p q)) → CanGo s (Gathered p s)
 gather p zero s h node ready coll l all = ([], tt, tt, record { orderly = h; count = refl; stage = λ r. refl; ready = ready; whole = λ q a n. all q (omega arith) a n })
 gather p (suc m) s h node ready coll l all = split (λ t. gather p m t) (m == p) refl
   where
-    split : ((t : Telling) → Orderly t → IsNode t.cluster p → AllReady t.cluster → t.cluster.stage p ≡ Collecting → m ≤ suc t.cluster.count → ((q : ℕ) → m ≤ q → q ≤ t.cluster.count → q ≢ p → IsAll (t.cluster.told p q)) → CanGo t (Gathered p t)) → (b : Bool) → (m == p) ≡ b → CanGo s (Gathered p s)
+    split : ((t : Telling) → Orderly t → IsNode t.cluster p → AllReady t.cluster → t.cluster.stage p ≡ Collecting → m ≤ suc t.cluster.world.count → ((q : ℕ) → m ≤ q → q ≤ t.cluster.world.count → q ≢ p → IsAll (t.cluster.told p q)) → CanGo t (Gathered p t)) → (b : Bool) → (m == p) ≡ b → CanGo s (Gathered p s)
     split more true e = more s h node ready coll (omega arith) (λ q b a n. all q (let t : m ≢ q = (λ f. let z : m ≡ p = grind (arith, nat_tests) in n (sym f ∙ z)) in omega arith) a n)
     split more false e =
         go-on s (Answered p m s) (Gathered p s) (asks-one p m (grind (arith, nat_tests)) s h node (omega arith) ready coll) (λ u r.
-        let same : u.cluster.count ≡ s.cluster.count = r.count in
-        let there : IsNode u.cluster p = (node.0, (let x : p ≤ s.cluster.count = node.1 in omega arith)) in
+        let same : u.cluster.world.count ≡ s.cluster.world.count = r.count in
+        let there : IsNode u.cluster p = (node.0, (let x : p ≤ s.cluster.world.count = node.1 in omega arith)) in
         go-on u (Gathered p u) (Gathered p s) (more u r.orderly there r.ready (r.stage p ∙ coll) (omega arith) (λ q b a n. told u r q (q == m) refl b (omega arith) n)) (λ t v.
         ([], tt, tt, record { orderly = v.orderly; count = v.count ∙ r.count; stage = λ x. v.stage x ∙ r.stage x; ready = v.ready; whole = v.whole })))
       where
-        told : (u : Telling) → Answered p m s u → (q : ℕ) (b : Bool) → (q == m) ≡ b → m ≤ q → q ≤ s.cluster.count → q ≢ p → IsAll (u.cluster.told p q)
+        told : (u : Telling) → Answered p m s u → (q : ℕ) (b : Bool) → (q == m) ≡ b → m ≤ q → q ≤ s.cluster.world.count → q ≢ p → IsAll (u.cluster.told p q)
         told u r q true g l a n = let z : m ≡ q = grind (arith, nat_tests) in let P : ℕ → Type 0 = λ i. IsAll (u.cluster.told p i) in subst P z r.whole
         told u r q false g l a n =
             let z : q ≢ m = grind (arith, nat_tests) in
@@ -58,15 +58,15 @@ gather p (suc m) s h node ready coll l all = split (λ t. gather p m t) (m == p)
 abbrev Recovered : ℕ → Telling → Cluster → Type 0
 Recovered p s d =
     record {
-      count : d.count ≡ s.cluster.count;
+      count : d.world.count ≡ s.cluster.world.count;
       live : d.stage p ≡ Live;
       stage : (r : ℕ) → r ≢ p → d.stage r ≡ s.cluster.stage r;
       ready : AllReady d;
     }
 
-module _ (p : ℕ) (s : Telling) (h : Orderly s) (node : IsNode s.cluster p) (ready : AllReady s.cluster) (coll : s.cluster.stage p ≡ Collecting) (all : (q : ℕ) → q ≤ s.cluster.count → q ≢ p → IsAll (s.cluster.told p q)) where
+module _ (p : ℕ) (s : Telling) (h : Orderly s) (node : IsNode s.cluster p) (ready : AllReady s.cluster) (coll : s.cluster.stage p ≡ Collecting) (all : (q : ℕ) → q ≤ s.cluster.world.count → q ≢ p → IsAll (s.cluster.told p q)) where
   -- behind some number nobody told it a message
-  no-more : (q : ℕ) → q ≤ s.cluster.count → (b : ℕ) × ((m : ℕ) → b < m → entry_in (s.cluster.told p q) m ≡ None)
+  no-more : (q : ℕ) → q ≤ s.cluster.world.count → (b : ℕ) × ((m : ℕ) → b < m → entry_in (s.cluster.told p q) m ≡ None)
   no-more q l = split (q == p) refl
     where
       told : (t : Option Collected) → IsEnding t → IsAll t → (b : ℕ) × ((m : ℕ) → b < m → entry_in t m ≡ None)
@@ -80,34 +80,34 @@ module _ (p : ℕ) (s : Telling) (h : Orderly s) (node : IsNode s.cluster p) (re
           subst P z (0, λ m l. ap (λ t. entry_in t m) (h.2.plain.own p))
       split false e = told (s.cluster.told p q) (h.2.plain.ends p q) (all q l (grind (arith, nat_tests)))
 
-  none-below : (n : ℕ) → n ≤ suc s.cluster.count → (b : ℕ) × ((m : ℕ) → b < m → first_below (λ q. entry_in (s.cluster.told p q) m) n ≡ None)
+  none-below : (n : ℕ) → n ≤ suc s.cluster.world.count → (b : ℕ) × ((m : ℕ) → b < m → first_below (λ q. entry_in (s.cluster.told p q) m) n ≡ None)
   none-below zero l = (0, λ m g. refl)
   none-below (suc n) l = let r = none-below n (omega arith) in let t = no-more n (omega arith) in (r.0 + t.0, λ m g. rw (r.1 m (omega arith), t.1 m (omega arith)) refl)
 
   abbrev had : List Message
-  had = take (s.cluster.saved p) (s.cluster.history p)
+  had = take (s.cluster.world.saved p) (s.cluster.world.history p)
 
-  long : length (take (s.cluster.saved p) (s.cluster.history p)) ≡ s.cluster.saved p
-  long = take-length (s.cluster.history p) (s.cluster.saved p) (h.2.plain.within p)
+  long : length (take (s.cluster.world.saved p) (s.cluster.world.history p)) ≡ s.cluster.world.saved p
+  long = take-length (s.cluster.world.history p) (s.cluster.world.saved p) (h.2.plain.within p)
 
-  ends : (k : ℕ) × Stops (told_by s.cluster p) had (s.cluster.saved p) long k
-  ends = let r = none-below (suc s.cluster.count) (omega arith) in stops (told_by s.cluster p) had (s.cluster.saved p) long (s.cluster.saved p + r.0) (omega arith) (r.1 (suc (s.cluster.saved p + r.0)) (omega arith))
+  ends : (k : ℕ) × Stops (told_by s.cluster p) had (s.cluster.world.saved p) long k
+  ends = let r = none-below (suc s.cluster.world.count) (omega arith) in stops (told_by s.cluster p) had (s.cluster.world.saved p) long (s.cluster.world.saved p + r.0) (omega arith) (r.1 (suc (s.cluster.world.saved p + r.0)) (omega arith))
 
-  turned : (k : ℕ) (x : Phase) → Recovered p s (record (taken_back s.cluster p k) { phase = put s.cluster.phase p x })
+  turned : (k : ℕ) (x : Phase) → Recovered p s (record (taken_back s.cluster p k) { world = record (taken_back s.cluster p k).world { phase = put s.cluster.world.phase p x } })
   turned k x =
       record {
         count = refl;
         live = put-same s.cluster.stage p Live;
         stage = λ r n. put-other s.cluster.stage p Live r n;
-        ready = choose p (λ j b. j ≤ s.cluster.count → ((if b then Live else s.cluster.stage j) ≡ Collecting) ⊎ (((if b then Live else s.cluster.stage j) ≡ Live)
-            × ((runs (if b then Live else s.cluster.stage j) && ((if b then false else s.cluster.greeted j) && is_up (if b then x else s.cluster.phase j))) ≡ true → (if b then x else s.cluster.phase j) ≡ Up)))
+        ready = choose p (λ j b. j ≤ s.cluster.world.count → ((if b then Live else s.cluster.stage j) ≡ Collecting) ⊎ (((if b then Live else s.cluster.stage j) ≡ Live)
+            × ((runs (if b then Live else s.cluster.stage j) && ((if b then false else s.cluster.greeted j) && is_up (if b then x else s.cluster.world.phase j))) ≡ true → (if b then x else s.cluster.world.phase j) ≡ Up)))
             (λ _. inr (refl, λ w. absurd (let z : false ≡ true = w in cc))) (λ j _. ready j);
       }
 
   recovers : CanGo s (λ t. Orderly t × Recovered p s t.cluster)
   recovers = go ends
     where
-      go : (k : ℕ) × Stops (told_by s.cluster p) had (s.cluster.saved p) long k → CanGo s (λ t. Orderly t × Recovered p s t.cluster)
+      go : (k : ℕ) × Stops (told_by s.cluster p) had (s.cluster.world.saved p) long k → CanGo s (λ t. Orderly t × Recovered p s t.cluster)
       go e =
           let m : MayStep s (Takes true false (Recovers p e.0)) = ((node, coll, all, e.1.0, e.1.1, e.1.2), tt) in
           go-first s (λ t. Orderly t × Recovered p s t.cluster) (Takes true false (Recovers p e.0)) m refl (
@@ -116,19 +116,19 @@ module _ (p : ℕ) (s : Telling) (h : Orderly s) (node : IsNode s.cluster p) (re
             tt,
             (
               orderly-step s (Takes true false (Recovers p e.0)) h m,
-              either-way (nat_lt (s.cluster.saved p) e.0) (record (taken_back s.cluster p e.0) { phase = put s.cluster.phase p (Replaying 0 false false) })
-                  (goes_on (taken_back s.cluster p e.0) p (peers (seen s.cluster) p false)) (Recovered p s) (turned e.0 (Replaying 0 false false)) (turned e.0 (phase_with (peers (seen s.cluster) p false))),
+              either-way (nat_lt (s.cluster.world.saved p) e.0) (record (taken_back s.cluster p e.0) { world = record (taken_back s.cluster p e.0).world { phase = put s.cluster.world.phase p (Replaying 0 false false) } })
+                  (goes_on (taken_back s.cluster p e.0) p (peers s.cluster.world p false)) (Recovered p s) (turned e.0 (Replaying 0 false false)) (turned e.0 (phase_with (peers s.cluster.world p false))),
             ),
           )
 
 -- so none collects any more
 abbrev pub AllAwake : Cluster → Type 0
-AllAwake c = (q : ℕ) → q ≤ c.count → IsAwake c q
+AllAwake c = (q : ℕ) → q ≤ c.world.count → IsAwake c q
 
-pub recover-all : (m : ℕ) (s : Telling) → Orderly s → m ≤ s.cluster.count → AllReady s.cluster → ((q : ℕ) → m < q → q ≤ s.cluster.count → s.cluster.stage q ≡ Live) → CanGo s (λ t. Orderly t × AllAwake t.cluster)
+pub recover-all : (m : ℕ) (s : Telling) → Orderly s → m ≤ s.cluster.world.count → AllReady s.cluster → ((q : ℕ) → m < q → q ≤ s.cluster.world.count → s.cluster.stage q ≡ Live) → CanGo s (λ t. Orderly t × AllAwake t.cluster)
 recover-all zero s h l ready live = ([], tt, tt, (h, λ q a. awake q (place q a) (ready q a)))
   where
-    place : (q : ℕ) → q ≤ s.cluster.count → s.cluster.stage q ≡ Live
+    place : (q : ℕ) → q ≤ s.cluster.world.count → s.cluster.stage q ≡ Live
     place zero a = h.2.plain.gateway.0
     place (suc q) a = live (suc q) (omega arith) a
 
@@ -137,19 +137,19 @@ recover-all zero s h l ready live = ([], tt, tt, (h, λ q a. awake q (place q a)
     awake q e (inr a) = a
 recover-all (suc m) s h l ready live = split (λ t. recover-all m t) (ready (suc m) l)
   where
-    split : ((t : Telling) → Orderly t → m ≤ t.cluster.count → AllReady t.cluster → ((q : ℕ) → m < q → q ≤ t.cluster.count → t.cluster.stage q ≡ Live) → CanGo t (λ t. Orderly t × AllAwake t.cluster)) → IsReady s.cluster (suc m) → CanGo s (λ t. Orderly t × AllAwake t.cluster)
+    split : ((t : Telling) → Orderly t → m ≤ t.cluster.world.count → AllReady t.cluster → ((q : ℕ) → m < q → q ≤ t.cluster.world.count → t.cluster.stage q ≡ Live) → CanGo t (λ t. Orderly t × AllAwake t.cluster)) → IsReady s.cluster (suc m) → CanGo s (λ t. Orderly t × AllAwake t.cluster)
     split more (inr a) = more s h (omega arith) ready (λ q b c. one q b c (q == suc m) refl)
       where
-        one : (q : ℕ) → m < q → q ≤ s.cluster.count → (b : Bool) → (q == suc m) ≡ b → s.cluster.stage q ≡ Live
+        one : (q : ℕ) → m < q → q ≤ s.cluster.world.count → (b : Bool) → (q == suc m) ≡ b → s.cluster.stage q ≡ Live
         one q b c true e = let z : suc m ≡ q = grind (arith, nat_tests) in let P : ℕ → Type 0 = λ i. s.cluster.stage i ≡ Live in subst P z a.0
         one q b c false e = let z : q ≢ suc m = grind (arith, nat_tests) in live q (omega arith) c
     split more (inl coll) =
-        go-on s (Gathered (suc m) s) (λ t. Orderly t × AllAwake t.cluster) (gather (suc m) (suc s.cluster.count) s h (omega arith, l) ready coll (omega arith) (λ q a b n. absurd (omega arith))) (λ u r.
-        let same : u.cluster.count ≡ s.cluster.count = r.count in
+        go-on s (Gathered (suc m) s) (λ t. Orderly t × AllAwake t.cluster) (gather (suc m) (suc s.cluster.world.count) s h (omega arith, l) ready coll (omega arith) (λ q a b n. absurd (omega arith))) (λ u r.
+        let same : u.cluster.world.count ≡ s.cluster.world.count = r.count in
         go-on u (λ t. Orderly t × Recovered (suc m) u t.cluster) (λ t. Orderly t × AllAwake t.cluster) (recovers (suc m) u r.orderly (omega arith, omega arith) r.ready (r.stage (suc m) ∙ coll) r.whole) (λ t v.
-        let again : t.cluster.count ≡ u.cluster.count = v.1.count in
+        let again : t.cluster.world.count ≡ u.cluster.world.count = v.1.count in
         more t v.0 (omega arith) v.1.ready (λ q b c. one u r t v.1 q b (omega arith) (q == suc m) refl)))
       where
-        one : (u : Telling) → Gathered (suc m) s u → (t : Telling) → Recovered (suc m) u t.cluster → (q : ℕ) → m < q → q ≤ s.cluster.count → (b : Bool) → (q == suc m) ≡ b → t.cluster.stage q ≡ Live
+        one : (u : Telling) → Gathered (suc m) s u → (t : Telling) → Recovered (suc m) u t.cluster → (q : ℕ) → m < q → q ≤ s.cluster.world.count → (b : Bool) → (q == suc m) ≡ b → t.cluster.stage q ≡ Live
         one u r t v q b c true e = let z : suc m ≡ q = grind (arith, nat_tests) in let P : ℕ → Type 0 = λ i. t.cluster.stage i ≡ Live in subst P z v.live
         one u r t v q b c false e = let z : q ≢ suc m = grind (arith, nat_tests) in v.stage q z ∙ r.stage q ∙ live q (omega arith) c

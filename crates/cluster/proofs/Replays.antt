@@ -16,7 +16,7 @@ use Rattle.theorems.proofs.PhaseLemmas.{with-down, with-length, with-restored}
 use Rattle.theorems.proofs.Replays.{has-those}
 use Rattle.theorems.proofs.TidyLemmas.{sent-more}
 use Rattle.theorems.proofs.ListLemmas.{take-all}
-use Rattle.cluster.specs.Cluster.{Cluster, seen, runs}
+use Rattle.cluster.specs.Cluster.{Cluster, runs}
 use Rattle.cluster.specs.Rules.{Replays, May, does, goes_on}
 use Rattle.cluster.specs.Inside.Journals.{IsStep, entry, Leads}
 use Rattle.cluster.specs.Inside.Agrees.{Beside, world, is_answered, Agrees}
@@ -47,59 +47,59 @@ released-more w p [] l q r = choose p (λ j t. w.released j r ≤ (if t then sen
 released-more w p (x ∷ rs) l q r = choose p (λ j t. w.released j r ≤ (if t then w.released p else w.released j) r) (omega arith) (λ j _. omega arith) q
 
 pub step-replays : (c : Cluster) (b : Beside) (p j : ℕ) → Agrees c b → Lawful (world c b) → May c (Replays p j) → IsJournalOf (world c b) (does c (Replays p j))
-step-replays c b p j h l may = split (nat_lt (c.saved p + suc j) (length (c.history p))) refl
+step-replays c b p j h l may = split (nat_lt (c.world.saved p + suc j) (length (c.world.history p))) refl
   where
-    at : c.phase p ≡ Replaying j false false
+    at : c.world.phase p ≡ Replaying j false false
     at = may.2
 
     b' : Beside
     b' = record b { started = b.started + 1 }
 
     begun : World
-    begun = record (world c b) { phase = put c.phase p (Replaying j true false); started = b.started + 1 }
+    begun = record (world c b) { phase = put c.world.phase p (Replaying j true false); started = b.started + 1 }
 
     begins : IsStep (world c b) (entry (ReplayBegin p) (Started (b.started + 1)))
     begins = step-of (world c b) (ReplayBegin p) (Started (b.started + 1)) (open_jobs (world c b) + 1 + 1) (inside may.0.0 may.0.1, (rw at refl, (rw at refl, (below-self (open_jobs (world c b) + 1 + 1), tt)))) refl refl
       where
-        inside : 0 < p → p ≤ c.count → not (is_inside (world c b) p) ≡ false
+        inside : 0 < p → p ≤ c.world.count → not (is_inside (world c b) p) ≡ false
         inside a z = grind (arith, nat_tests)
 
     there_ : replay_begin (world c b) p ≡ begun
-    there_ = ap (λ x. record (world c b) { phase = put c.phase p (with_open_job x); started = b.started + 1 }) at
+    there_ = ap (λ x. record (world c b) { phase = put c.world.phase p (with_open_job x); started = b.started + 1 }) at
 
     here : begun.phase p ≡ Replaying j true false
-    here = at-itself p (λ t. (if t then Replaying j true false else c.phase p) ≡ Replaying j true false) refl
+    here = at-itself p (λ t. (if t then Replaying j true false else c.world.phase p) ≡ Replaying j true false) refl
 
-    finishes : IsStep begun (entry (Finish p) (Replayed (c.saved p + j + 1)))
-    finishes = step-of begun (Finish p) (Replayed (c.saved p + j + 1)) 0 (rw (inside may.0.0 may.0.1, here) refl, tt) (rw here refl) refl
+    finishes : IsStep begun (entry (Finish p) (Replayed (c.world.saved p + j + 1)))
+    finishes = step-of begun (Finish p) (Replayed (c.world.saved p + j + 1)) 0 (rw (inside may.0.0 may.0.1, here) refl, tt) (rw here refl) refl
       where
-        inside : 0 < p → p ≤ c.count → is_inside begun p ≡ true
+        inside : 0 < p → p ≤ c.world.count → is_inside begun p ≡ true
         inside a z = grind (arith, nat_tests)
 
     leads-to : (v : World) → replay begun p j false ≡ v → Leads (world c b) v
     leads-to v e =
         leads-by (world c b) v (entry (ReplayBegin p) (Started (b.started + 1))) begins
-        (let P : World → Type 0 = λ u. Leads u v in subst P (sym there_) (leads-one begun v (Finish p) (Replayed (c.saved p + j + 1)) finishes (ap (λ x. finish begun p x (Replayed (c.saved p + j + 1))) here ∙ e)))
+        (let P : World → Type 0 = λ u. Leads u v in subst P (sym there_) (leads-one begun v (Finish p) (Replayed (c.world.saved p + j + 1)) finishes (ap (λ x. finish begun p x (Replayed (c.world.saved p + j + 1))) here ∙ e)))
 
     ran : runs (c.stage p) ≡ true
     ran = runs-live _ may.1
 
-    blank : (q ssn : ℕ) → c.numbers p q ssn ≡ None
+    blank : (q ssn : ℕ) → c.world.numbers p q ssn ≡ None
     blank q ssn = h.numbered.partly p q ssn (rw at refl) ∙ none-so-far c p q ssn (h.numbered.begins p q (rw at refl))
 
-    greets : (q : ℕ) → q ≤ c.count → q ≢ p → runs (c.stage q) ≡ true → c.heard q p ≡ c.life p → (q == 0) ≡ true → c.greeted p ≡ true → c.resumed q p ≡ true
+    greets : (q : ℕ) → q ≤ c.world.count → q ≢ p → runs (c.stage q) ≡ true → c.heard q p ≡ c.world.incarnation p → (q == 0) ≡ true → c.greeted p ≡ true → c.resumed q p ≡ true
     greets q a n o y z e = (h.hearing.heard q p a may.0.1 n o).obeyed y (rw z e)
 
     never : (q : ℕ) → (q == 0) ≡ true → is_answered c p q ≡ false → c.greeted p ≡ true → ⊥
-    never q z e f = true-not-false f (let P : Bool → Type 0 = λ t. (if t then c.greeted p else is_restored (c.phase p) q) ≡ false in subst P z e)
+    never q z e f = true-not-false f (let P : Bool → Type 0 = λ t. (if t then c.greeted p else is_restored (c.world.phase p) q) ≡ false in subst P z e)
 
-    split : (t : Bool) → nat_lt (c.saved p + suc j) (length (c.history p)) ≡ t → IsJournalOf (world c b) (if t then record c { phase = put c.phase p (Replaying (suc j) false false) } else goes_on c p (peers (seen c) p false))
+    split : (t : Bool) → nat_lt (c.world.saved p + suc j) (length (c.world.history p)) ≡ t → IsJournalOf (world c b) (if t then record c { world = record c.world { phase = put c.world.phase p (Replaying (suc j) false false) } } else goes_on c p (peers c.world p false))
     split true e =
         record {
           beside = b';
-          leads = leads-to (world (record c { phase = put c.phase p (Replaying (suc j) false false) }) b')
-              (rw e (ap (λ (f : ℕ → Phase). record (world c b) { phase = f; started = b.started + 1 }) (put-put c.phase p (Replaying j true false) (Replaying (suc j) false false))));
-          agrees = agrees-beside (agrees-turn c b p (Replaying (suc j) false false) c.released l.sound.grows (λ q r. omega arith) (record {
+          leads = leads-to (world (record c { world = record c.world { phase = put c.world.phase p (Replaying (suc j) false false) } }) b')
+              (rw e (ap (λ (f : ℕ → Phase). record (world c b) { phase = f; started = b.started + 1 }) (put-put c.world.phase p (Replaying j true false) (Replaying (suc j) false false))));
+          agrees = agrees-beside (agrees-turn c b p (Replaying (suc j) false false) c.world.released l.sound.grows (λ q r. omega arith) (record {
             node = may.0;
             stage = may.1;
             was = rw at refl;
@@ -115,52 +115,52 @@ step-replays c b p j h l may = split (nat_lt (c.saved p + suc j) (length (c.hist
           }) h);
         }
       where
-        obeys : (q : ℕ) → q ≤ c.count → q ≢ p → runs (c.stage q) ≡ true → c.heard q p ≡ c.life p → (t : Bool) → (q == 0) ≡ t → (if t then c.greeted p else false) ≡ true → c.resumed q p ≡ true
+        obeys : (q : ℕ) → q ≤ c.world.count → q ≢ p → runs (c.stage q) ≡ true → c.heard q p ≡ c.world.incarnation p → (t : Bool) → (q == 0) ≡ t → (if t then c.greeted p else false) ≡ true → c.resumed q p ≡ true
         obeys q a n o y true z f = greets q a n o y z f
         obeys q a n o y false z f = absurd (cc)
 
-        clears : (q : ℕ) → q ≤ c.count → q ≢ p → is_answered c p q ≡ false → (t : Bool) → (q == 0) ≡ t → (if t then c.greeted p else false) ≡ true → ⊥
+        clears : (q : ℕ) → q ≤ c.world.count → q ≢ p → is_answered c p q ≡ false → (t : Bool) → (q == 0) ≡ t → (if t then c.greeted p else false) ≡ true → ⊥
         clears q a n e true z f = never q z e f
         clears q a n e false z f = cc
 
-        agrees-beside : Agrees (record c { phase = put c.phase p (Replaying (suc j) false false) }) b → Agrees (record c { phase = put c.phase p (Replaying (suc j) false false) }) b'
+        agrees-beside : Agrees (record c { world = record c.world { phase = put c.world.phase p (Replaying (suc j) false false) } }) b → Agrees (record c { world = record c.world { phase = put c.world.phase p (Replaying (suc j) false false) } }) b'
         agrees-beside a = record { phases = a.phases; stages = a.stages; trimmed = a.trimmed; untrimmed = a.untrimmed; numbered = a.numbered; hearing = a.hearing; wired = a.wired; parcels = a.parcels }
     split false e =
         record {
           beside = b';
-          leads = leads-to (world (goes_on c p (peers (seen c) p false)) b')
-              (rw e (ap (λ (f : ℕ → Phase). record (world c b) { phase = f; released = put c.released p (released_with (seen c) p (peers (seen c) p false)); started = b.started + 1 }) (put-put c.phase p (Replaying j true false) (phase_with (peers (seen c) p false)))));
-          agrees = agrees-beside (agrees-turn c b p (phase_with (peers (seen c) p false)) (put c.released p (released_with (seen c) p (peers (seen c) p false))) l.sound.grows
-              (released-more (seen c) p (peers (seen c) p false) (λ d. let x : c.released p d ≤ _ = (l.tidy p).gated d in let y = sent-more (seen c) l.sound.grows p (c.history p) d (length_in (c.history p) (c.saved p) (c.phase p)) (length (c.history p)) short in rw (take-all (c.history p)) at (most x y)))
+          leads = leads-to (world (goes_on c p (peers c.world p false)) b')
+              (rw e (ap (λ (f : ℕ → Phase). record (world c b) { phase = f; released = put c.world.released p (released_with c.world p (peers c.world p false)); started = b.started + 1 }) (put-put c.world.phase p (Replaying j true false) (phase_with (peers c.world p false)))));
+          agrees = agrees-beside (agrees-turn c b p (phase_with (peers c.world p false)) (put c.world.released p (released_with c.world p (peers c.world p false))) l.sound.grows
+              (released-more c.world p (peers c.world p false) (λ d. let x : c.world.released p d ≤ _ = (l.tidy p).gated d in let y = sent-more c.world l.sound.grows p (c.world.history p) d (length_in (c.world.history p) (c.world.saved p) (c.world.phase p)) (length (c.world.history p)) short in rw (take-all (c.world.history p)) at (most x y)))
               (record {
                 node = may.0;
                 stage = may.1;
                 was = rw at refl;
-                live = with-down (peers (seen c) p false);
-                busy = with-busy (peers (seen c) p false);
-                working = with-working (peers (seen c) p false);
+                live = with-down (peers c.world p false);
+                busy = with-busy (peers c.world p false);
+                working = with-working (peers c.world p false);
                 obeys = λ q a n o y f. obeys q a n o y (q == 0) refl f;
                 clears = λ q a n e f. absurd (clears q a n e (q == 0) refl f);
                 less = λ q _. rw at refl;
                 again = λ _. rw at refl;
                 blank = λ q ssn _ _. blank q ssn;
-                forth = rw (with-length (peers (seen c) p false) (c.history p) (c.saved p)) short;
+                forth = rw (with-length (peers c.world p false) (c.world.history p) (c.world.saved p)) short;
               }) h);
         }
       where
-        short : length_in (c.history p) (c.saved p) (c.phase p) ≤ length (c.history p)
-        short = let x : ReplaysPhase (c.saved p) (length (c.history p)) (Replaying j false false) = rw at at (l.sound.replays p) in rw at (omega arith)
+        short : length_in (c.world.history p) (c.world.saved p) (c.world.phase p) ≤ length (c.world.history p)
+        short = let x : ReplaysPhase (c.world.saved p) (length (c.world.history p)) (Replaying j false false) = rw at at (l.sound.replays p) in rw at (omega arith)
 
         most : {x y z : ℕ} → x ≤ y → y ≤ z → x ≤ z
         most a b = omega arith
 
-        obeys : (q : ℕ) → q ≤ c.count → q ≢ p → runs (c.stage q) ≡ true → c.heard q p ≡ c.life p → (t : Bool) → (q == 0) ≡ t → (if t then c.greeted p else is_restored (phase_with (peers (seen c) p false)) q) ≡ true → c.resumed q p ≡ true
+        obeys : (q : ℕ) → q ≤ c.world.count → q ≢ p → runs (c.stage q) ≡ true → c.heard q p ≡ c.world.incarnation p → (t : Bool) → (q == 0) ≡ t → (if t then c.greeted p else is_restored (phase_with (peers c.world p false)) q) ≡ true → c.resumed q p ≡ true
         obeys q a n o y true z f = greets q a n o y z f
-        obeys q a n o y false z f = absurd (true-not-false (is-peer (seen c) p q (grind (arith, nat_tests)) a n) (with-restored (peers (seen c) p false) q f))
+        obeys q a n o y false z f = absurd (true-not-false (is-peer c.world p q (grind (arith, nat_tests)) a n) (with-restored (peers c.world p false) q f))
 
-        clears : (q : ℕ) → q ≤ c.count → q ≢ p → is_answered c p q ≡ false → (t : Bool) → (q == 0) ≡ t → (if t then c.greeted p else is_restored (phase_with (peers (seen c) p false)) q) ≡ true → ⊥
+        clears : (q : ℕ) → q ≤ c.world.count → q ≢ p → is_answered c p q ≡ false → (t : Bool) → (q == 0) ≡ t → (if t then c.greeted p else is_restored (phase_with (peers c.world p false)) q) ≡ true → ⊥
         clears q a n e true z f = never q z e f
-        clears q a n e false z f = true-not-false (is-peer (seen c) p q (grind (arith, nat_tests)) a n) (with-restored (peers (seen c) p false) q f)
+        clears q a n e false z f = true-not-false (is-peer c.world p q (grind (arith, nat_tests)) a n) (with-restored (peers c.world p false) q f)
 
-        agrees-beside : Agrees (goes_on c p (peers (seen c) p false)) b → Agrees (goes_on c p (peers (seen c) p false)) b'
+        agrees-beside : Agrees (goes_on c p (peers c.world p false)) b → Agrees (goes_on c p (peers c.world p false)) b'
         agrees-beside a = record { phases = a.phases; stages = a.stages; trimmed = a.trimmed; untrimmed = a.untrimmed; numbered = a.numbered; hearing = a.hearing; wired = a.wired; parcels = a.parcels }

@@ -8,7 +8,7 @@ use Rattle.theorems.proofs.Tests.{both}
 use Rattle.cluster.specs.Parcels.{Body, Delivery, Number, Acknowledgement, Ask, Told, Resume, Restored, Saved, Parcel, parcel, In}
 use Rattle.world.specs.Phases.{is_up}
 use Rattle.world.specs.Logs.{released_to}
-use Rattle.cluster.specs.Cluster.{Cluster, opening, seen, is_well}
+use Rattle.cluster.specs.Cluster.{Cluster, opening, is_well}
 use Rattle.cluster.specs.Rules.{Act, Puts, Arrives, Replays, Recovers, Opens, MayTake, May, does, Run, after_run}
 use Rattle.cluster.specs.Promises.{NoOrphanNode, OutputOnce, ReceivedOnce}
 use Rattle.cluster.proofs.Facts.{choose2, true-not-false, well-is}
@@ -32,18 +32,18 @@ more a ps = ps
 
 -- the cluster with these packets, where this is released
 abbrev among : Cluster → List Parcel → (ℕ → ℕ → ℕ) → Cluster
-among c ps r = record c { parcels = ps; released = r }
+among c ps r = record c { parcels = ps; world = record c.world { released = r } }
 
 -- an act leaves the same whatever packets there are and whatever is released, but for these
-either-among : (b : Bool) (x y v w : Cluster) (ps : List Parcel) → (if b then among x ps v.released else among y ps w.released) ≡ among (if b then x else y) ps (if b then v else w).released
+either-among : (b : Bool) (x y v w : Cluster) (ps : List Parcel) → (if b then among x ps v.world.released else among y ps w.world.released) ≡ among (if b then x else y) ps (if b then v else w).world.released
 either-among true x y v w ps = refl
 either-among false x y v w ps = refl
 
-does-among : (c : Cluster) (ps : List Parcel) (r : ℕ → ℕ → ℕ) (a : Act) → does (among c ps r) a ≡ among (does c a) (more a ps) (does (letting c r) a).released
+does-among : (c : Cluster) (ps : List Parcel) (r : ℕ → ℕ → ℕ) (a : Act) → does (among c ps r) a ≡ among (does c a) (more a ps) (does (letting c r) a).world.released
 does-among c ps r (Arrives q p (Restored i j n s (Some u) f)) = refl
 does-among c ps r (Arrives p zero (Delivery i ssn x)) = refl
-does-among c ps r (Replays p j) = either-among (nat_lt (c.saved p + suc j) (length (c.history p))) _ _ _ _ ps
-does-among c ps r (Recovers p k) = either-among (nat_lt (c.saved p) k) _ _ _ _ ps
+does-among c ps r (Replays p j) = either-among (nat_lt (c.world.saved p + suc j) (length (c.world.history p))) _ _ _ _ ps
+does-among c ps r (Recovers p k) = either-among (nat_lt (c.world.saved p) k) _ _ _ _ ps
 does-among c ps r (Arrives zero p (Restored i j n s None f)) = refl
 does-among c ps r act = refl
 
@@ -54,10 +54,10 @@ Got ps a = Unit {0}
 
 -- an act may happen among other packets, where these have what it takes, and where no less is released
 module _ (c : Cluster) (ps : List Parcel) (r : ℕ → ℕ → ℕ) (others : (x : Parcel) → is_told x.body ≡ false → In x c.parcels → In x ps) (less : Less c (letting c r)) where
-  released-among : (p d : ℕ) → is_well c p ≡ true → released_to (seen c) p d ≤ released_to (seen (letting c r)) p d
-  released-among p d well = let l : c.released p d ≤ r p d = less p d (well-is c p well).2 in split (p == 0) l
+  released-among : (p d : ℕ) → is_well c p ≡ true → released_to c.world p d ≤ released_to (letting c r).world p d
+  released-among p d well = let l : c.world.released p d ≤ r p d = less p d (well-is c p well).2 in split (p == 0) l
     where
-      split : (b : Bool) → c.released p d ≤ r p d → (if b then length (c.inputs d) else c.released p d) ≤ (if b then length (c.inputs d) else r p d)
+      split : (b : Bool) → c.world.released p d ≤ r p d → (if b then length (c.world.inputs d) else c.world.released p d) ≤ (if b then length (c.world.inputs d) else r p d)
       split true l = omega arith
       split false l = l
 
@@ -69,8 +69,8 @@ module _ (c : Cluster) (ps : List Parcel) (r : ℕ → ℕ → ℕ) (others : (x
 
   may-among : (a : Act) → Got ps a → May c a → May (among c ps r) a
   may-among (Puts p d (Delivery i ssn x)) g may =
-      let l : released_to (seen c) p d ≤ released_to (seen (letting c r)) p d = released-among p d may.3.0 in
-      let s : ssn ≤ released_to (seen c) p d = may.3.2 in
+      let l : released_to c.world p d ≤ released_to (letting c r).world p d = released-among p d may.3.0 in
+      let s : ssn ≤ released_to c.world p d = may.3.2 in
       (may.0, may.1, may.2, (may.3.0, may.3.1, (omega arith), may.3.3, may.3.4))
   may-among (Arrives p d (Told i j k u f)) g may = (g, may.1)
   may-among (Arrives p d x) g may = (others (parcel p d x) refl may.0, takes-among p d x may.1)
@@ -111,12 +111,12 @@ module _ (s : Telling) (ps : List Parcel) (h : Follows s ps) (exact lost : Bool)
   follows (Puts p d (Saved n)) g = record { others = one-more (parcel p d (Saved n)); told = λ y i e. inr (h.told y i e); found = h.found }
   follows (Arrives p zero (Delivery i ssn x)) g = h
   follows (Replays p j) g =
-      record { others = either-way (nat_lt (s.cluster.saved p + suc j) (length (s.cluster.history p))) _ _ (λ v. (x : Parcel) → is_told x.body ≡ false → In x v.parcels → In x ps) h.others h.others; told = h.told; found = h.found }
+      record { others = either-way (nat_lt (s.cluster.world.saved p + suc j) (length (s.cluster.world.history p))) _ _ (λ v. (x : Parcel) → is_told x.body ≡ false → In x v.parcels → In x ps) h.others h.others; told = h.told; found = h.found }
   follows (Arrives r t (Number i ssn k)) g = record { others = one-more (parcel t r (Acknowledgement i k)); told = λ y i e. inr (h.told y i e); found = h.found }
   follows (Arrives p q (Ask i k)) g = record { others = h.others; told = h.told; found = choose2 q p (λ a b t. (if t then false else s.lost a b) ≡ false) refl (λ a b _. h.found a b) }
   follows (Arrives q p (Told i j k u f)) g = record { others = h.others; told = h.told; found = choose2 p q (λ a b t. (if t then lost else s.lost a b) ≡ false) g (λ a b _. h.found a b) }
   follows (Recovers p k) g =
-      record { others = either-way (nat_lt (s.cluster.saved p) k) _ _ (λ v. (x : Parcel) → is_told x.body ≡ false → In x v.parcels → In x ps) h.others h.others; told = h.told; found = h.found }
+      record { others = either-way (nat_lt (s.cluster.world.saved p) k) _ _ (λ v. (x : Parcel) → is_told x.body ≡ false → In x v.parcels → In x ps) h.others h.others; told = h.told; found = h.found }
   follows (Arrives zero p (Restored i j n r None f)) g = h
   follows (Opens p n) g = record { others = h.others; told = h.told; found = λ a b. choose p (λ j t. (if t then (λ (k : ℕ). false) else s.lost j) b ≡ false) refl (λ j _. h.found j b) a }
   follows act g = h
@@ -153,20 +153,20 @@ Lets s r =
 
 module _ (s : Telling) (r : ℕ → ℕ → ℕ) (h : Lets s r) where
   -- an act leaves it so
-  lets : (exact lost : Bool) (a : Act) → May s.cluster a → Lets (step s (Takes exact lost a)) (does (letting s.cluster r) a).released
+  lets : (exact lost : Bool) (a : Act) → May s.cluster a → Lets (step s (Takes exact lost a)) (does (letting s.cluster r) a).world.released
   lets exact lost a may =
       record {
         less = λ j d u. split j d u (s.durable j) refl;
         alike = λ j e.
-            let P : Bool → Type 0 = λ b. (λ (d : ℕ). if b then (if renews (Acts a) j then length (kept_sends (does s.cluster a) j d) else s.cluster.released j d) else (does s.cluster a).released j d) ≡ (does (letting s.cluster r) a).released j in
+            let P : Bool → Type 0 = λ b. (λ (d : ℕ). if b then (if renews (Acts a) j then length (kept_sends (does s.cluster a) j d) else s.cluster.world.released j d) else (does s.cluster a).world.released j d) ≡ (does (letting s.cluster r) a).world.released j in
             subst P (sym e) (does-alike s.cluster r a j (h.alike j e));
         kept = λ j e. step-durable s.durable s.cluster (Acts a) (h.kept j e) may;
       }
     where
-      split : (j d : ℕ) → is_up ((does s.cluster a).phase j) ≡ true → (b : Bool) → s.durable j ≡ b → (steps s.durable s.cluster (Acts a)).released j d ≤ (does (letting s.cluster r) a).released j d
+      split : (j d : ℕ) → is_up ((does s.cluster a).world.phase j) ≡ true → (b : Bool) → s.durable j ≡ b → (steps s.durable s.cluster (Acts a)).world.released j d ≤ (does (letting s.cluster r) a).world.released j d
       split j d u true e =
-          let m : (steps s.durable s.cluster (Acts a)).released j d ≤ (does s.cluster a).released j d = held-less s.durable s.cluster (h.kept j e) j d e a may u in
-          let n : (does s.cluster a).released j d ≤ (does (letting s.cluster r) a).released j d = does-less s.cluster r a may h.less j d u in
+          let m : (steps s.durable s.cluster (Acts a)).world.released j d ≤ (does s.cluster a).world.released j d = held-less s.durable s.cluster (h.kept j e) j d e a may u in
+          let n : (does s.cluster a).world.released j d ≤ (does (letting s.cluster r) a).world.released j d = does-less s.cluster r a may h.less j d u in
           omega arith
       split j d u false e = rw e (does-less s.cluster r a may h.less j d u)
 
@@ -176,12 +176,12 @@ module _ (s : Telling) (r : ℕ → ℕ → ℕ) (h : Lets s r) where
       record {
         less = λ j d u. same j d (s.durable j) (h.less j d u);
         alike = λ j e.
-            let P : Bool → Type 0 = λ b. (λ (d : ℕ). if b then s.cluster.released j d else s.cluster.released j d) ≡ r j in
+            let P : Bool → Type 0 = λ b. (λ (d : ℕ). if b then s.cluster.world.released j d else s.cluster.world.released j d) ≡ r j in
             subst P (sym e) (h.alike j e);
         kept = λ j e. step-durable s.durable s.cluster (Loses q p i n k) (h.kept j e) may;
       }
     where
-      same : (j d : ℕ) (b : Bool) → s.cluster.released j d ≤ r j d → (if b then s.cluster.released j d else s.cluster.released j d) ≤ r j d
+      same : (j d : ℕ) (b : Bool) → s.cluster.world.released j d ≤ r j d → (if b then s.cluster.world.released j d else s.cluster.world.released j d) ≤ r j d
       same j d true l = l
       same j d false l = l
 
@@ -193,7 +193,7 @@ along : (s : Telling) (ps : List Parcel) (r : ℕ → ℕ → ℕ) (xs : List St
 along s ps r [] h l run e = (ps, r, tt, refl, l)
 along s ps r (Takes exact lost a ∷ xs) h l run e =
     let n : Nothing lost a = nothing s exact lost a (first-exact (step s (Takes exact lost a)) xs e.1) in
-    let t : Along (step s (Takes exact lost a)) xs (among (does s.cluster a) (more a ps) (does (letting s.cluster r) a).released) = along (step s (Takes exact lost a)) (more a ps) (does (letting s.cluster r) a).released xs (follows s ps h exact lost a n) (lets s r l exact lost a run.0.0) run.1 e.1 in
+    let t : Along (step s (Takes exact lost a)) xs (among (does s.cluster a) (more a ps) (does (letting s.cluster r) a).world.released) = along (step s (Takes exact lost a)) (more a ps) (does (letting s.cluster r) a).world.released xs (follows s ps h exact lost a n) (lets s r l exact lost a run.0.0) run.1 e.1 in
     let P : Cluster → Type 0 = λ c. Along (step s (Takes exact lost a)) xs c in
     let u : Along (step s (Takes exact lost a)) xs (does (among s.cluster ps r) a) = subst P (sym (does-among s.cluster ps r a)) t in
     (u.0, u.1, (may-among s.cluster ps r h.others l.less a (got s ps h exact lost a n run.0.1) run.0.0, u.2), u.3, u.4)
@@ -224,12 +224,12 @@ pub exact-runs-dont-meet : ExactRunsDontMeet
 exact-runs-dont-meet n f durable xs g r e =
     let t = exact-along n f durable xs g r e in
     let l : Lets (after_steps (starts n f durable) xs) t.1 = t.4 in
-    let freed : (after_run (opening n f) (acts_of xs)).released ≡ t.1 = ap (λ (c : Cluster). c.released) t.3 in
+    let freed : (after_run (opening n f) (acts_of xs)).world.released ≡ t.1 = ap (λ (c : Cluster). c.world.released) t.3 in
     let P : List Parcel → (ℕ → ℕ → ℕ) → Type 0 = λ qs r. after_run (opening n f) (acts_of xs) ≡ among (after_steps (starts n f durable) xs).cluster qs r in
     let P1 : List Parcel → Type 0 = λ qs. P qs t.1 in
     let P2 : (ℕ → ℕ → ℕ) → Type 0 = λ r. P (after_run (opening n f) (acts_of xs)).parcels r in
-    let Q : (ℕ → ℕ → ℕ) → Type 0 = λ r. (p : ℕ) → durable p ≡ false → (after_steps (starts n f durable) xs).cluster.released p ≡ r p in
-    let R : (ℕ → ℕ → ℕ) → Type 0 = λ r. (p d : ℕ) → is_up ((after_steps (starts n f durable) xs).cluster.phase p) ≡ true → (after_steps (starts n f durable) xs).cluster.released p d ≤ r p d in
+    let Q : (ℕ → ℕ → ℕ) → Type 0 = λ r. (p : ℕ) → durable p ≡ false → (after_steps (starts n f durable) xs).cluster.world.released p ≡ r p in
+    let R : (ℕ → ℕ → ℕ) → Type 0 = λ r. (p d : ℕ) → is_up ((after_steps (starts n f durable) xs).cluster.world.phase p) ≡ true → (after_steps (starts n f durable) xs).cluster.world.released p d ≤ r p d in
     let kind : (after_steps (starts n f durable) xs).durable ≡ durable = stays-durable (starts n f durable) xs in
     record {
       run = t.2;

@@ -22,7 +22,7 @@ use Rattle.theorems.proofs.ListLemmas.{begins-self, take-all, at-number, nth-wit
 use Rattle.theorems.proofs.Resyncs.{without-has}
 use Rattle.theorems.proofs.TidyLemmas.{sent-more}
 use Rattle.cluster.specs.Parcels.{Restored, parcel, In, reaches}
-use Rattle.cluster.specs.Cluster.{Cluster, Collecting, Collected, seen, runs}
+use Rattle.cluster.specs.Cluster.{Cluster, Collecting, Collected, runs}
 use Rattle.cluster.specs.Rules.{Arrives, Awaits, May, does, goes_on, takes_in, entered, put2, IsNode}
 use Rattle.cluster.specs.Inside.Agrees.{Beside, world, NumberAs, HeardAs, CollectedAs, IsTold, AllKept, IsIdle, is_back, is_answered, restored_so_far, Agrees}
 use Rattle.cluster.specs.Inside.Simulation.{IsJournalOf}
@@ -76,13 +76,13 @@ MayEnter c q p i j n s u f = In (parcel q p (Restored i j n s u f)) c.parcels ×
 
 module _ (c : Cluster) (b : Beside) (q p i j n s : ℕ) (u : Option ℕ) (f : ℕ → Option ℕ) (h : Agrees c b) (l : Lawful (world c b)) (may : MayEnter c q p i j n s u f) where
   abbrev todo : List ℕ
-  todo = (resync-phase (c.phase p) q may.1.3).0
+  todo = (resync-phase (c.world.phase p) q may.1.3).0
 
-  at : c.phase p ≡ Resync todo
-  at = (resync-phase (c.phase p) q may.1.3).1
+  at : c.world.phase p ≡ Resync todo
+  at = (resync-phase (c.world.phase p) q may.1.3).1
 
   abbrev rest : List ℕ
-  rest = without (todo_of (c.phase p)) q
+  rest = without (todo_of (c.world.phase p)) q
 
   rest-is : rest ≡ without todo q
   rest-is = ap (λ x. without (todo_of x) q) at
@@ -90,10 +90,10 @@ module _ (c : Cluster) (b : Beside) (q p i j n s : ℕ) (u : Option ℕ) (f : �
   abbrev w : World
   w = world c b
 
-  qa : q ≤ c.count
+  qa : q ≤ c.world.count
   qa = (h.parcels q p (Restored i j n s u f) may.0).0
 
-  pa : p ≤ c.count
+  pa : p ≤ c.world.count
   pa = (h.parcels q p (Restored i j n s u f) may.0).1
 
   ne : q ≢ p
@@ -102,7 +102,7 @@ module _ (c : Cluster) (b : Beside) (q p i j n s : ℕ) (u : Option ℕ) (f : �
   ran : runs (c.stage p) ≡ true
   ran = runs-live _ may.1.1
 
-  was : is_up (c.phase p) ≡ false
+  was : is_up (c.world.phase p) ≡ false
   was = rw at refl
 
   unback : is_back c p ≡ false
@@ -112,28 +112,28 @@ module _ (c : Cluster) (b : Beside) (q p i j n s : ℕ) (u : Option ℕ) (f : �
   node = (first p refl, pa)
     where
       first : (k : ℕ) → k ≡ p → 0 < p
-      first zero e = absurd (let z : c.phase 0 ≡ Up = l.sound.outside 0 (λ a. absurd (omega arith)) in let y : is_up (c.phase 0) ≡ true = ap is_up z in let P : ℕ → Type 0 = λ x. is_up (c.phase x) ≡ true in true-not-false (subst P e y) was)
+      first zero e = absurd (let z : c.world.phase 0 ≡ Up = l.sound.outside 0 (λ a. absurd (omega arith)) in let y : is_up (c.world.phase 0) ≡ true = ap is_up z in let P : ℕ → Type 0 = λ x. is_up (c.world.phase x) ≡ true in true-not-false (subst P e y) was)
       first (suc k) e = omega arith
 
-  now : (j ≡ c.life q) × (((m : Message) → c.phase q ≡ Busy m → m.sender ≢ p)) × ((ssn : ℕ) → s < ssn → reaches u ssn ≡ true → f ssn ≡ rsn_of (c.history q) p ssn) × (runs (c.stage q) ≡ true → c.heard q p ≡ c.life p → c.resumed q p ≡ true) × AllKept c b q p
+  now : (j ≡ c.world.incarnation q) × (((m : Message) → c.world.phase q ≡ Busy m → m.sender ≢ p)) × ((ssn : ℕ) → s < ssn → reaches u ssn ≡ true → f ssn ≡ rsn_of (c.world.history q) p ssn) × (runs (c.stage q) ≡ true → c.heard q p ≡ c.world.incarnation p → c.resumed q p ≡ true) × AllKept c b q p
   now = (h.parcels q p (Restored i j n s u f) may.0).3.now may.1.2 unback
 
   qback : is_back c q ≡ true
   qback = others-back c b h p q pa qa ne unback
 
-  there_ : is_restored (c.phase p) q ≡ false
-  there_ = let e : has (todo_of (c.phase p)) q ≡ true = may.1.3 in let g : has todo q ≡ true = rw at at e in rw (at, g) refl
+  there_ : is_restored (c.world.phase p) q ≡ false
+  there_ = let e : has (todo_of (c.world.phase p)) q ≡ true = may.1.3 in let g : has todo q ≡ true = rw at at e in rw (at, g) refl
 
   -- what q was told and what it received of p agree
   same-heard : (x y : ℕ) → put2 c.heard p q j x y ≡ c.heard x y
   same-heard = choose2 p q (λ x y t. (if t then j else c.heard x y) ≡ c.heard x y) (now.0 ∙ sym (h.hearing.coming p q pa qa (λ e. ne (sym e)) ran unback)) (λ x y _. refl)
 
   -- p has answered nobody that collects
-  not-given : (r : ℕ) → r ≤ c.count → p ≢ r → c.stage r ≡ Collecting → b.gave p r ≡ c.stored r → ⊥
+  not-given : (r : ℕ) → r ≤ c.world.count → p ≢ r → c.stage r ≡ Collecting → b.gave p r ≡ c.stored r → ⊥
   not-given r a m e g = true-not-false (h.hearing.given p r pa a m e g).0 unback
 
-  covers : max (c.trims p q) n ≤ covered (seen c) p q
-  covers = let x : n ≤ covered (seen c) p q = (h.parcels q p (Restored i j n s u f) may.0).3.covers in let y : c.trims p q ≤ covered (seen c) p q = h.trimmed.trimmed p q in omega arith
+  covers : max (c.world.trims p q) n ≤ covered c.world p q
+  covers = let x : n ≤ covered c.world p q = (h.parcels q p (Restored i j n s u f) may.0).3.covers in let y : c.world.trims p q ≤ covered c.world p q = h.trimmed.trimmed p q in omega arith
 
   -- the world has no numbers yet
   no-number : (ssn m : ℕ) → b.numbers p q ssn ≡ Some m → ⊥
@@ -144,26 +144,26 @@ pub agrees-enters : (c : Cluster) (b : Beside) (q p i j n s u : ℕ) (f : ℕ �
 agrees-enters c b q p i j n s u f h l may =
     let d : Cluster = does c (Arrives q p (Restored i j n s (Some u) f)) in
     let same : (x y : ℕ) → d.heard x y ≡ c.heard x y = same-heard c b q p i j n s (Some u) f h l may in
-    let unrestored : is_restored (c.phase p) q ≡ false = there_ c b q p i j n s (Some u) f h l may in
+    let unrestored : is_restored (c.world.phase p) q ≡ false = there_ c b q p i j n s (Some u) f h l may in
     let told_ = now c b q p i j n s (Some u) f h l may in
     record {
       phases = h.phases;
       stages = h.stages;
       trimmed = record {
-        trimmed = choose2 p q (λ x y t. (if t then max (c.trims p q) n else c.trims x y) ≤ covered (seen c) x y) (covers c b q p i j n s (Some u) f h l may) (λ x y _. h.trimmed.trimmed x y);
+        trimmed = choose2 p q (λ x y t. (if t then max (c.world.trims p q) n else c.world.trims x y) ≤ covered c.world x y) (covers c b q p i j n s (Some u) f h l may) (λ x y _. h.trimmed.trimmed x y);
         saved_trimmed = h.trimmed.saved_trimmed;
       };
       untrimmed = h.untrimmed;
       numbered = record {
-        numbers = choose2 p q (λ x y t. (ssn m : ℕ) → b.numbers x y ssn ≡ Some m → (if t then entered c p q s (Some u) f else c.numbers x y) ssn ≡ Some m)
+        numbers = choose2 p q (λ x y t. (ssn m : ℕ) → b.numbers x y ssn ≡ Some m → (if t then entered c p q s (Some u) f else c.world.numbers x y) ssn ≡ Some m)
             (λ ssn m e. absurd (no-number c b q p i j n s (Some u) f h l may ssn m e)) (λ x y _. h.numbered.numbers x y);
-        logged = choose2 p q (λ x y t. (ssn m : ℕ) → x ≤ c.count → y ≤ c.count → x ≢ y → (if t then entered c p q s (Some u) f else c.numbers x y) ssn ≡ Some m → NumberAs c b x y ssn m)
+        logged = choose2 p q (λ x y t. (ssn m : ℕ) → x ≤ c.world.count → y ≤ c.world.count → x ≢ y → (if t then entered c p q s (Some u) f else c.world.numbers x y) ssn ≡ Some m → NumberAs c b x y ssn m)
             (λ ssn m _ _ _ _. inr (inr (inr unrestored))) (λ x y _. h.numbered.logged x y);
         fresh = h.numbered.fresh;
-        partly = choose2 p q (λ x y t. (ssn : ℕ) → is_restored (c.phase x) y ≡ false → (if t then entered c p q s (Some u) f else c.numbers x y) ssn ≡ (if nat_lt 0 ssn && nat_le ssn (if t then u else c.restoring x y) then rsn_of (c.history y) x ssn else None))
+        partly = choose2 p q (λ x y t. (ssn : ℕ) → is_restored (c.world.phase x) y ≡ false → (if t then entered c p q s (Some u) f else c.world.numbers x y) ssn ≡ (if nat_lt 0 ssn && nat_le ssn (if t then u else c.restoring x y) then rsn_of (c.world.history y) x ssn else None))
             (λ ssn e. page ssn) (λ x y _. h.numbered.partly x y);
-        begins = choose2 p q (λ x y t. is_replaying (c.phase x) ≡ true → (if t then u else c.restoring x y) ≡ 0) (λ e. absurd (true-not-false e (rw (at c b q p i j n s (Some u) f h l may) refl))) (λ x y _. h.numbered.begins x y);
-        idle = choose2 p q (λ x y t. is_restored (c.phase x) y ≡ false → 0 < (if t then u else c.restoring x y) → IsIdle (c.phase y) x) (λ _ _. told_.1) (λ x y _. h.numbered.idle x y);
+        begins = choose2 p q (λ x y t. is_replaying (c.world.phase x) ≡ true → (if t then u else c.restoring x y) ≡ 0) (λ e. absurd (true-not-false e (rw (at c b q p i j n s (Some u) f h l may) refl))) (λ x y _. h.numbered.begins x y);
+        idle = choose2 p q (λ x y t. is_restored (c.world.phase x) y ≡ false → 0 < (if t then u else c.restoring x y) → IsIdle (c.world.phase y) x) (λ _ _. told_.1) (λ x y _. h.numbered.idle x y);
       };
       hearing = record {
         heard = λ x y a z m e. let old : HeardAs c x y = h.hearing.heard x y a z m e in
@@ -175,8 +175,8 @@ agrees-enters c b q p i j n s u f h l may =
         own = h.hearing.own;
       };
       wired = h.wired;
-      parcels = parcels-quiet c b c.stage c.stored d.trims d.numbers d.heard c.resumed c.told (λ r. omega arith) (λ x y _ z _ e _. e) (λ x y _ _ _ _ g r e. g r (sym (same x y) ∙ e))
-          (λ x y a z m e g. choose2 p q (λ x y t. is_back c y ≡ false → AllKept c b x y → (ssn k : ℕ) → (if t then entered c p q s (Some u) f else c.numbers x y) ssn ≡ Some k → (b.numbers x y ssn ≡ Some k) ⊎ (k ≤ c.saved y))
+      parcels = parcels-quiet c b c.stage c.stored d.world.trims d.world.numbers d.heard c.resumed c.told (λ r. omega arith) (λ x y _ z _ e _. e) (λ x y _ _ _ _ g r e. g r (sym (same x y) ∙ e))
+          (λ x y a z m e g. choose2 p q (λ x y t. is_back c y ≡ false → AllKept c b x y → (ssn k : ℕ) → (if t then entered c p q s (Some u) f else c.world.numbers x y) ssn ≡ Some k → (b.numbers x y ssn ≡ Some k) ⊎ (k ≤ c.world.saved y))
           (λ e. absurd (true-not-false (qback c b q p i j n s (Some u) f h l may) e)) (λ x y _ _ g. g) x y e g) h.parcels;
     }
   where
@@ -184,16 +184,16 @@ agrees-enters c b q p i j n s u f h l may =
     kept x y None t = tt
     kept x y (Some g) t = record { heard = rw (same-heard c b q p i j n s (Some u) f h l may x y) t.heard; gave = t.gave; is = t.is }
 
-    page : (ssn : ℕ) → entered c p q s (Some u) f ssn ≡ (if nat_lt 0 ssn && nat_le ssn u then rsn_of (c.history q) p ssn else None)
+    page : (ssn : ℕ) → entered c p q s (Some u) f ssn ≡ (if nat_lt 0 ssn && nat_le ssn u then rsn_of (c.world.history q) p ssn else None)
     page ssn = split (nat_lt s ssn && nat_le ssn u) refl
       where
         ahead : s < u
         ahead = (h.parcels q p (Restored i j n s (Some u) f) may.0).3.ahead u refl
 
-        old : c.numbers p q ssn ≡ restored_so_far c p q ssn
+        old : c.world.numbers p q ssn ≡ restored_so_far c p q ssn
         old = h.numbered.partly p q ssn (there_ c b q p i j n s (Some u) f h l may)
 
-        split : (t : Bool) → (nat_lt s ssn && nat_le ssn u) ≡ t → (if t then f ssn else c.numbers p q ssn) ≡ (if nat_lt 0 ssn && nat_le ssn u then rsn_of (c.history q) p ssn else None)
+        split : (t : Bool) → (nat_lt s ssn && nat_le ssn u) ≡ t → (if t then f ssn else c.world.numbers p q ssn) ≡ (if nat_lt 0 ssn && nat_le ssn u then rsn_of (c.world.history q) p ssn else None)
         split true e =
             let x : s < ssn = grind (arith, nat_tests) in
             let y : nat_le ssn u ≡ true = grind (arith, nat_tests) in
@@ -215,12 +215,12 @@ module _ (c : Cluster) (b : Beside) (q p i j n s : ℕ) (f : ℕ → Option ℕ)
   abbrev rest_ : List ℕ
   rest_ = rest c b q p i j n s None f h l may
 
-  at_ : c.phase p ≡ Resync (todo c b q p i j n s None f h l may)
+  at_ : c.world.phase p ≡ Resync (todo c b q p i j n s None f h l may)
   at_ = at c b q p i j n s None f h l may
 
   -- first p forgets what it has entered so far
   abbrev blanked : Cluster
-  blanked = record c { numbers = put2 c.numbers p q (λ _. None); restoring = put2 c.restoring p q 0 }
+  blanked = record c { restoring = put2 c.restoring p q 0; world = record c.world { numbers = put2 c.world.numbers p q (λ _. None) } }
 
   agrees-blanked : Agrees blanked b
   agrees-blanked =
@@ -230,27 +230,27 @@ module _ (c : Cluster) (b : Beside) (q p i j n s : ℕ) (f : ℕ → Option ℕ)
         trimmed = h.trimmed;
         untrimmed = h.untrimmed;
         numbered = record {
-          numbers = choose2 p q (λ x y t. (ssn m : ℕ) → b.numbers x y ssn ≡ Some m → (if t then (λ (k : ℕ). None) else c.numbers x y) ssn ≡ Some m)
+          numbers = choose2 p q (λ x y t. (ssn m : ℕ) → b.numbers x y ssn ≡ Some m → (if t then (λ (k : ℕ). None) else c.world.numbers x y) ssn ≡ Some m)
               (λ ssn m e. absurd (no-number c b q p i j n s None f h l may ssn m e)) (λ x y _. h.numbered.numbers x y);
-          logged = choose2 p q (λ x y t. (ssn m : ℕ) → x ≤ c.count → y ≤ c.count → x ≢ y → (if t then (λ (k : ℕ). None) else c.numbers x y) ssn ≡ Some m → NumberAs c b x y ssn m)
+          logged = choose2 p q (λ x y t. (ssn m : ℕ) → x ≤ c.world.count → y ≤ c.world.count → x ≢ y → (if t then (λ (k : ℕ). None) else c.world.numbers x y) ssn ≡ Some m → NumberAs c b x y ssn m)
               (λ ssn m _ _ _ e. absurd (cc)) (λ x y _. h.numbered.logged x y);
           fresh = h.numbered.fresh;
-          partly = choose2 p q (λ x y t. (ssn : ℕ) → is_restored (c.phase x) y ≡ false → (if t then (λ (k : ℕ). None) else c.numbers x y) ssn ≡ (if nat_lt 0 ssn && nat_le ssn (if t then 0 else c.restoring x y) then rsn_of (c.history y) x ssn else None))
+          partly = choose2 p q (λ x y t. (ssn : ℕ) → is_restored (c.world.phase x) y ≡ false → (if t then (λ (k : ℕ). None) else c.world.numbers x y) ssn ≡ (if nat_lt 0 ssn && nat_le ssn (if t then 0 else c.restoring x y) then rsn_of (c.world.history y) x ssn else None))
               (λ ssn _. let z : (nat_lt 0 ssn && nat_le ssn 0) ≡ false = grind (arith, nat_tests) in rw z refl) (λ x y _. h.numbered.partly x y);
-          begins = choose2 p q (λ x y t. is_replaying (c.phase x) ≡ true → (if t then 0 else c.restoring x y) ≡ 0) (λ _. refl) (λ x y _. h.numbered.begins x y);
-          idle = choose2 p q (λ x y t. is_restored (c.phase x) y ≡ false → 0 < (if t then 0 else c.restoring x y) → IsIdle (c.phase y) x) (λ _ e. absurd (omega arith)) (λ x y _. h.numbered.idle x y);
+          begins = choose2 p q (λ x y t. is_replaying (c.world.phase x) ≡ true → (if t then 0 else c.restoring x y) ≡ 0) (λ _. refl) (λ x y _. h.numbered.begins x y);
+          idle = choose2 p q (λ x y t. is_restored (c.world.phase x) y ≡ false → 0 < (if t then 0 else c.restoring x y) → IsIdle (c.world.phase y) x) (λ _ e. absurd (omega arith)) (λ x y _. h.numbered.idle x y);
         };
         hearing = h.hearing;
         wired = h.wired;
-        parcels = parcels-quiet c b c.stage c.stored c.trims blanked.numbers c.heard c.resumed c.told (λ r. omega arith) (λ x y _ z _ e _. e) (λ x y _ _ _ _ g. g)
-            (λ x y a z m e g. choose2 p q (λ x y t. AllKept c b x y → (ssn k : ℕ) → (if t then (λ (k : ℕ). None) else c.numbers x y) ssn ≡ Some k → (b.numbers x y ssn ≡ Some k) ⊎ (k ≤ c.saved y)) (λ _ ssn k e. absurd (cc)) (λ x y _ g. g) x y g) h.parcels;
+        parcels = parcels-quiet c b c.stage c.stored c.world.trims blanked.world.numbers c.heard c.resumed c.told (λ r. omega arith) (λ x y _ z _ e _. e) (λ x y _ _ _ _ g. g)
+            (λ x y a z m e g. choose2 p q (λ x y t. AllKept c b x y → (ssn k : ℕ) → (if t then (λ (k : ℕ). None) else c.world.numbers x y) ssn ≡ Some k → (b.numbers x y ssn ≡ Some k) ⊎ (k ≤ c.world.saved y)) (λ _ ssn k e. absurd (cc)) (λ x y _ g. g) x y g) h.parcels;
       }
 
   -- then its phase changes
   abbrev turned : Cluster
   turned = goes_on blanked p rest_
 
-  pa_ : p ≤ c.count
+  pa_ : p ≤ c.world.count
   pa_ = pa c b q p i j n s None f h l may
 
   abbrev todo_ : List ℕ
@@ -270,25 +270,25 @@ module _ (c : Cluster) (b : Beside) (q p i j n s : ℕ) (f : ℕ → Option ℕ)
         less = λ r e. unrestored r e;
         again = λ e. absurd (true-not-false e (with-replaying rest_));
         blank = λ r ssn e g. blank r ssn e g (r == q) refl;
-        forth = rw (with-length rest_ (c.history p) (c.saved p), at_) (omega arith);
+        forth = rw (with-length rest_ (c.world.history p) (c.world.saved p), at_) (omega arith);
       }
     where
-      unrestored : (r : ℕ) → is_restored (phase_with rest_) r ≡ false → is_restored (c.phase p) r ≡ false
+      unrestored : (r : ℕ) → is_restored (phase_with rest_) r ≡ false → is_restored (c.world.phase p) r ≡ false
       unrestored r e =
           let a : has rest_ r ≡ true = unrestored-has rest_ r e in
           let y : has todo_ r ≡ true = contrary (has todo_ r) (λ z. true-not-false (rw (rest-is c b q p i j n s None f h l may) at a) (without-less todo_ q r z)) in
           rw (at_, y) refl
 
-      blank : (r ssn : ℕ) → is_restored (c.phase p) r ≡ false → is_restored (phase_with rest_) r ≡ true → (t : Bool) → (r == q) ≡ t → blanked.numbers p r ssn ≡ None
-      blank r ssn e g true y = let same : q ≡ r = grind (arith, nat_tests) in let P : ℕ → Type 0 = λ x. blanked.numbers p x ssn ≡ None in
-          subst P same (choose2 p q (λ x y t. x ≡ p → y ≡ q → (if t then (λ (k : ℕ). None) else c.numbers x y) ssn ≡ None) (λ _ _. refl) (λ x y o a z. absurd (o a z)) p q refl refl)
+      blank : (r ssn : ℕ) → is_restored (c.world.phase p) r ≡ false → is_restored (phase_with rest_) r ≡ true → (t : Bool) → (r == q) ≡ t → blanked.world.numbers p r ssn ≡ None
+      blank r ssn e g true y = let same : q ≡ r = grind (arith, nat_tests) in let P : ℕ → Type 0 = λ x. blanked.world.numbers p x ssn ≡ None in
+          subst P same (choose2 p q (λ x y t. x ≡ p → y ≡ q → (if t then (λ (k : ℕ). None) else c.world.numbers x y) ssn ≡ None) (λ _ _. refl) (λ x y o a z. absurd (o a z)) p q refl refl)
       blank r ssn e g false y =
           let a1 : has rest_ r ≡ false = with-restored rest_ r g in
           let a2 : has todo_ r ≡ false = without-has todo_ q r (grind (arith, nat_tests)) (rw (rest-is c b q p i j n s None f h l may) at a1) in
-          let z : is_restored (c.phase p) r ≡ true = rw (at_, a2) refl in
+          let z : is_restored (c.world.phase p) r ≡ true = rw (at_, a2) refl in
           absurd (true-not-false z e)
 
-      by_old : (r : ℕ) → r ≤ c.count → r ≢ p → runs (c.stage r) ≡ true → c.heard r p ≡ c.life p → is_answered c p r ≡ true → c.resumed r p ≡ true
+      by_old : (r : ℕ) → r ≤ c.world.count → r ≢ p → runs (c.stage r) ≡ true → c.heard r p ≡ c.world.incarnation p → is_answered c p r ≡ true → c.resumed r p ≡ true
       by_old r a m o y e = (h.hearing.heard r p a pa_ m o).obeyed y e
 
       -- who has answered before, or now
@@ -302,26 +302,26 @@ module _ (c : Cluster) (b : Beside) (q p i j n s : ℕ) (f : ℕ → Option ℕ)
               let a2 : has todo_ r ≡ false = without-has todo_ q r (grind (arith, nat_tests)) (rw (rest-is c b q p i j n s None f h l may) at a1) in
               inr (rw (z, at_, a2) refl)
 
-      obeys : (r : ℕ) → r ≤ c.count → r ≢ p → runs (c.stage r) ≡ true → c.heard r p ≡ c.life p → (t : Bool) → (r == 0) ≡ t → (if t then c.greeted p else is_restored (phase_with rest_) r) ≡ true → c.resumed r p ≡ true
+      obeys : (r : ℕ) → r ≤ c.world.count → r ≢ p → runs (c.stage r) ≡ true → c.heard r p ≡ c.world.incarnation p → (t : Bool) → (r == 0) ≡ t → (if t then c.greeted p else is_restored (phase_with rest_) r) ≡ true → c.resumed r p ≡ true
       obeys r a m o y true z e = by_old r a m o y (rw z e)
       obeys r a m o y false z e = elim (answered r z e) [
-        | inl same ↦ (let P : ℕ → Type 0 = λ x. runs (c.stage x) ≡ true → c.heard x p ≡ c.life p → c.resumed x p ≡ true in subst P same (now c b q p i j n s None f h l may).3 o y)
+        | inl same ↦ (let P : ℕ → Type 0 = λ x. runs (c.stage x) ≡ true → c.heard x p ≡ c.world.incarnation p → c.resumed x p ≡ true in subst P same (now c b q p i j n s None f h l may).3 o y)
         | inr g ↦ by_old r a m o y g
       ]
 
-      clears : (r : ℕ) → r ≤ c.count → r ≢ p → is_answered c p r ≡ false → (t : Bool) → (r == 0) ≡ t → (if t then c.greeted p else is_restored (phase_with rest_) r) ≡ true → AllKept blanked b r p
+      clears : (r : ℕ) → r ≤ c.world.count → r ≢ p → is_answered c p r ≡ false → (t : Bool) → (r == 0) ≡ t → (if t then c.greeted p else is_restored (phase_with rest_) r) ≡ true → AllKept blanked b r p
       clears r a m e true z g = absurd (true-not-false (let y : is_answered c p r ≡ true = rw z g in y) e)
       clears r a m e false z g = elim (answered r z g) [
         | inl same ↦ (let P : ℕ → Type 0 = λ x. AllKept c b x p in λ ssn k y. subst P same (now c b q p i j n s None f h l may).4 ssn k (off r m ssn ∙ y))
         | inr y ↦ absurd (true-not-false y e)
       ]
         where
-          off : (r : ℕ) → r ≢ p → (ssn : ℕ) → c.numbers r p ssn ≡ blanked.numbers r p ssn
-          off r m ssn = choose2 p q (λ a z t. a ≢ p → c.numbers a z ssn ≡ (if t then (λ (k : ℕ). None) else c.numbers a z) ssn) (λ o. absurd (o refl)) (λ a z _ _. refl) r p m
+          off : (r : ℕ) → r ≢ p → (ssn : ℕ) → c.world.numbers r p ssn ≡ blanked.world.numbers r p ssn
+          off r m ssn = choose2 p q (λ a z t. a ≢ p → c.world.numbers a z ssn ≡ (if t then (λ (k : ℕ). None) else c.world.numbers a z) ssn) (λ o. absurd (o refl)) (λ a z _ _. refl) r p m
 
   agrees-turned : Agrees turned b
-  agrees-turned = agrees-turn blanked b p (phase_with rest_) (put c.released p (released_with (seen c) p rest_)) l.sound.grows
-      (released-more (seen c) p rest_ (λ d. let x : c.released p d ≤ _ = (l.tidy p).gated d in let y = sent-more (seen c) l.sound.grows p (c.history p) d (length_in (c.history p) (c.saved p) (c.phase p)) (length (c.history p)) (rw at_ (omega arith)) in rw (take-all (c.history p)) at (most x y)))
+  agrees-turned = agrees-turn blanked b p (phase_with rest_) (put c.world.released p (released_with c.world p rest_)) l.sound.grows
+      (released-more c.world p rest_ (λ d. let x : c.world.released p d ≤ _ = (l.tidy p).gated d in let y = sent-more c.world l.sound.grows p (c.world.history p) d (length_in (c.world.history p) (c.world.saved p) (c.world.phase p)) (length (c.world.history p)) (rw at_ (omega arith)) in rw (take-all (c.world.history p)) at (most x y)))
       turn agrees-blanked
     where
       most : {x y z : ℕ} → x ≤ y → y ≤ z → x ≤ z
@@ -331,52 +331,52 @@ module _ (c : Cluster) (b : Beside) (q p i j n s : ℕ) (f : ℕ → Option ℕ)
   b' = record b { numbers = put b.numbers p (put (b.numbers p) q (told v p q)) }
 
   -- q has received no more than p sent
-  received : (ssn m : ℕ) → rsn_of (c.history q) p ssn ≡ Some m → (0 < ssn) × (ssn ≤ length (sent (seen c) p q))
-  received ssn m e = go (names-found (c.history q) p ssn m e)
+  received : (ssn m : ℕ) → rsn_of (c.world.history q) p ssn ≡ Some m → (0 < ssn) × (ssn ≤ length (sent c.world p q))
+  received ssn m e = go (names-found (c.world.history q) p ssn m e)
     where
-      go : Names (c.history q) m p ssn → (0 < ssn) × (ssn ≤ length (sent (seen c) p q))
+      go : Names (c.world.history q) m p ssn → (0 < ssn) × (ssn ≤ length (sent c.world p q))
       go t =
-          let a = at-number (c.history q) m t.message t.at in
+          let a = at-number (c.world.history q) m t.message t.at in
           let is : Safe v q t.message = l.exact.received q a.0 t.message a.2 in
-          let r = nth-within (payloads v t.message.sender (take is.upto (c.history t.message.sender)) q) t.message.ssn t.message.payload is.sends in
-          let P : ℕ → Type 0 = λ x. t.message.ssn ≤ length (payloads v x (take is.upto (c.history x)) q) in
-          let Q : ℕ → Type 0 = λ x. is.upto ≤ length (c.history x) in
-          let most : t.message.ssn ≤ length (payloads v p (take is.upto (c.history p)) q) = subst P t.sender r.1 in
-          let u : is.upto ≤ length (c.history p) = subst Q t.sender is.secured.within in
-          let k : length (payloads v p (take is.upto (c.history p)) q) ≤ length (sent v p q) = sent-more v l.sound.grows p (c.history p) q is.upto (length_in (c.history p) (c.saved p) (c.phase p)) (rw at_ u) in
+          let r = nth-within (payloads v t.message.sender (take is.upto (c.world.history t.message.sender)) q) t.message.ssn t.message.payload is.sends in
+          let P : ℕ → Type 0 = λ x. t.message.ssn ≤ length (payloads v x (take is.upto (c.world.history x)) q) in
+          let Q : ℕ → Type 0 = λ x. is.upto ≤ length (c.world.history x) in
+          let most : t.message.ssn ≤ length (payloads v p (take is.upto (c.world.history p)) q) = subst P t.sender r.1 in
+          let u : is.upto ≤ length (c.world.history p) = subst Q t.sender is.secured.within in
+          let k : length (payloads v p (take is.upto (c.world.history p)) q) ≤ length (sent v p q) = sent-more v l.sound.grows p (c.world.history p) q is.upto (length_in (c.world.history p) (c.world.saved p) (c.world.phase p)) (rw at_ u) in
           let first : 0 < t.message.ssn = r.0 in
           let same : t.message.ssn ≡ ssn = t.ssn in
           (omega arith, omega arith)
 
   -- what the world is told, and what p enters, is what q has
-  told-is : (ssn : ℕ) → told v p q ssn ≡ rsn_of (c.history q) p ssn
+  told-is : (ssn : ℕ) → told v p q ssn ≡ rsn_of (c.world.history q) p ssn
   told-is ssn = split (is_entry v p q ssn) refl
     where
-      split : (t : Bool) → is_entry v p q ssn ≡ t → (if t then rsn_of (c.history q) p ssn else b.numbers p q ssn) ≡ rsn_of (c.history q) p ssn
+      split : (t : Bool) → is_entry v p q ssn ≡ t → (if t then rsn_of (c.world.history q) p ssn else b.numbers p q ssn) ≡ rsn_of (c.world.history q) p ssn
       split true e = refl
-      split false e = h.numbered.fresh p q ssn (there_ c b q p i j n s None f h l may) ∙ sym (none (rsn_of (c.history q) p ssn) refl)
+      split false e = h.numbered.fresh p q ssn (there_ c b q p i j n s None f h l may) ∙ sym (none (rsn_of (c.world.history q) p ssn) refl)
         where
-          none : (o : Option ℕ) → rsn_of (c.history q) p ssn ≡ o → o ≡ None
+          none : (o : Option ℕ) → rsn_of (c.world.history q) p ssn ≡ o → o ≡ None
           none None g = refl
           none (Some m) g = absurd (let r = received ssn m g in
               true-not-false (entry-test v p q ssn (record { live = h.phases.live p; above = rw (h.untrimmed.trims p q) r.0; within = r.1 })) e)
 
-  entered-is : (ssn : ℕ) → entered c p q s None f ssn ≡ rsn_of (c.history q) p ssn
+  entered-is : (ssn : ℕ) → entered c p q s None f ssn ≡ rsn_of (c.world.history q) p ssn
   entered-is ssn = split (nat_lt s ssn) refl
     where
-      split : (t : Bool) → nat_lt s ssn ≡ t → (if t && true then f ssn else c.numbers p q ssn) ≡ rsn_of (c.history q) p ssn
+      split : (t : Bool) → nat_lt s ssn ≡ t → (if t && true then f ssn else c.world.numbers p q ssn) ≡ rsn_of (c.world.history q) p ssn
       split true e = (now c b q p i j n s None f h l may).2 ssn (grind (arith, nat_tests)) refl
-      split false e = h.numbered.partly p q ssn (there_ c b q p i j n s None f h l may) ∙ here (rsn_of (c.history q) p ssn) refl
+      split false e = h.numbered.partly p q ssn (there_ c b q p i j n s None f h l may) ∙ here (rsn_of (c.world.history q) p ssn) refl
         where
           other : (t : Bool) (o : Option ℕ) → o ≡ None → (if t then o else None) ≡ o
           other true o e = refl
           other false o e = sym e
 
-          here : (o : Option ℕ) → rsn_of (c.history q) p ssn ≡ o → (if nat_lt 0 ssn && nat_le ssn (c.restoring p q) then o else None) ≡ o
+          here : (o : Option ℕ) → rsn_of (c.world.history q) p ssn ≡ o → (if nat_lt 0 ssn && nat_le ssn (c.restoring p q) then o else None) ≡ o
           here None g = other (nat_lt 0 ssn && nat_le ssn (c.restoring p q)) None refl
           here (Some m) g = let r : 0 < ssn = (received ssn m g).0 in let a : s ≡ c.restoring p q = may.1.4 in let z : (nat_lt 0 ssn && nat_le ssn (c.restoring p q)) ≡ true = grind (arith, nat_tests) in rw z refl
 
-  not-given-by-p : (r : ℕ) → r ≤ c.count → p ≢ r → c.stage r ≡ Collecting → b.gave p r ≡ c.stored r → ⊥
+  not-given-by-p : (r : ℕ) → r ≤ c.world.count → p ≢ r → c.stage r ≡ Collecting → b.gave p r ≡ c.stored r → ⊥
   not-given-by-p = not-given c b q p i j n s None f h l may
 
   abbrev after_ : Cluster
@@ -390,14 +390,14 @@ module _ (c : Cluster) (b : Beside) (q p i j n s : ℕ) (f : ℕ → Option ℕ)
   its : (ssn : ℕ) → b'.numbers p q ssn ≡ told v p q ssn
   its ssn = at-itself p (λ t. (if t then put (b.numbers p) q (told v p q) else b.numbers p) q ssn ≡ told v p q ssn) (at-itself q (λ t. (if t then told v p q else b.numbers p q) ssn ≡ told v p q ssn) refl)
 
-  unblanked : (x y ssn : ℕ) → (x ≡ p → y ≢ q) → blanked.numbers x y ssn ≡ c.numbers x y ssn
-  unblanked x y ssn = choose2 p q (λ a z t. (a ≡ p → z ≢ q) → (if t then (λ (k : ℕ). None) else c.numbers a z) ssn ≡ c.numbers a z ssn) (λ o. absurd (o refl refl)) (λ a z _ _. refl) x y
+  unblanked : (x y ssn : ℕ) → (x ≡ p → y ≢ q) → blanked.world.numbers x y ssn ≡ c.world.numbers x y ssn
+  unblanked x y ssn = choose2 p q (λ a z t. (a ≡ p → z ≢ q) → (if t then (λ (k : ℕ). None) else c.world.numbers a z) ssn ≡ c.world.numbers a z ssn) (λ o. absurd (o refl refl)) (λ a z _ _. refl) x y
 
   unblanked-so-far : (x y ssn : ℕ) → (x ≡ p → y ≢ q) → restored_so_far blanked x y ssn ≡ restored_so_far c x y ssn
-  unblanked-so-far x y ssn = choose2 p q (λ a z t. (a ≡ p → z ≢ q) → (if nat_lt 0 ssn && nat_le ssn (if t then 0 else c.restoring a z) then rsn_of (c.history z) a ssn else None) ≡ restored_so_far c a z ssn) (λ o. absurd (o refl refl)) (λ a z _ _. refl) x y
+  unblanked-so-far x y ssn = choose2 p q (λ a z t. (a ≡ p → z ≢ q) → (if nat_lt 0 ssn && nat_le ssn (if t then 0 else c.restoring a z) then rsn_of (c.world.history z) a ssn else None) ≡ restored_so_far c a z ssn) (λ o. absurd (o refl refl)) (λ a z _ _. refl) x y
 
-  done : is_restored (turned.phase p) q ≡ true
-  done = at-itself p (λ t. is_restored (if t then phase_with rest_ else c.phase p) q ≡ true) (has-restored rest_ q (rw (rest-is c b q p i j n s None f h l may) (without-self (todo c b q p i j n s None f h l may) q)))
+  done : is_restored (turned.world.phase p) q ≡ true
+  done = at-itself p (λ t. is_restored (if t then phase_with rest_ else c.world.phase p) q ≡ true) (has-restored rest_ q (rw (rest-is c b q p i j n s None f h l may) (without-self (todo c b q p i j n s None f h l may) q)))
 
   agrees-restores : Agrees after_ b'
   agrees-restores =
@@ -407,23 +407,23 @@ module _ (c : Cluster) (b : Beside) (q p i j n s : ℕ) (f : ℕ → Option ℕ)
         phases = a.phases;
         stages = a.stages;
         trimmed = record {
-          trimmed = choose2 p q (λ x y t. (if t then max (c.trims p q) n else c.trims x y) ≤ covered (seen c) x y) (covers c b q p i j n s None f h l may) (λ x y _. h.trimmed.trimmed x y);
+          trimmed = choose2 p q (λ x y t. (if t then max (c.world.trims p q) n else c.world.trims x y) ≤ covered c.world x y) (covers c b q p i j n s None f h l may) (λ x y _. h.trimmed.trimmed x y);
           saved_trimmed = h.trimmed.saved_trimmed;
         };
         untrimmed = record { trims = h.untrimmed.trims; saved_trims = h.untrimmed.saved_trims; feed = h.untrimmed.feed; free = h.untrimmed.free };
         numbered = record {
-          numbers = choose2 p q (λ x y t. (ssn m : ℕ) → b'.numbers x y ssn ≡ Some m → (if t then entered c p q s None f else c.numbers x y) ssn ≡ Some m)
+          numbers = choose2 p q (λ x y t. (ssn m : ℕ) → b'.numbers x y ssn ≡ Some m → (if t then entered c p q s None f else c.world.numbers x y) ssn ≡ Some m)
               (λ ssn m e. entered-is ssn ∙ (sym (told-is ssn) ∙ (sym (its ssn) ∙ e)))
               (λ x y o ssn m e. h.numbered.numbers x y ssn m (sym (stay x y ssn o) ∙ e));
-          logged = choose2 p q (λ x y t. (ssn m : ℕ) → x ≤ c.count → y ≤ c.count → x ≢ y → (if t then entered c p q s None f else c.numbers x y) ssn ≡ Some m → NumberAs after_ b' x y ssn m)
+          logged = choose2 p q (λ x y t. (ssn m : ℕ) → x ≤ c.world.count → y ≤ c.world.count → x ≢ y → (if t then entered c p q s None f else c.world.numbers x y) ssn ≡ Some m → NumberAs after_ b' x y ssn m)
               (λ ssn m _ _ _ e. inl (its ssn ∙ (told-is ssn ∙ (sym (entered-is ssn) ∙ e))))
               (λ x y o ssn m k t z e. elim (a.numbered.logged x y ssn m k t z (unblanked x y ssn o ∙ e)) [ inl g ↦ inl (stay x y ssn o ∙ g) | inr g ↦ inr g ]);
-          fresh = choose2 p q (λ x y t. (ssn : ℕ) → is_restored (turned.phase x) y ≡ false → b'.numbers x y ssn ≡ None)
+          fresh = choose2 p q (λ x y t. (ssn : ℕ) → is_restored (turned.world.phase x) y ≡ false → b'.numbers x y ssn ≡ None)
               (λ ssn e. absurd (true-not-false done e)) (λ x y o ssn e. stay x y ssn o ∙ a.numbered.fresh x y ssn e);
-          partly = choose2 p q (λ x y t. (ssn : ℕ) → is_restored (turned.phase x) y ≡ false → (if t then entered c p q s None f else c.numbers x y) ssn ≡ restored_so_far c x y ssn)
+          partly = choose2 p q (λ x y t. (ssn : ℕ) → is_restored (turned.world.phase x) y ≡ false → (if t then entered c p q s None f else c.world.numbers x y) ssn ≡ restored_so_far c x y ssn)
               (λ ssn e. absurd (true-not-false done e)) (λ x y o ssn e. sym (unblanked x y ssn o) ∙ (a.numbered.partly x y ssn e ∙ unblanked-so-far x y ssn o));
           begins = λ x y e. again x y (a.numbered.begins x y e) e;
-          idle = choose2 p q (λ x y t. is_restored (turned.phase x) y ≡ false → 0 < c.restoring x y → IsIdle (turned.phase y) x)
+          idle = choose2 p q (λ x y t. is_restored (turned.world.phase x) y ≡ false → 0 < c.restoring x y → IsIdle (turned.world.phase y) x)
               (λ e. absurd (true-not-false done e)) (λ x y o e g. a.numbered.idle x y e (still-so x y o g));
         };
         hearing = record {
@@ -454,7 +454,7 @@ module _ (c : Cluster) (b : Beside) (q p i j n s : ℕ) (f : ℕ → Option ℕ)
       }
     where
       -- what is told to one that collects is not by p
-      told-on : (x r : ℕ) (reach : ℕ → Bool) (g : ℕ → Option Message) → x ≤ c.count → r ≤ c.count → x ≢ r → c.stage r ≡ Collecting → b.gave x r ≡ c.stored r → IsTold c b x r reach g → IsTold c b' x r reach g
+      told-on : (x r : ℕ) (reach : ℕ → Bool) (g : ℕ → Option Message) → x ≤ c.world.count → r ≤ c.world.count → x ≢ r → c.stage r ≡ Collecting → b.gave x r ≡ c.stored r → IsTold c b x r reach g → IsTold c b' x r reach g
       told-on x r reach g y z e k o t =
           record {
             only = λ m z_ a b_ d w. let v_ = t.only m z_ a b_ d w in (v_.0, v_.1, stay x r z_.ssn off ∙ v_.2);
@@ -464,21 +464,21 @@ module _ (c : Cluster) (b : Beside) (q p i j n s : ℕ) (f : ℕ → Option ℕ)
           off : x ≡ p → r ≢ q
           off f _ = let P : ℕ → Type 0 = λ y_. b.gave y_ r ≡ c.stored r in let Q : ℕ → Type 0 = λ y_. y_ ≢ r in not-given-by-p r z (subst Q f e) k (subst P f o)
 
-      kept : (y x : ℕ) → y ≤ c.count → x ≤ c.count → x ≢ y → c.stage y ≡ Collecting → (o : Option Collected) → CollectedAs c b y x o → CollectedAs after_ b' y x o
+      kept : (y x : ℕ) → y ≤ c.world.count → x ≤ c.world.count → x ≢ y → c.stage y ≡ Collecting → (o : Option Collected) → CollectedAs c b y x o → CollectedAs after_ b' y x o
       kept y x a z e k None t = tt
       kept y x a z e k (Some g) t = record { heard = rw (same-heard c b q p i j n s None f h l may y x) t.heard; gave = t.gave; is = told-on x y (reaches g.upto) g.entries z a e k t.gave t.is }
 
       all-kept : (x r : ℕ) → is_back turned r ≡ false → AllKept turned b x r → AllKept after_ b' x r
-      all-kept = choose2 p q (λ x r t. is_back turned r ≡ false → AllKept turned b x r → (ssn m : ℕ) → (if t then entered c p q s None f else c.numbers x r) ssn ≡ Some m → (b'.numbers x r ssn ≡ Some m) ⊎ (m ≤ c.saved r))
+      all-kept = choose2 p q (λ x r t. is_back turned r ≡ false → AllKept turned b x r → (ssn m : ℕ) → (if t then entered c p q s None f else c.world.numbers x r) ssn ≡ Some m → (b'.numbers x r ssn ≡ Some m) ⊎ (m ≤ c.world.saved r))
           (λ _ _ ssn m e. inl (its ssn ∙ (told-is ssn ∙ (sym (entered-is ssn) ∙ e))))
           (λ x r o _ g ssn m e. elim (g ssn m (unblanked x r ssn o ∙ e)) [ inl y ↦ inl (stay x r ssn o ∙ y) | inr y ↦ inr y ])
 
       still-so : (x y : ℕ) → (x ≡ p → y ≢ q) → 0 < c.restoring x y → 0 < blanked.restoring x y
       still-so = choose2 p q (λ x y t. (x ≡ p → y ≢ q) → 0 < c.restoring x y → 0 < (if t then 0 else c.restoring x y)) (λ o. absurd (o refl refl)) (λ x y _ _ e. e)
 
-      again : (x y : ℕ) → blanked.restoring x y ≡ 0 → is_replaying (turned.phase x) ≡ true → c.restoring x y ≡ 0
-      again = choose2 p q (λ x y t. (if t then 0 else c.restoring x y) ≡ 0 → is_replaying (turned.phase x) ≡ true → c.restoring x y ≡ 0)
-          (λ _ e. absurd (true-not-false e (at-itself p (λ t. is_replaying (if t then phase_with rest_ else c.phase p) ≡ false) (with-replaying rest_)))) (λ x y _ e _. e)
+      again : (x y : ℕ) → blanked.restoring x y ≡ 0 → is_replaying (turned.world.phase x) ≡ true → c.restoring x y ≡ 0
+      again = choose2 p q (λ x y t. (if t then 0 else c.restoring x y) ≡ 0 → is_replaying (turned.world.phase x) ≡ true → c.restoring x y ≡ 0)
+          (λ _ e. absurd (true-not-false e (at-itself p (λ t. is_replaying (if t then phase_with rest_ else c.world.phase p) ≡ false) (with-replaying rest_)))) (λ x y _ e _. e)
 
   pub step-restores : IsJournalOf (world c b) after_
   step-restores =
@@ -490,11 +490,11 @@ module _ (c : Cluster) (b : Beside) (q p i j n s : ℕ) (f : ℕ → Option ℕ)
         agrees = agrees-restores;
       }
     where
-      inside : 0 < p → p ≤ c.count → 0 < q → q ≤ c.count → not (is_inside v p && is_inside v q) ≡ false
+      inside : 0 < p → p ≤ c.world.count → 0 < q → q ≤ c.world.count → not (is_inside v p && is_inside v q) ≡ false
       inside x y z k = grind (arith, nat_tests)
 
       apart : (p == q) ≡ false
       apart = let x : p ≢ q = λ e. ne c b q p i j n s None f h l may (sym e) in grind (arith, nat_tests)
 
-      upped : not (is_up (c.phase q)) ≡ false
+      upped : not (is_up (c.world.phase q)) ≡ false
       upped = rw (back-is c q (qback c b q p i j n s None f h l may)).0 refl

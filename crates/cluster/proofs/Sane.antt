@@ -10,7 +10,7 @@ use Rattle.theorems.specs.Growth.{Grows}
 use Rattle.theorems.proofs.Changes.{choose}
 use Rattle.theorems.proofs.Tests.{both}
 use Rattle.cluster.specs.Parcels.{Delivery, Ask, Told, Restored}
-use Rattle.cluster.specs.Cluster.{Cluster, opening, seen}
+use Rattle.cluster.specs.Cluster.{Cluster, opening}
 use Rattle.cluster.specs.Rules.{Act, Arrives, Works, Replays, Recovers, Opens, IsNode, May, does, message, Run, after_run}
 use Rattle.cluster.specs.Inside.Agrees.{is_back}
 use Rattle.cluster.proofs.Facts.{choose2}
@@ -23,15 +23,15 @@ Low c = (q p : ℕ) → c.heard q p ≤ c.stored p
 
 -- a node restores its numbers from other nodes
 abbrev pub Todo : Cluster → Type 0
-Todo c = (p q : ℕ) → has (todo_of (c.phase p)) q ≡ true → IsNode c q × (q ≢ p)
+Todo c = (p q : ℕ) → has (todo_of (c.world.phase p)) q ≡ true → IsNode c q × (q ≢ p)
 
 -- and from some, as long as it does
 abbrev pub IsSomeTodo : Cluster → Type 0
-IsSomeTodo c = (p : ℕ) → c.phase p ≢ Resync []
+IsSomeTodo c = (p : ℕ) → c.world.phase p ≢ Resync []
 
 pub record Sane (c : Cluster) : Type 0 where
   pub holds : Holds c
-  pub few : c.count ≤ 15
+  pub few : c.world.count ≤ 15
   pub low : Low c
   pub todo : Todo c
   pub some : IsSomeTodo c
@@ -79,15 +79,15 @@ with-todo [] = refl
 with-todo (p ∷ ps) = refl
 
 -- p turns to a phase in which it restores from other nodes
-pub todo-turn : (c : Cluster) (p : ℕ) (x : Phase) → ((q : ℕ) → has (todo_of x) q ≡ true → IsNode c q × (q ≢ p)) → Todo c → (j q : ℕ) → has (todo_of (put c.phase p x j)) q ≡ true → IsNode c q × (q ≢ j)
-todo-turn c p x t h = choose p (λ j b. (q : ℕ) → has (todo_of (if b then x else c.phase j)) q ≡ true → IsNode c q × (q ≢ j)) t (λ j _. h j)
+pub todo-turn : (c : Cluster) (p : ℕ) (x : Phase) → ((q : ℕ) → has (todo_of x) q ≡ true → IsNode c q × (q ≢ p)) → Todo c → (j q : ℕ) → has (todo_of (put c.world.phase p x j)) q ≡ true → IsNode c q × (q ≢ j)
+todo-turn c p x t h = choose p (λ j b. (q : ℕ) → has (todo_of (if b then x else c.world.phase j)) q ≡ true → IsNode c q × (q ≢ j)) t (λ j _. h j)
 
 pub todo-with : (c : Cluster) (p : ℕ) (ps : List ℕ) → ((q : ℕ) → has ps q ≡ true → IsNode c q × (q ≢ p)) → (q : ℕ) → has (todo_of (phase_with ps)) q ≡ true → IsNode c q × (q ≢ p)
 todo-with c p ps t q e = t q (sym (ap (λ xs. has xs q) (with-todo ps)) ∙ e)
 
-pub peers-nodes : (c : Cluster) (p q : ℕ) → has (peers (seen c) p false) q ≡ true → IsNode c q × (q ≢ p)
+pub peers-nodes : (c : Cluster) (p q : ℕ) → has (peers c.world p false) q ≡ true → IsNode c q × (q ≢ p)
 peers-nodes c p q e =
-    let t = those-has (λ a. not (a == p) && (not false || is_up (c.phase a))) c.count q e in
+    let t = those-has (λ a. not (a == p) && (not false || is_up (c.world.phase a))) c.world.count q e in
     ((t.1, t.2), other (q == p) refl (both (not (q == p)) true t.0).0)
   where
     other : (b : Bool) → (q == p) ≡ b → not b ≡ true → q ≢ p
@@ -101,18 +101,18 @@ pub todo-step : (c : Cluster) (a : Act) → May c a → Todo c → Todo (does c 
 todo-step c (Arrives q p (Restored i j n s (Some u) f)) may h = h
 todo-step c (Arrives p (suc d) (Delivery i ssn x)) may h = todo-turn c (suc d) (Busy (message p ssn x)) (λ q e. no-todo c (suc d) q (Busy (message p ssn x)) refl e) h
 todo-step c (Works p m) may h = todo-turn c p Up (λ q e. no-todo c p q Up refl e) h
-todo-step c (Replays p j) may h = either-way (nat_lt (c.saved p + suc j) (length (c.history p))) _ _ Todo
+todo-step c (Replays p j) may h = either-way (nat_lt (c.world.saved p + suc j) (length (c.world.history p))) _ _ Todo
     (todo-turn c p (Replaying (suc j) false false) (λ q e. no-todo c p q (Replaying (suc j) false false) refl e) h)
-    (todo-turn c p (phase_with (peers (seen c) p false)) (todo-with c p (peers (seen c) p false) (peers-nodes c p)) h)
-todo-step c (Recovers p k) may h = either-way (nat_lt (c.saved p) k) _ _ Todo
+    (todo-turn c p (phase_with (peers c.world p false)) (todo-with c p (peers c.world p false) (peers-nodes c p)) h)
+todo-step c (Recovers p k) may h = either-way (nat_lt (c.world.saved p) k) _ _ Todo
     (todo-turn c p (Replaying 0 false false) (λ q e. no-todo c p q (Replaying 0 false false) refl e) h)
-    (todo-turn c p (phase_with (peers (seen c) p false)) (todo-with c p (peers (seen c) p false) (peers-nodes c p)) h)
+    (todo-turn c p (phase_with (peers c.world p false)) (todo-with c p (peers c.world p false) (peers-nodes c p)) h)
 todo-step c (Arrives (suc q) p (Restored i j n s None f)) may h =
-    todo-turn c p (phase_with (without (todo_of (c.phase p)) (suc q))) (todo-with c p (without (todo_of (c.phase p)) (suc q)) (λ r e. h p r (without-less (todo_of (c.phase p)) (suc q) r e))) h
+    todo-turn c p (phase_with (without (todo_of (c.world.phase p)) (suc q))) (todo-with c p (without (todo_of (c.world.phase p)) (suc q)) (λ r e. h p r (without-less (todo_of (c.world.phase p)) (suc q) r e))) h
 todo-step c act may h = h
 
-some-turn : (c : Cluster) (p : ℕ) (x : Phase) → x ≢ Resync [] → IsSomeTodo c → (j : ℕ) → put c.phase p x j ≢ Resync []
-some-turn c p x n h = choose p (λ j b. (if b then x else c.phase j) ≢ Resync []) n (λ j _. h j)
+some-turn : (c : Cluster) (p : ℕ) (x : Phase) → x ≢ Resync [] → IsSomeTodo c → (j : ℕ) → put c.world.phase p x j ≢ Resync []
+some-turn c p x n h = choose p (λ j b. (if b then x else c.world.phase j) ≢ Resync []) n (λ j _. h j)
 
 some-with : (ps : List ℕ) → phase_with ps ≢ Resync []
 some-with [] e = let t : true ≡ false = ap is_up e in cc
@@ -129,16 +129,16 @@ some-step : (c : Cluster) (a : Act) → IsSomeTodo c → IsSomeTodo (does c a)
 some-step c (Arrives q p (Restored i j n s (Some u) f)) h = h
 some-step c (Arrives p (suc d) (Delivery i ssn x)) h = some-turn c (suc d) (Busy (message p ssn x)) (λ e. let t : true ≡ false = ap is_up e in cc) h
 some-step c (Works p m) h = some-turn c p Up (λ e. let t : true ≡ false = ap is_up e in cc) h
-some-step c (Replays p j) h = either-way (nat_lt (c.saved p + suc j) (length (c.history p))) _ _ IsSomeTodo
-    (some-turn c p (Replaying (suc j) false false) (replays-some (suc j)) h) (some-turn c p (phase_with (peers (seen c) p false)) (some-with (peers (seen c) p false)) h)
-some-step c (Recovers p k) h = either-way (nat_lt (c.saved p) k) _ _ IsSomeTodo
-    (some-turn c p (Replaying 0 false false) (replays-some 0) h) (some-turn c p (phase_with (peers (seen c) p false)) (some-with (peers (seen c) p false)) h)
-some-step c (Arrives (suc q) p (Restored i j n s None f)) h = some-turn c p (phase_with (without (todo_of (c.phase p)) (suc q))) (some-with (without (todo_of (c.phase p)) (suc q))) h
+some-step c (Replays p j) h = either-way (nat_lt (c.world.saved p + suc j) (length (c.world.history p))) _ _ IsSomeTodo
+    (some-turn c p (Replaying (suc j) false false) (replays-some (suc j)) h) (some-turn c p (phase_with (peers c.world p false)) (some-with (peers c.world p false)) h)
+some-step c (Recovers p k) h = either-way (nat_lt (c.world.saved p) k) _ _ IsSomeTodo
+    (some-turn c p (Replaying 0 false false) (replays-some 0) h) (some-turn c p (phase_with (peers c.world p false)) (some-with (peers c.world p false)) h)
+some-step c (Arrives (suc q) p (Restored i j n s None f)) h = some-turn c p (phase_with (without (todo_of (c.world.phase p)) (suc q))) (some-with (without (todo_of (c.world.phase p)) (suc q))) h
 some-step c act h = h
 
 -- who restores numbers isn't back
-restores-back : (c : Cluster) (p q : ℕ) → has (todo_of (c.phase p)) q ≡ true → is_back c p ≡ false
-restores-back c p q e = split (c.phase p) e
+restores-back : (c : Cluster) (p q : ℕ) → has (todo_of (c.world.phase p)) q ≡ true → is_back c p ≡ false
+restores-back c p q e = split (c.world.phase p) e
   where
     split : (x : Phase) → has (todo_of x) q ≡ true → (is_up x && c.greeted p) ≡ false
     split Up e = absurd (cc)
@@ -150,27 +150,27 @@ restores-back c p q e = split (c.phase p) e
 low-step : (c : Cluster) (a : Act) → Holds c → May c a → Low c → Low (does c a)
 low-step c (Arrives q p (Restored i j n s (Some u) f)) h may l =
     let now = (h.agrees.parcels q p (Restored i j n s (Some u) f) may.0).3.now may.1.2 (restores-back c p q may.1.3) in
-    let e : j ≡ c.life q = now.0 in
-    let m : c.life q ≤ c.stored q = h.agrees.stages.lives q in
+    let e : j ≡ c.world.incarnation q = now.0 in
+    let m : c.world.incarnation q ≤ c.stored q = h.agrees.stages.lives q in
     choose2 p q (λ a b t. (if t then j else c.heard a b) ≤ c.stored b) (omega arith) (λ a b _. l a b)
 low-step c (Arrives p zero (Delivery i ssn x)) h may l = l
-low-step c (Replays p j) h may l = either-way (nat_lt (c.saved p + suc j) (length (c.history p))) _ _ Low l l
+low-step c (Replays p j) h may l = either-way (nat_lt (c.world.saved p + suc j) (length (c.world.history p))) _ _ Low l l
 low-step c (Arrives p q (Ask i k)) h may l = let fine : i ≤ c.stored p = (h.agrees.parcels p q (Ask i k) may.0).3 in choose2 q p (λ a b t. (if t then i else c.heard a b) ≤ c.stored b) fine (λ a b _. l a b)
 low-step c (Arrives q p (Told i j k u f)) h may l =
     let now = (h.agrees.parcels q p (Told i j k u f) may.0).3.now may.1.0 may.1.1 in
-    let e : j ≡ c.life q = now.0 in
-    let m : c.life q ≤ c.stored q = h.agrees.stages.lives q in
+    let e : j ≡ c.world.incarnation q = now.0 in
+    let m : c.world.incarnation q ≤ c.stored q = h.agrees.stages.lives q in
     choose2 p q (λ a b t. (if t then j else c.heard a b) ≤ c.stored b) (omega arith) (λ a b _. l a b)
-low-step c (Recovers p k) h may l = either-way (nat_lt (c.saved p) k) _ _ Low l l
+low-step c (Recovers p k) h may l = either-way (nat_lt (c.world.saved p) k) _ _ Low l l
 low-step c (Arrives (suc q) p (Restored i j n s None f)) h may l =
     let now = (h.agrees.parcels (suc q) p (Restored i j n s None f) may.0).3.now may.1.2 (restores-back c p (suc q) may.1.3) in
-    let e : j ≡ c.life (suc q) = now.0 in
-    let m : c.life (suc q) ≤ c.stored (suc q) = h.agrees.stages.lives (suc q) in
+    let e : j ≡ c.world.incarnation (suc q) = now.0 in
+    let m : c.world.incarnation (suc q) ≤ c.stored (suc q) = h.agrees.stages.lives (suc q) in
     choose2 p (suc q) (λ a b t. (if t then j else c.heard a b) ≤ c.stored b) (omega arith) (λ a b _. l a b)
 low-step c (Opens p n) h may l = λ a b.
     let rises : (b : ℕ) → c.stored b ≤ put c.stored p (suc (n + c.stored p)) b = choose p (λ j t. c.stored j ≤ (if t then suc (n + c.stored p) else c.stored j)) (omega arith) (λ j _. omega arith) in
-    let g : c.life 0 ≡ 1 = h.agrees.stages.gateway.1 in
-    let m : c.life 0 ≤ c.stored 0 = h.agrees.stages.lives 0 in
+    let g : c.world.incarnation 0 ≡ 1 = h.agrees.stages.gateway.1 in
+    let m : c.world.incarnation 0 ≤ c.stored 0 = h.agrees.stages.lives 0 in
     let first : (x : ℕ) → (if x == 0 then 1 else 0) ≤ c.stored x = λ x. one x (x == 0) refl (omega arith) in
     choose p (λ j t. (if t then (λ (q : ℕ). if q == 0 then 1 else 0) else c.heard j) b ≤ put c.stored p (suc (n + c.stored p)) b)
     (let x : (if b == 0 then 1 else 0) ≤ c.stored b = first b in let y : c.stored b ≤ put c.stored p (suc (n + c.stored p)) b = rises b in omega arith)

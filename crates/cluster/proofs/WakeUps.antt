@@ -24,7 +24,7 @@ go-on s P Q r more = along r.0 s r.1 r.2 r.3
 
 -- it runs, and where it is up it waits for messages
 abbrev pub IsAwake : Cluster → ℕ → Type 0
-IsAwake c q = (c.stage q ≡ Live) × (is_well c q ≡ true → c.phase q ≡ Up)
+IsAwake c q = (c.stage q ≡ Live) × (is_well c q ≡ true → c.world.phase q ≡ Up)
 
 -- or it collects
 abbrev pub IsReady : Cluster → ℕ → Type 0
@@ -32,7 +32,7 @@ IsReady c q = (c.stage q ≡ Collecting) ⊎ IsAwake c q
 
 -- of this node all is as before
 abbrev pub IsSame : Cluster → Cluster → ℕ → Type 0
-IsSame c d r = (d.stage r ≡ c.stage r) × (d.greeted r ≡ c.greeted r) × (d.phase r ≡ c.phase r)
+IsSame c d r = (d.stage r ≡ c.stage r) × (d.greeted r ≡ c.greeted r) × (d.world.phase r ≡ c.world.phase r)
 
 pub same-ready : (c d : Cluster) (r : ℕ) → IsSame c d r → IsReady c r → IsReady d r
 same-ready c d r k h = elim h [ inl e ↦ inl (k.0 ∙ e) | inr a ↦ inr (k.0 ∙ a.0, λ w. k.2 ∙ a.1 (rw (sym k.0, sym k.1, sym k.2) w)) ]
@@ -40,18 +40,18 @@ same-ready c d r k h = elim h [ inl e ↦ inl (k.0 ∙ e) | inr a ↦ inr (k.0 �
 -- one node is ready, and all is as before of the others
 pub record Roused (q : ℕ) (s t : Telling) : Type 0 where
   pub orderly : Orderly t
-  pub count : t.cluster.count ≡ s.cluster.count
+  pub count : t.cluster.world.count ≡ s.cluster.world.count
   pub ready : IsReady t.cluster q
   pub others : (r : ℕ) → r ≢ q → IsSame s.cluster t.cluster r
 
 module _ (q : ℕ) where
   awake : (s : Telling) → Orderly s → IsNode s.cluster q → s.cluster.stage q ≡ Live → CanGo s (Roused q s)
-  awake s h node live = split (s.cluster.greeted q) refl (s.cluster.phase q) refl
+  awake s h node live = split (s.cluster.greeted q) refl (s.cluster.world.phase q) refl
     where
       stays : IsReady s.cluster q → CanGo s (Roused q s)
       stays r = ([], tt, tt, record { orderly = h; count = refl; ready = r; others = λ r _. (refl, refl, refl) })
 
-      split : (g : Bool) → s.cluster.greeted q ≡ g → (x : Phase) → s.cluster.phase q ≡ x → CanGo s (Roused q s)
+      split : (g : Bool) → s.cluster.greeted q ≡ g → (x : Phase) → s.cluster.world.phase q ≡ x → CanGo s (Roused q s)
       split false g x e = stays (inr (live, λ w. absurd (true-not-false (well-is s.cluster q w).1 g)))
       split true g Up e = stays (inr (live, λ _. e))
       split true g (Busy m) e =
@@ -63,8 +63,8 @@ module _ (q : ℕ) where
             record {
               orderly = orderly-step s (Takes true false (Works q m)) h may;
               count = refl;
-              ready = inr (live, λ _. put-same s.cluster.phase q Up);
-              others = λ r n. (refl, refl, put-other s.cluster.phase q Up r n);
+              ready = inr (live, λ _. put-same s.cluster.world.phase q Up);
+              others = λ r n. (refl, refl, put-other s.cluster.world.phase q Up r n);
             },
           )
       split true g Down e = stays (inr (live, λ w. absurd (true-not-false (well-is s.cluster q w).2 (ap is_up e))))
@@ -92,7 +92,7 @@ module _ (q : ℕ) where
           )
       split Frozen e =
           let may : MayStep s (Takes true false (Keeps q)) = ((node, e), tt) in
-          let thaws : MayStep (step s (Takes true false (Keeps q))) (Takes true false (Thaws q)) = ((node, e, put-same s.cluster.saved q _), tt) in
+          let thaws : MayStep (step s (Takes true false (Keeps q))) (Takes true false (Thaws q)) = ((node, e, put-same s.cluster.world.saved q _), tt) in
           let g : Orderly (step (step s (Takes true false (Keeps q))) (Takes true false (Thaws q))) = orderly-step _ (Takes true false (Thaws q)) (orderly-step s (Takes true false (Keeps q)) h may) thaws in
           go-first s (Roused q s) (Takes true false (Keeps q)) may refl
           (go-first (step s (Takes true false (Keeps q))) (Roused q s) (Takes true false (Thaws q)) thaws refl
@@ -105,19 +105,19 @@ module _ (q : ℕ) where
 
 -- and so are all, one after the other
 abbrev pub AllReady : Cluster → Type 0
-AllReady c = (q : ℕ) → q ≤ c.count → IsReady c q
+AllReady c = (q : ℕ) → q ≤ c.world.count → IsReady c q
 
-pub rouse-all : (m : ℕ) (s : Telling) → Orderly s → m ≤ s.cluster.count → ((q : ℕ) → m < q → q ≤ s.cluster.count → IsReady s.cluster q) → CanGo s (λ t. Orderly t × AllReady t.cluster)
+pub rouse-all : (m : ℕ) (s : Telling) → Orderly s → m ≤ s.cluster.world.count → ((q : ℕ) → m < q → q ≤ s.cluster.world.count → IsReady s.cluster q) → CanGo s (λ t. Orderly t × AllReady t.cluster)
 rouse-all zero s h l up = ([], tt, tt, (h, all))
   where
-    all : (q : ℕ) → q ≤ s.cluster.count → IsReady s.cluster q
+    all : (q : ℕ) → q ≤ s.cluster.world.count → IsReady s.cluster q
     all zero b = let g = h.2.plain.gateway in inr (g.0, λ _. g.2)
     all (suc q) b = up (suc q) (omega arith) b
 rouse-all (suc m) s h l up =
     go-on s (Roused (suc m) s) (λ t. Orderly t × AllReady t.cluster) (rouse (suc m) s h (omega arith, l)) (λ t r.
-    let same : t.cluster.count ≡ s.cluster.count = r.count in
+    let same : t.cluster.world.count ≡ s.cluster.world.count = r.count in
     rouse-all m t r.orderly (omega arith) (λ q a b. one t r q a (omega arith) (q == suc m) refl))
   where
-    one : (t : Telling) → Roused (suc m) s t → (q : ℕ) → m < q → q ≤ s.cluster.count → (b : Bool) → (q == suc m) ≡ b → IsReady t.cluster q
+    one : (t : Telling) → Roused (suc m) s t → (q : ℕ) → m < q → q ≤ s.cluster.world.count → (b : Bool) → (q == suc m) ≡ b → IsReady t.cluster q
     one t r q a l true e = let z : suc m ≡ q = grind (arith, nat_tests) in let P : ℕ → Type 0 = λ i. IsReady t.cluster i in subst P z r.ready
     one t r q a l false e = let z : q ≢ suc m = grind (arith, nat_tests) in same-ready s.cluster t.cluster q (r.others q z) (up q (omega arith) l)

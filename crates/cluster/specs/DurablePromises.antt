@@ -24,12 +24,12 @@ AreFirst h p sent =
 -- whatever a node received from p, or the gateway showed of it, the messages that p's durable checkpoint covers send it
 abbrev pub NobodyHasMore : Cluster → ℕ → Type 0
 NobodyHasMore c p =
-    record { received : (d : ℕ) → AreFirst (c.history d) p (kept_sends c p d); shown : AreFirst c.shown p (kept_sends c p 0) }
+    record { received : (d : ℕ) → AreFirst (c.world.history d) p (kept_sends c p d); shown : AreFirst c.world.shown p (kept_sends c p 0) }
 
 -- the messages that p's checkpoint covers in c are covered in v too, and with them what they send
 abbrev pub Stays : Cluster → Cluster → ℕ → Type 0
 Stays c v p = record {
-  messages : Begins (take (c.saved p) (c.history p)) (take (v.saved p) (v.history p));
+  messages : Begins (take (c.world.saved p) (c.world.history p)) (take (v.world.saved p) (v.world.history p));
   sends : (d : ℕ)
       → Begins (kept_sends c p d) (kept_sends v p d);
 }
@@ -42,7 +42,7 @@ InOrder h = (i : ℕ) (m : Message) → slice_get h i ≡ Some m → m.ssn ≡ s
 -- order
 abbrev pub AlwaysInOrder : Type 0
 AlwaysInOrder = (n : ℕ) (f : Handlers) (durable : ℕ → Bool) (es : List Event) → Grows f → Events durable (opening n f) es
-    → ((p : ℕ) → InOrder ((after_events durable (opening n f) es).history p)) × InOrder (after_events durable (opening n f) es).shown
+    → ((p : ℕ) → InOrder ((after_events durable (opening n f) es).world.history p)) × InOrder (after_events durable (opening n f) es).world.shown
 
 -- in each run in which some nodes are durable
 abbrev pub DurableKeep : Type 0

@@ -151,10 +151,10 @@ IsRunOf n f durable acts c =
       run : Run (opening n f) acts;
       same : after_run (opening n f) acts ≡ record c {
         parcels = (after_run (opening n f) acts).parcels;
-        released = (after_run (opening n f) acts).released;
+        world = record c.world { released = (after_run (opening n f) acts).world.released };
       };
-      released : (p : ℕ) → durable p ≡ false → c.released p ≡ (after_run (opening n f) acts).released p;
-      less : (p d : ℕ) → is_up (c.phase p) ≡ true → c.released p d ≤ (after_run (opening n f) acts).released p d;
+      released : (p : ℕ) → durable p ≡ false → c.world.released p ≡ (after_run (opening n f) acts).world.released p;
+      less : (p d : ℕ) → is_up (c.world.phase p) ≡ true → c.world.released p d ≤ (after_run (opening n f) acts).world.released p d;
     }
 
 -- so is each run in which every node was always exact. If there are durable nodes, each handler's sends only grow

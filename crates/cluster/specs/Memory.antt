@@ -7,12 +7,12 @@ use Rattle.world.specs.Handlers.{Handlers}
 use Rattle.world.specs.Logs.{sent, sent_in_all, covered}
 use Rattle.world.specs.Bounds.{count_below}
 use Rattle.cluster.specs.Parcels.{Saved, reaches}
-use Rattle.cluster.specs.Cluster.{Collecting, Collected, Cluster, opening, seen, is_well, waiting, WINDOW}
+use Rattle.cluster.specs.Cluster.{Collecting, Collected, Cluster, opening, is_well, waiting, WINDOW}
 use Rattle.cluster.specs.Rules.{Act, Arrives, Works, Keeps, IsNode, after_run, FromOpening}
 
 -- the receipts that p keeps: of the messages that it received after its durable checkpoint
 abbrev pub receipts : Cluster → ℕ → List Message
-receipts c p = drop (c.saved p) (c.history p)
+receipts c p = drop (c.world.saved p) (c.world.history p)
 
 -- how many messages pass a test
 abbrev pub how_many : (Message → Bool) → List Message → ℕ
@@ -36,11 +36,11 @@ taken_since test p k (a ∷ acts) = taken_since test p (counts test p a k) acts
 
 -- how many entries p's log has for d: the messages that it sent there, except those that it dropped
 abbrev pub entries : Cluster → ℕ → ℕ → ℕ
-entries c p d = length (sent (seen c) p d) - c.trims p d
+entries c p d = length (sent c.world p d) - c.world.trims p d
 
 -- how many of p's messages to d are covered for good without p being told so
 abbrev pub untold : Cluster → ℕ → ℕ → ℕ
-untold c p d = covered (seen c) p d - c.trims p d
+untold c p d = covered c.world p d - c.world.trims p d
 
 -- how many of p's messages d took since its checkpoint. What the gateway showed is covered at once
 abbrev pub unsaved : Cluster → ℕ → ℕ → ℕ
@@ -48,7 +48,7 @@ unsaved c p d = if d == 0 then 0 else how_many (is_of p) (receipts c d)
 
 -- how many of p's messages d hasn't taken
 abbrev pub untaken : Cluster → ℕ → ℕ → ℕ
-untaken c p d = sent_in_all (seen c) p d - count_of p (if d == 0 then c.shown else c.history d)
+untaken c p d = sent_in_all c.world p d - count_of p (if d == 0 then c.world.shown else c.world.history d)
 
 -- p's log for d has these, and at most these while p replays
 abbrev pub LogHas : Cluster → ℕ → ℕ → Type 0
@@ -79,7 +79,7 @@ LogsWait = (n : ℕ) (f : Handlers) (acts : List Act) (p d : ℕ) → FromOpenin
 abbrev pub ToldIsDropped : Type 0
 ToldIsDropped = (n : ℕ) (f : Handlers) (acts more : List Act) (p d k : ℕ) → FromOpening n f (acts ++ Arrives d p (Saved k) ∷ more)
     → is_well (after_run (opening n f) (acts ++ Arrives d p (Saved k) ∷ more)) p ≡ true
-    → k ≤ (after_run (opening n f) (acts ++ Arrives d p (Saved k) ∷ more)).trims p d
+    → k ≤ (after_run (opening n f) (acts ++ Arrives d p (Saved k) ∷ more)).world.trims p d
 
 -- no more RSNs than the window has wait for their acknowledgement
 abbrev pub FewWait : Type 0

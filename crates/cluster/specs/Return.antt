@@ -22,7 +22,7 @@ CanReach c P = (acts : List Act) × Run c acts × NobodyDies acts × P (after_ru
 
 -- every process is up, and so is the gateway
 abbrev pub AllUp : Cluster → Type 0
-AllUp c = (q : ℕ) → q ≤ c.count → is_well c q ≡ true
+AllUp c = (q : ℕ) → q ≤ c.world.count → is_well c q ≡ true
 
 -- after any run: if all nodes except p are up, p comes back, whether it is dead, collects, replays or restores RSNs: the nodes can go on,
 -- without a death, until all are up

@@ -4,7 +4,7 @@ use Rattle.world.specs.declared.message.Message.{Message}
 use Rattle.world.specs.Logs.{state_of}
 use Rattle.world.specs.Worked.{relaying}
 use Rattle.cluster.specs.Parcels.{Delivery, Number, Acknowledgement, Told, Saved, parcel, In}
-use Rattle.cluster.specs.Cluster.{opening, seen, is_well}
+use Rattle.cluster.specs.Cluster.{opening, is_well}
 use Rattle.cluster.specs.Rules.{Act, Puts, Arrives, Works, Replays, Recovers, Freezes, Keeps, Dies, May, Run}
 use Rattle.cluster.specs.Rules.{after_run, message}
 use Rattle.cluster.specs.WorkedPieces.{receives, number_recorded, falls, asks, tells, resumes, restores, no_numbers, no_entries, greets}
@@ -39,12 +39,12 @@ abbrev pub NumberIsLost : Type 0
 NumberIsLost =
     (g : ℕ → List Message → List ℕ) (x y : List ℕ) →
     Run (opening 1 (relaying 0 g)) (gap_closed x y)
-    × ((one_after g (gap x y)).acknowledged 1 2 ≡ true)
-    × ((one_after g (gap x y)).released 1 0 ≡ 0)
-    × ((one_after g (gap_kept x y)).numbers 0 1 2 ≡ Some 2)
+    × ((one_after g (gap x y)).world.acknowledged 1 2 ≡ true)
+    × ((one_after g (gap x y)).world.released 1 0 ≡ 0)
+    × ((one_after g (gap_kept x y)).world.numbers 0 1 2 ≡ Some 2)
     × (is_well (one_after g (gap_kept x y)) 1 ≡ false)
-    × ((one_after g (gap_closed x y)).numbers 0 1 2 ≡ None)
-    × ((one_after g (gap_closed x y)).history 1 ≡ message 0 1 x ∷ [])
+    × ((one_after g (gap_closed x y)).world.numbers 0 1 2 ≡ None)
+    × ((one_after g (gap_closed x y)).world.history 1 ≡ message 0 1 x ∷ [])
     × (is_well (one_after g (gap_closed x y)) 1 ≡ true)
 
 -- node 1 has a message whose RSN is recorded, and dies; after the gateway has told it, it dies again
@@ -63,7 +63,7 @@ DiesWhileCollecting =
     × In (parcel 0 1 (Told 2 1 0 None (first_entry x))) (one_after g (told_twice x)).parcels
     × (¬ May (one_after g (told_twice x)) (Arrives 0 1 (Told 2 1 0 None (first_entry x))))
     × (is_well (one_after g (told_again x)) 1 ≡ true)
-    × (state_of (seen (one_after g (told_again x))) 1 ≡ g 1 (message 0 1 x ∷ []))
+    × (state_of (one_after g (told_again x)).world 1 ≡ g 1 (message 0 1 x ∷ []))
 
 -- node 1 has a message whose RSN nobody recorded, and the bytes of a checkpoint are made. It dies before they are durable
 abbrev pub not_durable : List ℕ → List Act
@@ -80,8 +80,8 @@ DiesAtCheckpoint =
     (g : ℕ → List Message → List ℕ) (x : List ℕ) →
     Run (opening 1 (relaying 0 g)) (not_durable x)
     × Run (opening 1 (relaying 0 g)) (durable x)
-    × ((one_after g (not_durable x)).history 1 ≡ [])
-    × ((one_after g (durable x)).history 1 ≡ message 0 1 x ∷ [])
+    × ((one_after g (not_durable x)).world.history 1 ≡ [])
+    × ((one_after g (durable x)).world.history 1 ≡ message 0 1 x ∷ [])
     × (¬ May (one_after g (receives 1 x)) (Keeps 1))
     × (¬ May (one_after g (receives 1 x ++ Freezes 1 ∷ Dies 1 ∷ [])) (Keeps 1))
     × (¬ May (one_after g (receives 1 x ++ Freezes 1 ∷ [])) (Puts 1 0 (Saved 1)))

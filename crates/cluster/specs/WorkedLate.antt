@@ -31,7 +31,7 @@ LateResumeIsDropped =
     × In (parcel 1 0 (Ask 2 0)) (one_after g (renumbered x y)).parcels
     × (¬ May (one_after g (renumbered x y)) (Arrives 1 0 (Resume 2 0 0)))
     × (¬ May (one_after g (renumbered x y)) (Arrives 1 0 (Ask 2 0)))
-    × ((one_after g (renumbered x y)).numbers 0 1 1 ≡ Some 1)
+    × ((one_after g (renumbered x y)).world.numbers 0 1 1 ≡ Some 1)
 
 -- node 1 comes back with a message, receives another, whose RSN is acknowledged, and dies again
 abbrev pub second_death : List ℕ → List ℕ → List Act
@@ -64,7 +64,7 @@ OldAnswerIsDropped =
     Run (opening 1 (relaying 0 g)) (second_return x y)
     × In (parcel 0 1 (Told 2 1 0 None (first_entry x))) (one_after g (second_death x y)).parcels
     × (¬ May (one_after g (second_death x y)) (Arrives 0 1 (Told 2 1 0 None (first_entry x))))
-    × ((one_after g (second_return x y)).history 1 ≡ message 0 1 x ∷ message 0 2 y ∷ [])
+    × ((one_after g (second_return x y)).world.history 1 ≡ message 0 1 x ∷ message 0 2 y ∷ [])
 
 -- node 1 sends two messages to node 2, which works on the first
 abbrev pub sends_two : List ℕ → List ℕ → List Act
@@ -117,7 +117,7 @@ OpenJobComesFirst =
     × ((numbers : ℕ → Option ℕ) → ¬ May (two_after g (sender_back x y)) (Puts 2 1 (Restored 2 1 0 0 None numbers)))
     × In (parcel 1 2 (Delivery 1 2 y)) (two_after g (job_done x y)).parcels
     × (¬ May (two_after g (job_done x y)) (Arrives 1 2 (Delivery 1 2 y)))
-    × ((two_after g (job_told x y)).numbers 1 2 1 ≡ Some 1)
+    × ((two_after g (job_told x y)).world.numbers 1 2 1 ≡ Some 1)
     × (is_well (two_after g (job_told x y)) 1 ≡ true)
 
 -- node 2 receives a message of node 1, sends its RSN, which comes late, and comes back with nothing

@@ -88,4 +88,4 @@ SavedMayBeLost =
     × (entries (one_after g (take 8 (saved_lost x y))) 0 1 ≡ 1)
     × (entries (one_after g (take 16 (saved_lost x y))) 0 1 ≡ 2)
     × (entries (one_after g (take 17 (saved_lost x y))) 0 1 ≡ 0)
-    × ((one_after g (saved_lost x y)).trims 0 1 ≡ 2)
+    × ((one_after g (saved_lost x y)).world.trims 0 1 ≡ 2)

@@ -12,7 +12,7 @@ use Rattle.world.specs.Logs.{is_entry}
 use Rattle.theorems.proofs.Changes.{at-itself}
 use Rattle.cluster.specs.Parcels.{Delivery, Number, Acknowledgement, Ask, Resume, Saved, Parcel, parcel, In}
 use Rattle.world.specs.Phases.{Up}
-use Rattle.cluster.specs.Cluster.{Cluster, seen}
+use Rattle.cluster.specs.Cluster.{Cluster}
 use Rattle.cluster.specs.Rules.{Input, Arrives, May, does, IsNode}
 use Rattle.packets.specs.declared.packet.Body.TheVariants as packets
 use Rattle.packets.specs.declared.packet.NodePacket.{NodePacket}
@@ -40,10 +40,10 @@ module _ (g : TheGateway) (c : Cluster) (p : ℕ) (new : ThePeer) (o : IsOf p g.
   abbrev store : TheStore
   store = with_peer p new g.store
 
-  pub count-still : length store.peers ≡ c.count
+  pub count-still : length store.peers ≡ c.world.count
   count-still = as-many g.store p new ∙ s.count
 
-  pub shown-still : new.shown ≡ (peer_of p g).shown → (q : ℕ) → IsNode c q → (peer_at q store).shown ≡ count_of q c.shown
+  pub shown-still : new.shown ≡ (peer_of p g).shown → (q : ℕ) → IsNode c q → (peer_at q store).shown ≡ count_of q c.world.shown
   shown-still e q n = same-part (λ (z : ThePeer). z.shown) g.store p q new o n.0 e ∙ s.shown q n
 
   pub heard-still : new.heard ≡ (peer_of p g).heard → (q : ℕ) → IsNode c q → c.heard 0 q ≡ (peer_at q store).heard
@@ -55,8 +55,8 @@ module _ (g : TheGateway) (c : Cluster) (p : ℕ) (new : ThePeer) (o : IsOf p g.
   -- it has other logs, and the rest is as it was
   stands-logs : {ks : List Change} {packets : List NodePacket} {trims : ℕ → ℕ → ℕ} {numbers : ℕ → ℕ → ℕ → Option ℕ} {inputs : ℕ → List Payload} {parcels : List Parcel}
       → new.shown ≡ (peer_of p g).shown → new.heard ≡ (peer_of p g).heard → new.resumed ≡ (peer_of p g).resumed
-      → ((q : ℕ) → IsNode c q → KeepsOf (peer_at q store) (trims 0 q) (inputs q) (numbers 0 q)) → AllByRecursion (PutOut c.count parcels) packets
-      → Stands (record g { store = with_peer p new g.store; changes = ks; out = packets }) (record c { trims = trims; numbers = numbers; inputs = inputs; parcels = parcels })
+      → ((q : ℕ) → IsNode c q → KeepsOf (peer_at q store) (trims 0 q) (inputs q) (numbers 0 q)) → AllByRecursion (PutOut c.world.count parcels) packets
+      → Stands (record g { store = with_peer p new g.store; changes = ks; out = packets }) (record c { parcels = parcels; world = record c.world { trims = trims; numbers = numbers; inputs = inputs } })
   stands-logs shown heard resumed logs out = stands-with g c s count-still logs (shown-still shown) s.outputs (heard-still heard) (resumed-still resumed) out
 
 -- a log whose messages and numbers are as they were
@@ -78,9 +78,9 @@ goes-input g c p x o s = does-one (happens (changes.Input p x) g) c (Input p x) 
     node : IsNode c p
     node = node-is g c p s o
 
-    logs : (q : ℕ) → IsNode c q → KeepsOf (peer_at q (with_peer p (appended x (peer_of p g)) g.store)) (c.trims 0 q) (put c.inputs p (c.inputs p ++ x ∷ []) q) (c.numbers 0 q)
-    logs q n = each-peer (λ z y. KeepsOf y (c.trims 0 z) (put c.inputs p (c.inputs p ++ x ∷ []) z) (c.numbers 0 z)) g.store p q (appended x (peer_of p g)) o n.0
-        (at-itself p (λ t. KeepsOf (appended x (peer_of p g)) (c.trims 0 p) (if t then c.inputs p ++ x ∷ [] else c.inputs p) (c.numbers 0 p)) (kept-appended (peer_of p g) (c.trims 0 p) (c.inputs p) x (c.numbers 0 p) (s.logs p node)))
+    logs : (q : ℕ) → IsNode c q → KeepsOf (peer_at q (with_peer p (appended x (peer_of p g)) g.store)) (c.world.trims 0 q) (put c.world.inputs p (c.world.inputs p ++ x ∷ []) q) (c.world.numbers 0 q)
+    logs q n = each-peer (λ z y. KeepsOf y (c.world.trims 0 z) (put c.world.inputs p (c.world.inputs p ++ x ∷ []) z) (c.world.numbers 0 z)) g.store p q (appended x (peer_of p g)) o n.0
+        (at-itself p (λ t. KeepsOf (appended x (peer_of p g)) (c.world.trims 0 p) (if t then c.world.inputs p ++ x ∷ [] else c.world.inputs p) (c.world.numbers 0 p)) (kept-appended (peer_of p g) (c.world.trims 0 p) (c.world.inputs p) x (c.world.numbers 0 p) (s.logs p node)))
         (λ apart. rw (apart-is q p apart) (s.logs q n))
 
 -- a number is recorded, and acknowledged
@@ -92,21 +92,21 @@ goes-numbered g c p i ssn k o s given heard kept = does-one (posts p (packets.Ac
     node : IsNode c p
     node = node-is g c p s o
 
-    entry : is_entry (seen c) 0 p ssn ≡ true
+    entry : is_entry c.world 0 p ssn ≡ true
     entry =
         let l = s.logs p node in
         let w = kept-within (peer_of p g) ssn kept in
-        let size : length (c.inputs p) ≡ last_of (peer_of p g) = sent-size (peer_of p g) (c.trims 0 p) (c.inputs p) (c.numbers 0 p) l in
-        let above : nat_lt (c.trims 0 p) ssn ≡ true = (let a : c.trims 0 p < ssn = omega (arith, w.0, l.dropped_is) in grind (arith, nat_tests)) in
-        let within : nat_le ssn (length (c.inputs p)) ≡ true = (let b : ssn ≤ length (c.inputs p) = omega (arith, w.1, size) in grind (arith, nat_tests)) in
+        let size : length (c.world.inputs p) ≡ last_of (peer_of p g) = sent-size (peer_of p g) (c.world.trims 0 p) (c.world.inputs p) (c.world.numbers 0 p) l in
+        let above : nat_lt (c.world.trims 0 p) ssn ≡ true = (let a : c.world.trims 0 p < ssn = omega (arith, w.0, l.dropped_is) in grind (arith, nat_tests)) in
+        let within : nat_le ssn (length (c.world.inputs p)) ≡ true = (let b : ssn ≤ length (c.world.inputs p) = omega (arith, w.1, size) in grind (arith, nat_tests)) in
         rw (s.phase, above, within) refl
 
     may : May c (Arrives p 0 (Number i ssn k))
     may = (given, (takes-here g c s, heard ∙ sym (s.heard p node), entry))
 
-    logs : (q : ℕ) → IsNode c q → KeepsOf (peer_at q (with_peer p (recorded ssn k (peer_of p g)) g.store)) (c.trims 0 q) (c.inputs q) (if q == p then put (c.numbers 0 p) ssn (Some k) else c.numbers 0 q)
-    logs q n = each-peer (λ z y. KeepsOf y (c.trims 0 z) (c.inputs z) (if z == p then put (c.numbers 0 p) ssn (Some k) else c.numbers 0 z)) g.store p q (recorded ssn k (peer_of p g)) o n.0
-        (at-itself p (λ t. KeepsOf (recorded ssn k (peer_of p g)) (c.trims 0 p) (c.inputs p) (if t then put (c.numbers 0 p) ssn (Some k) else c.numbers 0 p)) (kept-numbered (peer_of p g) (c.trims 0 p) (c.inputs p) (c.numbers 0 p) ssn k kept (s.logs p node)))
+    logs : (q : ℕ) → IsNode c q → KeepsOf (peer_at q (with_peer p (recorded ssn k (peer_of p g)) g.store)) (c.world.trims 0 q) (c.world.inputs q) (if q == p then put (c.world.numbers 0 p) ssn (Some k) else c.world.numbers 0 q)
+    logs q n = each-peer (λ z y. KeepsOf y (c.world.trims 0 z) (c.world.inputs z) (if z == p then put (c.world.numbers 0 p) ssn (Some k) else c.world.numbers 0 z)) g.store p q (recorded ssn k (peer_of p g)) o n.0
+        (at-itself p (λ t. KeepsOf (recorded ssn k (peer_of p g)) (c.world.trims 0 p) (c.world.inputs p) (if t then put (c.world.numbers 0 p) ssn (Some k) else c.world.numbers 0 p)) (kept-numbered (peer_of p g) (c.world.trims 0 p) (c.world.inputs p) (c.world.numbers 0 p) ssn k kept (s.logs p node)))
         (λ apart. rw (apart-is q p apart) (s.logs q n))
 
 -- how many are dropped, and how many have been then
@@ -114,7 +114,7 @@ abbrev many_dropped : ThePeer → ℕ → ℕ
 many_dropped z k = min (min k (last_of z) - z.dropped) (length z.entries)
 
 abbrev trims_dropped : Cluster → ℕ → ℕ → ℕ
-trims_dropped c p k = max (c.trims 0 p) (min k (length (c.inputs p)))
+trims_dropped c p k = max (c.world.trims 0 p) (min k (length (c.world.inputs p)))
 
 -- what is covered for good is dropped
 pub goes-dropped : (g : TheGateway) (c : Cluster) (p k : ℕ) → IsOf p g.store → Stands g c → In (parcel p 0 (Saved k)) c.parcels → (peer_of p g).dropped < min k (last_of (peer_of p g))
@@ -128,18 +128,18 @@ goes-dropped g c p k o s given some = does-one (happens (changes.Dropped p (min 
     trims-are : (trims_dropped c p k) ≡ (peer_of p g).dropped + (many_dropped (peer_of p g) k)
     trims-are =
         let l = s.logs p node in
-        let size : length (c.inputs p) ≡ (peer_of p g).dropped + length (peer_of p g).entries = sent-size (peer_of p g) (c.trims 0 p) (c.inputs p) (c.numbers 0 p) l in
+        let size : length (c.world.inputs p) ≡ (peer_of p g).dropped + length (peer_of p g).entries = sent-size (peer_of p g) (c.world.trims 0 p) (c.world.inputs p) (c.world.numbers 0 p) l in
         omega (arith, size, l.dropped_is, some)
 
-    dropped : KeepsOf (dropped_first (many_dropped (peer_of p g) k) (peer_of p g)) (trims_dropped c p k) (c.inputs p) (c.numbers 0 p)
+    dropped : KeepsOf (dropped_first (many_dropped (peer_of p g) k) (peer_of p g)) (trims_dropped c p k) (c.world.inputs p) (c.world.numbers 0 p)
     dropped =
         let l = s.logs p node in
         let few : (many_dropped (peer_of p g) k) ≤ length (peer_of p g).entries = omega arith in
-        kept-dropped (peer_of p g) (many_dropped (peer_of p g) k) (trims_dropped c p k) (c.inputs p) (c.numbers 0 p) few trims-are (subst (λ z. KeepsOf (peer_of p g) z (c.inputs p) (c.numbers 0 p)) l.dropped_is l)
+        kept-dropped (peer_of p g) (many_dropped (peer_of p g) k) (trims_dropped c p k) (c.world.inputs p) (c.world.numbers 0 p) few trims-are (subst (λ z. KeepsOf (peer_of p g) z (c.world.inputs p) (c.world.numbers 0 p)) l.dropped_is l)
 
-    logs : (q : ℕ) → IsNode c q → KeepsOf (peer_at q (with_peer p (dropped_first (many_dropped (peer_of p g) k) (peer_of p g)) g.store)) (if q == p then (trims_dropped c p k) else c.trims 0 q) (c.inputs q) (c.numbers 0 q)
-    logs q n = each-peer (λ z y. KeepsOf y (if z == p then (trims_dropped c p k) else c.trims 0 z) (c.inputs z) (c.numbers 0 z)) g.store p q (dropped_first (many_dropped (peer_of p g) k) (peer_of p g)) o n.0
-        (at-itself p (λ t. KeepsOf (dropped_first (many_dropped (peer_of p g) k) (peer_of p g)) (if t then (trims_dropped c p k) else c.trims 0 p) (c.inputs p) (c.numbers 0 p)) dropped)
+    logs : (q : ℕ) → IsNode c q → KeepsOf (peer_at q (with_peer p (dropped_first (many_dropped (peer_of p g) k) (peer_of p g)) g.store)) (if q == p then (trims_dropped c p k) else c.world.trims 0 q) (c.world.inputs q) (c.world.numbers 0 q)
+    logs q n = each-peer (λ z y. KeepsOf y (if z == p then (trims_dropped c p k) else c.world.trims 0 z) (c.world.inputs z) (c.world.numbers 0 z)) g.store p q (dropped_first (many_dropped (peer_of p g) k) (peer_of p g)) o n.0
+        (at-itself p (λ t. KeepsOf (dropped_first (many_dropped (peer_of p g) k) (peer_of p g)) (if t then (trims_dropped c p k) else c.world.trims 0 p) (c.world.inputs p) (c.world.numbers 0 p)) dropped)
         (λ apart. rw (apart-is q p apart) (s.logs q n))
 
 -- how many of a process are shown, with one more
@@ -161,7 +161,7 @@ ends-push o os h e =
 pub goes-shown : (g : TheGateway) (c : Cluster) (i : ℕ) (x : Output) → IsOf x.process g.store → Stands g c → In (parcel x.process 0 (Delivery i x.ssn x.payload)) c.parcels → i ≡ (peer_of x.process g).heard
     → x.ssn ≡ suc (peer_of x.process g).shown → Goes (happens (changes.Shown x) g) c
 goes-shown g c i x o s given heard next = does-one (happens (changes.Shown x) g) c (Arrives x.process 0 (Delivery i x.ssn x.payload)) may refl
-    (stands-with g c s (count-still g c x.process (shows x.ssn (peer_of x.process g)) o s) logs shown (ends-push x g.store.outputs c.shown s.outputs) (heard-still g c x.process (shows x.ssn (peer_of x.process g)) o s refl) (resumed-still g c x.process (shows x.ssn (peer_of x.process g)) o s refl) s.out)
+    (stands-with g c s (count-still g c x.process (shows x.ssn (peer_of x.process g)) o s) logs shown (ends-push x g.store.outputs c.world.shown s.outputs) (heard-still g c x.process (shows x.ssn (peer_of x.process g)) o s refl) (resumed-still g c x.process (shows x.ssn (peer_of x.process g)) o s refl) s.out)
   where
     node : IsNode c x.process
     node = node-is g c x.process s o
@@ -169,20 +169,20 @@ goes-shown g c i x o s given heard next = does-one (happens (changes.Shown x) g)
     may : May c (Arrives x.process 0 (Delivery i x.ssn x.payload))
     may = (given, (heard ∙ sym (s.heard x.process node), next ∙ ap suc (s.shown x.process node)))
 
-    logs : (q : ℕ) → IsNode c q → KeepsOf (peer_at q (with_peer x.process (shows x.ssn (peer_of x.process g)) g.store)) (c.trims 0 q) (c.inputs q) (c.numbers 0 q)
-    logs q n = each-peer (λ z y. KeepsOf y (c.trims 0 z) (c.inputs z) (c.numbers 0 z)) g.store x.process q (shows x.ssn (peer_of x.process g)) o n.0
-        (kept-same (shows x.ssn (peer_of x.process g)) (peer_of x.process g) (c.trims 0 x.process) (c.inputs x.process) (c.numbers 0 x.process) refl refl (s.logs x.process node)) (λ apart. s.logs q n)
+    logs : (q : ℕ) → IsNode c q → KeepsOf (peer_at q (with_peer x.process (shows x.ssn (peer_of x.process g)) g.store)) (c.world.trims 0 q) (c.world.inputs q) (c.world.numbers 0 q)
+    logs q n = each-peer (λ z y. KeepsOf y (c.world.trims 0 z) (c.world.inputs z) (c.world.numbers 0 z)) g.store x.process q (shows x.ssn (peer_of x.process g)) o n.0
+        (kept-same (shows x.ssn (peer_of x.process g)) (peer_of x.process g) (c.world.trims 0 x.process) (c.world.inputs x.process) (c.world.numbers 0 x.process) refl refl (s.logs x.process node)) (λ apart. s.logs q n)
 
-    shown : (q : ℕ) → IsNode c q → (peer_at q (with_peer x.process (shows x.ssn (peer_of x.process g)) g.store)).shown ≡ count_of q (c.shown ++ shown_as x ∷ [])
-    shown q n = each-peer (λ z y. y.shown ≡ count_of z (c.shown ++ shown_as x ∷ [])) g.store x.process q (shows x.ssn (peer_of x.process g)) o n.0
-        (let e = count-push x.process c.shown (shown_as x) in
+    shown : (q : ℕ) → IsNode c q → (peer_at q (with_peer x.process (shows x.ssn (peer_of x.process g)) g.store)).shown ≡ count_of q (c.world.shown ++ shown_as x ∷ [])
+    shown q n = each-peer (λ z y. y.shown ≡ count_of z (c.world.shown ++ shown_as x ∷ [])) g.store x.process q (shows x.ssn (peer_of x.process g)) o n.0
+        (let e = count-push x.process c.world.shown (shown_as x) in
         let one : tally (x.process == x.process) ≡ 1 = at-itself x.process (λ t. tally t ≡ 1) refl in
-        let was : (peer_of x.process g).shown ≡ count_of x.process c.shown = s.shown x.process node in
+        let was : (peer_of x.process g).shown ≡ count_of x.process c.world.shown = s.shown x.process node in
         omega (arith, e, one, was, next))
-        (λ apart. let e = count-push q c.shown (shown_as x) in
+        (λ apart. let e = count-push q c.world.shown (shown_as x) in
         let off : (x.process == q) ≡ false = apart-is x.process q (λ f. apart (sym f)) in
         let none : tally (x.process == q) ≡ 0 = ap tally off in
-        let was : (peer_of q g).shown ≡ count_of q c.shown = s.shown q n in
+        let was : (peer_of q g).shown ≡ count_of q c.world.shown = s.shown q n in
         omega (arith, e, none, was))
 
 ends-taken : (k : ℕ) (os : List Output) (h : List Message) → EndsWith os h → EndsWith (drop k os) h
@@ -194,7 +194,7 @@ ends-taken k os h e =
 
 -- outputs are taken: that is no act
 pub goes-taken : (g : TheGateway) (c : Cluster) (k : ℕ) → Stands g c → Goes (happens (changes.Taken k) g) c
-goes-taken g c k s = stays (happens (changes.Taken k) g) c (stands-with g c s s.count s.logs s.shown (ends-taken k g.store.outputs c.shown s.outputs) s.heard s.resumed s.out)
+goes-taken g c k s = stays (happens (changes.Taken k) g) c (stands-with g c s s.count s.logs s.shown (ends-taken k g.store.outputs c.world.shown s.outputs) s.heard s.resumed s.out)
 
 -- nor is it when its host asks what happened
 pub goes-asked : (g : TheGateway) (c : Cluster) → Stands g c → Goes (record g { changes = [] }) c
@@ -208,9 +208,9 @@ goes-heard g c p i k o s given newer = does-one (happens (changes.Heard p i fals
     node : IsNode c p
     node = node-is g c p s o
 
-    logs : (q : ℕ) → IsNode c q → KeepsOf (peer_at q (with_peer p (hears i false (peer_of p g)) g.store)) (c.trims 0 q) (c.inputs q) (c.numbers 0 q)
-    logs q n = each-peer (λ z y. KeepsOf y (c.trims 0 z) (c.inputs z) (c.numbers 0 z)) g.store p q (hears i false (peer_of p g)) o n.0
-        (kept-same (hears i false (peer_of p g)) (peer_of p g) (c.trims 0 p) (c.inputs p) (c.numbers 0 p) refl refl (s.logs p node)) (λ apart. s.logs q n)
+    logs : (q : ℕ) → IsNode c q → KeepsOf (peer_at q (with_peer p (hears i false (peer_of p g)) g.store)) (c.world.trims 0 q) (c.world.inputs q) (c.world.numbers 0 q)
+    logs q n = each-peer (λ z y. KeepsOf y (c.world.trims 0 z) (c.world.inputs z) (c.world.numbers 0 z)) g.store p q (hears i false (peer_of p g)) o n.0
+        (kept-same (hears i false (peer_of p g)) (peer_of p g) (c.world.trims 0 p) (c.world.inputs p) (c.world.numbers 0 p) refl refl (s.logs p node)) (λ apart. s.logs q n)
 
     heard : (q : ℕ) → IsNode c q → (if q == p then i else c.heard 0 q) ≡ (peer_at q (with_peer p (hears i false (peer_of p g)) g.store)).heard
     heard q n = each-peer (λ z y. (if z == p then i else c.heard 0 z) ≡ y.heard) g.store p q (hears i false (peer_of p g)) o n.0
@@ -223,20 +223,20 @@ goes-heard g c p i k o s given newer = does-one (happens (changes.Heard p i fals
 -- a Resume is obeyed: numbers above what is kept are forgotten
 pub goes-obeyed : (g : TheGateway) (c : Cluster) (p i k n : ℕ) → IsOf p g.store → Stands g c → In (parcel p 0 (Resume i k n)) c.parcels → i ≡ (peer_of p g).heard → (peer_of p g).resumed ≡ false → Goes (obeyed p i k g) c
 goes-obeyed g c p i k n o s given last fresh =
-    does-one (obeyed p i k g) c (Arrives p 0 (Resume i k n)) (given, (takes-here g c s, last ∙ sym (s.heard p node), s.resumed p node ∙ fresh, (λ m busy. absurd (let up : c.phase 0 ≡ Up = s.phase in cc)))) refl
+    does-one (obeyed p i k g) c (Arrives p 0 (Resume i k n)) (given, (takes-here g c s, last ∙ sym (s.heard p node), s.resumed p node ∙ fresh, (λ m busy. absurd (let up : c.world.phase 0 ≡ Up = s.phase in cc)))) refl
     (stands-with g c s (twice-many g.store p (forgets k (peer_of p g)) (hears i true) o ∙ s.count) logs shown s.outputs heard resumed s.out)
   where
     node : IsNode c p
     node = node-is g c p s o
 
-    logs : (q : ℕ) → IsNode c q → KeepsOf (peer_of q (obeyed p i k g)) (c.trims 0 q) (c.inputs q) (if q == p then (λ ssn. up_to k (c.numbers 0 p ssn)) else c.numbers 0 q)
-    logs q m = each-twice g.store p (forgets k (peer_of p g)) (hears i true) o (λ z y. KeepsOf y (c.trims 0 z) (c.inputs z) (if z == p then (λ ssn. up_to k (c.numbers 0 p ssn)) else c.numbers 0 z)) q m.0
-        (at-itself p (λ t. KeepsOf (hears i true (forgets k (peer_of p g))) (c.trims 0 p) (c.inputs p) (if t then (λ ssn. up_to k (c.numbers 0 p ssn)) else c.numbers 0 p))
-        (kept-same (hears i true (forgets k (peer_of p g))) (forgets k (peer_of p g)) (c.trims 0 p) (c.inputs p) (λ ssn. up_to k (c.numbers 0 p ssn)) refl refl (kept-forgot (peer_of p g) k (c.trims 0 p) (c.inputs p) (c.numbers 0 p) (s.logs p node))))
+    logs : (q : ℕ) → IsNode c q → KeepsOf (peer_of q (obeyed p i k g)) (c.world.trims 0 q) (c.world.inputs q) (if q == p then (λ ssn. up_to k (c.world.numbers 0 p ssn)) else c.world.numbers 0 q)
+    logs q m = each-twice g.store p (forgets k (peer_of p g)) (hears i true) o (λ z y. KeepsOf y (c.world.trims 0 z) (c.world.inputs z) (if z == p then (λ ssn. up_to k (c.world.numbers 0 p ssn)) else c.world.numbers 0 z)) q m.0
+        (at-itself p (λ t. KeepsOf (hears i true (forgets k (peer_of p g))) (c.world.trims 0 p) (c.world.inputs p) (if t then (λ ssn. up_to k (c.world.numbers 0 p ssn)) else c.world.numbers 0 p))
+        (kept-same (hears i true (forgets k (peer_of p g))) (forgets k (peer_of p g)) (c.world.trims 0 p) (c.world.inputs p) (λ ssn. up_to k (c.world.numbers 0 p ssn)) refl refl (kept-forgot (peer_of p g) k (c.world.trims 0 p) (c.world.inputs p) (c.world.numbers 0 p) (s.logs p node))))
         (λ apart. rw (apart-is q p apart) (s.logs q m))
 
-    shown : (q : ℕ) → IsNode c q → (peer_of q (obeyed p i k g)).shown ≡ count_of q c.shown
-    shown q m = each-twice g.store p (forgets k (peer_of p g)) (hears i true) o (λ z y. y.shown ≡ count_of z c.shown) q m.0 (s.shown p node) (λ apart. s.shown q m)
+    shown : (q : ℕ) → IsNode c q → (peer_of q (obeyed p i k g)).shown ≡ count_of q c.world.shown
+    shown q m = each-twice g.store p (forgets k (peer_of p g)) (hears i true) o (λ z y. y.shown ≡ count_of z c.world.shown) q m.0 (s.shown p node) (λ apart. s.shown q m)
 
     heard : (q : ℕ) → IsNode c q → c.heard 0 q ≡ (peer_of q (obeyed p i k g)).heard
     heard q m = each-twice g.store p (forgets k (peer_of p g)) (hears i true) o (λ z y. c.heard 0 z ≡ y.heard) q m.0 (s.heard p node ∙ sym last) (λ apart. s.heard q m)

@@ -22,20 +22,20 @@ use Rattle.gateway.specs.Stands.{Stands, PutOut, KeepsOf, EndsWith, Goes, Owes, 
 -- it stands with other logs, outputs, marks of its peers and packets, in a cluster that has them too
 pub stands-with : (g : TheGateway) (c : Cluster) {page tick : ℕ} {peers : List ThePeer} {outputs : List Output} {ks : List Change} {packets : List NodePacket} {trims : ℕ → ℕ → ℕ} {numbers : ℕ → ℕ → ℕ → Option ℕ}
     {heard : ℕ → ℕ → ℕ} {resumed : ℕ → ℕ → Bool} {told : ℕ → ℕ → Option Collected} {inputs : ℕ → List Payload} {shown : List Message} {parcels : List Parcel} → Stands g c
-    → length peers ≡ c.count
+    → length peers ≡ c.world.count
     → ((p : ℕ) → IsNode c p → KeepsOf (slice_index_or peers (p - 1) no_peer) (trims 0 p) (inputs p) (numbers 0 p))
     → ((p : ℕ) → IsNode c p → (slice_index_or peers (p - 1) no_peer).shown ≡ count_of p shown)
     → EndsWith outputs shown
     → ((p : ℕ) → IsNode c p → heard 0 p ≡ (slice_index_or peers (p - 1) no_peer).heard)
     → ((p : ℕ) → IsNode c p → resumed 0 p ≡ (slice_index_or peers (p - 1) no_peer).resumed)
-    → AllByRecursion (PutOut c.count parcels) packets
+    → AllByRecursion (PutOut c.world.count parcels) packets
     → Stands (record { page = page; tick = tick; store = record { peers = peers; outputs = outputs }; changes = ks; out = packets })
-    (record c { trims = trims; numbers = numbers; heard = heard; resumed = resumed; told = told; inputs = inputs; shown = shown; parcels = parcels })
+    (record c { heard = heard; resumed = resumed; told = told; parcels = parcels; world = record c.world { trims = trims; numbers = numbers; inputs = inputs; shown = shown } })
 stands-with g c s count logs shown outputs heard resumed out =
     record { count = count; stage = s.stage; greeted = s.greeted; phase = s.phase; life = s.life; history = s.history; logs = logs; shown = shown; outputs = outputs; heard = heard; resumed = resumed; out = out }
 
 -- whatever waits, if it was put out, and whatever is told of what happened
-pub stands-waiting : (g : TheGateway) (c : Cluster) {page tick : ℕ} {out : List NodePacket} {ks : List Change} → Stands g c → AllByRecursion (PutOut c.count c.parcels) out
+pub stands-waiting : (g : TheGateway) (c : Cluster) {page tick : ℕ} {out : List NodePacket} {ks : List Change} → Stands g c → AllByRecursion (PutOut c.world.count c.parcels) out
     → Stands (record g { page = page; tick = tick; out = out; changes = ks }) c
 stands-waiting g c s out = stands-with g c s s.count s.logs s.shown s.outputs s.heard s.resumed out
 
@@ -61,11 +61,11 @@ pub put-still : (n : ℕ) (ps qs : List Parcel) (x : NodePacket) → ((y : Parce
 put-still n ps qs x more s = record { count_is = s.count_is; from = s.from; said = record { body = s.said.body; says = s.said.says; among = more (parcel 0 x.to s.said.body) s.said.among } }
 
 -- what waits was put out, where one more packet was
-pub out-posted : (g : TheGateway) (c : Cluster) (p : ℕ) (x : bodies.Body) (b : Body) → Says 0 x b → length g.store.peers ≡ c.count → AllByRecursion (PutOut c.count c.parcels) g.out
-    → AllByRecursion (PutOut c.count (parcel 0 p b ∷ c.parcels)) (posts p x g).out
+pub out-posted : (g : TheGateway) (c : Cluster) (p : ℕ) (x : bodies.Body) (b : Body) → Says 0 x b → length g.store.peers ≡ c.world.count → AllByRecursion (PutOut c.world.count c.parcels) g.out
+    → AllByRecursion (PutOut c.world.count (parcel 0 p b ∷ c.parcels)) (posts p x g).out
 out-posted g c p x b says count out =
-    all-pushed (PutOut c.count (parcel 0 p b ∷ c.parcels)) g.out (packet_of g p x)
-    (all-more (PutOut c.count c.parcels) (PutOut c.count (parcel 0 p b ∷ c.parcels)) g.out (λ o. put-still c.count c.parcels (parcel 0 p b ∷ c.parcels) o (λ y i. inr i)) out)
+    all-pushed (PutOut c.world.count (parcel 0 p b ∷ c.parcels)) g.out (packet_of g p x)
+    (all-more (PutOut c.world.count c.parcels) (PutOut c.world.count (parcel 0 p b ∷ c.parcels)) g.out (λ o. put-still c.world.count c.parcels (parcel 0 p b ∷ c.parcels) o (λ y i. inr i)) out)
     (record { count_is = count; from = refl; said = record { body = b; says = says; among = inl refl } })
 
 pub takes-here : (g : TheGateway) (c : Cluster) → Stands g c → takes c 0 ≡ true

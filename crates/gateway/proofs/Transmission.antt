@@ -55,10 +55,10 @@ delivering g p ssn o kept c s u =
     let node : IsNode c p = node-is g c p s o in
     let l = s.logs p node in
     let w = kept-within (peer_of p g) ssn kept in
-    let size : length (c.inputs p) ≡ last_of (peer_of p g) = sent-size (peer_of p g) (c.trims 0 p) (c.inputs p) (c.numbers 0 p) l in
+    let size : length (c.world.inputs p) ≡ last_of (peer_of p g) = sent-size (peer_of p g) (c.world.trims 0 p) (c.world.inputs p) (c.world.numbers 0 p) l in
     let x : Payload = payload_of ssn (peer_of p g) in
     posted g c p (packets.Delivery 1 ssn x) (Delivery 1 ssn x) refl s node
-    (well-here g c s, sym s.life, omega (arith, w.1, size), omega (arith, w.0, l.dropped_is), sent-is (peer_of p g) (c.trims 0 p) (c.inputs p) (c.numbers 0 p) ssn l kept)
+    (well-here g c s, sym s.life, omega (arith, w.1, size), omega (arith, w.0, l.dropped_is), sent-is (peer_of p g) (c.world.trims 0 p) (c.world.inputs p) (c.world.numbers 0 p) ssn l kept)
 
 -- a process is told how many of its outputs were shown
 pub saying-shown : (g : TheGateway) (p : ℕ) → IsOf p g.store → Acts g (says_shown p g)

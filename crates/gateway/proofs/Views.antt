@@ -23,7 +23,7 @@ if-ok (Err e) P Q f p = tt
 -- the first packet that waits leaves
 pub takes-so : (o : Option NodePacket) (g : TheGateway) (rest : List NodePacket) → Pops o g.out rest → Takes o g (record g { out = rest })
 takes-so None g rest e = (e.0, ap (λ xs. record g { out = xs }) e.1 ∙ ap (λ xs. record g { out = xs }) (let back : [] ≡ g.out = (cc) in back))
-takes-so (Some x) g rest e = (ap (λ xs. record g { out = xs }) e, λ c s. taken c s (subst (AllByRecursion (PutOut c.count c.parcels)) e s.out))
+takes-so (Some x) g rest e = (ap (λ xs. record g { out = xs }) e, λ c s. taken c s (subst (AllByRecursion (PutOut c.world.count c.parcels)) e s.out))
   where
-    taken : (c : Cluster) → Stands g c → AllByRecursion (PutOut c.count c.parcels) (x ∷ rest) → PutOut c.count c.parcels x × Stands (record g { out = rest }) c
+    taken : (c : Cluster) → Stands g c → AllByRecursion (PutOut c.world.count c.parcels) (x ∷ rest) → PutOut c.world.count c.parcels x × Stands (record g { out = rest }) c
     taken c s out = (out.0, stands-waiting g c s out.1)

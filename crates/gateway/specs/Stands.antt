@@ -47,19 +47,19 @@ pub record EndsWith (outputs : List Output) (shown : List Message) : Type 0 wher
 
 -- what the gateway holds is what the cluster has of it. Nothing is said of the processes
 pub record Stands (g : TheGateway) (c : Cluster) : Type 0 where
-  pub count : length g.store.peers ≡ c.count
+  pub count : length g.store.peers ≡ c.world.count
   pub stage : c.stage 0 ≡ Live
   pub greeted : c.greeted 0 ≡ true
-  pub phase : c.phase 0 ≡ Up
-  pub life : c.life 0 ≡ 1
-  pub history : c.history 0 ≡ []
-  pub logs : (p : ℕ) → IsNode c p → KeepsOf (peer_of p g) (c.trims 0 p) (c.inputs p) (c.numbers 0 p)
-  pub shown : (p : ℕ) → IsNode c p → (peer_of p g).shown ≡ count_of p c.shown
-  pub outputs : EndsWith g.store.outputs c.shown
+  pub phase : c.world.phase 0 ≡ Up
+  pub life : c.world.incarnation 0 ≡ 1
+  pub history : c.world.history 0 ≡ []
+  pub logs : (p : ℕ) → IsNode c p → KeepsOf (peer_of p g) (c.world.trims 0 p) (c.world.inputs p) (c.world.numbers 0 p)
+  pub shown : (p : ℕ) → IsNode c p → (peer_of p g).shown ≡ count_of p c.world.shown
+  pub outputs : EndsWith g.store.outputs c.world.shown
   pub heard : (p : ℕ) → IsNode c p → c.heard 0 p ≡ (peer_of p g).heard
   pub resumed : (p : ℕ) → IsNode c p → c.resumed 0 p ≡ (peer_of p g).resumed
   -- the packets that wait were sent in the cluster
-  pub out : AllByRecursion (PutOut c.count c.parcels) g.out
+  pub out : AllByRecursion (PutOut c.world.count c.parcels) g.out
 
 -- acts of the gateway lead from the cluster c to one with which the new gateway agrees
 pub record Goes (new : TheGateway) (c : Cluster) : Type 0 where
@@ -84,4 +84,4 @@ IsHanded x old new = Owes (λ c. WasSaid c.parcels x.from x) old new
 abbrev pub Takes : Option NodePacket → TheGateway → TheGateway → Type 0
 Takes None old new = (old.out ≡ []) × (new ≡ old)
 Takes (Some x) old new = (old ≡ record new { out = x ∷ new.out })
-    × ((c : Cluster) → Stands old c → PutOut c.count c.parcels x × Stands new c)
+    × ((c : Cluster) → Stands old c → PutOut c.world.count c.parcels x × Stands new c)

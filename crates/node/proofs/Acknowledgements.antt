@@ -10,7 +10,7 @@ use Rattle.world.specs.Logs.{run_to, payloads}
 use Rattle.world.specs.Bounds.{count_below}
 use Rattle.theorems.proofs.Changes.{at-itself}
 use Rattle.cluster.specs.Parcels.{Acknowledgement, In, parcel}
-use Rattle.cluster.specs.Cluster.{Cluster, seen, waiting}
+use Rattle.cluster.specs.Cluster.{Cluster, waiting}
 use Rattle.cluster.specs.Rules.{Act, Arrives, May, does}
 use Rattle.node.specs.Node.{TheNode, counted, log_at}
 use Rattle.node.specs.Stands.{Stands, HasReceived, IsShut, sent_by, freed_in, most_released, GoesOn, Receives}
@@ -82,59 +82,59 @@ module _ (n : TheNode) (c : Cluster) (q i k : ℕ) (s : Stands n c n.me) (given 
   c' = does c act
 
   abbrev h : List Message
-  h = c.history n.me
+  h = c.world.history n.me
 
   many : length h ≡ n.base + length n.receipts.senders
-  many = long n.count n.base n.covered n.receipts h (c.acknowledged n.me) s.received
+  many = long n.count n.base n.covered n.receipts h (c.world.acknowledged n.me) s.received
 
-  not-yet : c.acknowledged n.me (n.base + k) ≡ false
-  not-yet = let e : suc (n.base + (k - 1)) ≡ n.base + k = omega (arith, some) in ap (c.acknowledged n.me) (sym e) ∙ sym (s.received.acknowledged_is (k - 1) (omega (arith, some, within))) ∙ fresh
+  not-yet : c.world.acknowledged n.me (n.base + k) ≡ false
+  not-yet = let e : suc (n.base + (k - 1)) ≡ n.base + k = omega (arith, some) in ap (c.world.acknowledged n.me) (sym e) ∙ sym (s.received.acknowledged_is (k - 1) (omega (arith, some, within))) ∙ fresh
 
   may : May c act
   may = (given, (s.inside, stands-takes n c n.me live s, life ∙ sym s.life, omega (arith, many, within), not-yet))
 
-  acknowledged-is : c'.acknowledged n.me ≡ put (c.acknowledged n.me) (n.base + k) true
-  acknowledged-is = at-itself n.me (λ t. (if t then put (c.acknowledged n.me) (n.base + k) true else c.acknowledged n.me) ≡ put (c.acknowledged n.me) (n.base + k) true) refl
+  acknowledged-is : c'.world.acknowledged n.me ≡ put (c.world.acknowledged n.me) (n.base + k) true
+  acknowledged-is = at-itself n.me (λ t. (if t then put (c.world.acknowledged n.me) (n.base + k) true else c.world.acknowledged n.me) ≡ put (c.world.acknowledged n.me) (n.base + k) true) refl
 
   fewer : waiting c' n.me ≡ n.waiting - 1
   fewer =
-      let f : ℕ → Bool = λ j. not (c.acknowledged n.me (suc j)) in
-      let g : ℕ → Bool = λ j. not (put (c.acknowledged n.me) (n.base + k) true (suc j)) in
+      let f : ℕ → Bool = λ j. not (c.world.acknowledged n.me (suc j)) in
+      let g : ℕ → Bool = λ j. not (put (c.world.acknowledged n.me) (n.base + k) true (suc j)) in
       let place : suc (n.base + (k - 1)) ≡ n.base + k = omega (arith, some) in
-      let on : f (n.base + (k - 1)) ≡ true = ap (λ z. not (c.acknowledged n.me z)) place ∙ ap not not-yet in
-      let off : g (n.base + (k - 1)) ≡ false = ap (λ z. not (put (c.acknowledged n.me) (n.base + k) true z)) place ∙ at-itself (n.base + k) (λ t. not (if t then true else c.acknowledged n.me (n.base + k)) ≡ false) refl in
+      let on : f (n.base + (k - 1)) ≡ true = ap (λ z. not (c.world.acknowledged n.me z)) place ∙ ap not not-yet in
+      let off : g (n.base + (k - 1)) ≡ false = ap (λ z. not (put (c.world.acknowledged n.me) (n.base + k) true z)) place ∙ at-itself (n.base + k) (λ t. not (if t then true else c.world.acknowledged n.me (n.base + k)) ≡ false) refl in
       let less : suc (count_below g (length h)) ≡ count_below f (length h) = count-one-less f g (length h) (n.base + (k - 1)) (omega (arith, many, some, within)) on off
       (λ j ne. (let apart : (suc j == n.base + k) ≡ false = grind (arith, nat_tests, ne, some) in rw apart refl)) in
       let was : count_below f (length h) ≡ n.waiting = s.waits in
       let e : waiting c' n.me ≡ count_below g (length h) = ap (λ (a : ℕ → Bool). count_below (λ j. not (a (suc j))) (length h)) acknowledged-is in
       omega (arith, e, less, was)
 
-  released-is : (d : ℕ) → c'.released n.me d ≡ max (c.released n.me d) (sent_by c.handlers n.me h d (run_to (put (c.acknowledged n.me) (n.base + k) true) (length h)))
+  released-is : (d : ℕ) → c'.world.released n.me d ≡ max (c.world.released n.me d) (sent_by c.world.handlers n.me h d (run_to (put (c.world.acknowledged n.me) (n.base + k) true) (length h)))
   released-is d =
       let inner : (n.me == 0) ≡ false = (let z : 0 < n.me = s.inside.0 in grind (arith, nat_tests)) in
-      let new : ℕ → ℕ = λ e. max (c.released n.me e) (length (payloads (seen c) n.me (take (run_to (put (c.acknowledged n.me) (n.base + k) true) (length h)) h) e)) in
-      at-itself n.me (λ t. (if t then new else c.released n.me) d ≡ max (c.released n.me d) (sent_by c.handlers n.me h d (run_to (put (c.acknowledged n.me) (n.base + k) true) (length h)))) (rw inner refl)
+      let new : ℕ → ℕ = λ e. max (c.world.released n.me e) (length (payloads c.world n.me (take (run_to (put (c.world.acknowledged n.me) (n.base + k) true) (length h)) h) e)) in
+      at-itself n.me (λ t. (if t then new else c.world.released n.me) d ≡ max (c.world.released n.me d) (sent_by c.world.handlers n.me h d (run_to (put (c.world.acknowledged n.me) (n.base + k) true) (length h)))) (rw inner refl)
 
   more : (durable : Bool) (d : ℕ) → most_released durable c n.me d ≤ most_released durable c' n.me d
   more true d = omega arith
   more false d = omega (arith, released-is d)
 
-  gates : (d : ℕ) → d ≤ c.count → d ≢ n.me → IsShut (log_at n.logs d) (length h) (most_released n.limits.durable c' n.me d) (sent_by c.handlers n.me h d)
+  gates : (d : ℕ) → d ≤ c.world.count → d ≢ n.me → IsShut (log_at n.logs d) (length h) (most_released n.limits.durable c' n.me d) (sent_by c.world.handlers n.me h d)
   gates d l o =
       let g = s.gates d l o in
       record { within = g.within; waits = λ j m. (let w = g.waits j m in omega (arith, w, more n.limits.durable d)) }
 
-  run-free : (d : ℕ) → sent_by c.handlers n.me h d (run_to (c'.acknowledged n.me) (length h)) ≤ c'.released n.me d
-  run-free d = rw (released-is d) (subst (λ (a : ℕ → Bool). sent_by c.handlers n.me h d (run_to a (length h)) ≤ max (c.released n.me d) (sent_by c.handlers n.me h d (run_to (put (c.acknowledged n.me) (n.base + k) true) (length h)))) (sym acknowledged-is) (omega arith))
+  run-free : (d : ℕ) → sent_by c.world.handlers n.me h d (run_to (c'.world.acknowledged n.me) (length h)) ≤ c'.world.released n.me d
+  run-free d = rw (released-is d) (subst (λ (a : ℕ → Bool). sent_by c.world.handlers n.me h d (run_to a (length h)) ≤ max (c.world.released n.me d) (sent_by c.world.handlers n.me h d (run_to (put (c.world.acknowledged n.me) (n.base + k) true) (length h)))) (sym acknowledged-is) (omega arith))
 
-  free : (durable : Bool) (d : ℕ) → sent_by c.handlers n.me h d (freed_in durable c n.me) ≤ c.released n.me d → sent_by c.handlers n.me h d (freed_in durable c' n.me) ≤ c'.released n.me d
+  free : (durable : Bool) (d : ℕ) → sent_by c.world.handlers n.me h d (freed_in durable c n.me) ≤ c.world.released n.me d → sent_by c.world.handlers n.me h d (freed_in durable c' n.me) ≤ c'.world.released n.me d
   free true d f = omega (arith, f, released-is d)
   free false d f = run-free d
 
   stands-counted : Stands (counted k n) c' n.me
   stands-counted =
       stands-anew n c n.me s
-      (subst (HasReceived n.count n.base n.covered (acknowledged k n.receipts) h) (sym acknowledged-is) (received-counted n.count n.base n.covered n.receipts h (c.acknowledged n.me) k some within s.received))
+      (subst (HasReceived n.count n.base n.covered (acknowledged k n.receipts) h) (sym acknowledged-is) (received-counted n.count n.base n.covered n.receipts h (c.world.acknowledged n.me) k some within s.received))
       fewer s.logs gates (λ d. free n.limits.durable d (s.free d)) s.heard s.resumed s.out
 
   goes-counted : GoesOn n.me (counted k n) c

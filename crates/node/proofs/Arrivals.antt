@@ -11,7 +11,7 @@ use Rattle.theorems.specs.Invariants.Exact.{Names}
 use Rattle.theorems.proofs.Changes.{at-itself}
 use Rattle.theorems.proofs.HistoryLemmas.{found-at}
 use Rattle.cluster.specs.Parcels.{Body, Delivery, Number, Saved}
-use Rattle.cluster.specs.Cluster.{Cluster, seen, waiting, WINDOW}
+use Rattle.cluster.specs.Cluster.{Cluster, waiting, WINDOW}
 use Rattle.cluster.specs.Rules.{Act, Arrives, message}
 use Rattle.cluster.proofs.Nodes.{may-open, opens}
 use Rattle.packets.specs.declared.packet.Body.TheVariants as packets
@@ -24,11 +24,11 @@ use Rattle.node.proofs.StandsLemmas.{stands-staged}
 use Rattle.node.proofs.Numbers.{length-numbers, rsn_from-numbers}
 
 -- the messages of q that it received: those that its checkpoint covers, and those behind
-pub counted : (n : TheNode) (c : Cluster) (p q : ℕ) (s : Stands n c p) → q ≤ n.count → slice_index_or n.covered q 0 + length (numbers_of q n.receipts) ≡ count_of q (c.history p)
+pub counted : (n : TheNode) (c : Cluster) (p q : ℕ) (s : Stands n c p) → q ≤ n.count → slice_index_or n.covered q 0 + length (numbers_of q n.receipts) ≡ count_of q (c.world.history p)
 counted n c p q s low =
     let r = s.received in
     let a : length (numbers_from q 0 n.receipts.senders) ≡ count_of q r.behind = ap (λ xs. length (numbers_from q 0 xs)) r.senders ∙ length-numbers q 0 r.behind in
-    let b : count_of q (c.history p) ≡ count_of q r.before + count_of q r.behind = ap (count_of q) (sym r.joined) ∙ count-append q r.before r.behind in
+    let b : count_of q (c.world.history p) ≡ count_of q r.before + count_of q r.behind = ap (count_of q) (sym r.joined) ∙ count-append q r.before r.behind in
     omega (arith, a, b, r.covered_is q low)
 
 -- what its checkpoint covers
@@ -36,12 +36,12 @@ first-part : {X : Type 0} (xs ys : List X) → take (length xs) (xs ++ ys) ≡ x
 first-part [] ys = refl
 first-part (x ∷ xs) ys = ap (λ l. x ∷ l) (first-part xs ys)
 
-pub covers : (n : TheNode) (c : Cluster) (p q : ℕ) (s : Stands n c p) → q ≤ n.count → 0 < p → slice_index_or n.covered q 0 ≡ covered (seen c) q p
+pub covers : (n : TheNode) (c : Cluster) (p q : ℕ) (s : Stands n c p) → q ≤ n.count → 0 < p → slice_index_or n.covered q 0 ≡ covered c.world q p
 covers n c p q s low positive =
     let r = s.received in
     let inner : (p == 0) ≡ false = grind (arith, nat_tests) in
-    let many : c.saved p ≡ length r.before = s.saved ∙ sym r.many in
-    let e : take (c.saved p) (c.history p) ≡ r.before = ap (λ k. take k (c.history p)) many ∙ ap (take (length r.before)) (sym r.joined) ∙ first-part r.before r.behind in
+    let many : c.world.saved p ≡ length r.before = s.saved ∙ sym r.many in
+    let e : take (c.world.saved p) (c.world.history p) ≡ r.before = ap (λ k. take k (c.world.history p)) many ∙ ap (take (length r.before)) (sym r.joined) ∙ first-part r.before r.behind in
     r.covered_is q low ∙ ap (count_of q) (sym e) ∙ rw inner refl
 
 -- what the checkpoint covers of a peer it may tell it
@@ -59,10 +59,10 @@ says-number : (n : TheNode) (from ssn k : ℕ) → from ≤ n.count → from ≢
 says-number n from ssn k low other above known is c s g =
     posted n c from (packets.Number n.life ssn k) (Number n.life ssn k) refl s low other (stands-well n c n.me s, sym s.life, names)
   where
-    r : HasReceived n.count n.base n.covered n.receipts (c.history n.me) (c.acknowledged n.me)
+    r : HasReceived n.count n.base n.covered n.receipts (c.world.history n.me) (c.world.acknowledged n.me)
     r = s.received
 
-    names : Names (c.history n.me) k from ssn
+    names : Names (c.world.history n.me) k from ssn
     names =
         let here : slice_index_or n.covered from 0 ≡ count_of from r.before = r.covered_is from low in
         let many : length (numbers_from from 0 n.receipts.senders) ≡ count_of from r.behind = ap (λ xs. length (numbers_from from 0 xs)) r.senders ∙ length-numbers from 0 r.behind in
@@ -72,8 +72,8 @@ says-number n from ssn k low other above known is c s g =
         let same : slice_index_or (numbers_of from n.receipts) (ssn - slice_index_or n.covered from 0 - 1) 0 ≡ slice_index_or (numbers_from from 0 (map (λ (m : Message). m.sender) r.behind)) (ssn - suc (count_of from r.before)) 0 =
         ap (λ j. slice_index_or (numbers_of from n.receipts) j 0) place ∙ ap (λ xs. slice_index_or (numbers_from from 0 xs) (ssn - suc (count_of from r.before)) 0) r.senders in
         let number : k ≡ suc (length r.before + f.0) = omega (arith, is, same, f.1, r.many) in
-        let at : nth (c.history n.me) (suc (length r.before + f.0)) ≡ Some f.2 = ap (λ h. slice_get h (length r.before + f.0)) (sym r.joined) ∙ get-behind r.before r.behind f.0 f.2 f.3 in
-        record { message = f.2; at = ap (nth (c.history n.me)) number ∙ at; sender = f.4; ssn = f.5 }
+        let at : nth (c.world.history n.me) (suc (length r.before + f.0)) ≡ Some f.2 = ap (λ h. slice_get h (length r.before + f.0)) (sym r.joined) ∙ get-behind r.before r.behind f.0 f.2 f.3 in
+        record { message = f.2; at = ap (nth (c.world.history n.me)) number ∙ at; sender = f.4; ssn = f.5 }
 
 pub tells-number : (n : TheNode) (from ssn : ℕ) → from ≤ n.count → from ≢ n.me → covered_of from n < ssn → ssn - covered_of from n - 1 < length (numbers_of from n.receipts) → Acts n (tells from ssn n)
 tells-number n from ssn low other above known = says-number n from ssn (n.base + slice_index_or (numbers_of from n.receipts) (ssn - covered_of from n - 1) 0) low other above known refl
@@ -88,19 +88,19 @@ starts n from i ssn x live low other idle incarnation above next room c s given 
       acts = act ∷ [];
       run = (may-open c from n.me i ssn x given (s.inside, stands-takes n c n.me live s, up, incarnation ∙ sym (s.heard from within), is-next, few), tt);
       by = (refl, tt);
-      stands = subst (λ d. Stands (record n { working = Some (record { sender = from; ssn = ssn; payload = x }) }) d n.me) (sym (opens c from n.me i ssn x s.inside.0)) (stands-staged n c n.me s s.stage (at-itself n.me (λ t. (if t then Busy (message from ssn x) else c.phase n.me) ≡ Busy (message from ssn x)) refl) is-next);
+      stands = subst (λ d. Stands (record n { working = Some (record { sender = from; ssn = ssn; payload = x }) }) d n.me) (sym (opens c from n.me i ssn x s.inside.0)) (stands-staged n c n.me s s.stage (at-itself n.me (λ t. (if t then Busy (message from ssn x) else c.world.phase n.me) ≡ Busy (message from ssn x)) refl) is-next);
     }
   where
     act : Act
     act = Arrives from n.me (Delivery i ssn x)
 
-    within : from ≤ c.count
+    within : from ≤ c.world.count
     within = omega (arith, low, s.count)
 
-    up : c.phase n.me ≡ Up
+    up : c.world.phase n.me ≡ Up
     up = s.phase ∙ rw idle refl
 
-    is-next : ssn ≡ suc (count_of from (c.history n.me))
+    is-next : ssn ≡ suc (count_of from (c.world.history n.me))
     is-next = omega (arith, counted n c n.me from s low, above, next)
 
     few : waiting c n.me < WINDOW

@@ -6,7 +6,7 @@ use Rattle.world.specs.World.{put}
 use Rattle.world.specs.Phases.{Replaying}
 use Rattle.world.specs.Calls.{peers}
 use Rattle.cluster.specs.Parcels.{Delivery, Number, Acknowledgement, Ask, Told, Resume, Restored, Saved, Parcel, In}
-use Rattle.cluster.specs.Cluster.{Cluster, seen}
+use Rattle.cluster.specs.Cluster.{Cluster}
 use Rattle.cluster.specs.Rules.{Act, Input, Puts, Arrives, Works, Replays, Recovers, Freezes, Keeps, Thaws, Dies, Opens, does, after_run, goes_on, taken_back}
 use Rattle.node.specs.Node.{TheNode}
 use Rattle.node.specs.Stands.{Each, Stands, Goes, PutOut, actor}
@@ -17,24 +17,24 @@ use Rattle.node.proofs.Puts.{put-still}
 
 -- of p the cluster d has what c has, and all that was put out in c
 pub record Same (c d : Cluster) (p : ℕ) : Type 0 where
-  pub count : c.count ≡ d.count
-  pub handlers : c.handlers ≡ d.handlers
+  pub count : c.world.count ≡ d.world.count
+  pub handlers : c.world.handlers ≡ d.world.handlers
   pub stage : c.stage p ≡ d.stage p
   pub greeted : c.greeted p ≡ d.greeted p
-  pub phase : c.phase p ≡ d.phase p
-  pub life : c.life p ≡ d.life p
-  pub history : c.history p ≡ d.history p
-  pub saved : c.saved p ≡ d.saved p
-  pub acknowledged : c.acknowledged p ≡ d.acknowledged p
-  pub released : c.released p ≡ d.released p
-  pub trims : (k : ℕ) → c.trims p k ≡ d.trims p k
-  pub numbers : (k : ℕ) → c.numbers p k ≡ d.numbers p k
+  pub phase : c.world.phase p ≡ d.world.phase p
+  pub life : c.world.incarnation p ≡ d.world.incarnation p
+  pub history : c.world.history p ≡ d.world.history p
+  pub saved : c.world.saved p ≡ d.world.saved p
+  pub acknowledged : c.world.acknowledged p ≡ d.world.acknowledged p
+  pub released : c.world.released p ≡ d.world.released p
+  pub trims : (k : ℕ) → c.world.trims p k ≡ d.world.trims p k
+  pub numbers : (k : ℕ) → c.world.numbers p k ≡ d.world.numbers p k
   pub heard : (k : ℕ) → c.heard p k ≡ d.heard p k
   pub resumed : (k : ℕ) → c.resumed p k ≡ d.resumed p k
   pub told : (k : ℕ) → c.told p k ≡ d.told p k
   pub restoring : (k : ℕ) → c.restoring p k ≡ d.restoring p k
   pub stored : c.stored p ≡ d.stored p
-  pub saved_trims : (k : ℕ) → c.saved_trims p k ≡ d.saved_trims p k
+  pub saved_trims : (k : ℕ) → c.world.saved_trims p k ≡ d.world.saved_trims p k
   pub parcels : (x : Parcel) → In x c.parcels → In x d.parcels
 
 -- an act of another node changes none of it
@@ -44,9 +44,9 @@ same c (Puts q d x) p e = record { count = refl; handlers = refl; stage = refl; 
 same c (Arrives q (suc d) (Delivery i ssn x)) p e = record { count = refl; handlers = refl; stage = refl; greeted = refl; phase = rw e refl; life = refl; history = refl; saved = refl; acknowledged = refl; released = refl; trims = λ k. refl; numbers = λ k. refl; heard = λ k. refl; resumed = λ k. refl; told = λ k. refl; restoring = λ k. refl; stored = refl; saved_trims = λ k. refl; parcels = λ x i. i }
 same c (Arrives q zero (Delivery i ssn x)) p e = record { count = refl; handlers = refl; stage = refl; greeted = refl; phase = refl; life = refl; history = refl; saved = refl; acknowledged = refl; released = refl; trims = λ k. refl; numbers = λ k. refl; heard = λ k. refl; resumed = λ k. refl; told = λ k. refl; restoring = λ k. refl; stored = refl; saved_trims = λ k. refl; parcels = λ x i. i }
 same c (Works q m) p e = record { count = refl; handlers = refl; stage = refl; greeted = refl; phase = rw e refl; life = refl; history = rw e refl; saved = refl; acknowledged = refl; released = refl; trims = λ k. refl; numbers = λ k. refl; heard = λ k. refl; resumed = λ k. refl; told = λ k. refl; restoring = λ k. refl; stored = refl; saved_trims = λ k. refl; parcels = λ x i. i }
-same c (Replays q j) p e = by_end (nat_lt (c.saved q + suc j) (length (c.history q)))
+same c (Replays q j) p e = by_end (nat_lt (c.world.saved q + suc j) (length (c.world.history q)))
   where
-    by_end : (b : Bool) → Same c (if b then record c { phase = put c.phase q (Replaying (suc j) false false) } else goes_on c q (peers (seen c) q false)) p
+    by_end : (b : Bool) → Same c (if b then record c { world = record c.world { phase = put c.world.phase q (Replaying (suc j) false false) } } else goes_on c q (peers c.world q false)) p
     by_end true = record { count = refl; handlers = refl; stage = refl; greeted = refl; phase = rw e refl; life = refl; history = refl; saved = refl; acknowledged = refl; released = refl; trims = λ k. refl; numbers = λ k. refl; heard = λ k. refl; resumed = λ k. refl; told = λ k. refl; restoring = λ k. refl; stored = refl; saved_trims = λ k. refl; parcels = λ x i. i }
     by_end false = record { count = refl; handlers = refl; stage = refl; greeted = refl; phase = rw e refl; life = refl; history = refl; saved = refl; acknowledged = refl; released = rw e refl; trims = λ k. refl; numbers = λ k. refl; heard = λ k. refl; resumed = λ k. refl; told = λ k. refl; restoring = λ k. refl; stored = refl; saved_trims = λ k. refl; parcels = λ x i. i }
 same c (Arrives r s (Number i ssn k)) p e = record { count = refl; handlers = refl; stage = refl; greeted = refl; phase = refl; life = refl; history = refl; saved = refl; acknowledged = refl; released = refl; trims = λ k. refl; numbers = λ k. rw e refl; heard = λ k. refl; resumed = λ k. refl; told = λ k. refl; restoring = λ k. refl; stored = refl; saved_trims = λ k. refl; parcels = λ x i. inr i }
@@ -54,9 +54,9 @@ same c (Arrives s r (Acknowledgement i k)) p e = record { count = refl; handlers
 same c (Arrives d s (Saved n)) p e = record { count = refl; handlers = refl; stage = refl; greeted = refl; phase = refl; life = refl; history = refl; saved = refl; acknowledged = refl; released = refl; trims = λ k. rw e refl; numbers = λ k. refl; heard = λ k. refl; resumed = λ k. refl; told = λ k. refl; restoring = λ k. refl; stored = refl; saved_trims = λ k. refl; parcels = λ x i. i }
 same c (Arrives r q (Ask i k)) p e = record { count = refl; handlers = refl; stage = refl; greeted = refl; phase = refl; life = refl; history = refl; saved = refl; acknowledged = refl; released = refl; trims = λ k. refl; numbers = λ k. refl; heard = λ k. rw e refl; resumed = λ k. rw e refl; told = λ k. rw e refl; restoring = λ k. refl; stored = refl; saved_trims = λ k. refl; parcels = λ x i. i }
 same c (Arrives r q (Told i j k u f)) p e = record { count = refl; handlers = refl; stage = refl; greeted = refl; phase = refl; life = refl; history = refl; saved = refl; acknowledged = refl; released = refl; trims = λ k. refl; numbers = λ k. refl; heard = λ k. rw e refl; resumed = λ k. refl; told = λ k. rw e refl; restoring = λ k. refl; stored = refl; saved_trims = λ k. refl; parcels = λ x i. i }
-same c (Recovers q k) p e = by_end (nat_lt (c.saved q) k)
+same c (Recovers q k) p e = by_end (nat_lt (c.world.saved q) k)
   where
-    by_end : (b : Bool) → Same c (if b then record (taken_back c q k) { phase = put c.phase q (Replaying 0 false false) } else goes_on (taken_back c q k) q (peers (seen c) q false)) p
+    by_end : (b : Bool) → Same c (if b then record (taken_back c q k) { world = record (taken_back c q k).world { phase = put c.world.phase q (Replaying 0 false false) } } else goes_on (taken_back c q k) q (peers c.world q false)) p
     by_end true = record { count = refl; handlers = refl; stage = rw e refl; greeted = rw e refl; phase = rw e refl; life = rw e refl; history = rw e refl; saved = refl; acknowledged = rw e refl; released = rw e refl; trims = λ k. rw e refl; numbers = λ k. rw e refl; heard = λ k. refl; resumed = λ k. rw e refl; told = λ k. rw e refl; restoring = λ k. rw e refl; stored = refl; saved_trims = λ k. refl; parcels = λ x i. i }
     by_end false = record { count = refl; handlers = refl; stage = rw e refl; greeted = rw e refl; phase = rw e refl; life = rw e refl; history = rw e refl; saved = refl; acknowledged = rw e refl; released = rw e refl; trims = λ k. rw e refl; numbers = λ k. rw e refl; heard = λ k. refl; resumed = λ k. rw e refl; told = λ k. rw e refl; restoring = λ k. rw e refl; stored = refl; saved_trims = λ k. refl; parcels = λ x i. i }
 same c (Arrives r q (Resume i k s)) p e = record { count = refl; handlers = refl; stage = refl; greeted = refl; phase = refl; life = refl; history = refl; saved = refl; acknowledged = refl; released = refl; trims = λ k. refl; numbers = λ k. rw e refl; heard = λ k. refl; resumed = λ k. rw e refl; told = λ k. refl; restoring = λ k. refl; stored = refl; saved_trims = λ k. refl; parcels = λ x i. i }
@@ -88,7 +88,7 @@ stands-same n c d p e s =
       free = λ k. rw (sym e.handlers, sym e.history, sym e.released, sym e.acknowledged, sym e.saved) (s.free k);
       heard = λ q l. rw (sym (e.heard q)) (s.heard q (subst (λ m. q ≤ m) (sym e.count) l));
       resumed = λ q l. rw (sym (e.resumed q)) (s.resumed q (subst (λ m. q ≤ m) (sym e.count) l));
-      out = all-more (PutOut c.count c.parcels p) (PutOut d.count d.parcels p) n.out (λ o. put-still c d p o e.count (λ b i. e.parcels _ i)) s.out;
+      out = all-more (PutOut c.world.count c.parcels p) (PutOut d.world.count d.parcels p) n.out (λ o. put-still c d p o e.count (λ b i. e.parcels _ i)) s.out;
     }
 
 -- a node stands after the acts of another
@@ -98,7 +98,7 @@ stands-still n p q (a ∷ acts) c other by s =
     let apart : (p == actor a) ≡ false = (let f : actor a ≡ q = by.0 in grind (arith, nat_tests)) in
     stands-still n p q acts (does c a) other by.1 (stands-same n c (does c a) p (same c a p apart) s)
 
-pub count-after : (c : Cluster) (acts : List Act) → (after_run c acts).count ≡ c.count
+pub count-after : (c : Cluster) (acts : List Act) → (after_run c acts).world.count ≡ c.world.count
 count-after c [] = refl
 count-after c (a ∷ acts) = count-after (does c a) acts ∙ does-count c a
 

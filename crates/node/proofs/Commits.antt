@@ -179,68 +179,68 @@ module _ (n : TheNode) (c : Cluster) (j : OpenJob) (state : List ℕ) (given : L
   c' = does c act
 
   abbrev more : List Message
-  more = c.history n.me ++ job_of j ∷ []
+  more = c.world.history n.me ++ job_of j ∷ []
 
-  history-is : c'.history n.me ≡ c.history n.me ++ job_of j ∷ []
-  history-is = at-itself n.me (λ t. (if t then c.history n.me ++ job_of j ∷ [] else c.history n.me) ≡ c.history n.me ++ job_of j ∷ []) refl
+  history-is : c'.world.history n.me ≡ c.world.history n.me ++ job_of j ∷ []
+  history-is = at-itself n.me (λ t. (if t then c.world.history n.me ++ job_of j ∷ [] else c.world.history n.me) ≡ c.world.history n.me ++ job_of j ∷ []) refl
 
-  next : j.ssn ≡ suc (count_of j.sender (c.history n.me))
-  next = subst (IsNextAfter (c.history n.me)) busy s.works
+  next : j.ssn ≡ suc (count_of j.sender (c.world.history n.me))
+  next = subst (IsNextAfter (c.world.history n.me)) busy s.works
 
   may : May c act
   may = (s.inside, stands-takes n c n.me live s, s.phase ∙ rw busy refl)
 
-  still : not (c.acknowledged n.me (suc (length (c.history n.me)))) ≡ true
-  still = let e : c.acknowledged n.me (suc (length (c.history n.me))) ≡ false = s.received.above (suc (length (c.history n.me))) (omega arith) in rw e refl
+  still : not (c.world.acknowledged n.me (suc (length (c.world.history n.me)))) ≡ true
+  still = let e : c.world.acknowledged n.me (suc (length (c.world.history n.me))) ≡ false = s.received.above (suc (length (c.world.history n.me))) (omega arith) in rw e refl
 
   waits : waiting c' n.me ≡ n.waiting + 1
-  waits = ap (λ h. count_below (λ k. not (c.acknowledged n.me (suc k))) (length h)) history-is ∙ ap (count_below (λ k. not (c.acknowledged n.me (suc k)))) (length-push (c.history n.me) (job_of j))
+  waits = ap (λ h. count_below (λ k. not (c.world.acknowledged n.me (suc k))) (length h)) history-is ∙ ap (count_below (λ k. not (c.world.acknowledged n.me (suc k)))) (length-push (c.world.history n.me) (job_of j))
       ∙ rw still (let e : waiting c n.me ≡ n.waiting = s.waits in omega (arith, e))
 
-  many : length (c.history n.me) ≡ n.base + length n.receipts.senders
-  many = long n.count n.base n.covered n.receipts (c.history n.me) (c.acknowledged n.me) s.received
+  many : length (c.world.history n.me) ≡ n.base + length n.receipts.senders
+  many = long n.count n.base n.covered n.receipts (c.world.history n.me) (c.world.acknowledged n.me) s.received
 
   -- what the first messages sent they send still
-  sent-still : (d k : ℕ) → k ≤ length (c.history n.me) → sent_by c.handlers n.me more d k ≡ sent_by c.handlers n.me (c.history n.me) d k
-  sent-still d k l = ap (λ h. length (c.handlers.sends n.me h d)) (take-append-le k (c.history n.me) (job_of j ∷ []) l)
+  sent-still : (d k : ℕ) → k ≤ length (c.world.history n.me) → sent_by c.world.handlers n.me more d k ≡ sent_by c.world.handlers n.me (c.world.history n.me) d k
+  sent-still d k l = ap (λ h. length (c.world.handlers.sends n.me h d)) (take-append-le k (c.world.history n.me) (job_of j ∷ []) l)
 
-  logs-worked : (d : ℕ) → d ≤ c.count → d ≢ n.me → KeepsOf (log_at (given_to (next_number n) given n.logs) d) (c.trims n.me d) (c.handlers.sends n.me more d) (c.numbers n.me d)
+  logs-worked : (d : ℕ) → d ≤ c.world.count → d ≢ n.me → KeepsOf (log_at (given_to (next_number n) given n.logs) d) (c.world.trims n.me d) (c.world.handlers.sends n.me more d) (c.world.numbers n.me d)
   logs-worked d l o =
-      subst (λ xs. KeepsOf (log_at (given_to (next_number n) given n.logs) d) (c.trims n.me d) xs (c.numbers n.me d)) (sym (answers.sends_are d))
-      (logs-more n.logs d (c.trims n.me d) (c.handlers.sends n.me (c.history n.me) d) (c.numbers n.me d) (next_number n) given inside (s.logs d l o))
+      subst (λ xs. KeepsOf (log_at (given_to (next_number n) given n.logs) d) (c.world.trims n.me d) xs (c.world.numbers n.me d)) (sym (answers.sends_are d))
+      (logs-more n.logs d (c.world.trims n.me d) (c.world.handlers.sends n.me (c.world.history n.me) d) (c.world.numbers n.me d) (next_number n) given inside (s.logs d l o))
 
-  within-saved : c.saved n.me ≤ length (c.history n.me)
+  within-saved : c.world.saved n.me ≤ length (c.world.history n.me)
   within-saved = omega (arith, s.saved, many)
 
   -- what it may release when its history is this
   abbrev most : List Message → ℕ → ℕ
-  most h d = if n.limits.durable then sent_by c.handlers n.me h d (c.saved n.me) else c.released n.me d
+  most h d = if n.limits.durable then sent_by c.world.handlers n.me h d (c.world.saved n.me) else c.world.released n.me d
 
-  most-still : (d : ℕ) → most (c.history n.me) d ≡ most more d
-  most-still d = ap (λ z. if n.limits.durable then z else c.released n.me d) (sym (sent-still d (c.saved n.me) within-saved))
+  most-still : (d : ℕ) → most (c.world.history n.me) d ≡ most more d
+  most-still d = ap (λ z. if n.limits.durable then z else c.world.released n.me d) (sym (sent-still d (c.world.saved n.me) within-saved))
 
-  gates-worked : (d : ℕ) → d ≤ c.count → d ≢ n.me → IsShut (log_at (given_to (next_number n) given n.logs) d) (suc (length (c.history n.me))) (most more d) (sent_by c.handlers n.me more d)
+  gates-worked : (d : ℕ) → d ≤ c.world.count → d ≢ n.me → IsShut (log_at (given_to (next_number n) given n.logs) d) (suc (length (c.world.history n.me))) (most more d) (sent_by c.world.handlers n.me more d)
   gates-worked d l o =
       let q = log_at (given_to (next_number n) given n.logs) d in
       let k = logs-worked d l o in
-      let whole : take (suc (length (c.history n.me))) more ≡ more = take_all (suc (length (c.history n.me))) more (omega (arith, length-push (c.history n.me) (job_of j))) in
-      let all : sent_by c.handlers n.me more d (suc (length (c.history n.me))) ≡ q.dropped + length q.payloads =
-      ap (λ h. length (c.handlers.sends n.me h d)) whole ∙ ap length (sym k.joined) ∙ length-append k.before q.payloads ∙ ap (λ z. z + length q.payloads) k.many in
-      subst (λ z. IsShut q (suc (length (c.history n.me))) z (sent_by c.handlers n.me more d)) (most-still d)
-      (shut-next q (length (c.history n.me)) (most (c.history n.me) d) (sent_by c.handlers n.me (c.history n.me) d) (sent_by c.handlers n.me more d) (sent-still d) all
-      (shut-more n.logs d (length (c.history n.me)) (most (c.history n.me) d) (sent_by c.handlers n.me (c.history n.me) d) (next_number n) given (omega (arith, many)) inside (s.gates d l o)))
+      let whole : take (suc (length (c.world.history n.me))) more ≡ more = take_all (suc (length (c.world.history n.me))) more (omega (arith, length-push (c.world.history n.me) (job_of j))) in
+      let all : sent_by c.world.handlers n.me more d (suc (length (c.world.history n.me))) ≡ q.dropped + length q.payloads =
+      ap (λ h. length (c.world.handlers.sends n.me h d)) whole ∙ ap length (sym k.joined) ∙ length-append k.before q.payloads ∙ ap (λ z. z + length q.payloads) k.many in
+      subst (λ z. IsShut q (suc (length (c.world.history n.me))) z (sent_by c.world.handlers n.me more d)) (most-still d)
+      (shut-next q (length (c.world.history n.me)) (most (c.world.history n.me) d) (sent_by c.world.handlers n.me (c.world.history n.me) d) (sent_by c.world.handlers n.me more d) (sent-still d) all
+      (shut-more n.logs d (length (c.world.history n.me)) (most (c.world.history n.me) d) (sent_by c.world.handlers n.me (c.world.history n.me) d) (next_number n) given (omega (arith, many)) inside (s.gates d l o)))
 
   -- what is let go when its history is this
   abbrev goes : Bool → List Message → ℕ
-  goes durable h = if durable then c.saved n.me else run_to (c.acknowledged n.me) (length h)
+  goes durable h = if durable then c.world.saved n.me else run_to (c.world.acknowledged n.me) (length h)
 
-  free-worked : (durable : Bool) (d : ℕ) → sent_by c.handlers n.me (c.history n.me) d (goes durable (c.history n.me)) ≤ c.released n.me d → sent_by c.handlers n.me more d (goes durable more) ≤ c.released n.me d
-  free-worked true d f = omega (arith, f, sent-still d (c.saved n.me) within-saved)
+  free-worked : (durable : Bool) (d : ℕ) → sent_by c.world.handlers n.me (c.world.history n.me) d (goes durable (c.world.history n.me)) ≤ c.world.released n.me d → sent_by c.world.handlers n.me more d (goes durable more) ≤ c.world.released n.me d
+  free-worked true d f = omega (arith, f, sent-still d (c.world.saved n.me) within-saved)
   free-worked false d f =
-      let ends : run_to (c.acknowledged n.me) (length more) ≡ run_to (c.acknowledged n.me) (length (c.history n.me)) =
-      ap (run_to (c.acknowledged n.me)) (length-push (c.history n.me) (job_of j)) ∙ run_to-ends (c.acknowledged n.me) (length (c.history n.me)) (s.received.above (suc (length (c.history n.me))) (omega arith)) in
-      let e : sent_by c.handlers n.me more d (run_to (c.acknowledged n.me) (length more)) ≡ sent_by c.handlers n.me (c.history n.me) d (run_to (c.acknowledged n.me) (length (c.history n.me))) =
-      ap (sent_by c.handlers n.me more d) ends ∙ sent-still d (run_to (c.acknowledged n.me) (length (c.history n.me))) (run_to-is (c.acknowledged n.me) (length (c.history n.me))).0 in
+      let ends : run_to (c.world.acknowledged n.me) (length more) ≡ run_to (c.world.acknowledged n.me) (length (c.world.history n.me)) =
+      ap (run_to (c.world.acknowledged n.me)) (length-push (c.world.history n.me) (job_of j)) ∙ run_to-ends (c.world.acknowledged n.me) (length (c.world.history n.me)) (s.received.above (suc (length (c.world.history n.me))) (omega arith)) in
+      let e : sent_by c.world.handlers n.me more d (run_to (c.world.acknowledged n.me) (length more)) ≡ sent_by c.world.handlers n.me (c.world.history n.me) d (run_to (c.world.acknowledged n.me) (length (c.world.history n.me))) =
+      ap (sent_by c.world.handlers n.me more d) ends ∙ sent-still d (run_to (c.world.acknowledged n.me) (length (c.world.history n.me))) (run_to-is (c.world.acknowledged n.me) (length (c.world.history n.me))).0 in
       omega (arith, e, f)
 
   pub stands-worked : Stands (worked j state given n) c' n.me
@@ -251,27 +251,27 @@ module _ (n : TheNode) (c : Cluster) (j : OpenJob) (state : List ℕ) (given : L
         inside = s.inside;
         stage = s.stage;
         greeted = s.greeted;
-        phase = at-itself n.me (λ t. (if t then Up else c.phase n.me) ≡ Up) refl;
+        phase = at-itself n.me (λ t. (if t then Up else c.world.phase n.me) ≡ Up) refl;
         works = tt;
         life = s.life;
-        state = ap (c.handlers.state n.me) history-is ∙ answers.state_is;
+        state = ap (c.world.handlers.state n.me) history-is ∙ answers.state_is;
         saved = s.saved;
-        received = subst (λ h. HasReceived n.count n.base n.covered (accepted j.sender n.receipts) h (c.acknowledged n.me)) (sym history-is) (received-more n.count n.base n.covered n.receipts (c.history n.me) (c.acknowledged n.me) (job_of j) s.received next);
+        received = subst (λ h. HasReceived n.count n.base n.covered (accepted j.sender n.receipts) h (c.world.acknowledged n.me)) (sym history-is) (received-more n.count n.base n.covered n.receipts (c.world.history n.me) (c.world.acknowledged n.me) (job_of j) s.received next);
         waits = waits;
-        logs = λ d l o. subst (λ h. KeepsOf (log_at (given_to (next_number n) given n.logs) d) (c.trims n.me d) (c.handlers.sends n.me h d) (c.numbers n.me d)) (sym history-is) (logs-worked d l o);
-        gates = λ d l o. subst (λ h. IsShut (log_at (given_to (next_number n) given n.logs) d) (length h) (most h d) (sent_by c.handlers n.me h d)) (sym history-is)
-            (subst (λ z. IsShut (log_at (given_to (next_number n) given n.logs) d) z (most more d) (sent_by c.handlers n.me more d)) (sym (length-push (c.history n.me) (job_of j))) (gates-worked d l o));
-        free = λ d. subst (λ h. sent_by c.handlers n.me h d (goes n.limits.durable h) ≤ c.released n.me d) (sym history-is) (free-worked n.limits.durable d (s.free d));
+        logs = λ d l o. subst (λ h. KeepsOf (log_at (given_to (next_number n) given n.logs) d) (c.world.trims n.me d) (c.world.handlers.sends n.me h d) (c.world.numbers n.me d)) (sym history-is) (logs-worked d l o);
+        gates = λ d l o. subst (λ h. IsShut (log_at (given_to (next_number n) given n.logs) d) (length h) (most h d) (sent_by c.world.handlers n.me h d)) (sym history-is)
+            (subst (λ z. IsShut (log_at (given_to (next_number n) given n.logs) d) z (most more d) (sent_by c.world.handlers n.me more d)) (sym (length-push (c.world.history n.me) (job_of j))) (gates-worked d l o));
+        free = λ d. subst (λ h. sent_by c.world.handlers n.me h d (goes n.limits.durable h) ≤ c.world.released n.me d) (sym history-is) (free-worked n.limits.durable d (s.free d));
         heard = s.heard;
         resumed = s.resumed;
         out = s.out;
       }
 
-  names : Names (c'.history n.me) (next_number n) j.sender j.ssn
+  names : Names (c'.world.history n.me) (next_number n) j.sender j.ssn
   names =
-      let at : slice_get (c.history n.me ++ job_of j ∷ []) (length (c.history n.me) + 0) ≡ Some (job_of j) = get-behind (c.history n.me) (job_of j ∷ []) 0 (job_of j) refl in
-      let place : next_number n ≡ suc (length (c.history n.me) + 0) = omega (arith, long n.count n.base n.covered n.receipts (c.history n.me) (c.acknowledged n.me) s.received) in
-      record { message = job_of j; at = ap (nth (c'.history n.me)) place ∙ ap (λ h. slice_get h (length (c.history n.me) + 0)) history-is ∙ at; sender = refl; ssn = refl }
+      let at : slice_get (c.world.history n.me ++ job_of j ∷ []) (length (c.world.history n.me) + 0) ≡ Some (job_of j) = get-behind (c.world.history n.me) (job_of j ∷ []) 0 (job_of j) refl in
+      let place : next_number n ≡ suc (length (c.world.history n.me) + 0) = omega (arith, long n.count n.base n.covered n.receipts (c.world.history n.me) (c.world.acknowledged n.me) s.received) in
+      record { message = job_of j; at = ap (nth (c'.world.history n.me)) place ∙ ap (λ h. slice_get h (length (c.world.history n.me) + 0)) history-is ∙ at; sender = refl; ssn = refl }
 
   pub goes-worked : OfPeer n.me n.count (Some j) → GoesOn n.me (posts j.sender (number_of j n) (worked j state given n)) c
   goes-worked peer =

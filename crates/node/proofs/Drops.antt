@@ -7,7 +7,7 @@ use Rattle.world.specs.History.{Payload}
 use Rattle.world.specs.Logs.{sent}
 use Rattle.theorems.proofs.Changes.{at-itself}
 use Rattle.cluster.specs.Parcels.{Saved, In, parcel}
-use Rattle.cluster.specs.Cluster.{Cluster, seen}
+use Rattle.cluster.specs.Cluster.{Cluster}
 use Rattle.cluster.specs.Rules.{Act, Arrives, May, does}
 use Rattle.node.specs.Queue.{TheQueue, dropped_first, dropped_to}
 use Rattle.node.specs.Node.{TheNode, log_at}
@@ -43,7 +43,7 @@ shut-dropped q k n released sent some s =
     let fewer : length (drop k q.payloads) ≡ length q.payloads - k = length-drop k q.payloads in
     record { within = omega (arith, fewer, some, s.within); waits = s.waits }
 
-module _ (n : TheNode) (c : Cluster) (r k : ℕ) (s : Stands n c n.me) (low : r ≤ c.count) (other : r ≢ n.me) (given : In (parcel r n.me (Saved k)) c.parcels) (wide : r < length n.logs) (live : n.frozen ≡ false) where
+module _ (n : TheNode) (c : Cluster) (r k : ℕ) (s : Stands n c n.me) (low : r ≤ c.world.count) (other : r ≢ n.me) (given : In (parcel r n.me (Saved k)) c.parcels) (wide : r < length n.logs) (live : n.frozen ≡ false) where
   abbrev act : Act
   act = Arrives r n.me (Saved k)
 
@@ -62,31 +62,31 @@ module _ (n : TheNode) (c : Cluster) (r k : ℕ) (s : Stands n c n.me) (low : r 
   few : many ≤ length q.payloads
   few = omega arith
 
-  trims-are : max (c.trims n.me r) (min k (length (sent (seen c) n.me r))) ≡ q.dropped + many
+  trims-are : max (c.world.trims n.me r) (min k (length (sent c.world n.me r))) ≡ q.dropped + many
   trims-are =
       let t = s.logs r low other in
-      let size : length (sent (seen c) n.me r) ≡ q.dropped + length q.payloads = ap length (sent-is n c n.me r s) ∙ ap length (sym t.joined) ∙ length-append t.before q.payloads ∙ ap (λ z. z + length q.payloads) t.many in
+      let size : length (sent c.world n.me r) ≡ q.dropped + length q.payloads = ap length (sent-is n c n.me r s) ∙ ap length (sym t.joined) ∙ length-append t.before q.payloads ∙ ap (λ z. z + length q.payloads) t.many in
       omega (arith, size, t.dropped_is)
 
-  logs : (d : ℕ) → d ≤ c.count → d ≢ n.me → KeepsOf (log_at (dropped_by r k n).logs d) (c'.trims n.me d) (c.handlers.sends n.me (c.history n.me) d) (c.numbers n.me d)
-  logs d l o = at-itself n.me (λ t. KeepsOf (log_at (slice_set n.logs r (dropped_to k q)) d) (if t && (d == r) then max (c.trims n.me r) (min k (length (sent (seen c) n.me r))) else c.trims n.me d) (c.handlers.sends n.me (c.history n.me) d) (c.numbers n.me d))
-      (changed-at (λ z. KeepsOf z (if d == r then max (c.trims n.me r) (min k (length (sent (seen c) n.me r))) else c.trims n.me d) (c.handlers.sends n.me (c.history n.me) d) (c.numbers n.me d)) n.logs r (dropped_to k q) d wide here there)
+  logs : (d : ℕ) → d ≤ c.world.count → d ≢ n.me → KeepsOf (log_at (dropped_by r k n).logs d) (c'.world.trims n.me d) (c.world.handlers.sends n.me (c.world.history n.me) d) (c.world.numbers n.me d)
+  logs d l o = at-itself n.me (λ t. KeepsOf (log_at (slice_set n.logs r (dropped_to k q)) d) (if t && (d == r) then max (c.world.trims n.me r) (min k (length (sent c.world n.me r))) else c.world.trims n.me d) (c.world.handlers.sends n.me (c.world.history n.me) d) (c.world.numbers n.me d))
+      (changed-at (λ z. KeepsOf z (if d == r then max (c.world.trims n.me r) (min k (length (sent c.world n.me r))) else c.world.trims n.me d) (c.world.handlers.sends n.me (c.world.history n.me) d) (c.world.numbers n.me d)) n.logs r (dropped_to k q) d wide here there)
     where
-      here : d ≡ r → KeepsOf (dropped_to k q) (if d == r then max (c.trims n.me r) (min k (length (sent (seen c) n.me r))) else c.trims n.me d) (c.handlers.sends n.me (c.history n.me) d) (c.numbers n.me d)
+      here : d ≡ r → KeepsOf (dropped_to k q) (if d == r then max (c.world.trims n.me r) (min k (length (sent c.world n.me r))) else c.world.trims n.me d) (c.world.handlers.sends n.me (c.world.history n.me) d) (c.world.numbers n.me d)
       here same =
           let e : (d == r) ≡ true = grind (arith, nat_tests) in
           let t = s.logs r low other in
-          let P : ℕ → Type 0 = λ z. KeepsOf (dropped_to k q) (max (c.trims n.me r) (min k (length (sent (seen c) n.me r)))) (c.handlers.sends n.me (c.history n.me) z) (c.numbers n.me z) in
-          let own : KeepsOf q q.dropped (c.handlers.sends n.me (c.history n.me) r) (c.numbers n.me r) = subst (λ z. KeepsOf q z (c.handlers.sends n.me (c.history n.me) r) (c.numbers n.me r)) t.dropped_is t in
-          rw e (subst P (sym same) (kept-dropped q many (max (c.trims n.me r) (min k (length (sent (seen c) n.me r)))) (c.handlers.sends n.me (c.history n.me) r) (c.numbers n.me r) few trims-are own))
+          let P : ℕ → Type 0 = λ z. KeepsOf (dropped_to k q) (max (c.world.trims n.me r) (min k (length (sent c.world n.me r)))) (c.world.handlers.sends n.me (c.world.history n.me) z) (c.world.numbers n.me z) in
+          let own : KeepsOf q q.dropped (c.world.handlers.sends n.me (c.world.history n.me) r) (c.world.numbers n.me r) = subst (λ z. KeepsOf q z (c.world.handlers.sends n.me (c.world.history n.me) r) (c.world.numbers n.me r)) t.dropped_is t in
+          rw e (subst P (sym same) (kept-dropped q many (max (c.world.trims n.me r) (min k (length (sent c.world n.me r)))) (c.world.handlers.sends n.me (c.world.history n.me) r) (c.world.numbers n.me r) few trims-are own))
 
-      there : d ≢ r → KeepsOf (log_at n.logs d) (if d == r then max (c.trims n.me r) (min k (length (sent (seen c) n.me r))) else c.trims n.me d) (c.handlers.sends n.me (c.history n.me) d) (c.numbers n.me d)
+      there : d ≢ r → KeepsOf (log_at n.logs d) (if d == r then max (c.world.trims n.me r) (min k (length (sent c.world n.me r))) else c.world.trims n.me d) (c.world.handlers.sends n.me (c.world.history n.me) d) (c.world.numbers n.me d)
       there apart = let e : (d == r) ≡ false = grind (arith, nat_tests) in rw e (s.logs d l o)
 
-  gates : (d : ℕ) → d ≤ c.count → d ≢ n.me → IsShut (log_at (dropped_by r k n).logs d) (length (c.history n.me)) (most_released n.limits.durable c n.me d) (sent_by c.handlers n.me (c.history n.me) d)
-  gates d l o = changed-at (λ z. IsShut z (length (c.history n.me)) (most_released n.limits.durable c n.me d) (sent_by c.handlers n.me (c.history n.me) d)) n.logs r (dropped_to k q) d wide
-      (λ same. let P : ℕ → Type 0 = λ z. IsShut (dropped_to k q) (length (c.history n.me)) (most_released n.limits.durable c n.me z) (sent_by c.handlers n.me (c.history n.me) z) in
-      subst P (sym same) (shut-dropped q many (length (c.history n.me)) (most_released n.limits.durable c n.me r) (sent_by c.handlers n.me (c.history n.me) r) few (s.gates r low other)))
+  gates : (d : ℕ) → d ≤ c.world.count → d ≢ n.me → IsShut (log_at (dropped_by r k n).logs d) (length (c.world.history n.me)) (most_released n.limits.durable c n.me d) (sent_by c.world.handlers n.me (c.world.history n.me) d)
+  gates d l o = changed-at (λ z. IsShut z (length (c.world.history n.me)) (most_released n.limits.durable c n.me d) (sent_by c.world.handlers n.me (c.world.history n.me) d)) n.logs r (dropped_to k q) d wide
+      (λ same. let P : ℕ → Type 0 = λ z. IsShut (dropped_to k q) (length (c.world.history n.me)) (most_released n.limits.durable c n.me z) (sent_by c.world.handlers n.me (c.world.history n.me) z) in
+      subst P (sym same) (shut-dropped q many (length (c.world.history n.me)) (most_released n.limits.durable c n.me r) (sent_by c.world.handlers n.me (c.world.history n.me) r) few (s.gates r low other)))
       (λ apart. s.gates d l o)
 
   goes-dropped : GoesOn n.me (dropped_by r k n) c

@@ -13,7 +13,7 @@ use Rattle.world.specs.Logs.{run_to, payloads}
 use Rattle.theorems.proofs.Changes.{at-itself}
 use Rattle.theorems.proofs.RunLemmas.{run_to-whole}
 use Rattle.theorems.proofs.Tests.{both, different}
-use Rattle.cluster.specs.Cluster.{Cluster, Live, Frozen, seen, waiting}
+use Rattle.cluster.specs.Cluster.{Cluster, Live, Frozen, waiting}
 use Rattle.cluster.specs.Rules.{Freezes, Keeps, Thaws, May, does}
 use Rattle.node.specs.declared.job.OpenJob.{OpenJob}
 use Rattle.node.specs.Node.{TheNode, Within, log_at, covered_of}
@@ -106,27 +106,27 @@ module _ (n : TheNode) (c : Cluster) (s : Stands n c n.me) (wait : n.frozen ≡ 
   c' = does kept (Thaws n.me)
 
   abbrev h : List Message
-  h = c.history n.me
+  h = c.world.history n.me
 
   abbrev all : ℕ → Bool
   all k = nat_le k (length h)
 
   many : length h ≡ n.base + length n.receipts.senders
-  many = long n.count n.base n.covered n.receipts h (c.acknowledged n.me) s.received
+  many = long n.count n.base n.covered n.receipts h (c.world.acknowledged n.me) s.received
 
   waits-there : c.stage n.me ≡ Frozen
   waits-there = s.stage ∙ rw wait refl
 
   may-thaw : May kept (Thaws n.me)
-  may-thaw = (s.inside, waits-there, at-itself n.me (λ b. (if b then length h else c.saved n.me) ≡ length h) refl)
+  may-thaw = (s.inside, waits-there, at-itself n.me (λ b. (if b then length h else c.world.saved n.me) ≡ length h) refl)
 
-  acknowledged-is : c'.acknowledged n.me ≡ all
-  acknowledged-is = at-itself n.me (λ b. (if b then all else c.acknowledged n.me) ≡ all) refl
+  acknowledged-is : c'.world.acknowledged n.me ≡ all
+  acknowledged-is = at-itself n.me (λ b. (if b then all else c.world.acknowledged n.me) ≡ all) refl
 
-  released-is : (d : ℕ) → c'.released n.me d ≡ length (c.handlers.sends n.me h d)
+  released-is : (d : ℕ) → c'.world.released n.me d ≡ length (c.world.handlers.sends n.me h d)
   released-is d =
       let inner : (n.me == 0) ≡ false = (let z : 0 < n.me = s.inside.0 in grind (arith, nat_tests)) in
-      at-itself n.me (λ b. (if b then (λ e. length (payloads (seen c) n.me h e)) else c.released n.me) d ≡ length (c.handlers.sends n.me h d)) (rw inner refl)
+      at-itself n.me (λ b. (if b then (λ e. length (payloads c.world n.me h e)) else c.world.released n.me) d ≡ length (c.world.handlers.sends n.me h d)) (rw inner refl)
 
   received : HasReceived n.count (thawed n).base (thawed n).covered (thawed n).receipts h all
   received =
@@ -150,28 +150,28 @@ module _ (n : TheNode) (c : Cluster) (s : Stands n c n.me) (wait : n.frozen ≡ 
       ap (λ (a : ℕ → Bool). count_below (λ k. not (a (suc k))) (length h)) acknowledged-is
       ∙ none-below (λ k. not (all (suc k))) (length h) (λ k l. (let e : nat_le (suc k) (length h) ≡ true = grind (arith, nat_tests) in rw e refl))
 
-  saved-is : c'.saved n.me ≡ length h
-  saved-is = at-itself n.me (λ b. (if b then length h else c.saved n.me) ≡ length h) refl
+  saved-is : c'.world.saved n.me ≡ length h
+  saved-is = at-itself n.me (λ b. (if b then length h else c.world.saved n.me) ≡ length h) refl
 
   -- its checkpoint covers all
-  all-saved : (d : ℕ) → sent_by c.handlers n.me h d (c'.saved n.me) ≡ length (c.handlers.sends n.me h d)
-  all-saved d = ap (sent_by c.handlers n.me h d) saved-is ∙ ap (λ (l : List Message). length (c.handlers.sends n.me l d)) (take_all (length h) h (omega arith))
+  all-saved : (d : ℕ) → sent_by c.world.handlers n.me h d (c'.world.saved n.me) ≡ length (c.world.handlers.sends n.me h d)
+  all-saved d = ap (sent_by c.world.handlers n.me h d) saved-is ∙ ap (λ (l : List Message). length (c.world.handlers.sends n.me l d)) (take_all (length h) h (omega arith))
 
-  most-is : (durable : Bool) (d : ℕ) → most_released durable c' n.me d ≡ length (c.handlers.sends n.me h d)
+  most-is : (durable : Bool) (d : ℕ) → most_released durable c' n.me d ≡ length (c.world.handlers.sends n.me h d)
   most-is true d = all-saved d
   most-is false d = released-is d
 
-  gates : (d : ℕ) → d ≤ c.count → d ≢ n.me → IsShut (log_at n.logs d) (length h) (most_released n.limits.durable c' n.me d) (sent_by c.handlers n.me h d)
+  gates : (d : ℕ) → d ≤ c.world.count → d ≢ n.me → IsShut (log_at n.logs d) (length h) (most_released n.limits.durable c' n.me d) (sent_by c.world.handlers n.me h d)
   gates d l o =
       let g = s.gates d l o in
       record { within = g.within; waits = λ k m. omega (arith, leading-bound k (log_at n.logs d).held, g.within, most-is n.limits.durable d, sent-size n c n.me d s l o) }
 
-  free : (durable : Bool) (d : ℕ) → sent_by c.handlers n.me h d (freed_in durable c' n.me) ≤ c'.released n.me d
+  free : (durable : Bool) (d : ℕ) → sent_by c.world.handlers n.me h d (freed_in durable c' n.me) ≤ c'.world.released n.me d
   free true d = omega (arith, all-saved d, released-is d)
   free false d =
       let run : run_to all (length h) ≡ length h = run_to-whole all (length h) (λ m a b. grind (arith, nat_tests)) in
-      let e : sent_by c.handlers n.me h d (run_to (c'.acknowledged n.me) (length h)) ≡ length (c.handlers.sends n.me h d) =
-      ap (λ (a : ℕ → Bool). sent_by c.handlers n.me h d (run_to a (length h))) acknowledged-is ∙ ap (sent_by c.handlers n.me h d) run ∙ ap (λ (l : List Message). length (c.handlers.sends n.me l d)) (take_all (length h) h (omega arith)) in
+      let e : sent_by c.world.handlers n.me h d (run_to (c'.world.acknowledged n.me) (length h)) ≡ length (c.world.handlers.sends n.me h d) =
+      ap (λ (a : ℕ → Bool). sent_by c.world.handlers n.me h d (run_to a (length h))) acknowledged-is ∙ ap (sent_by c.world.handlers n.me h d) run ∙ ap (λ (l : List Message). length (c.world.handlers.sends n.me l d)) (take_all (length h) h (omega arith)) in
       omega (arith, e, released-is d)
 
   may-keep : May c (Keeps n.me)
@@ -193,7 +193,7 @@ module _ (n : TheNode) (c : Cluster) (s : Stands n c n.me) (wait : n.frozen ≡ 
           works = s.works;
           life = s.life;
           state = s.state;
-          saved = at-itself n.me (λ b. (if b then length h else c.saved n.me) ≡ (thawed n).base) many;
+          saved = at-itself n.me (λ b. (if b then length h else c.world.saved n.me) ≡ (thawed n).base) many;
           received = subst (HasReceived n.count (thawed n).base (thawed n).covered (thawed n).receipts h) (sym acknowledged-is) received;
           waits = none-waits;
           logs = s.logs;

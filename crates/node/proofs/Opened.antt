@@ -101,8 +101,8 @@ module _ (limits : Limits) (me count : ℕ) (state : List ℕ) (allowed : AreAll
         (record {
           count = refl;
           handlers = refl;
-          saved = at-itself me (λ b. (if b then length (c.history me) else c.saved me) ≡ 0) refl;
-          saved_trims = λ r. at-itself me (λ b. (if b then c.trims me else c.saved_trims me) r ≡ 0) refl;
+          saved = at-itself me (λ b. (if b then length (c.world.history me) else c.world.saved me) ≡ 0) refl;
+          saved_trims = λ r. at-itself me (λ b. (if b then c.world.trims me else c.world.saved_trims me) r ≡ 0) refl;
           history = λ l. (refl, l);
         })
         (kept-of n opened-within waits stands-resting)

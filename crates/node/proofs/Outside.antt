@@ -9,7 +9,7 @@ use Rattle.world.specs.Plan.{first_below, logged_as}
 use Rattle.world.specs.Calls.{peers}
 use Rattle.world.specs.Phases.{Replaying}
 use Rattle.cluster.specs.Parcels.{Body, Delivery, Number, Acknowledgement, Ask, Told, Resume, Restored, Saved, Parcel, In, parcel}
-use Rattle.cluster.specs.Cluster.{Cluster, Collected, seen}
+use Rattle.cluster.specs.Cluster.{Cluster, Collected}
 use Rattle.cluster.specs.Rules.{Act, Input, Puts, Arrives, Replays, Recovers, May, MayPut, entry_of, does, after_run, goes_on, taken_back}
 use Rattle.node.specs.Stands.{Each, actor}
 use Rattle.node.specs.Runs.{IsGateway}
@@ -17,19 +17,19 @@ use Rattle.node.proofs.Beside.{Same, same}
 
 -- the gateway of c has what that of g has, and all that was put out in g was put out in c
 pub record SameOutside (g c : Cluster) : Type 0 where
-  pub count : g.count ≡ c.count
-  pub handlers : g.handlers ≡ c.handlers
+  pub count : g.world.count ≡ c.world.count
+  pub handlers : g.world.handlers ≡ c.world.handlers
   pub stage : g.stage 0 ≡ c.stage 0
   pub greeted : g.greeted 0 ≡ c.greeted 0
-  pub phase : g.phase 0 ≡ c.phase 0
-  pub life : g.life 0 ≡ c.life 0
-  pub history : g.history 0 ≡ c.history 0
-  pub trims : (k : ℕ) → g.trims 0 k ≡ c.trims 0 k
-  pub numbers : (k : ℕ) → g.numbers 0 k ≡ c.numbers 0 k
+  pub phase : g.world.phase 0 ≡ c.world.phase 0
+  pub life : g.world.incarnation 0 ≡ c.world.incarnation 0
+  pub history : g.world.history 0 ≡ c.world.history 0
+  pub trims : (k : ℕ) → g.world.trims 0 k ≡ c.world.trims 0 k
+  pub numbers : (k : ℕ) → g.world.numbers 0 k ≡ c.world.numbers 0 k
   pub heard : (k : ℕ) → g.heard 0 k ≡ c.heard 0 k
   pub resumed : (k : ℕ) → g.resumed 0 k ≡ c.resumed 0 k
-  pub inputs : (k : ℕ) → g.inputs k ≡ c.inputs k
-  pub shown : g.shown ≡ c.shown
+  pub inputs : (k : ℕ) → g.world.inputs k ≡ c.world.inputs k
+  pub shown : g.world.shown ≡ c.world.shown
   pub parcels : (x : Parcel) → In x g.parcels → In x c.parcels
 
 pub outside-self : (c : Cluster) → SameOutside c c
@@ -37,22 +37,22 @@ outside-self c = record { count = refl; handlers = refl; stage = refl; greeted =
 
 -- what acts of nodes leave of the gateway, besides what they leave of each other
 record Left (c d : Cluster) : Type 0 where
-  inputs : (k : ℕ) → c.inputs k ≡ d.inputs k
-  shown : c.shown ≡ d.shown
+  inputs : (k : ℕ) → c.world.inputs k ≡ d.world.inputs k
+  shown : c.world.shown ≡ d.world.shown
 
 left : (c : Cluster) (a : Act) → (0 == actor a) ≡ false → Left c (does c a)
 left c (Input d x) e = absurd (cc)
 left c (Arrives q zero x) e = absurd (cc)
 left c (Arrives r (suc q) (Restored i j n s (Some u) f)) e = record { inputs = λ k. refl; shown = refl }
 left c (Arrives zero (suc q) (Restored i j n s None f)) e = record { inputs = λ k. refl; shown = refl }
-left c (Replays q j) e = by_end (nat_lt (c.saved q + suc j) (length (c.history q)))
+left c (Replays q j) e = by_end (nat_lt (c.world.saved q + suc j) (length (c.world.history q)))
   where
-    by_end : (b : Bool) → Left c (if b then record c { phase = put c.phase q (Replaying (suc j) false false) } else goes_on c q (peers (seen c) q false))
+    by_end : (b : Bool) → Left c (if b then record c { world = record c.world { phase = put c.world.phase q (Replaying (suc j) false false) } } else goes_on c q (peers c.world q false))
     by_end true = record { inputs = λ k. refl; shown = refl }
     by_end false = record { inputs = λ k. refl; shown = refl }
-left c (Recovers q k) e = by_end (nat_lt (c.saved q) k)
+left c (Recovers q k) e = by_end (nat_lt (c.world.saved q) k)
   where
-    by_end : (b : Bool) → Left c (if b then record (taken_back c q k) { phase = put c.phase q (Replaying 0 false false) } else goes_on (taken_back c q k) q (peers (seen c) q false))
+    by_end : (b : Bool) → Left c (if b then record (taken_back c q k) { world = record (taken_back c q k).world { phase = put c.world.phase q (Replaying 0 false false) } } else goes_on (taken_back c q k) q (peers c.world q false))
     by_end true = record { inputs = λ k. refl; shown = refl }
     by_end false = record { inputs = λ k. refl; shown = refl }
 left c act e = record { inputs = λ k. refl; shown = refl }
@@ -97,9 +97,9 @@ first-same f g (suc n) e = rw (first-same f g n e, e n) refl
 -- its log has the same entries
 entry-same : (g c : Cluster) → SameOutside g c → (d m : ℕ) → entry_of g 0 d m ≡ entry_of c 0 d m
 entry-same g c e d m =
-    let logged : (i : ℕ) → logged_as (seen g) d m 0 i ≡ logged_as (seen c) d m 0 i = λ i. rw (e.phase, e.trims d, e.inputs d, e.numbers d) refl in
-    first-same (logged_as (seen g) d m 0) (logged_as (seen c) d m 0) (suc (length (g.inputs d))) logged
-    ∙ ap (λ (xs : List Payload). first_below (logged_as (seen c) d m 0) (suc (length xs))) (e.inputs d)
+    let logged : (i : ℕ) → logged_as g.world d m 0 i ≡ logged_as c.world d m 0 i = λ i. rw (e.phase, e.trims d, e.inputs d, e.numbers d) refl in
+    first-same (logged_as g.world d m 0) (logged_as c.world d m 0) (suc (length (g.world.inputs d))) logged
+    ∙ ap (λ (xs : List Payload). first_below (logged_as c.world d m 0) (suc (length xs))) (e.inputs d)
 
 -- what the gateway may put out by what it sees, it may
 may-put : (g c : Cluster) → SameOutside g c → (d : ℕ) (x : Body) → IsGateway (Puts 0 d x) → MayPut g 0 d x → MayPut c 0 d x
@@ -127,8 +127,8 @@ outside-with : (g c : Cluster) {trims_g trims_c : ℕ → ℕ → ℕ} {numbers_
     {inputs_g inputs_c : ℕ → List Payload} {shown_g shown_c : List Message} {parcels_g parcels_c : List Parcel} → SameOutside g c
     → ((k : ℕ) → trims_g 0 k ≡ trims_c 0 k) → ((k : ℕ) → numbers_g 0 k ≡ numbers_c 0 k) → ((k : ℕ) → heard_g 0 k ≡ heard_c 0 k) → ((k : ℕ) → resumed_g 0 k ≡ resumed_c 0 k)
     → ((k : ℕ) → inputs_g k ≡ inputs_c k) → shown_g ≡ shown_c → ((x : Parcel) → In x parcels_g → In x parcels_c)
-    → SameOutside (record g { trims = trims_g; numbers = numbers_g; heard = heard_g; resumed = resumed_g; told = told_g; inputs = inputs_g; shown = shown_g; parcels = parcels_g })
-    (record c { trims = trims_c; numbers = numbers_c; heard = heard_c; resumed = resumed_c; told = told_c; inputs = inputs_c; shown = shown_c; parcels = parcels_c })
+    → SameOutside (record g { heard = heard_g; resumed = resumed_g; told = told_g; parcels = parcels_g; world = record g.world { trims = trims_g; numbers = numbers_g; inputs = inputs_g; shown = shown_g } })
+    (record c { heard = heard_c; resumed = resumed_c; told = told_c; parcels = parcels_c; world = record c.world { trims = trims_c; numbers = numbers_c; inputs = inputs_c; shown = shown_c } })
 outside-with g c e trims numbers heard resumed inputs shown parcels =
     record {
       count = e.count;

@@ -15,7 +15,7 @@ use Rattle.world.specs.World.{put}
 use Rattle.world.specs.Phases.{Replaying}
 use Rattle.world.specs.Calls.{peers}
 use Rattle.cluster.specs.Parcels.{Delivery, Restored}
-use Rattle.cluster.specs.Cluster.{Cluster, seen}
+use Rattle.cluster.specs.Cluster.{Cluster}
 use Rattle.cluster.specs.Rules.{Act, Arrives, Works, Replays, Recovers, Keeps, does, told_by, kept_by, goes_on, taken_back}
 use Rattle.cluster.proofs.Growth.{plan-begins}
 use Rattle.packets.specs.declared.kept.Kept.{Kept}
@@ -172,29 +172,29 @@ module _ (n : TheNode) (w : Within n) where
 
   module _ (c : Cluster) (s : Stands (resting n) c n.me) where
     abbrev h : List Message
-    h = c.history n.me
+    h = c.world.history n.me
 
     abbrev durable : Cluster
     durable = does c (Keeps n.me)
 
     many : length h ≡ k.length
-    many = long n.count n.base n.covered n.receipts h (c.acknowledged n.me) s.received
+    many = long n.count n.base n.covered n.receipts h (c.world.acknowledged n.me) s.received
 
     whole : take k.length h ≡ h
     whole = take_all k.length h (omega (arith, many))
 
-    counts-are : (q : ℕ) → q ≤ c.count → slice_index_or counts q 0 ≡ count_of q h
+    counts-are : (q : ℕ) → q ≤ c.world.count → slice_index_or counts q 0 ≡ count_of q h
     counts-are q l =
         let inside : q < length n.covered = omega (arith, w.wide, l, s.count) in
         let low : q ≤ n.count = omega (arith, l, s.count) in
         counts-at 0 q n.receipts n.covered inside ∙ ap (λ z. slice_index_or n.covered q 0 + length (numbers_of z n.receipts)) (let e : 0 + q ≡ q = omega arith in e) ∙ counted (resting n) c n.me q s low
 
-    logs-are : (d : ℕ) → d ≤ c.count → d ≢ n.me → KeepsOf (queue_of (log_of (log_at n.logs d))) (durable.saved_trims n.me d) (c.handlers.sends n.me h d) (λ _. None)
+    logs-are : (d : ℕ) → d ≤ c.world.count → d ≢ n.me → KeepsOf (queue_of (log_of (log_at n.logs d))) (durable.world.saved_trims n.me d) (c.world.handlers.sends n.me h d) (λ _. None)
     logs-are d low apart =
         let r = s.logs d low apart in
         let q : TheQueue = log_at n.logs d in
         let again : q.dropped + 1 - 1 ≡ q.dropped = omega arith in
-        let trims : durable.saved_trims n.me d ≡ c.trims n.me d = at-itself n.me (λ b. (if b then c.trims n.me else c.saved_trims n.me) d ≡ c.trims n.me d) refl in
+        let trims : durable.world.saved_trims n.me d ≡ c.world.trims n.me d = at-itself n.me (λ b. (if b then c.world.trims n.me else c.world.saved_trims n.me) d ≡ c.world.trims n.me d) refl in
         record {
           before = r.before;
           many = r.many ∙ sym again;
@@ -210,9 +210,9 @@ module _ (n : TheNode) (w : Within n) where
         record {
           me = refl;
           count = s.count;
-          saved = at-itself n.me (λ b. (if b then length h else c.saved n.me) ≡ k.length) many;
+          saved = at-itself n.me (λ b. (if b then length h else c.world.saved n.me) ≡ k.length) many;
           many = omega (arith, many);
-          state = ap (c.handlers.state n.me) whole ∙ s.state;
+          state = ap (c.world.handlers.state n.me) whole ∙ s.state;
           counts = λ q l. ap (λ xs. slice_index_or xs q 0) counts-again ∙ counts-are q l ∙ ap (count_of q) (sym whole);
           logs = λ d l o. rw (log-again d (omega (arith, l, s.count)) o, whole) (logs-are d l o);
         }
@@ -230,25 +230,25 @@ resting-stands n c wait s =
 
 -- of p the cluster d has the checkpoint of c, and the messages that it covers
 pub record SameKept (c d : Cluster) (p : ℕ) : Type 0 where
-  pub count : c.count ≡ d.count
-  pub handlers : c.handlers ≡ d.handlers
-  pub saved : c.saved p ≡ d.saved p
-  pub saved_trims : (r : ℕ) → c.saved_trims p r ≡ d.saved_trims p r
-  pub history : c.saved p ≤ length (c.history p) → (take (c.saved p) (d.history p) ≡ take (c.saved p) (c.history p)) × (c.saved p ≤ length (d.history p))
+  pub count : c.world.count ≡ d.world.count
+  pub handlers : c.world.handlers ≡ d.world.handlers
+  pub saved : c.world.saved p ≡ d.world.saved p
+  pub saved_trims : (r : ℕ) → c.world.saved_trims p r ≡ d.world.saved_trims p r
+  pub history : c.world.saved p ≤ length (c.world.history p) → (take (c.world.saved p) (d.world.history p) ≡ take (c.world.saved p) (c.world.history p)) × (c.world.saved p ≤ length (d.world.history p))
 
-holds : {c d : Cluster} {p : ℕ} → c.count ≡ d.count → c.handlers ≡ d.handlers → c.saved p ≡ d.saved p → ((r : ℕ) → c.saved_trims p r ≡ d.saved_trims p r)
-    → (c.saved p ≤ length (c.history p) → (take (c.saved p) (d.history p) ≡ take (c.saved p) (c.history p)) × (c.saved p ≤ length (d.history p))) → SameKept c d p
+holds : {c d : Cluster} {p : ℕ} → c.world.count ≡ d.world.count → c.world.handlers ≡ d.world.handlers → c.world.saved p ≡ d.world.saved p → ((r : ℕ) → c.world.saved_trims p r ≡ d.world.saved_trims p r)
+    → (c.world.saved p ≤ length (c.world.history p) → (take (c.world.saved p) (d.world.history p) ≡ take (c.world.saved p) (c.world.history p)) × (c.world.saved p ≤ length (d.world.history p))) → SameKept c d p
 holds a b e f g = record { count = a; handlers = b; saved = e; saved_trims = f; history = g }
 
 apart-from : (p q : ℕ) → q ≢ p → (p == q) ≡ false
 apart-from p q e = let f : p ≢ q = (λ g. e (sym g)) in grind (arith, nat_tests)
 
 -- a message more
-works : (c : Cluster) (p q : ℕ) (m : Message) → c.saved p ≤ length (c.history p)
-    → (take (c.saved p) (if p == q then c.history q ++ m ∷ [] else c.history p) ≡ take (c.saved p) (c.history p)) × (c.saved p ≤ length (if p == q then c.history q ++ m ∷ [] else c.history p))
+works : (c : Cluster) (p q : ℕ) (m : Message) → c.world.saved p ≤ length (c.world.history p)
+    → (take (c.world.saved p) (if p == q then c.world.history q ++ m ∷ [] else c.world.history p) ≡ take (c.world.saved p) (c.world.history p)) × (c.world.saved p ≤ length (if p == q then c.world.history q ++ m ∷ [] else c.world.history p))
 works c p q m = choose q
-    (λ j t. c.saved j ≤ length (c.history j) → (take (c.saved j) (if t then c.history q ++ m ∷ [] else c.history j) ≡ take (c.saved j) (c.history j)) × (c.saved j ≤ length (if t then c.history q ++ m ∷ [] else c.history j)))
-    (λ l. (take-push (c.history q) (m ∷ []) (c.saved q) l, more (c.history q) m (c.saved q) l)) (λ j o l. (refl, l)) p
+    (λ j t. c.world.saved j ≤ length (c.world.history j) → (take (c.world.saved j) (if t then c.world.history q ++ m ∷ [] else c.world.history j) ≡ take (c.world.saved j) (c.world.history j)) × (c.world.saved j ≤ length (if t then c.world.history q ++ m ∷ [] else c.world.history j)))
+    (λ l. (take-push (c.world.history q) (m ∷ []) (c.world.saved q) l, more (c.world.history q) m (c.world.saved q) l)) (λ j o l. (refl, l)) p
   where
     more : (g : List Message) (x : Message) (i : ℕ) → i ≤ length g → i ≤ length (g ++ x ∷ [])
     more [] x i l = omega (arith, l)
@@ -261,18 +261,18 @@ at-least (x ∷ xs) ys [] e = absurd (cc)
 at-least (x ∷ xs) ys (z ∷ zs) e = let f : xs ++ ys ≡ zs = (cc) in omega (arith, at-least xs ys zs f)
 
 -- a recovery keeps what the checkpoint covers
-recovers : (c : Cluster) (p q j : ℕ) → c.saved p ≤ length (c.history p)
-    → (take (c.saved p) (if p == q then kept_by c q j else c.history p) ≡ take (c.saved p) (c.history p)) × (c.saved p ≤ length (if p == q then kept_by c q j else c.history p))
+recovers : (c : Cluster) (p q j : ℕ) → c.world.saved p ≤ length (c.world.history p)
+    → (take (c.world.saved p) (if p == q then kept_by c q j else c.world.history p) ≡ take (c.world.saved p) (c.world.history p)) × (c.world.saved p ≤ length (if p == q then kept_by c q j else c.world.history p))
 recovers c p q j = choose q
-    (λ i t. c.saved i ≤ length (c.history i) → (take (c.saved i) (if t then kept_by c q j else c.history i) ≡ take (c.saved i) (c.history i)) × (c.saved i ≤ length (if t then kept_by c q j else c.history i)))
+    (λ i t. c.world.saved i ≤ length (c.world.history i) → (take (c.world.saved i) (if t then kept_by c q j else c.world.history i) ≡ take (c.world.saved i) (c.world.history i)) × (c.world.saved i ≤ length (if t then kept_by c q j else c.world.history i)))
     here (λ i o l. (refl, l)) p
   where
-    here : c.saved q ≤ length (c.history q) → (take (c.saved q) (kept_by c q j) ≡ take (c.saved q) (c.history q)) × (c.saved q ≤ length (kept_by c q j))
+    here : c.world.saved q ≤ length (c.world.history q) → (take (c.world.saved q) (kept_by c q j) ≡ take (c.world.saved q) (c.world.history q)) × (c.world.saved q ≤ length (kept_by c q j))
     here l =
-        let first : List Message = take (c.saved q) (c.history q) in
-        let size : length first ≡ c.saved q = take-length (c.history q) (c.saved q) l in
-        let begins : Begins first (kept_by c q j) = plan-begins (told_by c q) first (j - c.saved q) in (
-          begins-take first (kept_by c q j) begins (c.saved q) (omega (arith, size)) ∙ take-take (c.history q) (c.saved q) (c.saved q) (omega arith),
+        let first : List Message = take (c.world.saved q) (c.world.history q) in
+        let size : length first ≡ c.world.saved q = take-length (c.world.history q) (c.world.saved q) l in
+        let begins : Begins first (kept_by c q j) = plan-begins (told_by c q) first (j - c.world.saved q) in (
+          begins-take first (kept_by c q j) begins (c.world.saved q) (omega (arith, size)) ∙ take-take (c.world.history q) (c.world.saved q) (c.world.saved q) (omega arith),
           subst (λ n. n ≤ length (kept_by c q j)) size (at-least first begins.0 (kept_by c q j) begins.1),
         )
 
@@ -280,14 +280,14 @@ kept-same : (c : Cluster) (p : ℕ) (a : Act) → a ≢ Keeps p → SameKept c (
 kept-same c p (Arrives q r (Restored i j n s (Some u) f)) other = holds refl refl refl (λ r. refl) (λ l. (refl, l))
 kept-same c p (Arrives q zero (Delivery i ssn x)) other = holds refl refl refl (λ r. refl) (λ l. (refl, l))
 kept-same c p (Works q m) other = holds refl refl refl (λ r. refl) (works c p q m)
-kept-same c p (Replays q j) other = by_end (nat_lt (c.saved q + suc j) (length (c.history q)))
+kept-same c p (Replays q j) other = by_end (nat_lt (c.world.saved q + suc j) (length (c.world.history q)))
   where
-    by_end : (b : Bool) → SameKept c (if b then record c { phase = put c.phase q (Replaying (suc j) false false) } else goes_on c q (peers (seen c) q false)) p
+    by_end : (b : Bool) → SameKept c (if b then record c { world = record c.world { phase = put c.world.phase q (Replaying (suc j) false false) } } else goes_on c q (peers c.world q false)) p
     by_end true = holds refl refl refl (λ r. refl) (λ l. (refl, l))
     by_end false = holds refl refl refl (λ r. refl) (λ l. (refl, l))
-kept-same c p (Recovers q j) other = by_end (nat_lt (c.saved q) j)
+kept-same c p (Recovers q j) other = by_end (nat_lt (c.world.saved q) j)
   where
-    by_end : (b : Bool) → SameKept c (if b then record (taken_back c q j) { phase = put c.phase q (Replaying 0 false false) } else goes_on (taken_back c q j) q (peers (seen c) q false)) p
+    by_end : (b : Bool) → SameKept c (if b then record (taken_back c q j) { world = record (taken_back c q j).world { phase = put c.world.phase q (Replaying 0 false false) } } else goes_on (taken_back c q j) q (peers c.world q false)) p
     by_end true = holds refl refl refl (λ r. refl) (recovers c p q j)
     by_end false = holds refl refl refl (λ r. refl) (recovers c p q j)
 kept-same c p (Arrives zero q (Restored i j n s None f)) other = holds refl refl refl (λ r. refl) (λ l. (refl, l))
@@ -296,9 +296,9 @@ kept-same c p act other = holds refl refl refl (λ r. refl) (λ l. (refl, l))
 
 pub kept-still : (k : Kept) (c d : Cluster) (p : ℕ) → SameKept c d p → IsKeptOf k c p → IsKeptOf k d p
 kept-still k c d p e s =
-    let within : c.saved p ≤ length (c.history p) = omega (arith, s.saved, s.many) in
+    let within : c.world.saved p ≤ length (c.world.history p) = omega (arith, s.saved, s.many) in
     let h = e.history within in
-    let first : take k.length (d.history p) ≡ take k.length (c.history p) = (let P : ℕ → Type 0 = λ n. take n (d.history p) ≡ take n (c.history p) in subst P s.saved h.0) in
+    let first : take k.length (d.world.history p) ≡ take k.length (c.world.history p) = (let P : ℕ → Type 0 = λ n. take n (d.world.history p) ≡ take n (c.world.history p) in subst P s.saved h.0) in
     record {
       me = s.me;
       count = s.count ∙ e.count;

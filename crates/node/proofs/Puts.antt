@@ -18,7 +18,7 @@ up-with : (o : Option OpenJob) → is_up (phase_of o) ≡ true
 up-with None = refl
 up-with (Some j) = refl
 
-pub is-up : (n : TheNode) (c : Cluster) (p : ℕ) → Stands n c p → is_up (c.phase p) ≡ true
+pub is-up : (n : TheNode) (c : Cluster) (p : ℕ) → Stands n c p → is_up (c.world.phase p) ≡ true
 is-up n c p s = ap is_up s.phase ∙ up-with n.working
 
 pub stands-takes : (n : TheNode) (c : Cluster) (p : ℕ) → n.frozen ≡ false → Stands n c p → takes c p ≡ true
@@ -33,21 +33,21 @@ pub stands-well : (n : TheNode) (c : Cluster) (p : ℕ) → Stands n c p → is_
 stands-well n c p s = rw (s.stage, runs-with n.frozen, s.greeted, is-up n c p s) refl
 
 -- a packet that was put out still is among more parcels
-pub put-still : (c d : Cluster) (p : ℕ) (x : NodePacket) → c.count ≡ d.count → ((b : Body) → In (parcel p x.to b) c.parcels → In (parcel p x.to b) d.parcels) → PutOut c.count c.parcels p x → PutOut d.count d.parcels p x
+pub put-still : (c d : Cluster) (p : ℕ) (x : NodePacket) → c.world.count ≡ d.world.count → ((b : Body) → In (parcel p x.to b) c.parcels → In (parcel p x.to b) d.parcels) → PutOut c.world.count c.parcels p x → PutOut d.world.count d.parcels p x
 put-still c d p x same more s = record { count_is = s.count_is ∙ same; from = s.from; said = (s.said.0, s.said.1, more s.said.0 s.said.2) }
 
 -- it stands in the cluster in which the packet is put out
 pub stands-posted : (n : TheNode) (c : Cluster) (p to : ℕ) (x : bodies.Body) (b : Body) → Says p x b → Stands n c p → Stands (posts to x n) (does c (Puts p to b)) p
 stands-posted n c p to x b says s =
     stands-with n c p s s.logs s.gates s.heard s.resumed
-    (all-pushed (PutOut c.count (parcel p to b ∷ c.parcels) p) n.out (packet_of n to x)
-    (all-more (PutOut c.count c.parcels p) (PutOut c.count (parcel p to b ∷ c.parcels) p) n.out (λ o. put-still c (does c (Puts p to b)) p o refl (λ y i. inr i)) s.out)
+    (all-pushed (PutOut c.world.count (parcel p to b ∷ c.parcels) p) n.out (packet_of n to x)
+    (all-more (PutOut c.world.count c.parcels p) (PutOut c.world.count (parcel p to b ∷ c.parcels) p) n.out (λ o. put-still c (does c (Puts p to b)) p o refl (λ y i. inr i)) s.out)
     (record { count_is = s.count; from = s.me; said = (b, says, inl refl) }))
 
 -- to put out what the cluster lets it
 pub posted : (n : TheNode) (c : Cluster) (to : ℕ) (x : bodies.Body) (b : Body) → Says n.me x b → Stands n c n.me → to ≤ n.count → to ≢ n.me → MayPut c n.me to b → GoesOn n.me (posts to x n) c
 posted n c to x b says s low other may =
-    let within : to ≤ c.count = omega (arith, low, s.count) in
+    let within : to ≤ c.world.count = omega (arith, low, s.count) in
     record {
       acts = Puts n.me to b ∷ [];
       run = ((s.inside.1, within, (λ e. other (sym e)), may), tt);

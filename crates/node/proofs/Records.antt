@@ -11,7 +11,7 @@ use Rattle.theorems.proofs.Changes.{at-itself}
 use Rattle.theorems.proofs.PhaseLemmas.{up-length}
 use Rattle.theorems.proofs.Tests.{both}
 use Rattle.cluster.specs.Parcels.{Number, Acknowledgement, In, parcel}
-use Rattle.cluster.specs.Cluster.{Cluster, seen}
+use Rattle.cluster.specs.Cluster.{Cluster}
 use Rattle.cluster.specs.Rules.{Act, Arrives, May, does}
 use Rattle.packets.specs.declared.packet.Body.TheVariants as packets
 use Rattle.node.specs.Queue.{TheQueue, recorded, is_kept}
@@ -23,15 +23,15 @@ use Rattle.node.proofs.Puts.{stands-takes, is-up, put-still}
 use Rattle.node.proofs.StandsLemmas.{stands-with}
 
 -- what it sent, as the rules tell it
-pub sent-is : (n : TheNode) (c : Cluster) (p d : ℕ) → Stands n c p → sent (seen c) p d ≡ c.handlers.sends p (c.history p) d
+pub sent-is : (n : TheNode) (c : Cluster) (p d : ℕ) → Stands n c p → sent c.world p d ≡ c.world.handlers.sends p (c.world.history p) d
 sent-is n c p d s =
     let inner : (p == 0) ≡ false = (let z : 0 < p = s.inside.0 in grind (arith, nat_tests)) in
-    let many : length_of (seen c) p ≡ length (c.history p) = up-length (c.phase p) (is-up n c p s) (c.history p) (c.saved p) in
-    let e : take (length_of (seen c) p) (c.history p) ≡ c.history p = ap (λ k. take k (c.history p)) many ∙ take_all (length (c.history p)) (c.history p) (omega arith) in
-    rw inner (ap (λ h. c.handlers.sends p h d) e)
+    let many : length_of c.world p ≡ length (c.world.history p) = up-length (c.world.phase p) (is-up n c p s) (c.world.history p) (c.world.saved p) in
+    let e : take (length_of c.world p) (c.world.history p) ≡ c.world.history p = ap (λ k. take k (c.world.history p)) many ∙ take_all (length (c.world.history p)) (c.world.history p) (omega arith) in
+    rw inner (ap (λ h. c.world.handlers.sends p h d) e)
 
 -- how much it sent
-pub sent-size : (n : TheNode) (c : Cluster) (p d : ℕ) → Stands n c p → d ≤ c.count → d ≢ p → length (c.handlers.sends p (c.history p) d) ≡ (log_at n.logs d).dropped + length (log_at n.logs d).payloads
+pub sent-size : (n : TheNode) (c : Cluster) (p d : ℕ) → Stands n c p → d ≤ c.world.count → d ≢ p → length (c.world.handlers.sends p (c.world.history p) d) ≡ (log_at n.logs d).dropped + length (log_at n.logs d).payloads
 sent-size n c p d s low other =
     let k = s.logs d low other in
     ap length (sym k.joined) ∙ length-append k.before (log_at n.logs d).payloads ∙ ap (λ z. z + length (log_at n.logs d).payloads) k.many
@@ -42,15 +42,15 @@ up-lives (Busy m) e = refl
 up-lives other e = absurd (cc)
 
 -- what a queue keeps is an entry
-pub entry-is : (n : TheNode) (c : Cluster) (p d ssn : ℕ) → Stands n c p → d ≤ c.count → d ≢ p → is_kept ssn (log_at n.logs d) ≡ true → is_entry (seen c) p d ssn ≡ true
+pub entry-is : (n : TheNode) (c : Cluster) (p d ssn : ℕ) → Stands n c p → d ≤ c.world.count → d ≢ p → is_kept ssn (log_at n.logs d) ≡ true → is_entry c.world p d ssn ≡ true
 entry-is n c p d ssn s low other kept =
     let q = log_at n.logs d in
     let k = s.logs d low other in
     let two = both (nat_lt q.dropped ssn) (nat_le ssn (q.dropped + length q.payloads)) kept in
-    let live : is_down (c.phase p) ≡ false = up-lives (c.phase p) (is-up n c p s) in
-    let many : length (sent (seen c) p d) ≡ q.dropped + length q.payloads = ap length (sent-is n c p d s) ∙ ap length (sym k.joined) ∙ length-append k.before q.payloads ∙ ap (λ z. z + length q.payloads) k.many in
-    let above : nat_lt (c.trims p d) ssn ≡ true = ap (λ z. nat_lt z ssn) k.dropped_is ∙ two.0 in
-    let within : nat_le ssn (length (sent (seen c) p d)) ≡ true = ap (nat_le ssn) many ∙ two.1 in
+    let live : is_down (c.world.phase p) ≡ false = up-lives (c.world.phase p) (is-up n c p s) in
+    let many : length (sent c.world p d) ≡ q.dropped + length q.payloads = ap length (sent-is n c p d s) ∙ ap length (sym k.joined) ∙ length-append k.before q.payloads ∙ ap (λ z. z + length q.payloads) k.many in
+    let above : nat_lt (c.world.trims p d) ssn ≡ true = ap (λ z. nat_lt z ssn) k.dropped_is ∙ two.0 in
+    let within : nat_le ssn (length (sent c.world p d)) ≡ true = ap (nat_le ssn) many ∙ two.1 in
     rw (live, above, within) refl
 
 -- a queue one of whose messages gets a number
@@ -84,7 +84,7 @@ kept-numbered q dropped xs numbers ssn k kept s =
     past i l true e = absurd (let f : i ≡ ssn = grind (arith, nat_tests) in omega (arith, within))
     past i l false e = s.beyond i l
 
-module _ (n : TheNode) (c : Cluster) (r i ssn k : ℕ) (s : Stands n c n.me) (low : r ≤ c.count) (other : r ≢ n.me) (given : In (parcel r n.me (Number i ssn k)) c.parcels) (heard : i ≡ slice_index_or n.heard r 0) (wide : r < length n.logs) (live : n.frozen ≡ false) (kept : is_kept ssn (log_at n.logs r) ≡ true) where
+module _ (n : TheNode) (c : Cluster) (r i ssn k : ℕ) (s : Stands n c n.me) (low : r ≤ c.world.count) (other : r ≢ n.me) (given : In (parcel r n.me (Number i ssn k)) c.parcels) (heard : i ≡ slice_index_or n.heard r 0) (wide : r < length n.logs) (live : n.frozen ≡ false) (kept : is_kept ssn (log_at n.logs r) ≡ true) where
   abbrev act : Act
   act = Arrives r n.me (Number i ssn k)
 
@@ -94,30 +94,30 @@ module _ (n : TheNode) (c : Cluster) (r i ssn k : ℕ) (s : Stands n c n.me) (lo
   may : May c act
   may = (given, (stands-takes n c n.me live s, heard ∙ sym (s.heard r low), entry-is n c n.me r ssn s low other kept))
 
-  logs : (d : ℕ) → d ≤ c.count → d ≢ n.me → KeepsOf (log_at (slice_set n.logs r (recorded ssn k (log_at n.logs r))) d) (c.trims n.me d) (c.handlers.sends n.me (c.history n.me) d) (c'.numbers n.me d)
-  logs d l o = at-itself n.me (λ t. KeepsOf (log_at (slice_set n.logs r (recorded ssn k (log_at n.logs r))) d) (c.trims n.me d) (c.handlers.sends n.me (c.history n.me) d) (if t && (d == r) then put (c.numbers n.me r) ssn (Some k) else c.numbers n.me d))
-      (changed-at (λ q. KeepsOf q (c.trims n.me d) (c.handlers.sends n.me (c.history n.me) d) (if d == r then put (c.numbers n.me r) ssn (Some k) else c.numbers n.me d)) n.logs r (recorded ssn k (log_at n.logs r)) d wide here there)
+  logs : (d : ℕ) → d ≤ c.world.count → d ≢ n.me → KeepsOf (log_at (slice_set n.logs r (recorded ssn k (log_at n.logs r))) d) (c.world.trims n.me d) (c.world.handlers.sends n.me (c.world.history n.me) d) (c'.world.numbers n.me d)
+  logs d l o = at-itself n.me (λ t. KeepsOf (log_at (slice_set n.logs r (recorded ssn k (log_at n.logs r))) d) (c.world.trims n.me d) (c.world.handlers.sends n.me (c.world.history n.me) d) (if t && (d == r) then put (c.world.numbers n.me r) ssn (Some k) else c.world.numbers n.me d))
+      (changed-at (λ q. KeepsOf q (c.world.trims n.me d) (c.world.handlers.sends n.me (c.world.history n.me) d) (if d == r then put (c.world.numbers n.me r) ssn (Some k) else c.world.numbers n.me d)) n.logs r (recorded ssn k (log_at n.logs r)) d wide here there)
     where
-      here : d ≡ r → KeepsOf (recorded ssn k (log_at n.logs r)) (c.trims n.me d) (c.handlers.sends n.me (c.history n.me) d) (if d == r then put (c.numbers n.me r) ssn (Some k) else c.numbers n.me d)
+      here : d ≡ r → KeepsOf (recorded ssn k (log_at n.logs r)) (c.world.trims n.me d) (c.world.handlers.sends n.me (c.world.history n.me) d) (if d == r then put (c.world.numbers n.me r) ssn (Some k) else c.world.numbers n.me d)
       here same =
           let e : (d == r) ≡ true = grind (arith, nat_tests) in
-          let P : ℕ → Type 0 = λ z. KeepsOf (recorded ssn k (log_at n.logs r)) (c.trims n.me z) (c.handlers.sends n.me (c.history n.me) z) (put (c.numbers n.me r) ssn (Some k)) in
-          rw e (subst P (sym same) (kept-numbered (log_at n.logs r) (c.trims n.me r) (c.handlers.sends n.me (c.history n.me) r) (c.numbers n.me r) ssn k kept (s.logs r low other)))
+          let P : ℕ → Type 0 = λ z. KeepsOf (recorded ssn k (log_at n.logs r)) (c.world.trims n.me z) (c.world.handlers.sends n.me (c.world.history n.me) z) (put (c.world.numbers n.me r) ssn (Some k)) in
+          rw e (subst P (sym same) (kept-numbered (log_at n.logs r) (c.world.trims n.me r) (c.world.handlers.sends n.me (c.world.history n.me) r) (c.world.numbers n.me r) ssn k kept (s.logs r low other)))
 
-      there : d ≢ r → KeepsOf (log_at n.logs d) (c.trims n.me d) (c.handlers.sends n.me (c.history n.me) d) (if d == r then put (c.numbers n.me r) ssn (Some k) else c.numbers n.me d)
+      there : d ≢ r → KeepsOf (log_at n.logs d) (c.world.trims n.me d) (c.world.handlers.sends n.me (c.world.history n.me) d) (if d == r then put (c.world.numbers n.me r) ssn (Some k) else c.world.numbers n.me d)
       there apart = let e : (d == r) ≡ false = grind (arith, nat_tests) in rw e (s.logs d l o)
 
-  gates : (d : ℕ) → d ≤ c.count → d ≢ n.me → IsShut (log_at (slice_set n.logs r (recorded ssn k (log_at n.logs r))) d) (length (c.history n.me)) (most_released n.limits.durable c n.me d) (sent_by c.handlers n.me (c.history n.me) d)
-  gates d l o = changed-at (λ q. IsShut q (length (c.history n.me)) (most_released n.limits.durable c n.me d) (sent_by c.handlers n.me (c.history n.me) d)) n.logs r (recorded ssn k (log_at n.logs r)) d wide
-      (λ same. let P : ℕ → Type 0 = λ z. IsShut (recorded ssn k (log_at n.logs z)) (length (c.history n.me)) (most_released n.limits.durable c n.me d) (sent_by c.handlers n.me (c.history n.me) d) in
+  gates : (d : ℕ) → d ≤ c.world.count → d ≢ n.me → IsShut (log_at (slice_set n.logs r (recorded ssn k (log_at n.logs r))) d) (length (c.world.history n.me)) (most_released n.limits.durable c n.me d) (sent_by c.world.handlers n.me (c.world.history n.me) d)
+  gates d l o = changed-at (λ q. IsShut q (length (c.world.history n.me)) (most_released n.limits.durable c n.me d) (sent_by c.world.handlers n.me (c.world.history n.me) d)) n.logs r (recorded ssn k (log_at n.logs r)) d wide
+      (λ same. let P : ℕ → Type 0 = λ z. IsShut (recorded ssn k (log_at n.logs z)) (length (c.world.history n.me)) (most_released n.limits.durable c n.me d) (sent_by c.world.handlers n.me (c.world.history n.me) d) in
       let g = s.gates d l o in subst P same (record { within = g.within; waits = g.waits }))
       (λ apart. s.gates d l o)
 
   stands-recorded : Stands (posts r (packets.Acknowledgement i k) (numbered r ssn k n)) c' n.me
   stands-recorded =
       stands-with n c n.me s logs gates s.heard s.resumed
-      (all-pushed (PutOut c.count c'.parcels n.me) n.out (packet_of n r (packets.Acknowledgement i k))
-      (all-more (PutOut c.count c.parcels n.me) (PutOut c.count c'.parcels n.me) n.out (λ o. put-still c c' n.me o refl (λ b z. inr z)) s.out)
+      (all-pushed (PutOut c.world.count c'.parcels n.me) n.out (packet_of n r (packets.Acknowledgement i k))
+      (all-more (PutOut c.world.count c.parcels n.me) (PutOut c.world.count c'.parcels n.me) n.out (λ o. put-still c c' n.me o refl (λ b z. inr z)) s.out)
       (record { count_is = s.count; from = refl; said = (Acknowledgement i k, refl, inl refl) }))
 
   goes-recorded : GoesOn n.me (posts r (packets.Acknowledgement i k) (numbered r ssn k n)) c

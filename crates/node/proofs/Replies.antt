@@ -49,7 +49,7 @@ ordered n d k = let q = log_at n.logs d in entries-ordered k q.dropped q.payload
 -- a page of its log it may tell to one of whose incarnation it has heard
 telling : (n : TheNode) (d i k : ℕ) → d ≤ n.count → d ≢ n.me → heard_of d n ≡ i → Acts n (posts d (told_of d i k n) n)
 telling n d i k low other heard c s u =
-    let within : d ≤ c.count = omega (arith, low, s.count) in
+    let within : d ≤ c.world.count = omega (arith, low, s.count) in
     let all : List LoggedMessage = entries_in k (log_at n.logs d) in
     let end : Option ℕ = told_end (flags_of (told_all d k n) false n.exact) k (told_page d k n) in
     posted n c d (told_of d i k n) (Told i n.life k end (entry_of c n.me d))
@@ -61,7 +61,7 @@ telling n d i k low other heard c s u =
 hearing : (n : TheNode) (d i k : ℕ) → n.frozen ≡ false → d ≤ n.count → d < length n.heard → d < length n.resumed → heard_of d n < i
     → Receives d (Ask i k) n (record n { heard = slice_set n.heard d i; resumed = slice_set n.resumed d false })
 hearing n d i k live low wide broad newer c s given =
-    let within : d ≤ c.count = omega (arith, low, s.count) in
+    let within : d ≤ c.world.count = omega (arith, low, s.count) in
     record {
       acts = Arrives d n.me (Ask i k) ∷ [];
       run = ((given, (omega (arith, s.heard d within, newer), inl (stands-takes n c n.me live s))), tt);
@@ -112,12 +112,12 @@ no-job (Some j) d m off e f =
 -- a page of what it received it may tell to one whose Resume it has obeyed
 restoring : (n : TheNode) (d i a : ℕ) → d ≤ n.count → d ≢ n.me → heard_of d n ≡ i → slice_index_or n.resumed d true ≡ true → works_for d n.working ≡ false → 0 < most_pairs n.limits.page → Acts n (posts d (restored_of d i a n) n)
 restoring n d i a low other heard obeyed free some c s u =
-    let within : d ≤ c.count = omega (arith, low, s.count) in
+    let within : d ≤ c.world.count = omega (arith, low, s.count) in
     let covered : ℕ = covered_of d n in
     let ks : List ℕ = numbers_of d n.receipts in
     let end : Option ℕ = restored_end (flags_of (restored_all d a n) false n.exact) a (take (most_pairs n.limits.page) (pairs_above d a n)) in
-    posted n c d (restored_of d i a n) (Restored i n.life covered a end (rsn_of (c.history n.me) d))
-    (rsn_of (c.history n.me) d, refl, λ ssn above behind reach. history-told n c d ssn s low behind ∙ pairs-told (most_pairs n.limits.page) some n.base covered a n.exact ks ssn above behind reach)
+    posted n c d (restored_of d i a n) (Restored i n.life covered a end (rsn_of (c.world.history n.me) d))
+    (rsn_of (c.world.history n.me) d, refl, λ ssn above behind reach. history-told n c d ssn s low behind ∙ pairs-told (most_pairs n.limits.page) some n.base covered a n.exact ks ssn above behind reach)
     s low other (
       stands-well n c n.me s,
       sym (s.heard d within ∙ heard),
@@ -162,25 +162,25 @@ obeying n d i k a live low other wide broad heard fresh free c s given =
           s.out;
     }
   where
-    within : d ≤ c.count
+    within : d ≤ c.world.count
     within = omega (arith, low, s.count)
 
-    here : (e : ℕ) → e ≡ d → KeepsOf (forgotten_above k (log_at n.logs d)) (c.trims n.me e) (c.handlers.sends n.me (c.history n.me) e) (if e == d then (λ (ssn : ℕ). up_to k (c.numbers n.me d ssn)) else c.numbers n.me e)
+    here : (e : ℕ) → e ≡ d → KeepsOf (forgotten_above k (log_at n.logs d)) (c.world.trims n.me e) (c.world.handlers.sends n.me (c.world.history n.me) e) (if e == d then (λ (ssn : ℕ). up_to k (c.world.numbers n.me d ssn)) else c.world.numbers n.me e)
     here e same =
         let on : (e == d) ≡ true = grind (arith, nat_tests) in
-        let Q : ℕ → Type 0 = λ z. KeepsOf (forgotten_above k (log_at n.logs d)) (c.trims n.me z) (c.handlers.sends n.me (c.history n.me) z) (λ ssn. up_to k (c.numbers n.me d ssn)) in
-        rw on (subst Q (sym same) (kept-forgotten (log_at n.logs d) (c.trims n.me d) (c.handlers.sends n.me (c.history n.me) d) (c.numbers n.me d) k (s.logs d within other)))
+        let Q : ℕ → Type 0 = λ z. KeepsOf (forgotten_above k (log_at n.logs d)) (c.world.trims n.me z) (c.world.handlers.sends n.me (c.world.history n.me) z) (λ ssn. up_to k (c.world.numbers n.me d ssn)) in
+        rw on (subst Q (sym same) (kept-forgotten (log_at n.logs d) (c.world.trims n.me d) (c.world.handlers.sends n.me (c.world.history n.me) d) (c.world.numbers n.me d) k (s.logs d within other)))
 
-    there : (e : ℕ) → e ≤ c.count → e ≢ n.me → e ≢ d → KeepsOf (log_at n.logs e) (c.trims n.me e) (c.handlers.sends n.me (c.history n.me) e) (if e == d then (λ (ssn : ℕ). up_to k (c.numbers n.me d ssn)) else c.numbers n.me e)
+    there : (e : ℕ) → e ≤ c.world.count → e ≢ n.me → e ≢ d → KeepsOf (log_at n.logs e) (c.world.trims n.me e) (c.world.handlers.sends n.me (c.world.history n.me) e) (if e == d then (λ (ssn : ℕ). up_to k (c.world.numbers n.me d ssn)) else c.world.numbers n.me e)
     there e l o apart = let off : (e == d) ≡ false = grind (arith, nat_tests) in rw off (s.logs e l o)
 
-    logs : (e : ℕ) → e ≤ c.count → e ≢ n.me → KeepsOf (log_at (slice_set n.logs d (forgotten_above k (log_at n.logs d))) e) (c.trims n.me e) (c.handlers.sends n.me (c.history n.me) e) (put2 c.numbers n.me d (λ ssn. up_to k (c.numbers n.me d ssn)) n.me e)
-    logs e l o = at-itself n.me (λ t. KeepsOf (log_at (slice_set n.logs d (forgotten_above k (log_at n.logs d))) e) (c.trims n.me e) (c.handlers.sends n.me (c.history n.me) e) (if t && (e == d) then (λ ssn. up_to k (c.numbers n.me d ssn)) else c.numbers n.me e))
-        (changed-at (λ q. KeepsOf q (c.trims n.me e) (c.handlers.sends n.me (c.history n.me) e) (if e == d then (λ (ssn : ℕ). up_to k (c.numbers n.me d ssn)) else c.numbers n.me e)) n.logs d (forgotten_above k (log_at n.logs d)) e wide (here e) (there e l o))
+    logs : (e : ℕ) → e ≤ c.world.count → e ≢ n.me → KeepsOf (log_at (slice_set n.logs d (forgotten_above k (log_at n.logs d))) e) (c.world.trims n.me e) (c.world.handlers.sends n.me (c.world.history n.me) e) (put2 c.world.numbers n.me d (λ ssn. up_to k (c.world.numbers n.me d ssn)) n.me e)
+    logs e l o = at-itself n.me (λ t. KeepsOf (log_at (slice_set n.logs d (forgotten_above k (log_at n.logs d))) e) (c.world.trims n.me e) (c.world.handlers.sends n.me (c.world.history n.me) e) (if t && (e == d) then (λ ssn. up_to k (c.world.numbers n.me d ssn)) else c.world.numbers n.me e))
+        (changed-at (λ q. KeepsOf q (c.world.trims n.me e) (c.world.handlers.sends n.me (c.world.history n.me) e) (if e == d then (λ (ssn : ℕ). up_to k (c.world.numbers n.me d ssn)) else c.world.numbers n.me e)) n.logs d (forgotten_above k (log_at n.logs d)) e wide (here e) (there e l o))
 
-    gates : (e : ℕ) → e ≤ c.count → e ≢ n.me → IsShut (log_at (slice_set n.logs d (forgotten_above k (log_at n.logs d))) e) (length (c.history n.me)) (most_released n.limits.durable c n.me e) (sent_by c.handlers n.me (c.history n.me) e)
-    gates e l o = changed-at (λ q. IsShut q (length (c.history n.me)) (most_released n.limits.durable c n.me e) (sent_by c.handlers n.me (c.history n.me) e)) n.logs d (forgotten_above k (log_at n.logs d)) e wide
-        (λ same. let Q : ℕ → Type 0 = λ z. IsShut (forgotten_above k (log_at n.logs z)) (length (c.history n.me)) (most_released n.limits.durable c n.me e) (sent_by c.handlers n.me (c.history n.me) e) in
+    gates : (e : ℕ) → e ≤ c.world.count → e ≢ n.me → IsShut (log_at (slice_set n.logs d (forgotten_above k (log_at n.logs d))) e) (length (c.world.history n.me)) (most_released n.limits.durable c n.me e) (sent_by c.world.handlers n.me (c.world.history n.me) e)
+    gates e l o = changed-at (λ q. IsShut q (length (c.world.history n.me)) (most_released n.limits.durable c n.me e) (sent_by c.world.handlers n.me (c.world.history n.me) e)) n.logs d (forgotten_above k (log_at n.logs d)) e wide
+        (λ same. let Q : ℕ → Type 0 = λ z. IsShut (forgotten_above k (log_at n.logs z)) (length (c.world.history n.me)) (most_released n.limits.durable c n.me e) (sent_by c.world.handlers n.me (c.world.history n.me) e) in
         let g = s.gates e l o in subst Q same (record { within = g.within; waits = g.waits }))
         (λ apart. s.gates e l o)
 

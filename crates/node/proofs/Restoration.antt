@@ -116,7 +116,7 @@ module _ (most : ℕ) (some : 0 < most) (base c s : ℕ) (exact : Bool) (ks : Li
 
 -- ---- what a node received
 
-pub history-told : (n : TheNode) (c : Cluster) (d ssn : ℕ) → Stands n c n.me → d ≤ n.count → covered_of d n < ssn → rsn_of (c.history n.me) d ssn ≡ first_number (pairs_from n.base (covered_of d n) (numbers_of d n.receipts)) ssn
+pub history-told : (n : TheNode) (c : Cluster) (d ssn : ℕ) → Stands n c n.me → d ≤ n.count → covered_of d n < ssn → rsn_of (c.world.history n.me) d ssn ≡ first_number (pairs_from n.base (covered_of d n) (numbers_of d n.receipts)) ssn
 history-told n c d ssn s low above =
     let r = s.received in
     let covered : covered_of d n ≡ count_of d r.before = r.covered_is d low in

@@ -50,8 +50,8 @@ grows f states p h m d = (payloads_to d (f p (state_from f p (states p) h) m).gi
 record Holds (f : Handlers) (s : System) (c : Cluster) : Type 0 where
   stand : AllStand s.nodes c
   outside : SameOutside s.outside c
-  given : Each (λ (x : NodePacket). PutOut c.count c.parcels x.from x) s.given
-  handlers : c.handlers ≡ f
+  given : Each (λ (x : NodePacket). PutOut c.world.count c.parcels x.from x) s.given
+  handlers : c.world.handlers ≡ f
 
 -- nothing that was put out is taken back
 pub parcels-stay : (c : Cluster) (acts : List Act) (x : Parcel) → In x c.parcels → In x (after_run c acts).parcels
@@ -60,9 +60,9 @@ parcels-stay c (a ∷ acts) x i =
     let apart : (suc (actor a) == actor a) ≡ false = grind (arith, nat_tests) in
     parcels-stay (does c a) acts x ((same c a (suc (actor a)) apart).parcels x i)
 
-given-still : (c : Cluster) (acts : List Act) (xs : List NodePacket) → Each (λ (x : NodePacket). PutOut c.count c.parcels x.from x) xs → Each (λ (x : NodePacket). PutOut (after_run c acts).count (after_run c acts).parcels x.from x) xs
+given-still : (c : Cluster) (acts : List Act) (xs : List NodePacket) → Each (λ (x : NodePacket). PutOut c.world.count c.parcels x.from x) xs → Each (λ (x : NodePacket). PutOut (after_run c acts).world.count (after_run c acts).parcels x.from x) xs
 given-still c acts xs h =
-    all-more (λ (x : NodePacket). PutOut c.count c.parcels x.from x) (λ (x : NodePacket). PutOut (after_run c acts).count (after_run c acts).parcels x.from x) xs
+    all-more (λ (x : NodePacket). PutOut c.world.count c.parcels x.from x) (λ (x : NodePacket). PutOut (after_run c acts).world.count (after_run c acts).parcels x.from x) xs
     (λ x o. put-still c (after_run c acts) x.from x (sym (count-after c acts)) (λ b i. parcels-stay c acts (parcel x.from x.to b) i) o) h
 
 -- one of them was
@@ -92,7 +92,7 @@ node-goes f s c p new some h g =
     }
 
 -- a node of the system stands, and owes by its own number
-stands-at : (f : Handlers) (s : System) (c : Cluster) (p : ℕ) → 0 < p → p ≤ s.outside.count → Holds f s c → Stands (s.nodes p) c p
+stands-at : (f : Handlers) (s : System) (c : Cluster) (p : ℕ) → 0 < p → p ≤ s.outside.world.count → Holds f s c → Stands (s.nodes p) c p
 stands-at f s c p some low h = h.stand p some (subst (λ k. p ≤ k) h.outside.count low)
 
 -- a packet that is no page says one thing
@@ -107,15 +107,15 @@ said-here ps qs x (Some b) is more w y (inl e) = subst (λ z. In z qs) (sym e) (
 said-here ps qs x (Some b) is more w y (inr i) = more y i
 
 -- where a packet came from, it was put out
-put-out : (f : Handlers) (s : System) (c : Cluster) (x : NodePacket) → Holds f s c → CameFrom s x → PutOut c.count c.parcels x.from x
-put-out f s c x h (inl i) = one-was (λ (y : NodePacket). PutOut c.count c.parcels y.from y) x s.given h.given i
+put-out : (f : Handlers) (s : System) (c : Cluster) (x : NodePacket) → Holds f s c → CameFrom s x → PutOut c.world.count c.parcels x.from x
+put-out f s c x h (inl i) = one-was (λ (y : NodePacket). PutOut c.world.count c.parcels y.from y) x s.given h.given i
 put-out f s c x h (inr o) = put-still s.outside c x.from x h.outside.count (λ b i. h.outside.parcels (parcel x.from x.to b) i) o
 
 -- the handler's answer is what the cluster's handlers say
-pub answers : (f : Answering) (states : ℕ → List ℕ) (n : TheNode) (c : Cluster) (p : ℕ) (a : Answer) → c.handlers ≡ handlers_of f states → Stands n c p → IsAnswer f p n a → Handles a.state a.given n c
+pub answers : (f : Answering) (states : ℕ → List ℕ) (n : TheNode) (c : Cluster) (p : ℕ) (a : Answer) → c.world.handlers ≡ handlers_of f states → Stands n c p → IsAnswer f p n a → Handles a.state a.given n c
 answers f states n c p a handlers s is j busy =
     let me : n.me ≡ p = s.me in
-    let h : List Message = c.history p in
+    let h : List Message = c.world.history p in
     let here : state_from f p (states p) h ≡ n.state = ap (λ (g : Handlers). g.state p h) (sym handlers) ∙ s.state in
     let answer : f p (state_from f p (states p) h) (job_of j) ≡ a = ap (λ z. f p z (job_of j)) here ∙ sym (is j busy) in
     subst (λ k. Answers c k (job_of j) a.state a.given) (sym me) (record {
@@ -132,7 +132,7 @@ of-gateway (Arrives q zero x) o = refl
 of-gateway act o = absurd o
 
 -- a node acts, and is told nothing
-acts-on : (f : Answering) (states : ℕ → List ℕ) (s : System) (c : Cluster) (p : ℕ) (new : TheNode) → Holds (handlers_of f states) s c → 0 < p → p ≤ s.outside.count → Acts (s.nodes p) new → Onward (handlers_of f states) c (record s { nodes = put s.nodes p new })
+acts-on : (f : Answering) (states : ℕ → List ℕ) (s : System) (c : Cluster) (p : ℕ) (new : TheNode) → Holds (handlers_of f states) s c → 0 < p → p ≤ s.outside.world.count → Acts (s.nodes p) new → Onward (handlers_of f states) c (record s { nodes = put s.nodes p new })
 acts-on f states s c p new h some low owed =
     let at : Stands (s.nodes p) c p = stands-at (handlers_of f states) s c p some low h in
     node-goes (handlers_of f states) s c p new some h (on-goes p new c (owes-at (λ d. Unit {0}) (s.nodes p) new c p owed at tt))
@@ -142,8 +142,8 @@ call-goes : (f : Answering) (states : ℕ → List ℕ) (s : System) (c : Cluste
 call-goes f states s c (Gave p x new) h m =
     let at : Stands (s.nodes p) c p = stands-at (handlers_of f states) s c p m.0 m.1 h in
     let me : (s.nodes p).me ≡ p = at.me in
-    let took : PutOut c.count c.parcels p x × Stands new c p = subst (λ k. PutOut c.count c.parcels k x × Stands new c k) me (m.2.1 c (subst (Stands (s.nodes p) c) (sym me) at)) in
-    let put : PutOut c.count c.parcels x.from x = subst (λ k. PutOut c.count c.parcels k x) (sym took.0.from) took.0 in
+    let took : PutOut c.world.count c.parcels p x × Stands new c p = subst (λ k. PutOut c.world.count c.parcels k x × Stands new c k) me (m.2.1 c (subst (Stands (s.nodes p) c) (sym me) at)) in
+    let put : PutOut c.world.count c.parcels x.from x = subst (λ k. PutOut c.world.count c.parcels k x) (sym took.0.from) took.0 in
     let o = h.outside in
     record {
       acts = [];

@@ -10,7 +10,7 @@ use Rattle.world.specs.Logs.{sent, run_to, released_to as released_of}
 use Rattle.theorems.proofs.RunLemmas.{run_to-is, run_to-most}
 use Rattle.theorems.proofs.Tests.{different}
 use Rattle.cluster.specs.Parcels.{Delivery}
-use Rattle.cluster.specs.Cluster.{Cluster, seen}
+use Rattle.cluster.specs.Cluster.{Cluster}
 use Rattle.packets.specs.declared.packet.Body.TheVariants as packets
 use Rattle.node.specs.Queue.{TheQueue, payload_of, number_of, leading, released_by}
 use Rattle.node.specs.Node.{TheNode, log_at, tells, covered_of}
@@ -75,11 +75,11 @@ run-behind bs f base n many below same = by_end (nat_lt (base + run_of bs) (run_
         let off : f (suc (base + run_of bs)) ≡ false = sym (same (run_of bs) inside) ∙ run_of-false bs inside in
         absurd (cc)
 
-run-is : (n : TheNode) (c : Cluster) (p : ℕ) → Stands n c p → run_at n ≡ run_to (c.acknowledged p) (length (c.history p))
+run-is : (n : TheNode) (c : Cluster) (p : ℕ) → Stands n c p → run_at n ≡ run_to (c.world.acknowledged p) (length (c.world.history p))
 run-is n c p s =
     let r = s.received in
-    let many : length (c.history p) ≡ n.base + length n.receipts.acknowledged = omega (arith, long n.count n.base n.covered n.receipts (c.history p) (c.acknowledged p) r, r.flags) in
-    run-behind n.receipts.acknowledged (c.acknowledged p) n.base (length (c.history p)) many r.below (λ k l. r.acknowledged_is k (omega (arith, l, r.flags)))
+    let many : length (c.world.history p) ≡ n.base + length n.receipts.acknowledged = omega (arith, long n.count n.base n.covered n.receipts (c.world.history p) (c.world.acknowledged p) r, r.flags) in
+    run-behind n.receipts.acknowledged (c.world.acknowledged p) n.base (length (c.world.history p)) many r.below (λ k l. r.acknowledged_is k (omega (arith, l, r.flags)))
 
 -- what is let go, as the cluster has it
 freed-is : (n : TheNode) (c : Cluster) (p : ℕ) → Stands n c p → freed n ≡ freed_in n.limits.durable c p
@@ -89,25 +89,25 @@ freed-is n c p s = by_durable n.limits.durable
     by_durable true = sym s.saved
     by_durable false = run-is n c p s
 
-freed-within : (n : TheNode) (c : Cluster) (p : ℕ) → Stands n c p → freed_in n.limits.durable c p ≤ length (c.history p)
+freed-within : (n : TheNode) (c : Cluster) (p : ℕ) → Stands n c p → freed_in n.limits.durable c p ≤ length (c.world.history p)
 freed-within n c p s = by_durable n.limits.durable
   where
-    by_durable : (durable : Bool) → freed_in durable c p ≤ length (c.history p)
-    by_durable true = omega (arith, s.saved, long n.count n.base n.covered n.receipts (c.history p) (c.acknowledged p) s.received)
-    by_durable false = (run_to-is (c.acknowledged p) (length (c.history p))).0
+    by_durable : (durable : Bool) → freed_in durable c p ≤ length (c.world.history p)
+    by_durable true = omega (arith, s.saved, long n.count n.base n.covered n.receipts (c.world.history p) (c.world.acknowledged p) s.received)
+    by_durable false = (run_to-is (c.world.acknowledged p) (length (c.world.history p))).0
 
 -- that may be released, and is in the cluster
-freed-most : (n : TheNode) (c : Cluster) (p d : ℕ) → Stands n c p → sent_by c.handlers p (c.history p) d (freed_in n.limits.durable c p) ≤ most_released n.limits.durable c p d
+freed-most : (n : TheNode) (c : Cluster) (p d : ℕ) → Stands n c p → sent_by c.world.handlers p (c.world.history p) d (freed_in n.limits.durable c p) ≤ most_released n.limits.durable c p d
 freed-most n c p d s = by_durable n.limits.durable (s.free d)
   where
-    by_durable : (durable : Bool) → sent_by c.handlers p (c.history p) d (freed_in durable c p) ≤ c.released p d → sent_by c.handlers p (c.history p) d (freed_in durable c p) ≤ most_released durable c p d
+    by_durable : (durable : Bool) → sent_by c.world.handlers p (c.world.history p) d (freed_in durable c p) ≤ c.world.released p d → sent_by c.world.handlers p (c.world.history p) d (freed_in durable c p) ≤ most_released durable c p d
     by_durable true f = omega arith
     by_durable false f = f
 
-most-in : (n : TheNode) (c : Cluster) (p d : ℕ) → Stands n c p → most_released n.limits.durable c p d ≤ c.released p d
+most-in : (n : TheNode) (c : Cluster) (p d : ℕ) → Stands n c p → most_released n.limits.durable c p d ≤ c.world.released p d
 most-in n c p d s = by_durable n.limits.durable (s.free d)
   where
-    by_durable : (durable : Bool) → sent_by c.handlers p (c.history p) d (freed_in durable c p) ≤ c.released p d → most_released durable c p d ≤ c.released p d
+    by_durable : (durable : Bool) → sent_by c.world.handlers p (c.world.history p) d (freed_in durable c p) ≤ c.world.released p d → most_released durable c p d ≤ c.world.released p d
     by_durable true f = f
     by_durable false f = omega arith
 
@@ -126,18 +126,18 @@ shut-released q run n released sent within free s =
 unlocks : (n : TheNode) (to : ℕ) → to < length n.logs → Acts n (unlocked to n)
 unlocks n to wide c s u = record { acts = []; run = tt; by = tt; stands = stands-with n c n.me s logs gates s.heard s.resumed s.out }
   where
-    logs : (d : ℕ) → d ≤ c.count → d ≢ n.me → KeepsOf (log_at (unlocked to n).logs d) (c.trims n.me d) (c.handlers.sends n.me (c.history n.me) d) (c.numbers n.me d)
-    logs d l o = changed-at (λ q. KeepsOf q (c.trims n.me d) (c.handlers.sends n.me (c.history n.me) d) (c.numbers n.me d)) n.logs to (released_by (freed n) (log_at n.logs to)) d wide
-        (λ same. let P : ℕ → Type 0 = λ z. KeepsOf (released_by (freed n) (log_at n.logs z)) (c.trims n.me d) (c.handlers.sends n.me (c.history n.me) d) (c.numbers n.me d) in
+    logs : (d : ℕ) → d ≤ c.world.count → d ≢ n.me → KeepsOf (log_at (unlocked to n).logs d) (c.world.trims n.me d) (c.world.handlers.sends n.me (c.world.history n.me) d) (c.world.numbers n.me d)
+    logs d l o = changed-at (λ q. KeepsOf q (c.world.trims n.me d) (c.world.handlers.sends n.me (c.world.history n.me) d) (c.world.numbers n.me d)) n.logs to (released_by (freed n) (log_at n.logs to)) d wide
+        (λ same. let P : ℕ → Type 0 = λ z. KeepsOf (released_by (freed n) (log_at n.logs z)) (c.world.trims n.me d) (c.world.handlers.sends n.me (c.world.history n.me) d) (c.world.numbers n.me d) in
         let k = s.logs d l o in subst P same (record { before = k.before; many = k.many; joined = k.joined; dropped_is = k.dropped_is; as_many = k.as_many; numbers_are = k.numbers_are; beyond = k.beyond }))
         (λ apart. s.logs d l o)
 
-    gates : (d : ℕ) → d ≤ c.count → d ≢ n.me → IsShut (log_at (unlocked to n).logs d) (length (c.history n.me)) (most_released n.limits.durable c n.me d) (sent_by c.handlers n.me (c.history n.me) d)
-    gates d l o = changed-at (λ q. IsShut q (length (c.history n.me)) (most_released n.limits.durable c n.me d) (sent_by c.handlers n.me (c.history n.me) d)) n.logs to (released_by (freed n) (log_at n.logs to)) d wide
-        (λ same. let P : ℕ → Type 0 = λ z. IsShut (released_by (freed n) (log_at n.logs z)) (length (c.history n.me)) (most_released n.limits.durable c n.me d) (sent_by c.handlers n.me (c.history n.me) d) in
+    gates : (d : ℕ) → d ≤ c.world.count → d ≢ n.me → IsShut (log_at (unlocked to n).logs d) (length (c.world.history n.me)) (most_released n.limits.durable c n.me d) (sent_by c.world.handlers n.me (c.world.history n.me) d)
+    gates d l o = changed-at (λ q. IsShut q (length (c.world.history n.me)) (most_released n.limits.durable c n.me d) (sent_by c.world.handlers n.me (c.world.history n.me) d)) n.logs to (released_by (freed n) (log_at n.logs to)) d wide
+        (λ same. let P : ℕ → Type 0 = λ z. IsShut (released_by (freed n) (log_at n.logs z)) (length (c.world.history n.me)) (most_released n.limits.durable c n.me d) (sent_by c.world.handlers n.me (c.world.history n.me) d) in
         let is = freed-is n c n.me s in
-        let free : sent_by c.handlers n.me (c.history n.me) d (freed n) ≤ most_released n.limits.durable c n.me d = omega (arith, ap (sent_by c.handlers n.me (c.history n.me) d) is, freed-most n c n.me d s) in
-        subst P same (shut-released (log_at n.logs d) (freed n) (length (c.history n.me)) (most_released n.limits.durable c n.me d) (sent_by c.handlers n.me (c.history n.me) d) (omega (arith, is, freed-within n c n.me s)) free (s.gates d l o)))
+        let free : sent_by c.world.handlers n.me (c.world.history n.me) d (freed n) ≤ most_released n.limits.durable c n.me d = omega (arith, ap (sent_by c.world.handlers n.me (c.world.history n.me) d) is, freed-most n c n.me d s) in
+        subst P same (shut-released (log_at n.logs d) (freed n) (length (c.world.history n.me)) (most_released n.limits.durable c n.me d) (sent_by c.world.handlers n.me (c.world.history n.me) d) (omega (arith, is, freed-within n c n.me s)) free (s.gates d l o)))
         (λ apart. s.gates d l o)
 
 -- Messages
@@ -147,19 +147,19 @@ pub delivery : (n : TheNode) (to ssn : ℕ) → to ≤ n.count → to ≢ n.me �
 delivery n to ssn low other above free c s u =
     posted n c to (packets.Delivery n.life ssn (payload_of ssn (log_at n.logs to))) (Delivery n.life ssn (payload_of ssn (log_at n.logs to))) refl s low other (stands-well n c n.me s, sym s.life, out, kept, said)
   where
-    within : to ≤ c.count
+    within : to ≤ c.world.count
     within = omega (arith, low, s.count)
 
-    out : ssn ≤ released_of (seen c) n.me to
+    out : ssn ≤ released_of c.world n.me to
     out =
         let inner : (n.me == 0) ≡ false = (let z : 0 < n.me = s.inside.0 in grind (arith, nat_tests)) in
         let w = (s.gates to within other).waits (freed_in n.limits.durable c n.me) (freed-within n c n.me s) in
         rw inner (omega (arith, w, freed-most n c n.me to s, most-in n c n.me to s, free))
 
-    kept : c.trims n.me to < ssn
+    kept : c.world.trims n.me to < ssn
     kept = let k = s.logs to within other in omega (arith, above, k.dropped_is)
 
-    said : nth (sent (seen c) n.me to) ssn ≡ Some (payload_of ssn (log_at n.logs to))
+    said : nth (sent c.world n.me to) ssn ≡ Some (payload_of ssn (log_at n.logs to))
     said =
         let k = s.logs to within other in
         let g = s.gates to within other in

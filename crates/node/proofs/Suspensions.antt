@@ -72,11 +72,11 @@ sent-at (q ∷ qs) (suc d) e = sent-at qs d (both (is_sent q) (list_all is_sent 
 
 module _ (n : TheNode) (c : Cluster) (p : ℕ) (can : CanSuspend n) (s : Stands n c p) where
   abbrev h : List Message
-  h = c.history p
+  h = c.world.history p
 
   -- how many messages it has sent to d
   abbrev many : ℕ → ℕ
-  many d = length (c.handlers.sends p h d)
+  many d = length (c.world.handlers.sends p h d)
 
   covers : ((length n.receipts.senders == 0) ≡ true) × (list_all is_sent n.logs ≡ true)
   covers = both (length n.receipts.senders == 0) (list_all is_sent n.logs) (both ((length n.receipts.senders == 0) && list_all is_sent n.logs) (is_unused (log_at n.logs n.me)) can.covered).0
@@ -93,25 +93,25 @@ module _ (n : TheNode) (c : Cluster) (p : ℕ) (can : CanSuspend n) (s : Stands 
   -- so all that it received is acknowledged, and frees what it sent, whether it is durable or not
   all-freed : (durable : Bool) → freed_in durable c p ≡ length h
   all-freed true = s.saved ∙ sym all-covered
-  all-freed false = run_to-whole (c.acknowledged p) (length h) each
+  all-freed false = run_to-whole (c.world.acknowledged p) (length h) each
     where
-      each : (k : ℕ) → 0 < k → k ≤ length h → c.acknowledged p k ≡ true
+      each : (k : ℕ) → 0 < k → k ≤ length h → c.world.acknowledged p k ≡ true
       each zero some low = absurd (omega (arith, some))
       each (suc k) some low = s.received.below k (omega (arith, low, all-covered))
 
-  freed-sends : (durable : Bool) (d : ℕ) → sent_by c.handlers p h d (freed_in durable c p) ≡ many d
+  freed-sends : (durable : Bool) (d : ℕ) → sent_by c.world.handlers p h d (freed_in durable c p) ≡ many d
   freed-sends durable d =
-      ap (sent_by c.handlers p h d) (all-freed durable) ∙ ap (λ z. length (c.handlers.sends p z d)) (take_all (length h) h (omega arith))
+      ap (sent_by c.world.handlers p h d) (all-freed durable) ∙ ap (λ z. length (c.world.handlers.sends p z d)) (take_all (length h) h (omega arith))
 
-  all-out : (d : ℕ) → many d ≤ c.released p d
-  all-out d = subst (λ k. k ≤ c.released p d) (freed-sends n.limits.durable d) (s.free d)
+  all-out : (d : ℕ) → many d ≤ c.world.released p d
+  all-out d = subst (λ k. k ≤ c.world.released p d) (freed-sends n.limits.durable d) (s.free d)
 
   most-is : (durable : Bool) (d : ℕ) → many d ≤ most_released durable c p d
-  most-is true d = (let e : sent_by c.handlers p h d (c.saved p) ≡ many d = freed-sends true d in omega (arith, e))
+  most-is true d = (let e : sent_by c.world.handlers p h d (c.world.saved p) ≡ many d = freed-sends true d in omega (arith, e))
   most-is false d = all-out d
 
   -- it released all
-  shut-again : (durable : Bool) (d : ℕ) → d ≤ c.count → d ≢ p → IsShut (log_at n.logs d) (length h) (most_released durable c p d) (sent_by c.handlers p h d)
+  shut-again : (durable : Bool) (d : ℕ) → d ≤ c.world.count → d ≢ p → IsShut (log_at n.logs d) (length h) (most_released durable c p d) (sent_by c.world.handlers p h d)
   shut-again durable d low other =
       let q : TheQueue = log_at n.logs d in
       let k = s.logs d low other in
@@ -126,7 +126,7 @@ module _ (n : TheNode) (c : Cluster) (p : ℕ) (can : CanSuspend n) (s : Stands 
   stands-again : (limits : Limits) → Stands (woken limits n) c p
   stands-again limits =
       stands-anew n c p s s.received s.waits s.logs (shut-again limits.durable)
-      (λ d. let e : sent_by c.handlers p h d (freed_in limits.durable c p) ≡ many d = freed-sends limits.durable d in let l : many d ≤ c.released p d = all-out d in omega (arith, e, l)) s.heard s.resumed tt
+      (λ d. let e : sent_by c.world.handlers p h d (freed_in limits.durable c p) ≡ many d = freed-sends limits.durable d in let l : many d ≤ c.world.released p d = all-out d in omega (arith, e, l)) s.heard s.resumed tt
 
 pub woken-stands : WokenStands
 woken-stands n limits c p can s = stands-again n c p can s limits

@@ -13,7 +13,7 @@ OthersStand = (n : TheNode) (p q : ℕ) (acts : List Act) (c : Cluster) → q �
 
 -- the nodes of a cluster, by number: each agrees with it
 abbrev pub AllStand : (ℕ → TheNode) → Cluster → Type 0
-AllStand nodes c = (p : ℕ) → 0 < p → p ≤ c.count → Stands (nodes p) c p
+AllStand nodes c = (p : ℕ) → 0 < p → p ≤ c.world.count → Stands (nodes p) c p
 
 -- the cluster runs on to one with which these nodes agree
 pub record RunsOn (c : Cluster) (nodes : ℕ → TheNode) : Type 0 where

@@ -68,14 +68,14 @@ queue_of l = kept_queue l.first l.payloads
 -- what they sent, without the entries that the log had dropped by then
 pub record IsKeptOf (k : Kept) (c : Cluster) (p : ℕ) : Type 0 where
   pub me : k.me ≡ p
-  pub count : k.count ≡ c.count
-  pub saved : c.saved p ≡ k.length
-  pub many : k.length ≤ length (c.history p)
-  pub state : c.handlers.state p (take k.length (c.history p)) ≡ k.state
-  pub counts : (q : ℕ) → q ≤ c.count → slice_index_or (with_own 0 k.me k.counts) q 0 ≡ count_of q (take k.length (c.history p))
-  pub logs : (d : ℕ) → d ≤ c.count → d ≢ p
+  pub count : k.count ≡ c.world.count
+  pub saved : c.world.saved p ≡ k.length
+  pub many : k.length ≤ length (c.world.history p)
+  pub state : c.world.handlers.state p (take k.length (c.world.history p)) ≡ k.state
+  pub counts : (q : ℕ) → q ≤ c.world.count → slice_index_or (with_own 0 k.me k.counts) q 0 ≡ count_of q (take k.length (c.world.history p))
+  pub logs : (d : ℕ) → d ≤ c.world.count → d ≢ p
       → KeepsOf (log_at (with_own no_queue k.me (map queue_of k.logs)) d)
-      (c.saved_trims p d) (c.handlers.sends p (take k.length (c.history p)) d) (λ _. None)
+      (c.world.saved_trims p d) (c.world.handlers.sends p (take k.length (c.world.history p)) d) (λ _. None)
 
 -- the node while it waits for its checkpoint, whatever it has still to send
 abbrev pub resting : TheNode → TheNode

@@ -92,18 +92,18 @@ IsOne x (y ∷ ys) = (x ≡ y) ⊎ IsOne x ys
 
 -- a node gave the packet, or the gateway sent it
 abbrev pub CameFrom : System → NodePacket → Type 0
-CameFrom s x = IsOne x s.given ⊎ PutOut s.outside.count s.outside.parcels x.from x
+CameFrom s x = IsOne x s.given ⊎ PutOut s.outside.world.count s.outside.parcels x.from x
 
 -- each call does what the contract of its function says: `take`; `receive`, with a packet that a node or the gateway sent, at any time and
 -- also again; `work`, with the handler's answer; `tick`; `checkpoint`; and `saved`. The gateway does what the rules allow for what it sees
 abbrev pub DoesIt : Answering → System → Call → Type 0
-DoesIt f s (Gave p x new) = (0 < p) × (p ≤ s.outside.count) × Takes (Some x) (s.nodes p) new
-DoesIt f s (Handed p x new) = (0 < p) × (p ≤ s.outside.count) × CameFrom s x × IsHanded x (s.nodes p) new
-DoesIt f s (Worked p a new) = (0 < p) × (p ≤ s.outside.count) × IsAnswer f p (s.nodes p) a
+DoesIt f s (Gave p x new) = (0 < p) × (p ≤ s.outside.world.count) × Takes (Some x) (s.nodes p) new
+DoesIt f s (Handed p x new) = (0 < p) × (p ≤ s.outside.world.count) × CameFrom s x × IsHanded x (s.nodes p) new
+DoesIt f s (Worked p a new) = (0 < p) × (p ≤ s.outside.world.count) × IsAnswer f p (s.nodes p) a
     × Owes (Handles a.state a.given (s.nodes p)) (s.nodes p) new
-DoesIt f s (Ticked p new) = (0 < p) × (p ≤ s.outside.count) × Acts (s.nodes p) new
-DoesIt f s (Froze p new) = (0 < p) × (p ≤ s.outside.count) × Acts (s.nodes p) new
-DoesIt f s (Thawed p new) = (0 < p) × (p ≤ s.outside.count) × Saves (s.nodes p) new
+DoesIt f s (Ticked p new) = (0 < p) × (p ≤ s.outside.world.count) × Acts (s.nodes p) new
+DoesIt f s (Froze p new) = (0 < p) × (p ≤ s.outside.world.count) × Acts (s.nodes p) new
+DoesIt f s (Thawed p new) = (0 < p) × (p ≤ s.outside.world.count) × Saves (s.nodes p) new
 DoesIt f s (Acted act) = IsGateway act × May s.outside act
 
 -- what a packet says becomes a parcel that the gateway may take: none of these is a page
@@ -141,8 +141,8 @@ pub record IsRunOf (n : ℕ) (f : Handlers) (s : System) : Type 0 where
   pub acts : List Act
   pub run : Run (opening n f) acts
   pub stand : AllStand s.nodes (after_run (opening n f) acts)
-  pub inputs : (d : ℕ) → s.outside.inputs d ≡ (after_run (opening n f) acts).inputs d
-  pub shown : s.outside.shown ≡ (after_run (opening n f) acts).shown
+  pub inputs : (d : ℕ) → s.outside.world.inputs d ≡ (after_run (opening n f) acts).world.inputs d
+  pub shown : s.outside.world.shown ≡ (after_run (opening n f) acts).world.shown
   pub no_orphan : NoOrphanNode (after_run (opening n f) acts)
   pub output_once : OutputOnce (after_run (opening n f) acts)
   pub received_once : ReceivedOnce (after_run (opening n f) acts)

@@ -88,12 +88,12 @@ sent_by f p h d k = length (f.sends p (take k h) d)
 -- the RSN up to which messages release what they sent: of a durable node those that its checkpoint covers, of another those that are
 -- acknowledged without a gap
 abbrev pub freed_in : Bool → Cluster → ℕ → ℕ
-freed_in durable c p = if durable then c.saved p else run_to (c.acknowledged p) (length (c.history p))
+freed_in durable c p = if durable then c.world.saved p else run_to (c.world.acknowledged p) (length (c.world.history p))
 
 -- how many messages to d it may have released: a durable node those that the messages covered by its checkpoint sent, whatever else is
 -- acknowledged
 abbrev pub most_released : Bool → Cluster → ℕ → ℕ → ℕ
-most_released durable c p d = if durable then sent_by c.handlers p (c.history p) d (c.saved p) else c.released p d
+most_released durable c p d = if durable then sent_by c.world.handlers p (c.world.history p) d (c.world.saved p) else c.world.released p d
 
 -- if a queue also releases all that waits for RSNs up to k, it has released no more than the cluster has, or than the first k messages sent
 pub record IsShut (q : TheQueue) (n released : ℕ) (sent : ℕ → ℕ) : Type 0 where
@@ -103,26 +103,27 @@ pub record IsShut (q : TheQueue) (n released : ℕ) (sent : ℕ → ℕ) : Type 
 -- what a node holds is what the cluster has of the process p. Nothing is said of other processes
 pub record Stands (n : TheNode) (c : Cluster) (p : ℕ) : Type 0 where
   pub me : n.me ≡ p
-  pub count : n.count ≡ c.count
+  pub count : n.count ≡ c.world.count
   pub inside : IsNode c p
   pub stage : c.stage p ≡ stage_of n.frozen
   pub greeted : c.greeted p ≡ true
-  pub phase : c.phase p ≡ phase_of n.working
-  pub works : IsNextAfter (c.history p) n.working
-  pub life : c.life p ≡ n.life
-  pub state : c.handlers.state p (c.history p) ≡ n.state
-  pub saved : c.saved p ≡ n.base
-  pub received : HasReceived n.count n.base n.covered n.receipts (c.history p) (c.acknowledged p)
+  pub phase : c.world.phase p ≡ phase_of n.working
+  pub works : IsNextAfter (c.world.history p) n.working
+  pub life : c.world.incarnation p ≡ n.life
+  pub state : c.world.handlers.state p (c.world.history p) ≡ n.state
+  pub saved : c.world.saved p ≡ n.base
+  pub received : HasReceived n.count n.base n.covered n.receipts (c.world.history p) (c.world.acknowledged p)
   pub waits : waiting c p ≡ n.waiting
-  pub logs : (d : ℕ) → d ≤ c.count → d ≢ p → KeepsOf (log_at n.logs d) (c.trims p d) (c.handlers.sends p (c.history p) d) (c.numbers p d)
-  pub gates : (d : ℕ) → d ≤ c.count → d ≢ p
-      → IsShut (log_at n.logs d) (length (c.history p)) (most_released n.limits.durable c p d) (sent_by c.handlers p (c.history p) d)
+  pub logs : (d : ℕ) → d ≤ c.world.count → d ≢ p
+      → KeepsOf (log_at n.logs d) (c.world.trims p d) (c.world.handlers.sends p (c.world.history p) d) (c.world.numbers p d)
+  pub gates : (d : ℕ) → d ≤ c.world.count → d ≢ p
+      → IsShut (log_at n.logs d) (length (c.world.history p)) (most_released n.limits.durable c p d) (sent_by c.world.handlers p (c.world.history p) d)
   -- what the node may release is released in the cluster
-  pub free : (d : ℕ) → sent_by c.handlers p (c.history p) d (freed_in n.limits.durable c p) ≤ c.released p d
-  pub heard : (q : ℕ) → q ≤ c.count → c.heard p q ≡ slice_index_or n.heard q 0
-  pub resumed : (q : ℕ) → q ≤ c.count → c.resumed p q ≡ slice_index_or n.resumed q true
+  pub free : (d : ℕ) → sent_by c.world.handlers p (c.world.history p) d (freed_in n.limits.durable c p) ≤ c.world.released p d
+  pub heard : (q : ℕ) → q ≤ c.world.count → c.heard p q ≡ slice_index_or n.heard q 0
+  pub resumed : (q : ℕ) → q ≤ c.world.count → c.resumed p q ≡ slice_index_or n.resumed q true
   -- the packets that wait were sent in the cluster
-  pub out : Each (PutOut c.count c.parcels p) n.out
+  pub out : Each (PutOut c.world.count c.parcels p) n.out
 
 -- the process that acts
 abbrev pub actor : Act → ℕ
@@ -187,8 +188,9 @@ payloads_to d (s ∷ given) = (if d == s.to then s.payload ∷ [] else []) ++ pa
 
 -- on the message m the handler of p leaves this state, and sends these messages
 pub record Answers (c : Cluster) (p : ℕ) (m : Message) (state : List ℕ) (given : List Given) : Type 0 where
-  pub state_is : c.handlers.state p (c.history p ++ m ∷ []) ≡ state
-  pub sends_are : (d : ℕ) → c.handlers.sends p (c.history p ++ m ∷ []) d ≡ c.handlers.sends p (c.history p) d ++ payloads_to d given
+  pub state_is : c.world.handlers.state p (c.world.history p ++ m ∷ []) ≡ state
+  pub sends_are : (d : ℕ)
+      → c.world.handlers.sends p (c.world.history p ++ m ∷ []) d ≡ c.world.handlers.sends p (c.world.history p) d ++ payloads_to d given
 
 -- so does it on the message of the open job
 abbrev pub Handles : List ℕ → List Given → TheNode → Cluster → Type 0
@@ -207,4 +209,4 @@ IsHanded x old new = Owes (λ c. WasSaid c.parcels x.from x.to x.body) old new
 abbrev pub Takes : Option NodePacket → TheNode → TheNode → Type 0
 Takes None old new = (old.out ≡ []) × (new ≡ old)
 Takes (Some x) old new = (old ≡ record new { out = x ∷ new.out })
-    × ((c : Cluster) → Stands old c old.me → PutOut c.count c.parcels old.me x × Stands new c old.me)
+    × ((c : Cluster) → Stands old c old.me → PutOut c.world.count c.parcels old.me x × Stands new c old.me)

@@ -25,7 +25,7 @@ along P p q (a ∷ acts) c keeps other by h =
 pub kept-same : (k : Kept) (c d : Cluster) (p : ℕ) → Same c d p → IsKeptOf k c p → IsKeptOf k d p
 kept-same k c d p e s =
     kept-still k c d p
-    (record { count = e.count; handlers = e.handlers; saved = e.saved; saved_trims = e.saved_trims; history = λ l. (ap (take (c.saved p)) (sym e.history), subst (λ (h : List Message). c.saved p ≤ length h) e.history l) }) s
+    (record { count = e.count; handlers = e.handlers; saved = e.saved; saved_trims = e.saved_trims; history = λ l. (ap (take (c.world.saved p)) (sym e.history), subst (λ (h : List Message). c.world.saved p ≤ length h) e.history l) }) s
 
 -- and what will be, once its checkpoint is
 pub keeping-same : (k : Kept) (c d : Cluster) (p : ℕ) → Same c d p → IsKeptOf k (does c (Keeps p)) p → IsKeptOf k (does d (Keeps p)) p
@@ -36,14 +36,14 @@ keeping-same k c d p e s =
       handlers = e.handlers;
       saved = saved-is c ∙ ap length e.history ∙ sym (saved-is d);
       saved_trims = λ r. trims-are c r ∙ e.trims r ∙ sym (trims-are d r);
-      history = λ l. (ap (take ((does c (Keeps p)).saved p)) (sym e.history), subst (λ (h : List Message). (does c (Keeps p)).saved p ≤ length h) e.history l);
+      history = λ l. (ap (take ((does c (Keeps p)).world.saved p)) (sym e.history), subst (λ (h : List Message). (does c (Keeps p)).world.saved p ≤ length h) e.history l);
     }) s
   where
-    saved-is : (x : Cluster) → (does x (Keeps p)).saved p ≡ length (x.history p)
-    saved-is x = at-itself p (λ b. (if b then length (x.history p) else x.saved p) ≡ length (x.history p)) refl
+    saved-is : (x : Cluster) → (does x (Keeps p)).world.saved p ≡ length (x.world.history p)
+    saved-is x = at-itself p (λ b. (if b then length (x.world.history p) else x.world.saved p) ≡ length (x.world.history p)) refl
 
-    trims-are : (x : Cluster) (r : ℕ) → (does x (Keeps p)).saved_trims p r ≡ x.trims p r
-    trims-are x r = at-itself p (λ b. (if b then x.trims p else x.saved_trims p) r ≡ x.trims p r) refl
+    trims-are : (x : Cluster) (r : ℕ) → (does x (Keeps p)).world.saved_trims p r ≡ x.world.trims p r
+    trims-are x r = at-itself p (λ b. (if b then x.world.trims p else x.world.saved_trims p) r ≡ x.world.trims p r) refl
 
 -- what two clusters have alike the one has that is taken
 either : (b : Bool) (x y : Cluster) (f : Cluster → ℕ) (a : ℕ) → f x ≡ a → f y ≡ a → f (if b then x else y) ≡ a
@@ -54,8 +54,8 @@ either false x y f a u v = v
 stored-same : (c : Cluster) (p : ℕ) (a : Act) → own_act a ≡ Some p → (does c a).stored p ≡ c.stored p
 stored-same c p (Arrives q r (Restored i j n s (Some u) f)) e = refl
 stored-same c p (Arrives q zero (Delivery i ssn x)) e = refl
-stored-same c p (Replays q j) e = either (nat_lt (c.saved q + suc j) (length (c.history q))) _ _ (λ (x : Cluster). x.stored p) (c.stored p) refl refl
-stored-same c p (Recovers q k) e = either (nat_lt (c.saved q) k) _ _ (λ (x : Cluster). x.stored p) (c.stored p) refl refl
+stored-same c p (Replays q j) e = either (nat_lt (c.world.saved q + suc j) (length (c.world.history q))) _ _ (λ (x : Cluster). x.stored p) (c.stored p) refl refl
+stored-same c p (Recovers q k) e = either (nat_lt (c.world.saved q) k) _ _ (λ (x : Cluster). x.stored p) (c.stored p) refl refl
 stored-same c p (Arrives zero q (Restored i j n s None f)) e = refl
 stored-same c p (Opens q n) e = absurd (cc (e))
 stored-same c p act e = refl

@@ -77,14 +77,14 @@ acknowledged-run : (n : TheNode) (c : Cluster) (p : ℕ) → Stands n c p → Al
 acknowledged-run n c p s =
     let r = s.received in
     let flags : run_of n.receipts.acknowledged ≤ length n.receipts.senders = (let l : run_of n.receipts.acknowledged ≤ length n.receipts.acknowledged = run_of-bound n.receipts.acknowledged in omega (arith, l, r.flags)) in
-    let many : length (c.history p) ≡ n.base + length n.receipts.senders = long n.count n.base n.covered n.receipts (c.history p) (c.acknowledged p) r in
+    let many : length (c.world.history p) ≡ n.base + length n.receipts.senders = long n.count n.base n.covered n.receipts (c.world.history p) (c.world.acknowledged p) r in
     (omega (arith, flags, many), each)
   where
-    each : (m : ℕ) → 0 < m → m ≤ run_at n → c.acknowledged p m ≡ true
+    each : (m : ℕ) → 0 < m → m ≤ run_at n → c.world.acknowledged p m ≡ true
     each zero l within = absurd (omega (arith, l))
     each (suc i) l within = by_place (nat_lt i n.base) refl
       where
-        by_place : (b : Bool) → nat_lt i n.base ≡ b → c.acknowledged p (suc i) ≡ true
+        by_place : (b : Bool) → nat_lt i n.base ≡ b → c.world.acknowledged p (suc i) ≡ true
         by_place true e = s.received.below i (grind (arith, nat_tests))
         by_place false e =
             let above : n.base ≤ i = grind (arith, nat_tests) in
@@ -92,35 +92,35 @@ acknowledged-run n c p s =
             let place : n.base + j ≡ i = omega (arith, above) in
             let inside : j < run_of n.receipts.acknowledged = omega (arith, within, above) in
             let few : j < length n.receipts.senders = (let b : run_of n.receipts.acknowledged ≤ length n.receipts.acknowledged = run_of-bound n.receipts.acknowledged in omega (arith, inside, b, s.received.flags)) in
-            ap (λ k. c.acknowledged p (suc k)) (sym place) ∙ sym (s.received.acknowledged_is j few) ∙ run-true n.receipts.acknowledged j inside
+            ap (λ k. c.world.acknowledged p (suc k)) (sym place) ∙ sym (s.received.acknowledged_is j few) ∙ run-true n.receipts.acknowledged j inside
 
 -- ---- nothing is lost
 
 module _ (n : ℕ) (f : Handlers) (x y : System) (p : ℕ) (a b : TheNode) (acts more : List Act) (run : Run (opening n f) (acts ++ more)) (before : AllStand n x (after_run (opening n f) acts)) (after : AllStand n y (after_run (opening n f) (acts ++ more)))
-    (s : Stands a (after_run (opening n f) acts) p) (t : Stands b (after_run (opening n f) (acts ++ more)) p) (same_was : (after_run (opening n f) acts).handlers ≡ f) (same_is : (after_run (opening n f) (acts ++ more)).handlers ≡ f)
-    (k : take (run_at a) ((after_run (opening n f) (acts ++ more)).history p) ≡ take (run_at a) ((after_run (opening n f) acts).history p)) where
+    (s : Stands a (after_run (opening n f) acts) p) (t : Stands b (after_run (opening n f) (acts ++ more)) p) (same_was : (after_run (opening n f) acts).world.handlers ≡ f) (same_is : (after_run (opening n f) (acts ++ more)).world.handlers ≡ f)
+    (k : take (run_at a) ((after_run (opening n f) (acts ++ more)).world.history p) ≡ take (run_at a) ((after_run (opening n f) acts).world.history p)) where
   abbrev c : Cluster
   c = after_run (opening n f) acts
 
   abbrev d : Cluster
   d = after_run (opening n f) (acts ++ more)
 
-  was-long : length (c.history p) ≡ length_of a
-  was-long = long a.count a.base a.covered a.receipts (c.history p) (c.acknowledged p) s.received
+  was-long : length (c.world.history p) ≡ length_of a
+  was-long = long a.count a.base a.covered a.receipts (c.world.history p) (c.world.acknowledged p) s.received
 
-  is-long : length (d.history p) ≡ length_of b
-  is-long = long b.count b.base b.covered b.receipts (d.history p) (d.acknowledged p) t.received
+  is-long : length (d.world.history p) ≡ length_of b
+  is-long = long b.count b.base b.covered b.receipts (d.world.history p) (d.world.acknowledged p) t.received
 
-  state-was : f.state p (c.history p) ≡ a.state
-  state-was = ap (λ (g : Handlers). g.state p (c.history p)) (sym same_was) ∙ s.state
+  state-was : f.state p (c.world.history p) ≡ a.state
+  state-was = ap (λ (g : Handlers). g.state p (c.world.history p)) (sym same_was) ∙ s.state
 
-  state-is : f.state p (d.history p) ≡ b.state
-  state-is = ap (λ (g : Handlers). g.state p (d.history p)) (sym same_is) ∙ t.state
+  state-is : f.state p (d.world.history p) ≡ b.state
+  state-is = ap (λ (g : Handlers). g.state p (d.world.history p)) (sym same_is) ∙ t.state
 
   comes-back : run_at a ≡ length_of a → length_of b ≡ length_of a → b.state ≡ a.state
   comes-back all as_many =
-      let one : take (run_at a) (d.history p) ≡ d.history p = take_all (run_at a) (d.history p) (omega (arith, all, as_many, is-long)) in
-      let two : take (run_at a) (c.history p) ≡ c.history p = take_all (run_at a) (c.history p) (omega (arith, all, was-long)) in
+      let one : take (run_at a) (d.world.history p) ≡ d.world.history p = take_all (run_at a) (d.world.history p) (omega (arith, all, as_many, is-long)) in
+      let two : take (run_at a) (c.world.history p) ≡ c.world.history p = take_all (run_at a) (c.world.history p) (omega (arith, all, was-long)) in
       sym state-is ∙ ap (f.state p) (sym one ∙ k ∙ two) ∙ state-was
 
   has-back : HasBack n f x y p a b
@@ -131,8 +131,8 @@ module _ (n : ℕ) (f : Handlers) (x y : System) (p : ℕ) (a b : TheNode) (acts
         run = run;
         before = before;
         after = after;
-        was = c.history p;
-        is = d.history p;
+        was = c.world.history p;
+        is = d.world.history p;
         history_was = refl;
         history_is = refl;
         many_was = was-long;
@@ -140,7 +140,7 @@ module _ (n : ℕ) (f : Handlers) (x y : System) (p : ℕ) (a b : TheNode) (acts
         state_was = state-was;
         state_is = state-is;
         acknowledged = acknowledged-run a c p s;
-        within = (let low : run_at a ≤ length (c.history p) = (acknowledged-run a c p s).0 in omega (arith, low, ap length k, length-take (run_at a) (d.history p), length-take (run_at a) (c.history p), is-long));
+        within = (let low : run_at a ≤ length (c.world.history p) = (acknowledged-run a c p s).0 in omega (arith, low, ap length k, length-take (run_at a) (d.world.history p), length-take (run_at a) (c.world.history p), is-long));
         same = k;
         back = comes-back;
       }
@@ -169,7 +169,7 @@ nothing-is-lost f n page tick limits states bytes calls more p a b few stored fi
 
 -- p collects in c, replays behind it, and then it is d
 module _ (n : ℕ) (f : Handlers) (p : ℕ) (old : TheCollecting) (new : TheReplaying) (c b d : Cluster) (had : HadReceived c p old.own.base new.plan) (own : new.own ≡ old.own) (s : StandsReplaying new b p)
-    (first : take old.own.base (b.history p) ≡ take old.own.base (c.history p)) (all : take (kept_of old new) (d.history p) ≡ take (kept_of old new) (b.history p)) where
+    (first : take old.own.base (b.world.history p) ≡ take old.own.base (c.world.history p)) (all : take (kept_of old new) (d.world.history p) ≡ take (kept_of old new) (b.world.history p)) where
   abbrev base : ℕ
   base = old.own.base
 
@@ -179,38 +179,38 @@ module _ (n : ℕ) (f : Handlers) (p : ℕ) (old : TheCollecting) (new : TheRepl
   base-is : new.own.base ≡ base
   base-is = ap (λ z. z.base) own
 
-  many : length (b.history p) ≡ k
+  many : length (b.world.history p) ≡ k
   many = (let l = replays.long new b p s in omega (arith, l, base-is))
 
-  behind : drop base (b.history p) ≡ drop base (take k (c.history p))
-  behind = ap (λ z. drop z (b.history p)) (sym base-is) ∙ s.behind ∙ had.same
+  behind : drop base (b.world.history p) ≡ drop base (take k (c.world.history p))
+  behind = ap (λ z. drop z (b.world.history p)) (sym base-is) ∙ s.behind ∙ had.same
 
-  kept-same : take k (b.history p) ≡ take k (c.history p)
+  kept-same : take k (b.world.history p) ≡ take k (c.world.history p)
   kept-same =
-      take_all k (b.history p) (omega (arith, many))
-      ∙ sym (take-append-drop base (b.history p))
-      ∙ ap (λ xs. xs ++ drop base (b.history p)) first
-      ∙ ap (λ xs. take base (c.history p) ++ xs) behind
-      ∙ ap (λ xs. xs ++ drop base (take k (c.history p))) (sym (take-take (c.history p) base k (omega arith)))
-      ∙ take-append-drop base (take k (c.history p))
+      take_all k (b.world.history p) (omega (arith, many))
+      ∙ sym (take-append-drop base (b.world.history p))
+      ∙ ap (λ xs. xs ++ drop base (b.world.history p)) first
+      ∙ ap (λ xs. take base (c.world.history p) ++ xs) behind
+      ∙ ap (λ xs. xs ++ drop base (take k (c.world.history p))) (sym (take-take (c.world.history p) base k (omega arith)))
+      ∙ take-append-drop base (take k (c.world.history p))
 
-  pub stays-so : take k (d.history p) ≡ take k (c.history p)
+  pub stays-so : take k (d.world.history p) ≡ take k (c.world.history p)
   stays-so = all ∙ kept-same
 
-  pub is-as-it-was : (m : TheNode) → Stands m d p → d.handlers ≡ f → length_of m ≡ k → f.state p (take k (c.history p)) ≡ m.state
+  pub is-as-it-was : (m : TheNode) → Stands m d p → d.world.handlers ≡ f → length_of m ≡ k → f.state p (take k (c.world.history p)) ≡ m.state
   is-as-it-was m t handlers as_many =
-      let long_is : length (d.history p) ≡ length_of m = long m.count m.base m.covered m.receipts (d.history p) (d.acknowledged p) t.received in
-      let whole : take k (d.history p) ≡ d.history p = take_all k (d.history p) (omega (arith, long_is, as_many)) in
-      ap (f.state p) (sym stays-so ∙ whole) ∙ ap (λ (g : Handlers). g.state p (d.history p)) (sym handlers) ∙ t.state
+      let long_is : length (d.world.history p) ≡ length_of m = long m.count m.base m.covered m.receipts (d.world.history p) (d.world.acknowledged p) t.received in
+      let whole : take k (d.world.history p) ≡ d.world.history p = take_all k (d.world.history p) (omega (arith, long_is, as_many)) in
+      ap (f.state p) (sym stays-so ∙ whole) ∙ ap (λ (g : Handlers). g.state p (d.world.history p)) (sym handlers) ∙ t.state
 
 -- what it covers is acknowledged
 acknowledged-covered : (f : Handlers) (n : ℕ) (s : System) (c : Cluster) (p : ℕ) (old : TheCollecting) → Holds f n s c → StandsCollecting old c p → AllAcknowledged c p old.own.base
 acknowledged-covered f n s c p old h t =
     let b = h.believed in
-    (omega (arith, t.own.many, length-take old.own.base (c.history p)), λ m some low. (b.lawful.tidy p).covered (b.agrees.phases.live p) m some (omega (arith, low, t.own.saved)))
+    (omega (arith, t.own.many, length-take old.own.base (c.world.history p)), λ m some low. (b.lawful.tidy p).covered (b.agrees.phases.live p) m some (omega (arith, low, t.own.saved)))
 
 -- all that one has that replays
-acknowledged-kept : (new : TheReplaying) (c : Cluster) (p k : ℕ) → StandsReplaying new c p → length (c.history p) ≡ k → AllAcknowledged c p k
+acknowledged-kept : (new : TheReplaying) (c : Cluster) (p k : ℕ) → StandsReplaying new c p → length (c.world.history p) ≡ k → AllAcknowledged c p k
 acknowledged-kept new c p k s many = (omega (arith, many), λ m some low. s.acknowledged m (omega (arith, low, many)))
 
 -- the call is a recovery
@@ -237,13 +237,13 @@ recovers-exactly f n page tick limits states bytes calls more p old new few stor
     let recovers : Recovers old new = recovery-is old new (subst (λ z. Acts z (Replays new)) is_old parts.1.0.0.1) in
     let P : ℕ → Type 0 = λ q. HadReceived c q old.own.base new.plan in
     let had : HadReceived c p old.own.base new.plan = subst P collects.own.me (keeps-what-it-had n g one.more old new few (grows f states) one.reached.run (subst (StandsCollecting old c) (sym collects.own.me) collects) recovers.all recovers.is) in
-    let first_same : take old.own.base (b.history p) ≡ take old.own.base (c.history p) = acknowledged-stay n g one.more two.more p old.own.base few (grows f states) two.reached.run (acknowledged-covered g n s c p old one.reached.holds collects) in
-    let many : length (b.history p) ≡ kept_of old new = (let l = replays.long new b p replays_so in let e : new.own.base ≡ old.own.base = ap (λ z. z.base) recovers.is.own in omega (arith, l, e)) in
+    let first_same : take old.own.base (b.world.history p) ≡ take old.own.base (c.world.history p) = acknowledged-stay n g one.more two.more p old.own.base few (grows f states) two.reached.run (acknowledged-covered g n s c p old one.reached.holds collects) in
+    let many : length (b.world.history p) ≡ kept_of old new = (let l = replays.long new b p replays_so in let e : new.own.base ≡ old.own.base = ap (λ z. z.base) recovers.is.own in omega (arith, l, e)) in
     let assoc : (one.more ++ two.more) ++ three.more ≡ one.more ++ (two.more ++ three.more) = append_assoc one.more two.more three.more in
     let last : Reached g n (after_calls (after_call s k) more) (one.more ++ (two.more ++ three.more)) = subst (λ xs. Reached g n (after_calls (after_call s k) more) xs) assoc three.reached in
     let d : Cluster = after_run (opening n g) (one.more ++ (two.more ++ three.more)) in
-    let all_same : take (kept_of old new) (d.history p) ≡ take (kept_of old new) (b.history p) =
-    subst (λ xs. take (kept_of old new) ((after_run (opening n g) xs).history p) ≡ take (kept_of old new) (b.history p)) assoc
+    let all_same : take (kept_of old new) (d.world.history p) ≡ take (kept_of old new) (b.world.history p) =
+    subst (λ xs. take (kept_of old new) ((after_run (opening n g) xs).world.history p) ≡ take (kept_of old new) (b.world.history p)) assoc
     (acknowledged-stay n g (one.more ++ two.more) three.more p (kept_of old new) few (grows f states) three.reached.run (acknowledged-kept new b p (kept_of old new) replays_so many)) in
     let end : after_calls o (calls ++ k ∷ more) ≡ after_calls (after_call s k) more = parts.1.1 in
     record {

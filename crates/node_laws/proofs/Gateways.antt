@@ -34,9 +34,9 @@ ahead-acts given durable now new c holds owed h d s all =
 -- ---- what has the same store
 
 -- what was put out is, where more was
-pub out-more : (g : TheGateway) (c d : Cluster) → c.count ≡ d.count → PutsMore c d → AllByRecursion (PutOut c.count c.parcels) g.out → AllByRecursion (PutOut d.count d.parcels) g.out
-out-more g c d many more out = all-more (PutOut c.count c.parcels) (PutOut d.count d.parcels) g.out (λ x o. put-still d.count c.parcels d.parcels x more (subst (λ k. PutOut k c.parcels x) many o)) out
+pub out-more : (g : TheGateway) (c d : Cluster) → c.world.count ≡ d.world.count → PutsMore c d → AllByRecursion (PutOut c.world.count c.parcels) g.out → AllByRecursion (PutOut d.world.count d.parcels) g.out
+out-more g c d many more out = all-more (PutOut c.world.count c.parcels) (PutOut d.world.count d.parcels) g.out (λ x o. put-still d.world.count c.parcels d.parcels x more (subst (λ k. PutOut k c.parcels x) many o)) out
 
 -- with what was put out, the one stands where the other does
-pub stands-as : (old new : TheGateway) (c : Cluster) → new.store ≡ old.store → AllByRecursion (PutOut c.count c.parcels) new.out → Stands old c → Stands new c
+pub stands-as : (old new : TheGateway) (c : Cluster) → new.store ≡ old.store → AllByRecursion (PutOut c.world.count c.parcels) new.out → Stands old c → Stands new c
 stands-as old new c e out s = subst (λ (t : TheStore). Stands (record new { store = t }) c) (sym e) (stands-waiting old c s out)

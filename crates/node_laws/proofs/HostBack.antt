@@ -40,7 +40,7 @@ stand-still n p first s u m c b here a =
       lives = λ q l. subst (λ z. c.stored q ≤ z) (b.lives q l) (a.lives q l);
       durable = subst (λ z. gateways.Stands z c) b.durable a.durable;
       gateway = subst (λ z. gateways.Goes z c) b.gateway a.gateway;
-      shown = λ q l. subst (λ (z : TheGateway). (peer_of q z).shown ≡ count_of q c.shown) b.durable (a.shown q l);
+      shown = λ q l. subst (λ (z : TheGateway). (peer_of q z).shown ≡ count_of q c.world.shown) b.durable (a.shown q l);
     }
 
 -- what holds at the moment among the calls in all lives holds of the call of the host
@@ -57,8 +57,8 @@ recovered n p first f s s2 t t2 u ks c m is st b =
       after = all-stand n s2 t2 (after_run (opening n f) (b.acts ++ b.more)) st b.after;
       had = subst (HadReceived (after_run (opening n f) b.acts) p m.collected.own.base) m.plan b.had;
       kept = m.kept ∙ ap (λ (z : List OpenJob). m.collected.own.base + length z) m.plan;
-      stays = subst (λ k. take k ((after_run (opening n f) (b.acts ++ b.more)).history p) ≡ take k ((after_run (opening n f) b.acts).history p)) (sym m.kept) b.stays;
-      back = λ e up many. subst (λ k. f.state p (take k ((after_run (opening n f) b.acts).history p)) ≡ e.state) (sym m.kept) (b.back e (st.processes p first ∙ up) (many ∙ m.kept));
+      stays = subst (λ k. take k ((after_run (opening n f) (b.acts ++ b.more)).world.history p) ≡ take k ((after_run (opening n f) b.acts).world.history p)) (sym m.kept) b.stays;
+      back = λ e up many. subst (λ k. f.state p (take k ((after_run (opening n f) b.acts).world.history p)) ≡ e.state) (sym m.kept) (b.back e (st.processes p first ∙ up) (many ∙ m.kept));
     }
 
 -- three lists, the middle one of two and a call between

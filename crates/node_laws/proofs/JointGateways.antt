@@ -27,13 +27,13 @@ stands-same g c d e s =
       outputs = rw (sym e.shown) s.outputs;
       heard = λ p n. sym (e.heard p) ∙ s.heard p (there p n);
       resumed = λ p n. sym (e.resumed p) ∙ s.resumed p (there p n);
-      out = all-more (PutOut c.count c.parcels) (PutOut d.count d.parcels) g.out still s.out;
+      out = all-more (PutOut c.world.count c.parcels) (PutOut d.world.count d.parcels) g.out still s.out;
     }
   where
     there : (p : ℕ) → IsNode d p → IsNode c p
     there p n = (n.0, subst (λ k. p ≤ k) (sym e.count) n.1)
 
-    still : (x : NodePacket) → PutOut c.count c.parcels x → PutOut d.count d.parcels x
+    still : (x : NodePacket) → PutOut c.world.count c.parcels x → PutOut d.world.count d.parcels x
     still x o = record { count_is = o.count_is ∙ e.count; from = o.from; said = record { body = o.said.body; says = o.said.says; among = e.parcels (parcel 0 x.to o.said.body) o.said.among } }
 
 -- it stands after the acts of a node

@@ -47,11 +47,11 @@ use Rattle.node_laws.proofs.Gateways.{Ahead, PutsMore, ahead-none, ahead-still, 
 
 -- a packet was put out by whoever it says, unless it says that all is lost
 abbrev pub WasPut : Cluster → NodePacket → Type 0
-WasPut c x = IsSent c.count c.parcels x.from x
+WasPut c x = IsSent c.world.count c.parcels x.from x
 
 -- a cluster of n in which all of a system stand, of which a lawful world is believed, and in which was put out what was given
 pub record Holds (f : Handlers) (n : ℕ) (s : System) (c : Cluster) : Type 0 where
-  pub count : c.count ≡ n
+  pub count : c.world.count ≡ n
   pub few : n ≤ 15
   pub believed : worlds.Holds c
   pub processes : (p : ℕ) → IsFirst n p → StandsAs (s.processes p) c p
@@ -60,7 +60,7 @@ pub record Holds (f : Handlers) (n : ℕ) (s : System) (c : Cluster) : Type 0 wh
   pub durable : gateways.Stands s.durable c
   pub ahead : Ahead s.durable (untaken s.taken s.gateway) c
   pub given : Each (WasPut c) s.given
-  pub handlers : c.handlers ≡ f
+  pub handlers : c.world.handlers ≡ f
 
 -- the cluster runs on to one that does
 pub record Onward (f : Handlers) (n : ℕ) (c : Cluster) (s : System) : Type 0 where
@@ -69,7 +69,7 @@ pub record Onward (f : Handlers) (n : ℕ) (c : Cluster) (s : System) : Type 0 w
   pub holds : Holds f n s (after_run c acts)
 
 -- what is believed is after a run
-believed-along : (c : Cluster) (ran : List Act) → c.count ≤ 15 → worlds.Holds c → Run c ran → worlds.Holds (after_run c ran)
+believed-along : (c : Cluster) (ran : List Act) → c.world.count ≤ 15 → worlds.Holds c → Run c ran → worlds.Holds (after_run c ran)
 believed-along c [] few h r = h
 believed-along c (a ∷ ran) few h r = let t = worlds.step-holds c a few h r.0 in believed-along (does c a) ran t.1 t.0 r.1
 
@@ -85,7 +85,7 @@ at-each {X} P f p q x others here = split (q == p) refl
     split false e = others (let apart : q ≢ p = grind (arith, nat_tests) in apart)
 
 module _ (f : Handlers) (n : ℕ) (s : System) (c : Cluster) (h : Holds f n s c) where
-  small : c.count ≤ 15
+  small : c.world.count ≤ 15
   small = subst (λ k. k ≤ 15) (sym h.count) h.few
 
   -- a process goes on, and these are stored of all
@@ -164,15 +164,15 @@ given-more : (f : Handlers) (n : ℕ) (c : Cluster) (s : System) (x : NodePacket
 given-more f n c s x o w = given-there f n c s x w (given-still c w.acts (x ∷ []) (o, tt)).0
 
 -- what a packet of a process says, as one of its own number
-from-own : (c : Cluster) (p : ℕ) (x : NodePacket) → IsSent c.count c.parcels p x → WasPut c x
-from-own c p x o e = let put = o e in subst (λ k. PutOut c.count c.parcels k x) (sym put.from) put
+from-own : (c : Cluster) (p : ℕ) (x : NodePacket) → IsSent c.world.count c.parcels p x → WasPut c x
+from-own c p x o e = let put = o e in subst (λ k. PutOut c.world.count c.parcels k x) (sym put.from) put
 
 -- what one of the gateway says
-from-gateway : (c : Cluster) (x : NodePacket) → gateways.PutOut c.count c.parcels x → WasPut c x
+from-gateway : (c : Cluster) (x : NodePacket) → gateways.PutOut c.world.count c.parcels x → WasPut c x
 from-gateway c x o = from-own c 0 x (λ e. record { count_is = o.count_is; from = o.from; said = (o.said.body, o.said.says, o.said.among) })
 
 -- and what the gateway is told by it, wherever all was put out that was here
-to-gateway : (c d : Cluster) (x : NodePacket) → PutsMore c d → PutOut c.count c.parcels x.from x → gateways.WasSaid d.parcels x.from x
+to-gateway : (c d : Cluster) (x : NodePacket) → PutsMore c d → PutOut c.world.count c.parcels x.from x → gateways.WasSaid d.parcels x.from x
 to-gateway c d x more o = record { body = o.said.0; says = o.said.1; among = more (parcel x.from x.to o.said.0) o.said.2 }
 
 -- a packet comes to the gateway: it drops one that says that all is lost
@@ -198,7 +198,7 @@ giving-out f n s c x new h lasts m =
     let store : s.durable.store ≡ next.store = lasts ∙ ap (λ (z : TheGateway). (untaken s.taken z).store) m.0 in
     let kept : gateways.Stands s.durable d = stands-as next s.durable d store (out-more s.durable c d (sym (count-after c g.acts)) (parcels-stay c g.acts) h.durable.out) here in
     let ahead : Ahead s.durable next d = λ b stands more.
-    let many : d.count ≡ b.count = sym here.count ∙ sym (ap (λ (z : TheStore). length z.peers) store) ∙ stands.count in
+    let many : d.world.count ≡ b.world.count = sym here.count ∙ sym (ap (λ (z : TheStore). length z.peers) store) ∙ stands.count in
     stays next b (stands-as s.durable next b (sym store) (out-more next d b many more here.out) stands) in
     let onward = gateway-moves f n s c h new s.durable s.taken (record { acts = g.acts; run = g.run; by = g.by; stands = kept }) ahead in
     given-there f n c (record s { gateway = new }) x onward (from-gateway d x took.0)

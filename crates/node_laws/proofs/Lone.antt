@@ -62,7 +62,7 @@ IsOf p top (Replayed n) = (n.own.me ≡ p) × (n.own.count ≡ top)
 IsOf p top (Restores n) = (n.own.me ≡ p) × (n.own.count ≡ top)
 IsOf p top Killed = Unit {0}
 
-pub stands-of : (process : Process) (c : Cluster) (p : ℕ) → StandsAs process c p → IsOf p c.count process
+pub stands-of : (process : Process) (c : Cluster) (p : ℕ) → StandsAs process c p → IsOf p c.world.count process
 stands-of (Up n) c p s = s.me
 stands-of (Covered n) c p s = s.1.me
 stands-of Killed c p s = tt

@@ -59,7 +59,7 @@ all-stand n s t c st a =
       lives = λ p l. subst (λ z. c.stored p ≤ z) (st.lives p l) (a.lives p l);
       durable = subst (λ z. gateways.Stands z c) st.durable a.durable;
       gateway = subst (λ z. gateways.Goes z c) st.gateway a.gateway;
-      shown = λ p l. subst (λ (z : TheGateway). (peer_of p z).shown ≡ count_of p c.shown) st.durable (a.shown p l);
+      shown = λ p l. subst (λ (z : TheGateway). (peer_of p z).shown ≡ count_of p c.world.shown) st.durable (a.shown p l);
     }
 
 run-of : (n : ℕ) (f : Handlers) (s : System) (t : Lived) → IsAs n s t → IsRunOf n f t → IsRunOf n f (as_lives s)

@@ -67,12 +67,12 @@ work-rests c p n a h e s =
 
 -- ---- the handler's answer to a message that is replayed
 
-answers-again : (f : Answering) (states : ℕ → List ℕ) (n : TheReplaying) (c : Cluster) (p : ℕ) (a : Answer) → c.handlers ≡ handlers_of f states → StandsReplaying n c p → IsAnswerAgain f p n a → replaying.Handles a.state a.given n c
+answers-again : (f : Answering) (states : ℕ → List ℕ) (n : TheReplaying) (c : Cluster) (p : ℕ) (a : Answer) → c.world.handlers ≡ handlers_of f states → StandsReplaying n c p → IsAnswerAgain f p n a → replaying.Handles a.state a.given n c
 answers-again f states n c p a handlers s is j next =
-    let h : List Message = take (n.own.base + n.done) (c.history p) in
+    let h : List Message = take (n.own.base + n.done) (c.world.history p) in
     let here : state_from f p (states p) h ≡ n.own.state = ap (λ (g : Handlers). g.state p h) (sym handlers) ∙ s.own.state in
     let answer : f p (state_from f p (states p) h) (job_of j) ≡ a = ap (λ z. f p z (job_of j)) here ∙ sym (is j next) in
-    subst (λ k. AnswersAfter c.handlers k (take (n.own.base + n.done) (c.history k)) (job_of j) a.state a.given) (sym s.own.me) (record {
+    subst (λ k. AnswersAfter c.world.handlers k (take (n.own.base + n.done) (c.world.history k)) (job_of j) a.state a.given) (sym s.own.me) (record {
       state_is = ap (λ (g : Handlers). g.state p (h ++ job_of j ∷ [])) handlers ∙ state-more f p (states p) h (job_of j) ∙ ap (λ (z : Answer). z.state) answer;
       sends_are = λ d. ap (λ (g : Handlers). g.sends p (h ++ job_of j ∷ []) d) handlers ∙ sends-more f p (states p) h (job_of j) d
           ∙ ap (λ (z : Answer). sends_from f p (states p) h d ++ payloads_to d z.given) answer ∙ ap (λ (g : Handlers). g.sends p h d ++ payloads_to d a.given) (sym handlers);
@@ -98,30 +98,30 @@ module _ (c : Cluster) (p : ℕ) (bytes : List ℕ) (life : ℕ) (low : c.stored
   own new k plain are g = moves-own p new bytes life c k plain are.0 are.1 low g
 
   -- a packet is taken
-  pub giving : (x : NodePacket) (old new : Process) → Gives x old new → StandsAs old c p → AreStoredOf bytes old c p → IsSent c.count c.parcels p x × Goes new
+  pub giving : (x : NodePacket) (old new : Process) → Gives x old new → StandsAs old c p → AreStoredOf bytes old c p → IsSent c.world.count c.parcels p x × Goes new
   giving x (Up n) new g s are =
-      let P : ℕ → Type 0 = λ q. PutOut c.count c.parcels q x × Stands g.0 c q in
+      let P : ℕ → Type 0 = λ q. PutOut c.world.count c.parcels q x × Stands g.0 c q in
       let took : P p = subst P s.me (g.1.1.1 c (subst (Stands n c) (sym s.me) s)) in
       (λ e. took.0, becomes p (Up g.0) new bytes life c g.1.0 (moves-none p (Up g.0) bytes life c took.1 are low))
   giving x (Covered n) new g s are =
-      let P : ℕ → Type 0 = λ q. PutOut c.count c.parcels q x × Stands g.0 c q in
+      let P : ℕ → Type 0 = λ q. PutOut c.world.count c.parcels q x × Stands g.0 c q in
       let took : P p = subst P s.1.me (g.1.1.1 c (subst (Stands n c) (sym s.1.me) s.1)) in
       let waits : g.0.frozen ≡ true = sym (ap (λ (z : TheNode). z.frozen) g.1.1.0) ∙ s.0 in
       (λ e. took.0, becomes p (Covered g.0) new bytes life c g.1.0 (moves-none p (Covered g.0) bytes life c (waits, took.1) are low))
   giving x (Collects n) new g s are =
-      let P : ℕ → Type 0 = λ q. IsSent c.count c.parcels q x × StandsCollecting g.0 c q in
+      let P : ℕ → Type 0 = λ q. IsSent c.world.count c.parcels q x × StandsCollecting g.0 c q in
       let took : P p = subst P s.own.me (g.1.1.1 c (subst (StandsCollecting n c) (sym s.own.me) s)) in
       (took.0, becomes p (Collects g.0) new bytes life c g.1.0 (moves-none p (Collects g.0) bytes life c took.1 are low))
   giving x (Replays n) new g s are =
-      let P : ℕ → Type 0 = λ q. IsSent c.count c.parcels q x × StandsReplaying g.0 c q in
+      let P : ℕ → Type 0 = λ q. IsSent c.world.count c.parcels q x × StandsReplaying g.0 c q in
       let took : P p = subst P s.own.me (g.1.1.1 c (subst (StandsReplaying n c) (sym s.own.me) s)) in
       (took.0, becomes p (Replays g.0) new bytes life c g.1.0 (moves-none p (Replays g.0) bytes life c took.1 are low))
   giving x (Restores n) new g s are =
-      let P : ℕ → Type 0 = λ q. IsSent c.count c.parcels q x × StandsRestoring g.0 c q in
+      let P : ℕ → Type 0 = λ q. IsSent c.world.count c.parcels q x × StandsRestoring g.0 c q in
       let took : P p = subst P s.own.me (g.1.1.1 c (subst (StandsRestoring n c) (sym s.own.me) s)) in
       (took.0, becomes p (Restores g.0) new bytes life c g.1.0 (moves-none p (Restores g.0) bytes life c took.1 are low))
   giving x (Replayed n) new g s are =
-      let out : Each (IsSent c.count c.parcels p) (x ∷ g.0.own.out) = subst (Each (IsSent c.count c.parcels p)) g.1.1.0 s.own.out in
+      let out : Each (IsSent c.world.count c.parcels p) (x ∷ g.0.own.out) = subst (Each (IsSent c.world.count c.parcels p)) g.1.1.0 s.own.out in
       (out.0, becomes p (Replayed g.0) new bytes life c g.1.0 (moves-none p (Replayed g.0) bytes life c (subst (λ z. StandsReplayed z c p) (sym g.1.1.1) (replayed-out n c p g.0.own.out out.1 s)) are low))
   giving x Killed new g s are = absurd g
 
@@ -152,7 +152,7 @@ module _ (c : Cluster) (p : ℕ) (bytes : List ℕ) (life : ℕ) (low : c.stored
   hearing x Killed new g exact said s are = absurd g
 
   -- its handler answered
-  pub working : (f : Answering) (states : ℕ → List ℕ) (a : Answer) (old new : Process) → Works f p a old new → c.handlers ≡ handlers_of f states → worlds.Holds c → StandsAs old c p → AreStoredOf bytes old c p → Goes new
+  pub working : (f : Answering) (states : ℕ → List ℕ) (a : Answer) (old new : Process) → Works f p a old new → c.world.handlers ≡ handlers_of f states → worlds.Holds c → StandsAs old c p → AreStoredOf bytes old c p → Goes new
   working f states a (Up n) new g handlers h s are =
       becomes p (Up g.1.0) new bytes life c g.1.1.0 (own (Up g.1.0) are.0 (λ k d z. z) are.1 (owes-at (Handles a.state a.given n) n g.1.0 c p g.1.1.1.1 s (answers f states n c p a handlers s g.0)))
   working f states a (Covered n) new g handlers h s are =

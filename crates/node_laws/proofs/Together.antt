@@ -27,15 +27,15 @@ use Rattle.node_laws.proofs.JointGateways.{gateway-stands, all-by-gateway}
 
 -- a packet was put out by whoever it says
 abbrev WasPut : Cluster → NodePacket → Type 0
-WasPut c x = PutOut c.count c.parcels x.from x
+WasPut c x = PutOut c.world.count c.parcels x.from x
 
 -- a cluster of n in which all nodes of a system and its gateway stand, and in which was put out what was given
 record Holds (f : Handlers) (n : ℕ) (s : System) (c : Cluster) : Type 0 where
-  count : c.count ≡ n
+  count : c.world.count ≡ n
   stand : AllStand s.nodes c
   gateway : gateways.Stands s.gateway c
   given : Each (WasPut c) s.given
-  handlers : c.handlers ≡ f
+  handlers : c.world.handlers ≡ f
 
 -- the cluster runs on to one that does
 record Onward (f : Handlers) (n : ℕ) (c : Cluster) (s : System) : Type 0 where
@@ -81,11 +81,11 @@ stands-at : (f : Handlers) (n : ℕ) (s : System) (c : Cluster) (p : ℕ) → Is
 stands-at f n s c p first h = h.stand p first.0 (subst (λ k. p ≤ k) (sym h.count) first.1)
 
 -- what a packet of a node says, as one of its own number
-from-own : (c : Cluster) (p : ℕ) (x : NodePacket) → PutOut c.count c.parcels p x → WasPut c x
-from-own c p x o = subst (λ k. PutOut c.count c.parcels k x) (sym o.from) o
+from-own : (c : Cluster) (p : ℕ) (x : NodePacket) → PutOut c.world.count c.parcels p x → WasPut c x
+from-own c p x o = subst (λ k. PutOut c.world.count c.parcels k x) (sym o.from) o
 
 -- what one of the gateway says
-from-gateway : (c : Cluster) (x : NodePacket) → gateways.PutOut c.count c.parcels x → WasPut c x
+from-gateway : (c : Cluster) (x : NodePacket) → gateways.PutOut c.world.count c.parcels x → WasPut c x
 from-gateway c x o = from-own c 0 x (record { count_is = o.count_is; from = o.from; said = (o.said.body, o.said.says, o.said.among) })
 
 -- and what the gateway is told by it
@@ -97,7 +97,7 @@ call-goes : (f : Answering) (states : ℕ → List ℕ) (n : ℕ) (s : System) (
 call-goes f states n s c (Gave p x new) h m =
     let at : Stands (s.nodes p) c p = stands-at (handlers_of f states) n s c p m.0 h in
     let me : (s.nodes p).me ≡ p = at.me in
-    let took : PutOut c.count c.parcels p x × Stands new c p = subst (λ k. PutOut c.count c.parcels k x × Stands new c k) me (m.1.1 c (subst (Stands (s.nodes p) c) (sym me) at)) in
+    let took : PutOut c.world.count c.parcels p x × Stands new c p = subst (λ k. PutOut c.world.count c.parcels k x × Stands new c k) me (m.1.1 c (subst (Stands (s.nodes p) c) (sym me) at)) in
     record {
       acts = [];
       run = tt;

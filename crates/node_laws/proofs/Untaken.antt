@@ -28,7 +28,7 @@ use Rattle.node_laws.proofs.HeldGateway.{none-out, ticked-outputs}
 pub stands-fewer : (xs ys : List Output) (g : TheGateway) (c : Cluster) → Stands (untaken (xs ++ ys) g) c → Stands (untaken ys g) c
 stands-fewer xs ys g c s =
     let last : List Output = ys ++ g.store.outputs in
-    let joined : (s.outputs.before ++ map shown_as xs) ++ map shown_as last ≡ c.shown =
+    let joined : (s.outputs.before ++ map shown_as xs) ++ map shown_as last ≡ c.world.shown =
     append_assoc s.outputs.before (map shown_as xs) (map shown_as last)
     ∙ ap (λ z. s.outputs.before ++ z) (sym (map-append shown_as xs last) ∙ ap (map shown_as) (sym (append_assoc xs ys g.store.outputs)))
     ∙ s.outputs.joined in

@@ -31,8 +31,8 @@ pub record HasBack (n : ℕ) (f : Handlers) (s t : System) (p : ℕ) (a b : TheN
   pub after : AllStand n t (after_run (opening n f) (acts ++ more))
   pub was : List Message
   pub is : List Message
-  pub history_was : was ≡ (after_run (opening n f) acts).history p
-  pub history_is : is ≡ (after_run (opening n f) (acts ++ more)).history p
+  pub history_was : was ≡ (after_run (opening n f) acts).world.history p
+  pub history_is : is ≡ (after_run (opening n f) (acts ++ more)).world.history p
   pub many_was : length was ≡ length_of a
   pub many_is : length is ≡ length_of b
   pub state_was : f.state p was ≡ a.state
@@ -68,9 +68,9 @@ pub record IsBack (n : ℕ) (f : Handlers) (s t : System) (p : ℕ) (old : TheCo
   pub after : AllStand n t (after_run (opening n f) (acts ++ more))
   pub had : HadReceived (after_run (opening n f) acts) p old.own.base new.plan
   pub stays : take (kept_of old new)
-      ((after_run (opening n f) (acts ++ more)).history p) ≡ take (kept_of old new) ((after_run (opening n f) acts).history p)
+      ((after_run (opening n f) (acts ++ more)).world.history p) ≡ take (kept_of old new) ((after_run (opening n f) acts).world.history p)
   pub back : (m : TheNode) → t.processes p ≡ Up m → length_of m ≡ kept_of old new
-      → f.state p (take (kept_of old new) ((after_run (opening n f) acts).history p)) ≡ m.state
+      → f.state p (take (kept_of old new) ((after_run (opening n f) acts).world.history p)) ≡ m.state
 
 -- a process that recovers comes back with what it keeps, if all stay exact
 abbrev pub RecoversExactly : Type 0

@@ -57,9 +57,9 @@ pub record HasRecovered (n : ℕ) (f : Handlers) (s t : System) (p : ℕ) (now :
   pub had : HadReceived (after_run (opening n f) acts) p collected.own.base (plan_of now)
   pub kept : keeps now ≡ collected.own.base + length (plan_of now)
   pub stays : take (keeps now)
-      ((after_run (opening n f) (acts ++ more)).history p) ≡ take (keeps now) ((after_run (opening n f) acts).history p)
+      ((after_run (opening n f) (acts ++ more)).world.history p) ≡ take (keeps now) ((after_run (opening n f) acts).world.history p)
   pub back : (m : TheNode) → as_process (t.processes p) ≡ stages.Up m → length_of m ≡ keeps now
-      → f.state p (take (keeps now) ((after_run (opening n f) acts).history p)) ≡ m.state
+      → f.state p (take (keeps now) ((after_run (opening n f) acts).world.history p)) ≡ m.state
 
 -- a call before which p collects, and after which it doesn't
 abbrev pub HostedRecovers : Type 0

@@ -179,7 +179,7 @@ pub record AllStand (n : ℕ) (s : System) (c : Cluster) : Type 0 where
   pub durable : gateways.Stands s.durable c
   pub gateway : gateways.Goes s.gateway c
   -- the gateway counts as many outputs of a process as were shown of it
-  pub shown : (p : ℕ) → IsFirst n p → (peer_of p s.durable).shown ≡ count_of p c.shown
+  pub shown : (p : ℕ) → IsFirst n p → (peer_of p s.durable).shown ≡ count_of p c.world.shown
 
 -- the cluster runs from its opening to one with which all agree; and the promises of runs hold of it
 pub record IsRunOf (n : ℕ) (f : Handlers) (s : System) : Type 0 where

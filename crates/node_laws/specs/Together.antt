@@ -89,7 +89,7 @@ pub record IsRunOf (n : ℕ) (f : Handlers) (s : System) : Type 0 where
   pub stand : AllStand s.nodes (after_run (opening n f) acts)
   pub gateway : gateways.Stands s.gateway (after_run (opening n f) acts)
   -- the gateway counts as many outputs of a process as were shown of it
-  pub shown : (p : ℕ) → IsFirst n p → (peer_of p s.gateway).shown ≡ count_of p (after_run (opening n f) acts).shown
+  pub shown : (p : ℕ) → IsFirst n p → (peer_of p s.gateway).shown ≡ count_of p (after_run (opening n f) acts).world.shown
   pub no_orphan : NoOrphanNode (after_run (opening n f) acts)
   pub output_once : OutputOnce (after_run (opening n f) acts)
   pub received_once : ReceivedOnce (after_run (opening n f) acts)

@@ -5,7 +5,7 @@ use Rattle.std.proofs.lemmas.Bool.Decides.{nat_tests}
 use Rattle.std.proofs.lemmas.List.{get_or-replicate, get_or-set_same, get_or-set_other}
 use Rattle.world.specs.Phases.{those, is_up}
 use Rattle.world.specs.Calls.{phase_with, peers}
-use Rattle.cluster.specs.Cluster.{Cluster, seen}
+use Rattle.cluster.specs.Cluster.{Cluster}
 use Rattle.recovery.specs.Stands.{GoesTo}
 use Rattle.recovery.proofs.Meetings.{inside-off}
 use Rattle.recovery.specs.Replayed.{TheReplayed, StandsReplayed}
@@ -35,8 +35,8 @@ module _ (r : TheReplayed) (c : Cluster) (s : StandsReplayed r c r.own.me) where
   alone : has_answered p n ≡ true
   alone = alone-begins r.own.lost p (inside-off r.own.lost p (s.own.sure.none_lost p low))
 
-  left-is : left n ≡ peers (seen c) p false
-  left-is = ap (those (λ q. not (has_answered q n))) s.own.count ∙ those-same (λ q. not (has_answered q n)) (λ q. not (q == p) && (not false || is_up (c.phase q))) c.count (λ q some l. each q (omega (arith, l, s.own.count)) (q == p) refl)
+  left-is : left n ≡ peers c.world p false
+  left-is = ap (those (λ q. not (has_answered q n))) s.own.count ∙ those-same (λ q. not (has_answered q n)) (λ q. not (q == p) && (not false || is_up (c.world.phase q))) c.world.count (λ q some l. each q (omega (arith, l, s.own.count)) (q == p) refl)
     where
       each : (q : ℕ) → q ≤ r.own.count → (b : Bool) → (q == p) ≡ b → not (has_answered q n) ≡ (not (q == p) && true)
       each q l true e =

@@ -12,7 +12,7 @@ use Rattle.theorems.specs.Orphans.{payloads_of}
 use Rattle.theorems.proofs.HistoryLemmas.{names-found}
 use Rattle.theorems.proofs.ListLemmas.{at-number, nth-within, begins-length}
 use Rattle.cluster.specs.Parcels.{Body, Restored, In, parcel, reaches}
-use Rattle.cluster.specs.Cluster.{Cluster, opening, seen}
+use Rattle.cluster.specs.Cluster.{Cluster, opening}
 use Rattle.cluster.specs.Rules.{after_run}
 use Rattle.cluster.specs.Promises.{NoOrphanNode, OutputOnce, ReceivedOnce}
 use Rattle.cluster.specs.Inside.Agrees.{is_back}
@@ -64,9 +64,9 @@ reaches-last false v = let e : nat_le v v ≡ true = grind (arith, nat_tests) in
 
 -- as long as a process waits for one it isn't back
 not-back : (n : TheRestoring) (c : Cluster) (q : ℕ) → StandsRestoring n c n.own.me → q ≤ n.own.count → has_answered q n ≡ false → is_back c n.own.me ≡ false
-not-back n c zero s low open_is = let e : c.greeted n.own.me ≡ false = s.greeted ∙ open_is in rw e (both-off (is_up (c.phase n.own.me)))
+not-back n c zero s low open_is = let e : c.greeted n.own.me ≡ false = s.greeted ∙ open_is in rw e (both-off (is_up (c.world.phase n.own.me)))
 not-back n c (suc q) s low open_is =
-    let e : is_up (c.phase n.own.me) ≡ false = ap is_up s.phase ∙ waits-on (left n) (suc q) (left-has n (suc q) (omega arith) low open_is) in
+    let e : is_up (c.world.phase n.own.me) ≡ false = ap is_up s.phase ∙ waits-on (left n) (suc q) (left-has n (suc q) (omega arith) low open_is) in
     rw e refl
 
 module _ (n : TheRestoring) (c : Cluster) (from j k s : ℕ) (flags : Flags) (pairs : List Pair) (f : ℕ → Option ℕ) (h : Holds c) (orphan : NoOrphanNode c) (shown : OutputOnce c) (received : ReceivedOnce c) (st : StandsRestoring n c n.own.me)
@@ -82,40 +82,40 @@ module _ (n : TheRestoring) (c : Cluster) (from j k s : ℕ) (flags : Flags) (pa
   inner = let z : 0 < p = st.own.inside.0 in grind (arith, nat_tests)
 
   -- how much p sent there
-  sent-is : length (payloads (seen c) p (c.history p) from) ≡ sent
+  sent-is : length (payloads c.world p (c.world.history p) from) ≡ sent
   sent-is =
       let t = st.own.logs from (omega (arith, low, st.own.count)) other in
       let e : length (t.before ++ (log_at n.own.logs from).payloads) ≡ length t.before + length (log_at n.own.logs from).payloads = length-append t.before (log_at n.own.logs from).payloads in
       rw inner (ap length (sym t.joined) ∙ omega (arith, e, t.many))
 
-  fine : (k ≤ covered (seen c) p from) × ((ssn : ℕ) → s < ssn → reaches (restored_end flags s pairs) ssn ≡ true → f ssn ≡ rsn_of (c.history from) p ssn)
+  fine : (k ≤ covered c.world p from) × ((ssn : ℕ) → s < ssn → reaches (restored_end flags s pairs) ssn ≡ true → f ssn ≡ rsn_of (c.world.history from) p ssn)
   fine =
       let x = (h.agrees.parcels from p (Restored n.own.life j k s (restored_end flags s pairs) f) given).3 in
       (x.covers, (x.now (sym st.life) (not-back n c from st low open_is)).2)
 
-  covered-sent : covered (seen c) p from ≤ sent
+  covered-sent : covered c.world p from ≤ sent
   covered-sent = split (from == 0) refl
     where
-      split : (b : Bool) → (from == 0) ≡ b → count_of p (if b then c.shown else take (c.saved from) (c.history from)) ≤ sent
+      split : (b : Bool) → (from == 0) ≡ b → count_of p (if b then c.world.shown else take (c.world.saved from) (c.world.history from)) ≤ sent
       split true e =
           let same : 0 ≡ from = grind (arith, nat_tests) in
-          let most : length (payloads_of p c.shown) ≤ length (payloads (seen c) p (c.history p) 0) = begins-length _ _ (shown p) in
-          let P : ℕ → Type 0 = λ z. length (payloads_of p c.shown) ≤ length (payloads (seen c) p (c.history p) z) in
-          let here : length (payloads_of p c.shown) ≤ length (payloads (seen c) p (c.history p) from) = subst P same most in
-          omega (arith, many-payloads p c.shown, here, sent-is)
+          let most : length (payloads_of p c.world.shown) ≤ length (payloads c.world p (c.world.history p) 0) = begins-length _ _ (shown p) in
+          let P : ℕ → Type 0 = λ z. length (payloads_of p c.world.shown) ≤ length (payloads c.world p (c.world.history p) z) in
+          let here : length (payloads_of p c.world.shown) ≤ length (payloads c.world p (c.world.history p) from) = subst P same most in
+          omega (arith, many-payloads p c.world.shown, here, sent-is)
       split false e =
-          let most : length (payloads_of p (c.history from)) ≤ length (payloads (seen c) p (c.history p) from) = begins-length _ _ (received.order p from) in
-          omega (arith, many-payloads p (c.history from), most, sent-is, count-first p (c.saved from) (c.history from))
+          let most : length (payloads_of p (c.world.history from)) ≤ length (payloads c.world p (c.world.history p) from) = begins-length _ _ (received.order p from) in
+          omega (arith, many-payloads p (c.world.history from), most, sent-is, count-first p (c.world.saved from) (c.world.history from))
 
   -- a message that was received was sent
-  found-sent : (ssn m : ℕ) → rsn_of (c.history from) p ssn ≡ Some m → ssn ≤ sent
+  found-sent : (ssn m : ℕ) → rsn_of (c.world.history from) p ssn ≡ Some m → ssn ≤ sent
   found-sent ssn m e =
-      let names : Names (c.history from) m p ssn = names-found (c.history from) p ssn m e in
-      let at = at-number (c.history from) m names.message names.at in
+      let names : Names (c.world.history from) m p ssn = names-found (c.world.history from) p ssn m e in
+      let at = at-number (c.world.history from) m names.message names.at in
       let got = orphan.received from at.0 names.message at.2 in
-      let P : ℕ → Type 0 = λ z. nth (payloads (seen c) z (c.history z) from) names.message.ssn ≡ Some names.message.payload in
-      let here : nth (payloads (seen c) p (c.history p) from) names.message.ssn ≡ Some names.message.payload = subst P names.sender got in
-      let inside = (nth-within (payloads (seen c) p (c.history p) from) names.message.ssn names.message.payload here).1 in
+      let P : ℕ → Type 0 = λ z. nth (payloads c.world z (c.world.history z) from) names.message.ssn ≡ Some names.message.payload in
+      let here : nth (payloads c.world p (c.world.history p) from) names.message.ssn ≡ Some names.message.payload = subst P names.sender got in
+      let inside = (nth-within (payloads c.world p (c.world.history p) from) names.message.ssn names.message.payload here).1 in
       omega (arith, inside, names.ssn, sent-is)
 
   covered-fits : k ≤ sent

@@ -8,7 +8,7 @@ use Rattle.world.specs.World.{put}
 use Rattle.world.specs.Calls.{peers}
 use Rattle.theorems.specs.Growth.{Grows}
 use Rattle.theorems.proofs.Changes.{at-itself}
-use Rattle.cluster.specs.Cluster.{Cluster, opening, seen}
+use Rattle.cluster.specs.Cluster.{Cluster, opening}
 use Rattle.cluster.specs.Rules.{Act, Recovers, Run, does, after_run, kept_by, goes_on, taken_back}
 use Rattle.cluster.specs.Promises.{RecoversAll, AllAcknowledged}
 use Rattle.cluster.proofs.Promised.{nodes-keep, nodes-recover, acknowledged-stay}
@@ -24,13 +24,13 @@ use Rattle.recovery.proofs.Orders.{back-part}
 use Rattle.recovery.proofs.Plans.{recovering}
 
 -- what it received then is what it keeps
-recovered-history : (c : Cluster) (p k : ℕ) → (does c (Recovers p k)).history p ≡ kept_by c p k
+recovered-history : (c : Cluster) (p k : ℕ) → (does c (Recovers p k)).world.history p ≡ kept_by c p k
 recovered-history c p k =
-    by-cluster (λ d. d.history p ≡ kept_by c p k) (nat_lt (c.saved p) k) (record (taken_back c p k) { phase = put c.phase p (Replaying 0 false false) }) (goes_on (taken_back c p k) p (peers (seen c) p false))
+    by-cluster (λ d. d.world.history p ≡ kept_by c p k) (nat_lt (c.world.saved p) k) (record (taken_back c p k) { world = record (taken_back c p k).world { phase = put c.world.phase p (Replaying 0 false false) } }) (goes_on (taken_back c p k) p (peers c.world p false))
     (λ e. back) (λ e. back)
   where
-    back : (taken_back c p k).history p ≡ kept_by c p k
-    back = at-itself p (λ b. (if b then kept_by c p k else c.history p) ≡ kept_by c p k) refl
+    back : (taken_back c p k).world.history p ≡ kept_by c p k
+    back = at-itself p (λ b. (if b then kept_by c p k else c.world.history p) ≡ kept_by c p k) refl
 
 module _ (count : ℕ) (f : Handlers) (acts : List Act) (n : TheCollecting) (r : TheReplaying) (few : count ≤ 15) (grows : Grows f) (run : Run (opening count f) acts) (s : StandsCollecting n (after_run (opening count f) acts) n.own.me)
     (all : has_all n ≡ true) (is : Recovered n r) where
@@ -61,20 +61,20 @@ module _ (count : ℕ) (f : Handlers) (acts : List Act) (n : TheCollecting) (r :
   recovers : RecoversAll c p k
   recovers = nodes-recover count f acts p k few grows more
 
-  kept-is : take base (c.history p) ++ map job_of r.plan ≡ take k (c.history p)
+  kept-is : take base (c.world.history p) ++ map job_of r.plan ≡ take k (c.world.history p)
   kept-is = sym may-recover.kept ∙ sym (recovered-history c p k) ∙ recovers.same
 
   acknowledged-is : (m : ℕ) → AllAcknowledged c p m → m ≤ k
   acknowledged-is m a =
-      let stays : take m ((after_run (opening count f) (acts ++ act ∷ [])).history p) ≡ take m (c.history p) = acknowledged-stay count f acts (act ∷ []) p m few grows more a in
-      let now : (after_run (opening count f) (acts ++ act ∷ [])).history p ≡ take k (c.history p) = ap (λ (d : Cluster). d.history p) then-is ∙ recovers.same in
-      let first : take m (take k (c.history p)) ≡ take m (c.history p) = ap (take m) (sym now) ∙ stays in
-      omega (arith, ap length first, length-take m (take k (c.history p)), length-take k (c.history p), length-take m (c.history p), a.0)
+      let stays : take m ((after_run (opening count f) (acts ++ act ∷ [])).world.history p) ≡ take m (c.world.history p) = acknowledged-stay count f acts (act ∷ []) p m few grows more a in
+      let now : (after_run (opening count f) (acts ++ act ∷ [])).world.history p ≡ take k (c.world.history p) = ap (λ (d : Cluster). d.world.history p) then-is ∙ recovers.same in
+      let first : take m (take k (c.world.history p)) ≡ take m (c.world.history p) = ap (take m) (sym now) ∙ stays in
+      omega (arith, ap length first, length-take m (take k (c.world.history p)), length-take k (c.world.history p), length-take m (c.world.history p), a.0)
 
   had-received : HadReceived c p base r.plan
   had-received = record {
     within = recovers.within;
-    same = sym (back-part (take base (c.history p)) (map job_of r.plan) base (let many : base ≤ length (take base (c.history p)) = s.own.many in omega (arith, many, length-take base (c.history p)))) ∙ ap (drop base) kept-is;
+    same = sym (back-part (take base (c.world.history p)) (map job_of r.plan) base (let many : base ≤ length (take base (c.world.history p)) = s.own.many in omega (arith, many, length-take base (c.world.history p)))) ∙ ap (drop base) kept-is;
     acknowledged = acknowledged-is;
     in_order = (nodes-keep count f acts few grows run).2.next p;
   }

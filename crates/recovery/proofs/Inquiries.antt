@@ -27,12 +27,12 @@ asks-one : (n : TheCollecting) (c : Cluster) (to : ℕ) → StandsCollecting n c
 asks-one n c to s low other open_is =
     let me = n.own.me in
     let cursor = (told_of n.told to).cursor in
-    let within : to ≤ c.count = omega (arith, low, s.own.count) in
+    let within : to ≤ c.world.count = omega (arith, low, s.own.count) in
     let told = s.told to within in
-    let may : Asks (c.saved me) (c.told me to) cursor = rw s.own.saved (told.asks open_is) in
+    let may : Asks (c.world.saved me) (c.told me to) cursor = rw s.own.saved (told.asks open_is) in
     goes-one me (At (record n { own = posts to (packets.Ask n.own.life cursor) n.own }) me) c (Puts me to (Ask n.own.life cursor))
     (s.own.inside.1, within, (λ e. other (sym e)), (s.stage, sym s.life, may)) refl
-    (record { stage = s.stage; life = s.life; own = own-posted n.own c me to (packets.Ask n.own.life cursor) (Ask n.own.life cursor) (take n.own.base (c.history me)) (c.saved_trims me) (λ _ _. None) refl s.own; told = s.told; alone = s.alone })
+    (record { stage = s.stage; life = s.life; own = own-posted n.own c me to (packets.Ask n.own.life cursor) (Ask n.own.life cursor) (take n.own.base (c.world.history me)) (c.world.saved_trims me) (λ _ _. None) refl s.own; told = s.told; alone = s.alone })
 
 pub asks-at : (n : TheCollecting) (c : Cluster) (to : ℕ) → StandsCollecting n c n.own.me → to ≤ n.own.count → to ≢ n.own.me → GoesTo n.own.me (At (asks to n) n.own.me) c
 asks-at n c to s low other = by-branch (λ m. GoesTo n.own.me (At m n.own.me) c) (told_of n.told to).done n _ (λ e. goes-self n.own.me (At n n.own.me) c s) (λ e. asks-one n c to s low other e)

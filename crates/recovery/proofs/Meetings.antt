@@ -47,9 +47,9 @@ newer-doubts q i k o newer = let e : nat_lt i (heard_of q o) ≡ false = grind (
 
 -- where it stays exact, it has only more packets to be taken
 abbrev pub OnlyTells : Cluster → ℕ → TheOwn → TheOwn → Type 0
-OnlyTells c p o new = new.exact ≡ true → (rest : List NodePacket) × ((new ≡ record o { out = rest }) × Each (IsSent c.count c.parcels p) rest)
+OnlyTells c p o new = new.exact ≡ true → (rest : List NodePacket) × ((new ≡ record o { out = rest }) × Each (IsSent c.world.count c.parcels p) rest)
 
-module _ (o : TheOwn) (c : Cluster) (p : ℕ) (out : Each (IsSent c.count c.parcels p) o.out) where
+module _ (o : TheOwn) (c : Cluster) (p : ℕ) (out : Each (IsSent c.world.count c.parcels p) o.out) where
   none-told : OnlyTells c p o o
   none-told e = (o.out, (refl, out))
 

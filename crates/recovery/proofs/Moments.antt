@@ -10,7 +10,7 @@ use Rattle.world.specs.World.{put}
 use Rattle.world.specs.Logs.{sent_in_all}
 use Rattle.world.specs.Calls.{phase_with, peers, released_with}
 use Rattle.theorems.proofs.Changes.{at-itself}
-use Rattle.cluster.specs.Cluster.{Cluster, Live, seen}
+use Rattle.cluster.specs.Cluster.{Cluster, Live}
 use Rattle.cluster.specs.Rules.{Recovers, does, kept_by, goes_on, taken_back}
 use Rattle.node.specs.declared.job.OpenJob.{OpenJob}
 use Rattle.node.specs.Node.{log_at}
@@ -45,7 +45,7 @@ module _ (n : TheCollecting) (jobs : List OpenJob) (all : has_all n ≡ true) (p
   base = n.own.base
 
   abbrev h : List Message
-  h = take base (c.history me)
+  h = take base (c.world.history me)
 
   abbrev ms : List Message
   ms = map job_of jobs
@@ -60,21 +60,21 @@ module _ (n : TheCollecting) (jobs : List OpenJob) (all : has_all n ≡ true) (p
   back = taken_back c me k
 
   abbrev others : List ℕ
-  others = peers (seen c) me false
+  others = peers c.world me false
 
   may-recover : MayRecover n jobs c
   may-recover = recovering n jobs plans all c s
 
   long : length h ≡ base
-  long = omega (arith, length-take base (c.history me), s.own.many)
+  long = omega (arith, length-take base (c.world.history me), s.own.many)
 
-  history-is : back.history me ≡ h ++ ms
-  history-is = at-itself me (λ b. (if b then kept_by c me k else c.history me) ≡ h ++ ms) may-recover.kept
+  history-is : back.world.history me ≡ h ++ ms
+  history-is = at-itself me (λ b. (if b then kept_by c me k else c.world.history me) ≡ h ++ ms) may-recover.kept
 
   many-kept : length (h ++ ms) ≡ k
   many-kept = omega (arith, length-append h ms, long, length-map jobs job_of)
 
-  first-is : take (base + 0) (back.history me) ≡ h
+  first-is : take (base + 0) (back.world.history me) ≡ h
   first-is = ap (take (base + 0)) history-is ∙ front-part h ms (base + 0) (omega (arith, long))
 
   plan-is : IsPlan (told_under n.told n.own.count) h ms
@@ -102,15 +102,15 @@ module _ (n : TheCollecting) (jobs : List OpenJob) (all : has_all n ≡ true) (p
       }
 
   -- so it stands, whatever it does next and releases
-  module _ (ph : ℕ → Phase) (rel : ℕ → ℕ → ℕ) (phase-is : ph me ≡ phase_of r others) (shut-is : is_over r ≡ false → (e : ℕ) → rel me e ≡ 0) (released-is : is_over r ≡ true → others ≡ [] → (e : ℕ) → rel me e ≡ sent_in_all (seen back) me e) where
-    stands-back : StandsReplaying r (record back { phase = ph; released = rel }) me
+  module _ (ph : ℕ → Phase) (rel : ℕ → ℕ → ℕ) (phase-is : ph me ≡ phase_of r others) (shut-is : is_over r ≡ false → (e : ℕ) → rel me e ≡ 0) (released-is : is_over r ≡ true → others ≡ [] → (e : ℕ) → rel me e ≡ sent_in_all back.world me e) where
+    stands-back : StandsReplaying r (record back { world = record back.world { phase = ph; released = rel } }) me
     stands-back =
         record {
           stage = at-itself me (λ b. (if b then Live else c.stage me) ≡ Live) refl;
           greeted = at-itself me (λ b. (if b then false else c.greeted me) ≡ false) refl;
           phase = phase-is;
-          life = at-itself me (λ b. (if b then c.stored me else c.life me) ≡ n.own.life) s.life;
-          own = (let P : List Message → Type 0 = λ z. HasOwn n.own (record back { phase = ph; released = rel }) me z (back.trims me) (back.numbers me) in
+          life = at-itself me (λ b. (if b then c.stored me else c.world.incarnation me) ≡ n.own.life) s.life;
+          own = (let P : List Message → Type 0 = λ z. HasOwn n.own (record back { world = record back.world { phase = ph; released = rel } }) me z (back.world.trims me) (back.world.numbers me) in
               subst P (sym first-is) (record {
                 me = refl;
                 count = s.own.count;
@@ -119,7 +119,7 @@ module _ (n : TheCollecting) (jobs : List OpenJob) (all : has_all n ≡ true) (p
                 many = s.own.many;
                 state = s.own.state;
                 covered = s.own.covered;
-                logs = λ e l o. at-itself me (λ b. KeepsOf (log_at n.own.logs e) ((if b then c.saved_trims me else c.trims me) e) (c.handlers.sends me h e) ((if b then (λ _ _. None) else c.numbers me) e)) (s.own.logs e l o);
+                logs = λ e l o. at-itself me (λ b. KeepsOf (log_at n.own.logs e) ((if b then c.world.saved_trims me else c.world.trims me) e) (c.world.handlers.sends me h e) ((if b then (λ _ _. None) else c.world.numbers me) e)) (s.own.logs e l o);
                 held = s.own.held;
                 grown = s.own.grown;
                 heard = s.own.heard;
@@ -127,12 +127,12 @@ module _ (n : TheCollecting) (jobs : List OpenJob) (all : has_all n ≡ true) (p
                 out = s.own.out;
               }));
           behind = ap (drop base) history-is ∙ back-part h ms base long;
-          received = (let P : List Message → Type 0 = λ z. HasReceived n.own.count base n.own.covered (receipts_of jobs) z (back.acknowledged me) in
-              subst P (sym history-is) (at-itself me (λ b. HasReceived n.own.count base n.own.covered (receipts_of jobs) (h ++ ms) (if b then (λ m. nat_le m k) else c.acknowledged me)) received-is));
+          received = (let P : List Message → Type 0 = λ z. HasReceived n.own.count base n.own.covered (receipts_of jobs) z (back.world.acknowledged me) in
+              subst P (sym history-is) (at-itself me (λ b. HasReceived n.own.count base n.own.covered (receipts_of jobs) (h ++ ms) (if b then (λ m. nat_le m k) else c.world.acknowledged me)) received-is));
           acknowledged = λ i l.
               let within : i ≤ k = omega (arith, l, ap length history-is, many-kept) in
-              at-itself me (λ b. (if b then (λ m. nat_le m k) else c.acknowledged me) i ≡ true) (grind (arith, nat_tests));
-          numbers = λ e i. at-itself me (λ b. (if b then (λ _ _. None) else c.numbers me) e i ≡ None) refl;
+              at-itself me (λ b. (if b then (λ m. nat_le m k) else c.world.acknowledged me) i ≡ true) (grind (arith, nat_tests));
+          numbers = λ e i. at-itself me (λ b. (if b then (λ _ _. None) else c.world.numbers me) e i ≡ None) refl;
           resumed = λ q. at-itself me (λ b. (if b then (λ _. true) else c.resumed me) q ≡ true) refl;
           restoring = λ q. at-itself me (λ b. (if b then (λ _. 0) else c.restoring me) q ≡ 0) refl;
           shut = shut-is;
@@ -140,25 +140,25 @@ module _ (n : TheCollecting) (jobs : List OpenJob) (all : has_all n ≡ true) (p
         }
 
   -- some are to be replayed
-  stands-some : nat_lt (c.saved me) k ≡ true → StandsReplaying r (record back { phase = put c.phase me (Replaying 0 false false) }) me
+  stands-some : nat_lt (c.world.saved me) k ≡ true → StandsReplaying r (record back { world = record back.world { phase = put c.world.phase me (Replaying 0 false false) } }) me
   stands-some e =
-      let some : nat_le (length jobs) 0 ≡ false = (let saved : c.saved me ≡ base = s.own.saved in grind (arith, nat_tests)) in
-      stands-back (put c.phase me (Replaying 0 false false)) back.released
-      (at-itself me (λ b. (if b then Replaying 0 false false else c.phase me) ≡ phase_of r others) (rw some refl))
-      (λ f d. at-itself me (λ b. (if b then (λ _. 0) else c.released me) d ≡ 0) refl)
+      let some : nat_le (length jobs) 0 ≡ false = (let saved : c.world.saved me ≡ base = s.own.saved in grind (arith, nat_tests)) in
+      stands-back (put c.world.phase me (Replaying 0 false false)) back.world.released
+      (at-itself me (λ b. (if b then Replaying 0 false false else c.world.phase me) ≡ phase_of r others) (rw some refl))
+      (λ f d. at-itself me (λ b. (if b then (λ _. 0) else c.world.released me) d ≡ 0) refl)
       (λ f g d. absurd (cc (some, f)))
 
   -- none are
-  stands-none : nat_lt (c.saved me) k ≡ false → StandsReplaying r (goes_on back me others) me
+  stands-none : nat_lt (c.world.saved me) k ≡ false → StandsReplaying r (goes_on back me others) me
   stands-none e =
-      let none : nat_le (length jobs) 0 ≡ true = (let saved : c.saved me ≡ base = s.own.saved in grind (arith, nat_tests)) in
-      stands-back (put c.phase me (phase_with others)) (put back.released me (released_with (seen back) me others))
-      (at-itself me (λ b. (if b then phase_with others else c.phase me) ≡ phase_of r others) (rw none refl))
+      let none : nat_le (length jobs) 0 ≡ true = (let saved : c.world.saved me ≡ base = s.own.saved in grind (arith, nat_tests)) in
+      stands-back (put c.world.phase me (phase_with others)) (put back.world.released me (released_with back.world me others))
+      (at-itself me (λ b. (if b then phase_with others else c.world.phase me) ≡ phase_of r others) (rw none refl))
       (λ f d. absurd (cc (none, f)))
-      (λ f g d. at-itself me (λ b. (if b then released_with (seen back) me others else back.released me) d ≡ sent_in_all (seen back) me d) (ap (λ (z : List ℕ). released_with (seen back) me z d) g))
+      (λ f g d. at-itself me (λ b. (if b then released_with back.world me others else back.world.released me) d ≡ sent_in_all back.world me d) (ap (λ (z : List ℕ). released_with back.world me z d) g))
 
   stands-begun : StandsReplaying r (does c (Recovers me k)) me
-  stands-begun = by-cluster (AtReplaying r me) (nat_lt (c.saved me) k) (record back { phase = put c.phase me (Replaying 0 false false) }) (goes_on back me others) stands-some stands-none
+  stands-begun = by-cluster (AtReplaying r me) (nat_lt (c.world.saved me) k) (record back { world = record back.world { phase = put c.world.phase me (Replaying 0 false false) } }) (goes_on back me others) stands-some stands-none
 
   goes-back : GoesTo me (AtReplaying r me) c
   goes-back = goes-one me (AtReplaying r me) c (Recovers me k) may-recover.may refl stands-begun

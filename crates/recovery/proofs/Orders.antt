@@ -35,8 +35,8 @@ in-order-take c [] (suc n) all = tt
 in-order-take c (m ∷ h) (suc n) all = (all.0, in-order-take (put c m.sender (suc (c m.sender))) h n all.1)
 
 -- the first messages of a history in order are
-pub in-order-first : (c : Cluster) (p n : ℕ) → IsInOrder c p → InOrderFrom (λ q. 0) (take n (c.history p))
-in-order-first c p n all = in-order-take (λ q. 0) (c.history p) n (in-order-each (λ q. 0) (c.history p) (λ k x e. omega (arith, all k x e)))
+pub in-order-first : (c : Cluster) (p n : ℕ) → IsInOrder c p → InOrderFrom (λ q. 0) (take n (c.world.history p))
+in-order-first c p n all = in-order-take (λ q. 0) (c.world.history p) n (in-order-each (λ q. 0) (c.world.history p) (λ k x e. omega (arith, all k x e)))
 
 if-next-ssn : (h : List Message) (o : Option Message) (m : Message) → if_next h o ≡ Some m → m.ssn ≡ suc (count_of m.sender h)
 if-next-ssn h None m e = absurd (cc)

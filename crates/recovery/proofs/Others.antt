@@ -5,7 +5,7 @@ use Rattle.std.proofs.lemmas.Bool.Decides.{nat_tests}
 use Rattle.world.specs.declared.message.Message.{Message}
 use Rattle.world.specs.Logs.{sent_in_all}
 use Rattle.world.specs.Calls.{peers}
-use Rattle.cluster.specs.Cluster.{Cluster, seen}
+use Rattle.cluster.specs.Cluster.{Cluster}
 use Rattle.cluster.specs.Rules.{does}
 use Rattle.node.specs.Stands.{HasReceived, actor}
 use Rattle.node.proofs.Lists.{all-more}
@@ -34,7 +34,7 @@ own-same o c d p h t u f g e a b s =
       grown = λ k. rw (sym e.handlers) (s.grown k);
       heard = λ q l. rw (sym (e.heard q)) (s.heard q (subst (λ m. q ≤ m) (sym e.count) l));
       sure = s.sure;
-      out = all-more (IsSent c.count c.parcels p) (IsSent d.count d.parcels p) o.out (λ x. sent-still c d p x e.count (λ y i. e.parcels _ i)) s.out;
+      out = all-more (IsSent c.world.count c.parcels p) (IsSent d.world.count d.parcels p) o.out (λ x. sent-still c d p x e.count (λ y i. e.parcels _ i)) s.out;
     }
 
 -- so it stands
@@ -43,8 +43,8 @@ stands-same n c d p e s =
     record {
       stage = sym e.stage ∙ s.stage;
       life = sym e.stored ∙ s.life;
-      own = (let P : List Message → Type 0 = λ h. HasOwn n.own d p (take n.own.base h) (d.saved_trims p) (λ _ _. None) in
-          subst P e.history (own-same n.own c d p (take n.own.base (c.history p)) (c.saved_trims p) (d.saved_trims p) (λ _ _. None) (λ _ _. None) e e.saved_trims (λ k. refl) s.own));
+      own = (let P : List Message → Type 0 = λ h. HasOwn n.own d p (take n.own.base h) (d.world.saved_trims p) (λ _ _. None) in
+          subst P e.history (own-same n.own c d p (take n.own.base (c.world.history p)) (c.world.saved_trims p) (d.world.saved_trims p) (λ _ _. None) (λ _ _. None) e e.saved_trims (λ k. refl) s.own));
       alone = sym (e.told p) ∙ s.alone;
       told = λ q l. rw (sym (e.told q)) (s.told q (subst (λ m. q ≤ m) (sym e.count) l));
     }
@@ -64,11 +64,11 @@ replaying-same n c d p e s =
       greeted = sym e.greeted ∙ s.greeted;
       phase = sym e.phase ∙ s.phase ∙ ap (phase_of n) others;
       life = sym e.life ∙ s.life;
-      own = (let P : List Message → Type 0 = λ h. HasOwn n.own d p (take (n.own.base + n.done) h) (d.trims p) (d.numbers p) in
-          subst P e.history (own-same n.own c d p (take (n.own.base + n.done) (c.history p)) (c.trims p) (d.trims p) (c.numbers p) (d.numbers p) e e.trims e.numbers s.own));
+      own = (let P : List Message → Type 0 = λ h. HasOwn n.own d p (take (n.own.base + n.done) h) (d.world.trims p) (d.world.numbers p) in
+          subst P e.history (own-same n.own c d p (take (n.own.base + n.done) (c.world.history p)) (c.world.trims p) (d.world.trims p) (c.world.numbers p) (d.world.numbers p) e e.trims e.numbers s.own));
       behind = ap (drop n.own.base) (sym e.history) ∙ s.behind;
-      received = (let P : List Message → Type 0 = λ h. HasReceived n.own.count n.own.base n.own.covered (receipts_of n.plan) h (d.acknowledged p) in
-          let Q : (ℕ → Bool) → Type 0 = λ a. HasReceived n.own.count n.own.base n.own.covered (receipts_of n.plan) (c.history p) a in
+      received = (let P : List Message → Type 0 = λ h. HasReceived n.own.count n.own.base n.own.covered (receipts_of n.plan) h (d.world.acknowledged p) in
+          let Q : (ℕ → Bool) → Type 0 = λ a. HasReceived n.own.count n.own.base n.own.covered (receipts_of n.plan) (c.world.history p) a in
           subst P e.history (subst Q e.acknowledged s.received));
       acknowledged = λ k l. rw (sym e.acknowledged) (s.acknowledged k (rw e.history l));
       numbers = λ k i. rw (sym (e.numbers k)) (s.numbers k i);
@@ -78,10 +78,10 @@ replaying-same n c d p e s =
       released = λ f g k. rw (sym e.released) (s.released f (others ∙ g) k ∙ all-sent k);
     }
   where
-    others : peers (seen c) p false ≡ peers (seen d) p false
+    others : peers c.world p false ≡ peers d.world p false
     others = rw e.count refl
 
-    all-sent : (k : ℕ) → sent_in_all (seen c) p k ≡ sent_in_all (seen d) p k
+    all-sent : (k : ℕ) → sent_in_all c.world p k ≡ sent_in_all d.world p k
     all-sent k =
         let inside : (p == 0) ≡ false = (let l : 0 < p = s.own.inside.0 in grind (arith, nat_tests)) in
         rw (inside, e.handlers, e.history) refl

@@ -138,15 +138,15 @@ module _ (n : TheCollecting) (jobs : List OpenJob) (all : has_all n ≡ true) (p
   base = n.own.base
 
   abbrev h : List Message
-  h = take base (c.history me)
+  h = take base (c.world.history me)
 
   abbrev ms : List Message
   ms = map job_of jobs
 
-  told-all : (q : ℕ) → q ≤ c.count → q ≢ me → IsAll (c.told me q)
+  told-all : (q : ℕ) → q ≤ c.world.count → q ≢ me → IsAll (c.told me q)
   told-all q l other = (s.told q l).all (all-below n.told me (n.own.count + 1) q all (omega (arith, l, s.own.count)) other)
 
-  reach : (q m : ℕ) → q ≤ c.count → reached (c.told me q) m ≡ true
+  reach : (q m : ℕ) → q ≤ c.world.count → reached (c.told me q) m ≡ true
   reach q m l = split (q == me) refl
     where
       split : (b : Bool) → (q == me) ≡ b → reached (c.told me q) m ≡ true
@@ -158,12 +158,12 @@ module _ (n : TheCollecting) (jobs : List OpenJob) (all : has_all n ≡ true) (p
 
   same-told : (m : ℕ) → base < m → told_by c me m ≡ told_under n.told n.own.count m
   same-told m l =
-      let one : suc c.count ≡ n.own.count + 1 = omega (arith, s.own.count) in
-      first-same (λ q. entry_in (c.told me q) m) (λ q. first_told q (told_of n.told q).entries m) (suc c.count) (λ q i. (s.told q (omega (arith, i))).entries m l (reach q m (omega (arith, i))))
+      let one : suc c.world.count ≡ n.own.count + 1 = omega (arith, s.own.count) in
+      first-same (λ q. entry_in (c.told me q) m) (λ q. first_told q (told_of n.told q).entries m) (suc c.world.count) (λ q i. (s.told q (omega (arith, i))).entries m l (reach q m (omega (arith, i))))
       ∙ ap (first_below (λ q. first_told q (told_of n.told q).entries m)) one
 
   long : length h ≡ base
-  long = let many : base ≤ length h = s.own.many in omega (arith, length-take base (c.history me), many)
+  long = let many : base ≤ length h = s.own.many in omega (arith, length-take base (c.world.history me), many)
 
   covered : IsCovered base n.own.count n.own.covered h
   covered = record { many = long; counts = λ q l. s.own.covered q (omega (arith, l, s.own.count)) ∙ ap (count_of q) (take_all base h (omega (arith, long))) }
@@ -173,9 +173,9 @@ module _ (n : TheCollecting) (jobs : List OpenJob) (all : has_all n ≡ true) (p
 
   kept-is : kept_by c me (base + length jobs) ≡ h ++ ms
   kept-is =
-      let saved : take (c.saved me) (c.history me) ≡ h = ap (λ z. take z (c.history me)) s.own.saved in
-      let many : base + length jobs - c.saved me ≡ length ms = omega (arith, s.own.saved, length-map jobs job_of) in
-      ap (λ (z : List Message). plan (told_by c me) z (base + length jobs - c.saved me)) saved ∙ ap (plan (told_by c me) h) many
+      let saved : take (c.world.saved me) (c.world.history me) ≡ h = ap (λ z. take z (c.world.history me)) s.own.saved in
+      let many : base + length jobs - c.world.saved me ≡ length ms = omega (arith, s.own.saved, length-map jobs job_of) in
+      ap (λ (z : List Message). plan (told_by c me) z (base + length jobs - c.world.saved me)) saved ∙ ap (plan (told_by c me) h) many
       ∙ plan-same (told_by c me) (told_under n.told n.own.count) base h (length ms) (omega (arith, long)) same-told ∙ plan-follows (told_under n.told n.own.count) h ms is-plan.follows
 
   kept-long : length (h ++ ms) ≡ base + length jobs

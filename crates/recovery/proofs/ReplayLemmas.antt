@@ -11,7 +11,7 @@ use Rattle.world.specs.World.{put}
 use Rattle.world.specs.Logs.{sent_in_all}
 use Rattle.world.specs.Calls.{phase_with, peers, released_with}
 use Rattle.theorems.proofs.Changes.{at-itself}
-use Rattle.cluster.specs.Cluster.{Cluster, seen}
+use Rattle.cluster.specs.Cluster.{Cluster}
 use Rattle.cluster.specs.Rules.{Replays, May, does, goes_on}
 use Rattle.node.specs.declared.job.OpenJob.{OpenJob}
 use Rattle.node.specs.declared.job.Given.{Given}
@@ -49,14 +49,14 @@ pub did-next : (n : TheReplaying) (state : List ℕ) (given : List Given) → n.
 did-next n state given l = let next = get-some n.plan n.done l in ap (λ (o : Option OpenJob). did_replay state given o n) next.1
 
 -- it keeps so many messages
-pub long : (n : TheReplaying) (c : Cluster) (p : ℕ) → StandsReplaying n c p → length (c.history p) ≡ n.own.base + length n.plan
+pub long : (n : TheReplaying) (c : Cluster) (p : ℕ) → StandsReplaying n c p → length (c.world.history p) ≡ n.own.base + length n.plan
 long n c p s =
-    let behind : length (c.history p) - n.own.base ≡ length n.plan = sym (length-drop n.own.base (c.history p)) ∙ ap length s.behind ∙ length-map n.plan job_of in
-    let taken : length (take (n.own.base + n.done) (c.history p)) ≤ length (c.history p) = omega (arith, length-take (n.own.base + n.done) (c.history p)) in
+    let behind : length (c.world.history p) - n.own.base ≡ length n.plan = sym (length-drop n.own.base (c.world.history p)) ∙ ap length s.behind ∙ length-map n.plan job_of in
+    let taken : length (take (n.own.base + n.done) (c.world.history p)) ≤ length (c.world.history p) = omega (arith, length-take (n.own.base + n.done) (c.world.history p)) in
     omega (arith, behind, taken, s.own.many)
 
 module _ (n : TheReplaying) (c : Cluster) (j : OpenJob) (state : List ℕ) (given : List Given) (s : StandsReplaying n c n.own.me) (at : slice_get n.plan n.done ≡ Some j) (inside : (i : ℕ) (g : Given) → slice_get given i ≡ Some g → g.to < length n.own.logs)
-    (answers : AnswersAfter c.handlers n.own.me (take (n.own.base + n.done) (c.history n.own.me)) (job_of j) state given) where
+    (answers : AnswersAfter c.world.handlers n.own.me (take (n.own.base + n.done) (c.world.history n.own.me)) (job_of j) state given) where
   abbrev me : ℕ
   me = n.own.me
 
@@ -64,13 +64,13 @@ module _ (n : TheReplaying) (c : Cluster) (j : OpenJob) (state : List ℕ) (give
   base = n.own.base
 
   abbrev h : List Message
-  h = take (base + n.done) (c.history me)
+  h = take (base + n.done) (c.world.history me)
 
   abbrev more : TheReplaying
   more = record n { own = ran (next_number n) state given n.own; done = n.done + 1 }
 
   abbrev others : List ℕ
-  others = peers (seen c) me false
+  others = peers c.world me false
 
   left : n.done < length n.plan
   left = get-inside n.plan n.done j at
@@ -82,39 +82,39 @@ module _ (n : TheReplaying) (c : Cluster) (j : OpenJob) (state : List ℕ) (give
   may = (s.own.inside, s.stage, s.phase ∙ rw open_is refl)
 
   -- the messages that are replayed then
-  next-is : take (base + (n.done + 1)) (c.history me) ≡ h ++ job_of j ∷ []
+  next-is : take (base + (n.done + 1)) (c.world.history me) ≡ h ++ job_of j ∷ []
   next-is =
       let one : base + (n.done + 1) ≡ base + n.done + 1 = omega arith in
-      let there : base + n.done < length (c.history me) = omega (arith, long n c me s, left) in
-      let got : get_or (c.history me) (base + n.done) (job_of j) ≡ job_of j = sym (get_or-drop base (c.history me) n.done (job_of j)) ∙ ap (λ (z : List Message). get_or z n.done (job_of j)) s.behind ∙ get-mapped n.plan n.done j (job_of j) at in
-      ap (λ z. take z (c.history me)) one ∙ take_more (c.history me) (base + n.done) (job_of j) there ∙ ap (λ z. h ++ z ∷ []) got
+      let there : base + n.done < length (c.world.history me) = omega (arith, long n c me s, left) in
+      let got : get_or (c.world.history me) (base + n.done) (job_of j) ≡ job_of j = sym (get_or-drop base (c.world.history me) n.done (job_of j)) ∙ ap (λ (z : List Message). get_or z n.done (job_of j)) s.behind ∙ get-mapped n.plan n.done j (job_of j) at in
+      ap (λ z. take z (c.world.history me)) one ∙ take_more (c.world.history me) (base + n.done) (job_of j) there ∙ ap (λ z. h ++ z ∷ []) got
 
-  logs-ran : (d : ℕ) → d ≤ c.count → d ≢ me → KeepsOf (log_at (given_to (next_number n) given n.own.logs) d) (c.trims me d) (c.handlers.sends me (h ++ job_of j ∷ []) d) (c.numbers me d)
+  logs-ran : (d : ℕ) → d ≤ c.world.count → d ≢ me → KeepsOf (log_at (given_to (next_number n) given n.own.logs) d) (c.world.trims me d) (c.world.handlers.sends me (h ++ job_of j ∷ []) d) (c.world.numbers me d)
   logs-ran d l o =
-      subst (λ xs. KeepsOf (log_at (given_to (next_number n) given n.own.logs) d) (c.trims me d) xs (c.numbers me d)) (sym (answers.sends_are d))
-      (logs-more n.own.logs d (c.trims me d) (c.handlers.sends me h d) (c.numbers me d) (next_number n) given inside (s.own.logs d l o))
+      subst (λ xs. KeepsOf (log_at (given_to (next_number n) given n.own.logs) d) (c.world.trims me d) xs (c.world.numbers me d)) (sym (answers.sends_are d))
+      (logs-more n.own.logs d (c.world.trims me d) (c.world.handlers.sends me h d) (c.world.numbers me d) (next_number n) given inside (s.own.logs d l o))
 
   -- what the handler gave waits for a number behind those that the checkpoint covers
-  held-ran : (d : ℕ) → d ≤ c.count → d ≢ me → IsHeldBack (log_at (given_to (next_number n) given n.own.logs) d) (length (h ++ job_of j ∷ [])) base (sent_by c.handlers me (h ++ job_of j ∷ []) d)
+  held-ran : (d : ℕ) → d ≤ c.world.count → d ≢ me → IsHeldBack (log_at (given_to (next_number n) given n.own.logs) d) (length (h ++ job_of j ∷ [])) base (sent_by c.world.handlers me (h ++ job_of j ∷ []) d)
   held-ran d l o =
-      held-more c.handlers me h (job_of j) n.own.logs d base (c.trims me d) (c.numbers me d) (next_number n) given s.own.many h-short inside (answers.sends_are d) (s.own.logs d l o) (s.own.held d l o)
+      held-more c.world.handlers me h (job_of j) n.own.logs d base (c.world.trims me d) (c.world.numbers me d) (next_number n) given s.own.many h-short inside (answers.sends_are d) (s.own.logs d l o) (s.own.held d l o)
     where
       h-short : length h < next_number n
-      h-short = omega (arith, length-take (base + n.done) (c.history me))
+      h-short = omega (arith, length-take (base + n.done) (c.world.history me))
 
-  grown-ran : (d : ℕ) → sent_by c.handlers me (h ++ job_of j ∷ []) d base ≤ length (c.handlers.sends me (h ++ job_of j ∷ []) d)
-  grown-ran d = grown-more c.handlers me h (job_of j) d base given s.own.many (answers.sends_are d) (s.own.grown d)
+  grown-ran : (d : ℕ) → sent_by c.world.handlers me (h ++ job_of j ∷ []) d base ≤ length (c.world.handlers.sends me (h ++ job_of j ∷ []) d)
+  grown-ran d = grown-more c.world.handlers me h (job_of j) d base given s.own.many (answers.sends_are d) (s.own.grown d)
 
   -- it stands, whatever it does next and releases
-  module _ (ph : ℕ → Phase) (rel : ℕ → ℕ → ℕ) (phase-is : ph me ≡ phase_of more others) (shut-is : is_over more ≡ false → (e : ℕ) → rel me e ≡ 0) (released-is : is_over more ≡ true → others ≡ [] → (e : ℕ) → rel me e ≡ sent_in_all (seen c) me e) where
-    stands-ran : StandsReplaying more (record c { phase = ph; released = rel }) me
+  module _ (ph : ℕ → Phase) (rel : ℕ → ℕ → ℕ) (phase-is : ph me ≡ phase_of more others) (shut-is : is_over more ≡ false → (e : ℕ) → rel me e ≡ 0) (released-is : is_over more ≡ true → others ≡ [] → (e : ℕ) → rel me e ≡ sent_in_all c.world me e) where
+    stands-ran : StandsReplaying more (record c { world = record c.world { phase = ph; released = rel } }) me
     stands-ran =
         record {
           stage = s.stage;
           greeted = s.greeted;
           phase = phase-is;
           life = s.life;
-          own = (let P : List Message → Type 0 = λ z. HasOwn more.own (record c { phase = ph; released = rel }) me z (c.trims me) (c.numbers me) in
+          own = (let P : List Message → Type 0 = λ z. HasOwn more.own (record c { world = record c.world { phase = ph; released = rel } }) me z (c.world.trims me) (c.world.numbers me) in
               subst P (sym next-is) (record {
                 me = refl;
                 count = s.own.count;
@@ -145,26 +145,26 @@ module _ (n : TheReplaying) (c : Cluster) (j : OpenJob) (state : List ℕ) (give
         length-more (y ∷ xs) x = let l : length xs ≤ length (xs ++ x ∷ []) = length-more xs x in omega (arith, l)
 
   -- some are left
-  stands-some : nat_lt (c.saved me + suc n.done) (length (c.history me)) ≡ true → StandsReplaying more (record c { phase = put c.phase me (Replaying (suc n.done) false false) }) me
+  stands-some : nat_lt (c.world.saved me + suc n.done) (length (c.world.history me)) ≡ true → StandsReplaying more (record c { world = record c.world { phase = put c.world.phase me (Replaying (suc n.done) false false) } }) me
   stands-some e =
-      let some : nat_le (length n.plan) (n.done + 1) ≡ false = (let saved : c.saved me ≡ base = s.own.saved in let many = long n c me s in grind (arith, nat_tests)) in
+      let some : nat_le (length n.plan) (n.done + 1) ≡ false = (let saved : c.world.saved me ≡ base = s.own.saved in let many = long n c me s in grind (arith, nat_tests)) in
       let one : suc n.done ≡ n.done + 1 = omega arith in
-      stands-ran (put c.phase me (Replaying (suc n.done) false false)) c.released
-      (at-itself me (λ b. (if b then Replaying (suc n.done) false false else c.phase me) ≡ phase_of more others) (rw some (ap (λ z. Replaying z false false) one)))
+      stands-ran (put c.world.phase me (Replaying (suc n.done) false false)) c.world.released
+      (at-itself me (λ b. (if b then Replaying (suc n.done) false false else c.world.phase me) ≡ phase_of more others) (rw some (ap (λ z. Replaying z false false) one)))
       (λ f d. s.shut open_is d)
       (λ f g d. absurd (cc (some, f)))
 
   -- that was the last one
-  stands-last : nat_lt (c.saved me + suc n.done) (length (c.history me)) ≡ false → StandsReplaying more (goes_on c me others) me
+  stands-last : nat_lt (c.world.saved me + suc n.done) (length (c.world.history me)) ≡ false → StandsReplaying more (goes_on c me others) me
   stands-last e =
-      let none : nat_le (length n.plan) (n.done + 1) ≡ true = (let saved : c.saved me ≡ base = s.own.saved in let many = long n c me s in grind (arith, nat_tests)) in
-      stands-ran (put c.phase me (phase_with others)) (put c.released me (released_with (seen c) me others))
-      (at-itself me (λ b. (if b then phase_with others else c.phase me) ≡ phase_of more others) (rw none refl))
+      let none : nat_le (length n.plan) (n.done + 1) ≡ true = (let saved : c.world.saved me ≡ base = s.own.saved in let many = long n c me s in grind (arith, nat_tests)) in
+      stands-ran (put c.world.phase me (phase_with others)) (put c.world.released me (released_with c.world me others))
+      (at-itself me (λ b. (if b then phase_with others else c.world.phase me) ≡ phase_of more others) (rw none refl))
       (λ f d. absurd (cc (none, f)))
-      (λ f g d. at-itself me (λ b. (if b then released_with (seen c) me others else c.released me) d ≡ sent_in_all (seen c) me d) (ap (λ (z : List ℕ). released_with (seen c) me z d) g))
+      (λ f g d. at-itself me (λ b. (if b then released_with c.world me others else c.world.released me) d ≡ sent_in_all c.world me d) (ap (λ (z : List ℕ). released_with c.world me z d) g))
 
   stands-next : StandsReplaying more (does c (Replays me n.done)) me
-  stands-next = by-cluster (AtReplaying more me) (nat_lt (c.saved me + suc n.done) (length (c.history me))) (record c { phase = put c.phase me (Replaying (suc n.done) false false) }) (goes_on c me others) stands-some stands-last
+  stands-next = by-cluster (AtReplaying more me) (nat_lt (c.world.saved me + suc n.done) (length (c.world.history me))) (record c { world = record c.world { phase = put c.world.phase me (Replaying (suc n.done) false false) } }) (goes_on c me others) stands-some stands-last
 
   goes-replayed : GoesTo me (AtReplaying more me) c
   goes-replayed = goes-one me (AtReplaying more me) c (Replays me n.done) may refl stands-next
@@ -183,14 +183,14 @@ replays-so n state given wide may c s answers = by-job (next_job n) refl
 -- where all are replayed, it has replayed all
 pub ends-so : (n : TheReplaying) → is_over n ≡ true → n.done ≤ length n.plan → Ends n (replayed_of n)
 ends-so n over within c p s =
-    let all : n.own.base + n.done ≡ length (c.history p) = (let many = long n c p s in let o : nat_le (length n.plan) n.done ≡ true = over in grind (arith, nat_tests)) in
-    let whole : take (n.own.base + n.done) (c.history p) ≡ c.history p = take_all (n.own.base + n.done) (c.history p) (omega (arith, all)) in
+    let all : n.own.base + n.done ≡ length (c.world.history p) = (let many = long n c p s in let o : nat_le (length n.plan) n.done ≡ true = over in grind (arith, nat_tests)) in
+    let whole : take (n.own.base + n.done) (c.world.history p) ≡ c.world.history p = take_all (n.own.base + n.done) (c.world.history p) (omega (arith, all)) in
     record {
       stage = s.stage;
       greeted = s.greeted;
       phase = s.phase ∙ rw over refl;
       life = s.life;
-      own = (let P : List Message → Type 0 = λ z. HasOwn n.own c p z (c.trims p) (c.numbers p) in subst P whole s.own);
+      own = (let P : List Message → Type 0 = λ z. HasOwn n.own c p z (c.world.trims p) (c.world.numbers p) in subst P whole s.own);
       received = s.received;
       acknowledged = s.acknowledged;
       numbers = s.numbers;
@@ -205,7 +205,7 @@ replaying-takes None n rest e =
     (e.0, ap (λ xs. record n { own = record n.own { out = xs } }) e.1 ∙ ap (λ xs. record n { own = record n.own { out = xs } }) (let back : [] ≡ n.own.out = (cc) in back))
 replaying-takes (Some x) n rest e = (
   ap (λ xs. record n { own = record n.own { out = xs } }) e,
-  λ c s. (let out : Each (IsSent c.count c.parcels n.own.me) (x ∷ rest) = subst (Each (IsSent c.count c.parcels n.own.me)) e s.own.out in (out.0, replaying-out n c n.own.me rest out.1 s)),
+  λ c s. (let out : Each (IsSent c.world.count c.parcels n.own.me) (x ∷ rest) = subst (Each (IsSent c.world.count c.parcels n.own.me)) e s.own.out in (out.0, replaying-out n c n.own.me rest out.1 s)),
 )
 
 pub collecting-takes : (o : Option NodePacket) (n : TheCollecting) (rest : List NodePacket) → Pops o n.own.out rest → CollectingTakes o n (record n { own = record n.own { out = rest } })
@@ -213,5 +213,5 @@ collecting-takes None n rest e =
     (e.0, ap (λ xs. record n { own = record n.own { out = xs } }) e.1 ∙ ap (λ xs. record n { own = record n.own { out = xs } }) (let back : [] ≡ n.own.out = (cc) in back))
 collecting-takes (Some x) n rest e = (
   ap (λ xs. record n { own = record n.own { out = xs } }) e,
-  λ c s. (let out : Each (IsSent c.count c.parcels n.own.me) (x ∷ rest) = subst (Each (IsSent c.count c.parcels n.own.me)) e s.own.out in (out.0, collecting-out n c n.own.me rest out.1 s)),
+  λ c s. (let out : Each (IsSent c.world.count c.parcels n.own.me) (x ∷ rest) = subst (Each (IsSent c.world.count c.parcels n.own.me)) e s.own.out in (out.0, collecting-out n c n.own.me rest out.1 s)),
 )

@@ -74,20 +74,20 @@ module _ (n : TheCollecting) (c : Cluster) (from i j k : ℕ) (flags : Flags) (p
   abbrev mid : TheCollecting
   mid = record { own = learns from j flags n.own; told = slice_set n.told from more }
 
-  within : from ≤ c.count
+  within : from ≤ c.world.count
   within = omega (arith, low, s.own.count)
 
-  asked : Asks (c.saved me) (c.told me from) k
+  asked : Asks (c.world.saved me) (c.told me from) k
   asked = rw (s.own.saved, ok.cursor) ((s.told from within).asks ok.open_is)
 
   may : May c act
   may = (given, (s.stage, ok.life ∙ sym s.life, (let e = s.own.heard from within in omega (arith, e, ok.young)), asked))
 
-  heard-is : (q : ℕ) → q ≤ c.count → c'.heard me q ≡ slice_index_or (slice_set n.own.heard from j) q 0
+  heard-is : (q : ℕ) → q ≤ c.world.count → c'.heard me q ≡ slice_index_or (slice_set n.own.heard from j) q 0
   heard-is q l = at-itself me (λ t. (if t && (q == from) then j else c.heard me q) ≡ slice_index_or (slice_set n.own.heard from j) q 0)
       (at-changed (λ z x y. y ≡ x) n.own.heard 0 (c.heard me) from j j q (omega (arith, low, heard_wide)) refl (s.own.heard q l))
 
-  told-is : (q : ℕ) → q ≤ c.count → IsTold q base (told_of mid.told q) (c'.told me q)
+  told-is : (q : ℕ) → q ≤ c.world.count → IsTold q base (told_of mid.told q) (c'.told me q)
   told-is q l =
       let page_of : Collected = with_told (c.told me from) k (told_end flags k page) f in
       at-itself me (λ t. IsTold q base (told_of (slice_set n.told from more) q) (if t && (q == from) then Some page_of else c.told me q))
@@ -127,17 +127,17 @@ module _ (n : TheCollecting) (c : Cluster) (from i k : ℕ) (s : StandsCollectin
   abbrev anew : TheCollecting
   anew = record { own = record (hears from i n.own) { lost = slice_set n.own.lost from false }; told = slice_set n.told from (none_told n.own.base) }
 
-  from-in : from ≤ c.count
+  from-in : from ≤ c.world.count
   from-in = omega (arith, low, s.own.count)
 
   may-hear : May c hear
   may-hear = (given, ((let l : heard_of from n.own < i = grind (arith, nat_tests) in let e = s.own.heard from from-in in omega (arith, l, e)), inr s.stage))
 
-  heard-anew : (q : ℕ) → q ≤ c.count → d'.heard p q ≡ slice_index_or (slice_set n.own.heard from i) q 0
+  heard-anew : (q : ℕ) → q ≤ c.world.count → d'.heard p q ≡ slice_index_or (slice_set n.own.heard from i) q 0
   heard-anew q l = at-itself p (λ t. (if t && (q == from) then i else c.heard p q) ≡ slice_index_or (slice_set n.own.heard from i) q 0)
       (at-changed (λ z x y. y ≡ x) n.own.heard 0 (c.heard p) from i i q (omega (arith, low, heard_wide)) refl (s.own.heard q l))
 
-  told-anew : (q : ℕ) → q ≤ c.count → IsTold q n.own.base (told_of anew.told q) (d'.told p q)
+  told-anew : (q : ℕ) → q ≤ c.world.count → IsTold q n.own.base (told_of anew.told q) (d'.told p q)
   told-anew q l =
       at-itself p (λ t. IsTold q n.own.base (told_of (slice_set n.told from (none_told n.own.base)) q) (if t && (q == from) then None else c.told p q))
       (at-changed (λ z x y. IsTold z n.own.base x y) n.told (none_told 0) (c.told p) from (none_told n.own.base) None q (omega (arith, low, told_wide)) (told-none from n.own.base) (s.told q l))

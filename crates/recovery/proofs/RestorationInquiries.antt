@@ -36,17 +36,17 @@ left-has n q some low open_is = has-those (λ q. not (has_answered q n)) n.own.c
 pub not-well : (n : TheRestoring) (c : Cluster) (p q : ℕ) → StandsRestoring n c p → q ≤ n.own.count → has_answered q n ≡ false → is_well c p ≡ false
 not-well n c p zero s low open_is = let e : c.greeted p ≡ false = s.greeted ∙ open_is in rw (s.stage, e) refl
 not-well n c p (suc q) s low open_is =
-    let e : is_up (c.phase p) ≡ false = ap is_up s.phase ∙ waits-on (left n) (suc q) (left-has n (suc q) (omega arith) low open_is) in
+    let e : is_up (c.world.phase p) ≡ false = ap is_up s.phase ∙ waits-on (left n) (suc q) (left-has n (suc q) (omega arith) low open_is) in
     rw (s.stage, e) (both-off (c.greeted p))
 
 -- with another own part that has other packets, in a cluster that has them too
-restoring-own : (n : TheRestoring) (c : Cluster) (p : ℕ) {rest : List NodePacket} {parcels : List Parcel} → HasOwn (record n.own { out = rest }) (record c { parcels = parcels }) p (c.history p) (c.trims p) (c.numbers p)
+restoring-own : (n : TheRestoring) (c : Cluster) (p : ℕ) {rest : List NodePacket} {parcels : List Parcel} → HasOwn (record n.own { out = rest }) (record c { parcels = parcels }) p (c.world.history p) (c.world.trims p) (c.world.numbers p)
     → StandsRestoring n c p → StandsRestoring (record n { own = record n.own { out = rest } }) (record c { parcels = parcels }) p
 restoring-own n c p own s =
     record { stage = s.stage; greeted = s.greeted; phase = s.phase; life = s.life; own = own; received = s.received; acknowledged = s.acknowledged; fresh = s.fresh; resumed = s.resumed; restoring = s.restoring; released = s.released }
 
 -- with other packets that were put out
-pub restoring-out : (n : TheRestoring) (c : Cluster) (p : ℕ) (rest : List NodePacket) → Each (IsSent c.count c.parcels p) rest → StandsRestoring n c p → StandsRestoring (record n { own = record n.own { out = rest } }) c p
+pub restoring-out : (n : TheRestoring) (c : Cluster) (p : ℕ) (rest : List NodePacket) → Each (IsSent c.world.count c.parcels p) rest → StandsRestoring n c p → StandsRestoring (record n { own = record n.own { out = rest } }) c p
 restoring-out n c p rest out s = restoring-own n c p (own-out n.own c p _ _ _ rest out s.own) s
 
 -- one peer is asked for what it has behind what it told
@@ -56,12 +56,12 @@ asks-one n c to s low alone open_is =
     let me = n.own.me in
     let kept = keeps (replayed_of n) in
     let above = above_of to n in
-    let within : to ≤ c.count = omega (arith, low, s.own.count) in
+    let within : to ≤ c.world.count = omega (arith, low, s.own.count) in
     let other : me ≢ to = λ e. (let P : ℕ → Type 0 = λ z. has_answered z n ≡ false in let f : has_answered me n ≡ false = subst P (sym e) open_is in let g : true ≡ false = sym alone ∙ f in absurd (cc)) in
-    let many : kept ≡ length (c.history me) = sym (long n.own.count n.own.base n.own.covered n.receipts (c.history me) (c.acknowledged me) s.received) in
+    let many : kept ≡ length (c.world.history me) = sym (long n.own.count n.own.base n.own.covered n.receipts (c.world.history me) (c.world.acknowledged me) s.received) in
     goes-one me (At (record n { own = posts to (packets.Resume n.own.life kept above) n.own }) me) c (Puts me to (Resume n.own.life kept above))
     (s.own.inside.1, within, other, (s.stage, not-well n c me to s low open_is, sym s.life, many, sym (s.restoring to within))) refl
-    (restoring-own n c me (own-posted n.own c me to (packets.Resume n.own.life kept above) (Resume n.own.life kept above) (c.history me) (c.trims me) (c.numbers me) refl s.own) s)
+    (restoring-own n c me (own-posted n.own c me to (packets.Resume n.own.life kept above) (Resume n.own.life kept above) (c.world.history me) (c.world.trims me) (c.world.numbers me) refl s.own) s)
 
 pub asks-at : (n : TheRestoring) (c : Cluster) (to : ℕ) → StandsRestoring n c n.own.me → to ≤ n.own.count → slice_index_or n.answered n.own.me true ≡ true → GoesTo n.own.me (At (asks to n) n.own.me) c
 asks-at n c to s low alone = by-branch (λ m. GoesTo n.own.me (At m n.own.me) c) (has_answered to n) n _ (λ e. goes-self n.own.me (At n n.own.me) c s) (λ e. asks-one n c to s low alone e)

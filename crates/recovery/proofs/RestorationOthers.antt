@@ -5,7 +5,7 @@ use Rattle.std.proofs.lemmas.Bool.Decides.{nat_tests}
 use Rattle.world.specs.declared.message.Message.{Message}
 use Rattle.world.specs.Logs.{sent_in_all}
 use Rattle.world.specs.Calls.{phase_with, peers}
-use Rattle.cluster.specs.Cluster.{Cluster, seen}
+use Rattle.cluster.specs.Cluster.{Cluster}
 use Rattle.cluster.specs.Rules.{does}
 use Rattle.node.specs.Stands.{HasReceived, actor}
 use Rattle.node.proofs.Beside.{Same, same}
@@ -18,25 +18,25 @@ use Rattle.recovery.specs.RestorationStands.{StandsRestoring}
 use Rattle.recovery.specs.RestorationBeside.{ReplayedStands, RestoringStands}
 
 module _ (c d : Cluster) (p : ℕ) (e : Same c d p) where
-  own-here : (o : TheOwn) → HasOwn o c p (c.history p) (c.trims p) (c.numbers p) → HasOwn o d p (d.history p) (d.trims p) (d.numbers p)
+  own-here : (o : TheOwn) → HasOwn o c p (c.world.history p) (c.world.trims p) (c.world.numbers p) → HasOwn o d p (d.world.history p) (d.world.trims p) (d.world.numbers p)
   own-here o s =
-      let P : List Message → Type 0 = λ h. HasOwn o d p h (d.trims p) (d.numbers p) in
-      subst P e.history (own-same o c d p (c.history p) (c.trims p) (d.trims p) (c.numbers p) (d.numbers p) e e.trims e.numbers s)
+      let P : List Message → Type 0 = λ h. HasOwn o d p h (d.world.trims p) (d.world.numbers p) in
+      subst P e.history (own-same o c d p (c.world.history p) (c.world.trims p) (d.world.trims p) (c.world.numbers p) (d.world.numbers p) e e.trims e.numbers s)
 
-  received-same : (count base : ℕ) (covered : List ℕ) (receipts : _) → HasReceived count base covered receipts (c.history p) (c.acknowledged p) → HasReceived count base covered receipts (d.history p) (d.acknowledged p)
+  received-same : (count base : ℕ) (covered : List ℕ) (receipts : _) → HasReceived count base covered receipts (c.world.history p) (c.world.acknowledged p) → HasReceived count base covered receipts (d.world.history p) (d.world.acknowledged p)
   received-same count base covered receipts s =
-      let P : List Message → Type 0 = λ h. HasReceived count base covered receipts h (d.acknowledged p) in
-      let Q : (ℕ → Bool) → Type 0 = λ a. HasReceived count base covered receipts (c.history p) a in
+      let P : List Message → Type 0 = λ h. HasReceived count base covered receipts h (d.world.acknowledged p) in
+      let Q : (ℕ → Bool) → Type 0 = λ a. HasReceived count base covered receipts (c.world.history p) a in
       subst P e.history (subst Q e.acknowledged s)
 
   -- all that a process sent is what its handler sends
-  all-of : (w : Cluster) (k : ℕ) → 0 < p → sent_in_all (seen w) p k ≡ length (w.handlers.sends p (w.history p) k)
+  all-of : (w : Cluster) (k : ℕ) → 0 < p → sent_in_all w.world p k ≡ length (w.world.handlers.sends p (w.world.history p) k)
   all-of w k some = let inner : (p == 0) ≡ false = grind (arith, nat_tests) in rw inner refl
 
-  all-same : (k : ℕ) → 0 < p → c.released p k ≡ sent_in_all (seen c) p k → d.released p k ≡ sent_in_all (seen d) p k
+  all-same : (k : ℕ) → 0 < p → c.world.released p k ≡ sent_in_all c.world p k → d.world.released p k ≡ sent_in_all d.world p k
   all-same k some was = rw (sym e.released, sym e.handlers, sym e.history) (was ∙ all-of c k some) ∙ sym (all-of d k some)
 
-  others : peers (seen c) p false ≡ peers (seen d) p false
+  others : peers c.world p false ≡ peers d.world p false
   others = rw e.count refl
 
   replayed-same : (n : TheReplayed) → StandsReplayed n c p → StandsReplayed n d p

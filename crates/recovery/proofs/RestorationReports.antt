@@ -9,7 +9,7 @@ use Rattle.world.specs.Logs.{sent_in_all}
 use Rattle.theorems.proofs.Changes.{at-itself}
 use Rattle.theorems.proofs.Tests.{both}
 use Rattle.cluster.specs.Parcels.{Body, Restored, In, parcel, reaches}
-use Rattle.cluster.specs.Cluster.{Cluster, seen}
+use Rattle.cluster.specs.Cluster.{Cluster}
 use Rattle.cluster.specs.Rules.{Act, Arrives, Awaits, May, IsNode, does, goes_on, entered, takes_in as taken_in}
 use Rattle.cluster.proofs.Nodes.{may-restore, restores}
 use Rattle.packets.specs.Packet.{is_done, is_exact, in_range}
@@ -80,7 +80,7 @@ module _ (n : TheRestoring) (c : Cluster) (from i j covered s : ℕ) (flags : Fl
   abbrev me : ℕ
   me = n.own.me
 
-  abbrev within : from ≤ c.count
+  abbrev within : from ≤ c.world.count
   within = omega (arith, low, st.own.count)
 
   other-of : from ≢ me
@@ -93,21 +93,21 @@ module _ (n : TheRestoring) (c : Cluster) (from i j covered s : ℕ) (flags : Fl
   inside = omega (arith, low, w.logs_wide)
 
   -- the log for one changes, and so do how many entries it dropped and its numbers
-  logs-changed : (x : TheQueue) (trims : ℕ) (numbers : ℕ → Option ℕ) → KeepsOf x trims (c.handlers.sends me (c.history me) from) numbers
-      → (d : ℕ) → d ≤ c.count → d ≢ me → KeepsOf (log_at (slice_set n.own.logs from x) d) (if d == from then trims else c.trims me d) (c.handlers.sends me (c.history me) d) (if d == from then numbers else c.numbers me d)
+  logs-changed : (x : TheQueue) (trims : ℕ) (numbers : ℕ → Option ℕ) → KeepsOf x trims (c.world.handlers.sends me (c.world.history me) from) numbers
+      → (d : ℕ) → d ≤ c.world.count → d ≢ me → KeepsOf (log_at (slice_set n.own.logs from x) d) (if d == from then trims else c.world.trims me d) (c.world.handlers.sends me (c.world.history me) d) (if d == from then numbers else c.world.numbers me d)
   logs-changed x trims numbers k d l o =
-      changed-at (λ z. KeepsOf z (if d == from then trims else c.trims me d) (c.handlers.sends me (c.history me) d) (if d == from then numbers else c.numbers me d)) n.own.logs from x d inside
+      changed-at (λ z. KeepsOf z (if d == from then trims else c.world.trims me d) (c.world.handlers.sends me (c.world.history me) d) (if d == from then numbers else c.world.numbers me d)) n.own.logs from x d inside
       (λ same. let e : (d == from) ≡ true = grind (arith, nat_tests) in
-      let P : ℕ → Type 0 = λ z. KeepsOf x trims (c.handlers.sends me (c.history me) z) numbers in
+      let P : ℕ → Type 0 = λ z. KeepsOf x trims (c.world.handlers.sends me (c.world.history me) z) numbers in
       rw e (subst P (sym same) k))
       (λ apart. let e : (d == from) ≡ false = grind (arith, nat_tests) in rw e (st.own.logs d l o))
 
   -- what it has released of it stays, and what waits
-  held-changed : (some : List Pair) (d : ℕ) → d ≤ c.count → d ≢ me → IsHeldBack (log_at (slice_set n.own.logs from (noted some (dropped_to covered q))) d) (length (c.history me)) n.own.base (sent_by c.handlers me (c.history me) d)
+  held-changed : (some : List Pair) (d : ℕ) → d ≤ c.world.count → d ≢ me → IsHeldBack (log_at (slice_set n.own.logs from (noted some (dropped_to covered q))) d) (length (c.world.history me)) n.own.base (sent_by c.world.handlers me (c.world.history me) d)
   held-changed some d l o =
-      changed-at (λ z. IsHeldBack z (length (c.history me)) n.own.base (sent_by c.handlers me (c.history me) d)) n.own.logs from (noted some (dropped_to covered q)) d inside
-      (λ same. let P : ℕ → Type 0 = λ z. IsHeldBack (noted some (dropped_to covered q)) (length (c.history me)) n.own.base (sent_by c.handlers me (c.history me) z) in
-      subst P (sym same) (held-told q covered (length (c.history me)) n.own.base (sent_by c.handlers me (c.history me) from) some (st.own.held from within other-of)))
+      changed-at (λ z. IsHeldBack z (length (c.world.history me)) n.own.base (sent_by c.world.handlers me (c.world.history me) d)) n.own.logs from (noted some (dropped_to covered q)) d inside
+      (λ same. let P : ℕ → Type 0 = λ z. IsHeldBack (noted some (dropped_to covered q)) (length (c.world.history me)) n.own.base (sent_by c.world.handlers me (c.world.history me) z) in
+      subst P (sym same) (held-told q covered (length (c.world.history me)) n.own.base (sent_by c.world.handlers me (c.world.history me) from) some (st.own.held from within other-of)))
       (λ apart. st.own.held d l o)
 
 -- a page of a process
@@ -127,7 +127,7 @@ module _ (n : TheRestoring) (c : Cluster) (from i j covered s : ℕ) (flags : Fl
   abbrev own : TheOwn
   own = trusts flags (hears from j (takes_in from covered pairs n.own))
 
-  from-in : from ≤ c.count
+  from-in : from ≤ c.world.count
   from-in = omega (arith, low, st.own.count)
 
   node : IsNode c from
@@ -139,31 +139,31 @@ module _ (n : TheRestoring) (c : Cluster) (from i j covered s : ℕ) (flags : Fl
   heard-low : c.heard p from ≤ j
   heard-low = let e = st.own.heard from from-in in omega (arith, e, ok.young)
 
-  to-do : has (todo_of (c.phase p)) from ≡ true
-  to-do = let e : todo_of (c.phase p) ≡ left n = ap todo_of st.phase ∙ todo-is (left n) in rw e (left-has n from some low ok.open_is)
+  to-do : has (todo_of (c.world.phase p)) from ≡ true
+  to-do = let e : todo_of (c.world.phase p) ≡ left n = ap todo_of st.phase ∙ todo-is (left n) in rw e (left-has n from some low ok.open_is)
 
   waited : Awaits c p from i j s
   waited = (node, st.stage, ok.life ∙ sym st.life, to-do, place-is, heard-low)
 
-  page-keeps : KeepsOf (noted pairs (dropped_to covered (log_at n.own.logs from))) (max (c.trims p from) covered) (c.handlers.sends p (c.history p) from) (entered c p from s upto f)
+  page-keeps : KeepsOf (noted pairs (dropped_to covered (log_at n.own.logs from))) (max (c.world.trims p from) covered) (c.world.handlers.sends p (c.world.history p) from) (entered c p from s upto f)
   page-keeps =
-      keeps-page (log_at n.own.logs from) (c.trims p from) covered s (c.handlers.sends p (c.history p) from) (c.numbers p from) f flags pairs (st.own.logs from from-in (other-of n c from i j covered s flags pairs f st low w ok)) ok.some page ok.last
+      keeps-page (log_at n.own.logs from) (c.world.trims p from) covered s (c.world.handlers.sends p (c.world.history p) from) (c.world.numbers p from) f flags pairs (st.own.logs from from-in (other-of n c from i j covered s flags pairs f st low w ok)) ok.some page ok.last
       (λ ssn above. st.fresh from ssn from-in ok.open_is (omega (arith, above, ok.place))) says
 
-  logs-are : (d : ℕ) → d ≤ c.count → d ≢ p → KeepsOf (log_at own.logs d) (t.trims p d) (c.handlers.sends p (c.history p) d) (t.numbers p d)
+  logs-are : (d : ℕ) → d ≤ c.world.count → d ≢ p → KeepsOf (log_at own.logs d) (t.world.trims p d) (c.world.handlers.sends p (c.world.history p) d) (t.world.numbers p d)
   logs-are d l o =
-      at-itself p (λ b. KeepsOf (log_at own.logs d) (if b && (d == from) then max (c.trims p from) covered else c.trims p d) (c.handlers.sends p (c.history p) d) (if b && (d == from) then entered c p from s upto f else c.numbers p d))
-      (logs-changed n c from i j covered s flags pairs f st low w ok (noted pairs (dropped_to covered (log_at n.own.logs from))) (max (c.trims p from) covered) (entered c p from s upto f) page-keeps d l o)
+      at-itself p (λ b. KeepsOf (log_at own.logs d) (if b && (d == from) then max (c.world.trims p from) covered else c.world.trims p d) (c.world.handlers.sends p (c.world.history p) d) (if b && (d == from) then entered c p from s upto f else c.world.numbers p d))
+      (logs-changed n c from i j covered s flags pairs f st low w ok (noted pairs (dropped_to covered (log_at n.own.logs from))) (max (c.world.trims p from) covered) (entered c p from s upto f) page-keeps d l o)
 
-  heard-is : (q : ℕ) → q ≤ c.count → t.heard p q ≡ slice_index_or own.heard q 0
+  heard-is : (q : ℕ) → q ≤ c.world.count → t.heard p q ≡ slice_index_or own.heard q 0
   heard-is q l = at-itself p (λ b. (if b && (q == from) then j else c.heard p q) ≡ slice_index_or (slice_set n.own.heard from j) q 0)
       (at-changed (λ z x y. y ≡ x) n.own.heard 0 (c.heard p) from j j q (omega (arith, low, w.heard_wide)) refl (st.own.heard q l))
 
   -- of another peer nothing changes
-  numbers-other : (q ssn : ℕ) → q ≢ from → t.numbers p q ssn ≡ c.numbers p q ssn
+  numbers-other : (q ssn : ℕ) → q ≢ from → t.world.numbers p q ssn ≡ c.world.numbers p q ssn
   numbers-other q ssn apart =
       let e : (q == from) ≡ false = grind (arith, nat_tests) in
-      at-itself p (λ b. (if b && (q == from) then entered c p from s upto f else c.numbers p q) ssn ≡ c.numbers p q ssn) (rw e refl)
+      at-itself p (λ b. (if b && (q == from) then entered c p from s upto f else c.world.numbers p q) ssn ≡ c.world.numbers p q ssn) (rw e refl)
 
   -- the last page
   module _ (done : is_done flags ≡ true) where
@@ -171,7 +171,7 @@ module _ (n : TheRestoring) (c : Cluster) (from i j covered s : ℕ) (flags : Fl
     last = Arrives from p (Restored i j covered s None f)
 
     abbrev c' : Cluster
-    c' = goes_on (taken_in c p from j covered s None f) p (without (todo_of (c.phase p)) from)
+    c' = goes_on (taken_in c p from j covered s None f) p (without (todo_of (c.world.phase p)) from)
 
     abbrev m : TheRestoring
     m = record n { own = own; answered = slice_set n.answered from true }
@@ -182,7 +182,7 @@ module _ (n : TheRestoring) (c : Cluster) (from i j covered s : ℕ) (flags : Fl
     may-last : May c last
     may-last = let P : Option ℕ → Type 0 = λ u. In (parcel from p (Restored i j covered s u f)) c.parcels in may-restore c from p i j covered s f (subst P end-is given) waited
 
-    left-is : without (todo_of (c.phase p)) from ≡ left m
+    left-is : without (todo_of (c.world.phase p)) from ≡ left m
     left-is =
         ap (λ x. without (todo_of x) from) st.phase ∙ ap (λ x. without x from) (todo-is (left n))
         ∙ without-those (λ q. not (has_answered q n)) (λ q. not (has_answered q m)) n.own.count from (λ q apart. ap not (answered-other n from q apart)) (ap not (get_or-set_same n.answered from true true (omega (arith, low, w.answered_wide))))
@@ -192,26 +192,26 @@ module _ (n : TheRestoring) (c : Cluster) (from i j covered s : ℕ) (flags : Fl
     stands-last = record {
       stage = st.stage;
       greeted = st.greeted ∙ sym (answered-other n from 0 (λ e. absurd (omega (arith, e, some))));
-      phase = at-itself p (λ b. (if b then phase_with (without (todo_of (c.phase p)) from) else c.phase p) ≡ phase_with (left m)) (ap phase_with left-is);
+      phase = at-itself p (λ b. (if b then phase_with (without (todo_of (c.world.phase p)) from) else c.world.phase p) ≡ phase_with (left m)) (ap phase_with left-is);
       life = st.life;
-      own = (let P : Option ℕ → Type 0 = λ u. HasOwn own (record (taken_in c p from j covered s u f) { phase = c'.phase; released = c'.released }) p (c.history p) ((taken_in c p from j covered s u f).trims p) ((taken_in c p from j covered s u f).numbers p) in subst P end-is (own-with n.own c _ p _ refl refl refl st.own logs-are (held-changed n c from i j covered s flags pairs f st low w ok pairs) heard-is (record { exact_is = exact; none_lost = st.own.sure.none_lost }) st.own.out));
+      own = (let P : Option ℕ → Type 0 = λ u. HasOwn own (record (taken_in c p from j covered s u f) { world = record (taken_in c p from j covered s u f).world { phase = c'.world.phase; released = c'.world.released } }) p (c.world.history p) ((taken_in c p from j covered s u f).world.trims p) ((taken_in c p from j covered s u f).world.numbers p) in subst P end-is (own-with n.own c _ p _ refl refl refl st.own logs-are (held-changed n c from i j covered s flags pairs f st low w ok pairs) heard-is (record { exact_is = exact; none_lost = st.own.sure.none_lost }) st.own.out));
       received = st.received;
       acknowledged = st.acknowledged;
       fresh = λ q ssn l open_is above. fresh-last q ssn l open_is above (q == from) refl;
       resumed = st.resumed;
       restoring = st.restoring;
-      released = λ none d. at-itself p (λ b. (if b then released_with (seen (taken_in c p from j covered s None f)) p (without (todo_of (c.phase p)) from) else c.released p) d ≡ sent_in_all (seen c') p d)
-          (let e : without (todo_of (c.phase p)) from ≡ [] = left-is ∙ none in rw e refl);
+      released = λ none d. at-itself p (λ b. (if b then released_with (taken_in c p from j covered s None f).world p (without (todo_of (c.world.phase p)) from) else c.world.released p) d ≡ sent_in_all c'.world p d)
+          (let e : without (todo_of (c.world.phase p)) from ≡ [] = left-is ∙ none in rw e refl);
     }
       where
-        fresh-last : (q ssn : ℕ) → q ≤ c.count → has_answered q m ≡ false → above_of q n < ssn → (b : Bool) → (q == from) ≡ b → c'.numbers p q ssn ≡ None
+        fresh-last : (q ssn : ℕ) → q ≤ c.world.count → has_answered q m ≡ false → above_of q n < ssn → (b : Bool) → (q == from) ≡ b → c'.world.numbers p q ssn ≡ None
         fresh-last q ssn l open_is above true e =
             let same : q ≡ from = grind (arith, nat_tests) in
             let is : has_answered from m ≡ true = get_or-set_same n.answered from true true (omega (arith, low, w.answered_wide)) in
             absurd (let P : ℕ → Type 0 = λ z. has_answered z m ≡ false in let g : has_answered from m ≡ false = subst P same open_is in let h : true ≡ false = sym is ∙ g in cc)
         fresh-last q ssn l open_is above false e =
             let apart : q ≢ from = grind (arith, nat_tests) in
-            let P : Option ℕ → Type 0 = λ u. (taken_in c p from j covered s u f).numbers p q ssn ≡ None in
+            let P : Option ℕ → Type 0 = λ u. (taken_in c p from j covered s u f).world.numbers p q ssn ≡ None in
             subst P end-is (numbers-other q ssn apart ∙ st.fresh q ssn l (sym (answered-other n from q apart) ∙ open_is) above)
 
     goes-last : GoesTo p (At m p) c
@@ -237,7 +237,7 @@ module _ (n : TheRestoring) (c : Cluster) (from i j covered s : ℕ) (flags : Fl
     may-next : May c next
     may-next = let P : Option ℕ → Type 0 = λ v. In (parcel from p (Restored i j covered s v f)) c.parcels in (subst P end-next given, waited)
 
-    above-is : (q : ℕ) → q ≤ c.count → cn.restoring p q ≡ above_of q mn
+    above-is : (q : ℕ) → q ≤ c.world.count → cn.restoring p q ≡ above_of q mn
     above-is q l = at-itself p (λ b. (if b && (q == from) then u else c.restoring p q) ≡ slice_index_or (slice_set n.above from u) q 0)
         (at-changed (λ z x y. y ≡ x) n.above 0 (c.restoring p) from u u q (omega (arith, low, w.wide)) refl (st.restoring q l))
 
@@ -247,7 +247,7 @@ module _ (n : TheRestoring) (c : Cluster) (from i j covered s : ℕ) (flags : Fl
       greeted = st.greeted;
       phase = st.phase;
       life = st.life;
-      own = (let P : Option ℕ → Type 0 = λ v. HasOwn own (record (taken_in c p from j covered s v f) { restoring = cn.restoring }) p (c.history p) ((taken_in c p from j covered s v f).trims p) ((taken_in c p from j covered s v f).numbers p) in subst P end-next (own-with n.own c _ p _ refl refl refl st.own logs-are (held-changed n c from i j covered s flags pairs f st low w ok pairs) heard-is (record { exact_is = exact; none_lost = st.own.sure.none_lost }) st.own.out));
+      own = (let P : Option ℕ → Type 0 = λ v. HasOwn own (record (taken_in c p from j covered s v f) { restoring = cn.restoring }) p (c.world.history p) ((taken_in c p from j covered s v f).world.trims p) ((taken_in c p from j covered s v f).world.numbers p) in subst P end-next (own-with n.own c _ p _ refl refl refl st.own logs-are (held-changed n c from i j covered s flags pairs f st low w ok pairs) heard-is (record { exact_is = exact; none_lost = st.own.sure.none_lost }) st.own.out));
       received = st.received;
       acknowledged = st.acknowledged;
       fresh = λ q ssn l open_is above. fresh-next q ssn l open_is above (q == from) refl;
@@ -256,7 +256,7 @@ module _ (n : TheRestoring) (c : Cluster) (from i j covered s : ℕ) (flags : Fl
       released = st.released;
     }
       where
-        fresh-next : (q ssn : ℕ) → q ≤ c.count → has_answered q n ≡ false → above_of q mn < ssn → (b : Bool) → (q == from) ≡ b → cn.numbers p q ssn ≡ None
+        fresh-next : (q ssn : ℕ) → q ≤ c.world.count → has_answered q n ≡ false → above_of q mn < ssn → (b : Bool) → (q == from) ≡ b → cn.world.numbers p q ssn ≡ None
         fresh-next q ssn l open_is above true e =
             let same : q ≡ from = grind (arith, nat_tests) in
             let new : above_of from mn ≡ u = get_or-set_same n.above from u 0 (omega (arith, low, w.wide)) in
@@ -264,12 +264,12 @@ module _ (n : TheRestoring) (c : Cluster) (from i j covered s : ℕ) (flags : Fl
             let least : s ≤ u = last-above s pairs page in
             let past : nat_le ssn u ≡ false = grind (arith, nat_tests) in
             let behind : nat_lt s ssn ≡ true = (let g : s < ssn = omega (arith, over, least) in grind (arith, nat_tests)) in
-            let was : c.numbers p from ssn ≡ None = st.fresh from ssn from-in ok.open_is (omega (arith, ok.place, over, least)) in
-            at-itself p (λ b. (if b && (q == from) then entered c p from s (Some u) f else c.numbers p q) ssn ≡ None) (rw (e, behind, past) was)
+            let was : c.world.numbers p from ssn ≡ None = st.fresh from ssn from-in ok.open_is (omega (arith, ok.place, over, least)) in
+            at-itself p (λ b. (if b && (q == from) then entered c p from s (Some u) f else c.world.numbers p q) ssn ≡ None) (rw (e, behind, past) was)
         fresh-next q ssn l open_is above false e =
             let apart : q ≢ from = grind (arith, nat_tests) in
             let old : above_of q mn ≡ above_of q n = get_or-set_other n.above from q u 0 apart in
-            let P : Option ℕ → Type 0 = λ v. (taken_in c p from j covered s v f).numbers p q ssn ≡ None in
+            let P : Option ℕ → Type 0 = λ v. (taken_in c p from j covered s v f).world.numbers p q ssn ≡ None in
             subst P end-next (numbers-other q ssn apart ∙ st.fresh q ssn l open_is (omega (arith, old, above)))
 
     goes-next : GoesTo p (At (asks from mn) p) c
@@ -302,18 +302,18 @@ module _ (n : TheRestoring) (c : Cluster) (i j covered s : ℕ) (flags : Flags) 
       let P : Option ℕ → Type 0 = λ u. In (parcel 0 g (Restored i j covered s u f)) c.parcels in
       (subst P end given, (st.stage, ok.life ∙ sym st.life, st.greeted ∙ ok.open_is, ap is_replaying st.phase ∙ not-replaying (left n)))
 
-  covered-keeps : KeepsOf (noted [] (dropped_to covered (log_at n.own.logs 0))) (max (c.trims g 0) covered) (c.handlers.sends g (c.history g) 0) (c.numbers g 0)
-  covered-keeps = keeps-covered (log_at n.own.logs 0) (c.trims g 0) covered (c.handlers.sends g (c.history g) 0) (c.numbers g 0) (st.own.logs 0 (omega arith) (other-of n c 0 i j covered s flags pairs f st (omega arith) w ok)) ok.some
+  covered-keeps : KeepsOf (noted [] (dropped_to covered (log_at n.own.logs 0))) (max (c.world.trims g 0) covered) (c.world.handlers.sends g (c.world.history g) 0) (c.world.numbers g 0)
+  covered-keeps = keeps-covered (log_at n.own.logs 0) (c.world.trims g 0) covered (c.world.handlers.sends g (c.world.history g) 0) (c.world.numbers g 0) (st.own.logs 0 (omega arith) (other-of n c 0 i j covered s flags pairs f st (omega arith) w ok)) ok.some
 
-  same-numbers : (d : ℕ) (b : Bool) → (d == 0) ≡ b → (if b then c.numbers g 0 else c.numbers g d) ≡ c.numbers g d
-  same-numbers d true e = ap (c.numbers g) (let z : 0 ≡ d = grind (arith, nat_tests) in z)
+  same-numbers : (d : ℕ) (b : Bool) → (d == 0) ≡ b → (if b then c.world.numbers g 0 else c.world.numbers g d) ≡ c.world.numbers g d
+  same-numbers d true e = ap (c.world.numbers g) (let z : 0 ≡ d = grind (arith, nat_tests) in z)
   same-numbers d false e = refl
 
-  logs-greeted : (d : ℕ) → d ≤ c.count → d ≢ g → KeepsOf (log_at o.logs d) (d'.trims g d) (c.handlers.sends g (c.history g) d) (c.numbers g d)
+  logs-greeted : (d : ℕ) → d ≤ c.world.count → d ≢ g → KeepsOf (log_at o.logs d) (d'.world.trims g d) (c.world.handlers.sends g (c.world.history g) d) (c.world.numbers g d)
   logs-greeted d l apart =
-      let P : (ℕ → Option ℕ) → Type 0 = λ z. KeepsOf (log_at o.logs d) (if d == 0 then max (c.trims g 0) covered else c.trims g d) (c.handlers.sends g (c.history g) d) z in
-      at-itself g (λ b. KeepsOf (log_at o.logs d) (if b && (d == 0) then max (c.trims g 0) covered else c.trims g d) (c.handlers.sends g (c.history g) d) (c.numbers g d))
-      (subst P (same-numbers d (d == 0) refl) (logs-changed n c 0 i j covered s flags pairs f st (omega arith) w ok (noted [] (dropped_to covered (log_at n.own.logs 0))) (max (c.trims g 0) covered) (c.numbers g 0) covered-keeps d l apart))
+      let P : (ℕ → Option ℕ) → Type 0 = λ z. KeepsOf (log_at o.logs d) (if d == 0 then max (c.world.trims g 0) covered else c.world.trims g d) (c.world.handlers.sends g (c.world.history g) d) z in
+      at-itself g (λ b. KeepsOf (log_at o.logs d) (if b && (d == 0) then max (c.world.trims g 0) covered else c.world.trims g d) (c.world.handlers.sends g (c.world.history g) d) (c.world.numbers g d))
+      (subst P (same-numbers d (d == 0) refl) (logs-changed n c 0 i j covered s flags pairs f st (omega arith) w ok (noted [] (dropped_to covered (log_at n.own.logs 0))) (max (c.world.trims g 0) covered) (c.world.numbers g 0) covered-keeps d l apart))
 
   answered-gateway : has_answered 0 r ≡ true
   answered-gateway = get_or-set_same n.answered 0 true true (omega (arith, w.answered_wide))

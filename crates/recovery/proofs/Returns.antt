@@ -10,7 +10,7 @@ use Rattle.world.specs.Calls.{phase_with}
 use Rattle.world.specs.Logs.{run_to, sent_in_all}
 use Rattle.theorems.proofs.RunLemmas.{run_to-whole}
 use Rattle.theorems.proofs.Tests.{both}
-use Rattle.cluster.specs.Cluster.{Cluster, seen, waiting}
+use Rattle.cluster.specs.Cluster.{Cluster, waiting}
 use Rattle.packets.specs.declared.packet.NodePacket.{NodePacket}
 use Rattle.node.specs.Queue.{TheQueue, released_again}
 use Rattle.node.specs.Node.{log_at}
@@ -42,7 +42,7 @@ module _ (n : TheRestoring) (c : Cluster) (s : StandsRestoring n c n.own.me) (al
   p = n.own.me
 
   abbrev h : List Message
-  h = c.history p
+  h = c.world.history p
 
   answered : (q : ℕ) → has_answered q n ≡ true
   answered q = all-at n.answered q all
@@ -54,35 +54,35 @@ module _ (n : TheRestoring) (c : Cluster) (s : StandsRestoring n c n.own.me) (al
   inner = let z : 0 < p = s.own.inside.0 in grind (arith, nat_tests)
 
   -- all that it sent is released in the cluster
-  free-all : (d : ℕ) → c.released p d ≡ length (c.handlers.sends p h d)
-  free-all d = s.released nobody d ∙ (let e : sent_in_all (seen c) p d ≡ length (c.handlers.sends p h d) = rw inner refl in e)
+  free-all : (d : ℕ) → c.world.released p d ≡ length (c.world.handlers.sends p h d)
+  free-all d = s.released nobody d ∙ (let e : sent_in_all c.world p d ≡ length (c.world.handlers.sends p h d) = rw inner refl in e)
 
-  size : (d : ℕ) → d ≤ c.count → d ≢ p → length (c.handlers.sends p h d) ≡ (log_at n.own.logs d).dropped + length (log_at n.own.logs d).payloads
+  size : (d : ℕ) → d ≤ c.world.count → d ≢ p → length (c.world.handlers.sends p h d) ≡ (log_at n.own.logs d).dropped + length (log_at n.own.logs d).payloads
   size d l o = let k = s.own.logs d l o in let e : length (k.before ++ (log_at n.own.logs d).payloads) ≡ length k.before + length (log_at n.own.logs d).payloads = length-append k.before (log_at n.own.logs d).payloads in
       ap length (sym k.joined) ∙ omega (arith, e, k.many)
 
-  whole : (d : ℕ) → sent_by c.handlers p h d (run_to (c.acknowledged p) (length h)) ≡ length (c.handlers.sends p h d)
+  whole : (d : ℕ) → sent_by c.world.handlers p h d (run_to (c.world.acknowledged p) (length h)) ≡ length (c.world.handlers.sends p h d)
   whole d =
-      let run : run_to (c.acknowledged p) (length h) ≡ length h = run_to-whole (c.acknowledged p) (length h) (λ m some l. s.acknowledged m l) in
+      let run : run_to (c.world.acknowledged p) (length h) ≡ length h = run_to-whole (c.world.acknowledged p) (length h) (λ m some l. s.acknowledged m l) in
       let e : take (length h) h ≡ h = take_all (length h) h (omega arith) in
-      ap (sent_by c.handlers p h d) run ∙ ap (λ z. length (c.handlers.sends p z d)) e
+      ap (sent_by c.world.handlers p h d) run ∙ ap (λ z. length (c.world.handlers.sends p z d)) e
 
   -- of a durable node only what its checkpoint covers was released, and of another all
-  shut-again : (durable : Bool) (d : ℕ) → d ≤ c.count → d ≢ p → IsShut (released_again durable (log_at n.own.logs d)) (length h) (most_released durable c p d) (sent_by c.handlers p h d)
+  shut-again : (durable : Bool) (d : ℕ) → d ≤ c.world.count → d ≢ p → IsShut (released_again durable (log_at n.own.logs d)) (length h) (most_released durable c p d) (sent_by c.world.handlers p h d)
   shut-again true d l o =
-      let P : ℕ → Type 0 = λ z. IsShut (log_at n.own.logs d) (length h) (sent_by c.handlers p h d z) (sent_by c.handlers p h d) in
+      let P : ℕ → Type 0 = λ z. IsShut (log_at n.own.logs d) (length h) (sent_by c.world.handlers p h d z) (sent_by c.world.handlers p h d) in
       subst P (sym s.own.saved) (s.own.held d l o).shut
   shut-again false d l o = record { within = omega arith; waits = λ k m. (let e = size d l o in omega (arith, free-all d, e)) }
 
-  free-again : (durable : Bool) (d : ℕ) → sent_by c.handlers p h d (freed_in durable c p) ≤ c.released p d
+  free-again : (durable : Bool) (d : ℕ) → sent_by c.world.handlers p h d (freed_in durable c p) ≤ c.world.released p d
   free-again true d =
-      let P : ℕ → Type 0 = λ z. sent_by c.handlers p h d z ≤ length (c.handlers.sends p h d) in
-      let few : sent_by c.handlers p h d (c.saved p) ≤ length (c.handlers.sends p h d) = subst P (sym s.own.saved) (s.own.grown d) in
+      let P : ℕ → Type 0 = λ z. sent_by c.world.handlers p h d z ≤ length (c.world.handlers.sends p h d) in
+      let few : sent_by c.world.handlers p h d (c.world.saved p) ≤ length (c.world.handlers.sends p h d) = subst P (sym s.own.saved) (s.own.grown d) in
       omega (arith, few, free-all d)
   free-again false d = (let e = whole d in omega (arith, e, free-all d))
 
   nothing-waits : waiting c p ≡ 0
-  nothing-waits = none-below (λ k. not (c.acknowledged p (suc k))) (length h) (λ k l. ap not (s.acknowledged (suc k) (omega (arith, l))))
+  nothing-waits = none-below (λ k. not (c.world.acknowledged p (suc k))) (length h) (λ k l. ap not (s.acknowledged (suc k) (omega (arith, l))))
 
   stands-up : Stands (up n) c p
   stands-up = record {
@@ -98,7 +98,7 @@ module _ (n : TheRestoring) (c : Cluster) (s : StandsRestoring n c n.own.me) (al
     saved = s.own.saved;
     received = s.received;
     waits = nothing-waits;
-    logs = λ d l o. rw (log-released n.own.limits.durable n.own.logs d) (keeps-released n.own.limits.durable (log_at n.own.logs d) (c.trims p d) (c.handlers.sends p h d) (c.numbers p d) (s.own.logs d l o));
+    logs = λ d l o. rw (log-released n.own.limits.durable n.own.logs d) (keeps-released n.own.limits.durable (log_at n.own.logs d) (c.world.trims p d) (c.world.handlers.sends p h d) (c.world.numbers p d) (s.own.logs d l o));
     gates = λ d l o. rw (log-released n.own.limits.durable n.own.logs d) (shut-again n.own.limits.durable d l o);
     free = free-again n.own.limits.durable;
     heard = s.own.heard;
@@ -114,5 +114,5 @@ pub takes-so : (o : Option NodePacket) (n : TheRestoring) (rest : List NodePacke
 takes-so None n rest e = (e.0, ap (λ xs. record n { own = record n.own { out = xs } }) e.1 ∙ ap (λ xs. record n { own = record n.own { out = xs } }) (let back : [] ≡ n.own.out = (cc) in back))
 takes-so (Some x) n rest e = (
   ap (λ xs. record n { own = record n.own { out = xs } }) e,
-  λ c s. (let out : Each (IsSent c.count c.parcels n.own.me) (x ∷ rest) = subst (Each (IsSent c.count c.parcels n.own.me)) e s.own.out in (out.0, restoring-out n c n.own.me rest out.1 s)),
+  λ c s. (let out : Each (IsSent c.world.count c.parcels n.own.me) (x ∷ rest) = subst (Each (IsSent c.world.count c.parcels n.own.me)) e s.own.out in (out.0, restoring-out n c n.own.me rest out.1 s)),
 )

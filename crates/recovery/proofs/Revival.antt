@@ -41,10 +41,10 @@ module _ (limits : Limits) (k : Kept) (life : ℕ) (c : Cluster) (dead : c.stage
   c' = does c (Opens me skipped)
 
   abbrev h : List Message
-  h = take k.length (c.history me)
+  h = take k.length (c.world.history me)
 
   long : length h ≡ k.length
-  long = omega (arith, length-take k.length (c.history me), s.many)
+  long = omega (arith, length-take k.length (c.world.history me), s.many)
 
   stored-is : c'.stored me ≡ life
   stored-is = at-itself me (λ b. (if b then suc (skipped + c.stored me) else c.stored me) ≡ life) (omega (arith, early))
@@ -60,15 +60,15 @@ module _ (limits : Limits) (k : Kept) (life : ℕ) (c : Cluster) (dead : c.stage
   heard-is : (q : ℕ) → c'.heard me q ≡ slice_index_or (slice_set (replicate (k.count + 1) 0) 0 1) q 0
   heard-is q = at-itself me (λ b. (if b then first_heard else c.heard me) q ≡ slice_index_or (slice_set (replicate (k.count + 1) 0) 0 1) q 0) (heard-at q)
 
-  told-is : (q : ℕ) → q ≤ c.count → IsTold q k.length (told_of (replicate (k.count + 1) (none_told k.length)) q) (c'.told me q)
+  told-is : (q : ℕ) → q ≤ c.world.count → IsTold q k.length (told_of (replicate (k.count + 1) (none_told k.length)) q) (c'.told me q)
   told-is q l =
       let e : told_of (replicate (k.count + 1) (none_told k.length)) q ≡ none_told k.length = get_or-replicate (k.count + 1) q (none_told k.length) (none_told 0) (omega (arith, l, s.count)) in
       at-itself me (λ b. IsTold q k.length (told_of (replicate (k.count + 1) (none_told k.length)) q) ((if b then (λ _. None) else c.told me) q))
       (rw e (told-none q k.length))
 
   -- the checkpoint covers all of them
-  first-all : (d : ℕ) → sent_by c.handlers me h d k.length ≡ length (c.handlers.sends me h d)
-  first-all d = ap (λ z. length (c.handlers.sends me z d)) (take_all k.length h (omega (arith, long)))
+  first-all : (d : ℕ) → sent_by c.world.handlers me h d k.length ≡ length (c.world.handlers.sends me h d)
+  first-all d = ap (λ z. length (c.world.handlers.sends me z d)) (take_all k.length h (omega (arith, long)))
 
   stands-begun : StandsCollecting (begins limits k life) c' me
   stands-begun = record {
@@ -83,7 +83,7 @@ module _ (limits : Limits) (k : Kept) (life : ℕ) (c : Cluster) (dead : c.stage
       state = s.state;
       covered = λ q l. s.counts q l ∙ ap (count_of q) (sym (take_all k.length h (omega (arith, long))));
       logs = s.logs;
-      held = λ d l o. held-kept k c.handlers me h d (c.saved_trims me d) (omega (arith, long)) (s.logs d l o);
+      held = λ d l o. held-kept k c.world.handlers me h d (c.world.saved_trims me d) (omega (arith, long)) (s.logs d l o);
       grown = λ d. (let e = first-all d in omega (arith, e));
       heard = λ q l. heard-is q;
       sure = record { exact_is = refl; none_lost = λ q l. get_or-replicate (k.count + 1) q false true (omega (arith, l)) };

@@ -21,8 +21,8 @@ pub record Recovered (n : TheCollecting) (r : TheReplaying) : Type 0 where
 
 -- p had received exactly these after its checkpoint, and all that was acknowledged without a gap is among them
 pub record HadReceived (c : Cluster) (p base : ℕ) (jobs : List OpenJob) : Type 0 where
-  pub within : base + length jobs ≤ length (c.history p)
-  pub same : map job_of jobs ≡ drop base (take (base + length jobs) (c.history p))
+  pub within : base + length jobs ≤ length (c.world.history p)
+  pub same : map job_of jobs ≡ drop base (take (base + length jobs) (c.world.history p))
   pub acknowledged : (k : ℕ) → AllAcknowledged c p k → k ≤ base + length jobs
   pub in_order : IsInOrder c p
 

@@ -73,7 +73,7 @@ pub record Overruns (n : TheCollecting) : Type 0 where
 -- if all peers have told all, the process may recover with what its checkpoint covers and then these messages
 pub record MayRecover (n : TheCollecting) (jobs : List OpenJob) (c : Cluster) : Type 0 where
   pub may : May c (Recovers n.own.me (n.own.base + length jobs))
-  pub kept : kept_by c n.own.me (n.own.base + length jobs) ≡ take n.own.base (c.history n.own.me) ++ map job_of jobs
+  pub kept : kept_by c n.own.me (n.own.base + length jobs) ≡ take n.own.base (c.world.history n.own.me) ++ map job_of jobs
 
 -- by the plan the rules let it recover, and it keeps its checkpoint's messages and those of the plan
 abbrev pub Recovering : TheCollecting → List OpenJob → Type 0

@@ -4,7 +4,7 @@ use Rattle.std.specs.List.{AllByRecursion}
 use Rattle.rsn.specs.Receipts.{Received}
 use Rattle.world.specs.Logs.{sent_in_all}
 use Rattle.world.specs.Calls.{phase_with, peers}
-use Rattle.cluster.specs.Cluster.{Cluster, Live, seen}
+use Rattle.cluster.specs.Cluster.{Cluster, Live}
 use Rattle.node.specs.declared.node.TheConstants.{MOST_RECEIVED}
 use Rattle.node.specs.Node.{IsPeer}
 use Rattle.node.specs.Stands.{HasReceived}
@@ -29,15 +29,15 @@ pub record IsReplayed (own : TheOwn) (receipts : Received) : Type 0 where
 pub record StandsReplayed (n : TheReplayed) (c : Cluster) (p : ℕ) : Type 0 where
   pub stage : c.stage p ≡ Live
   pub greeted : c.greeted p ≡ false
-  pub phase : c.phase p ≡ phase_with (peers (seen c) p false)
-  pub life : c.life p ≡ n.own.life
-  pub own : HasOwn n.own c p (c.history p) (c.trims p) (c.numbers p)
-  pub received : HasReceived n.own.count n.own.base n.own.covered n.receipts (c.history p) (c.acknowledged p)
-  pub acknowledged : (k : ℕ) → k ≤ length (c.history p) → c.acknowledged p k ≡ true
-  pub numbers : (d ssn : ℕ) → c.numbers p d ssn ≡ None
+  pub phase : c.world.phase p ≡ phase_with (peers c.world p false)
+  pub life : c.world.incarnation p ≡ n.own.life
+  pub own : HasOwn n.own c p (c.world.history p) (c.world.trims p) (c.world.numbers p)
+  pub received : HasReceived n.own.count n.own.base n.own.covered n.receipts (c.world.history p) (c.world.acknowledged p)
+  pub acknowledged : (k : ℕ) → k ≤ length (c.world.history p) → c.world.acknowledged p k ≡ true
+  pub numbers : (d ssn : ℕ) → c.world.numbers p d ssn ≡ None
   pub resumed : (q : ℕ) → c.resumed p q ≡ true
   pub restoring : (q : ℕ) → c.restoring p q ≡ 0
-  pub released : peers (seen c) p false ≡ [] → (d : ℕ) → c.released p d ≡ sent_in_all (seen c) p d
+  pub released : peers c.world p false ≡ [] → (d : ℕ) → c.world.released p d ≡ sent_in_all c.world p d
 
 -- what a call owes that is handed a packet: the process still agrees, or is no longer exact
 abbrev pub Stays : TheReplayed → TheReplayed → Type 0

@@ -2,7 +2,7 @@
 use Rattle.std.specs.Prelude.{◌≡◌, ℕ, ◌<◌, ◌≤◌, [], ◌∷◌, length, Option, Some, None, true, false}
 use Rattle.world.specs.Logs.{sent_in_all}
 use Rattle.world.specs.Calls.{phase_with}
-use Rattle.cluster.specs.Cluster.{Cluster, Live, seen}
+use Rattle.cluster.specs.Cluster.{Cluster, Live}
 use Rattle.packets.specs.declared.packet.NodePacket.{NodePacket}
 use Rattle.node.specs.Node.{TheNode}
 use Rattle.node.specs.Stands.{HasReceived, Stands}
@@ -15,15 +15,15 @@ use Rattle.recovery.specs.Restoration.{TheRestoring, above_of, has_answered, lef
 pub record StandsRestoring (n : TheRestoring) (c : Cluster) (p : ℕ) : Type 0 where
   pub stage : c.stage p ≡ Live
   pub greeted : c.greeted p ≡ has_answered 0 n
-  pub phase : c.phase p ≡ phase_with (left n)
-  pub life : c.life p ≡ n.own.life
-  pub own : HasOwn n.own c p (c.history p) (c.trims p) (c.numbers p)
-  pub received : HasReceived n.own.count n.own.base n.own.covered n.receipts (c.history p) (c.acknowledged p)
-  pub acknowledged : (k : ℕ) → k ≤ length (c.history p) → c.acknowledged p k ≡ true
-  pub fresh : (q ssn : ℕ) → q ≤ c.count → has_answered q n ≡ false → above_of q n < ssn → c.numbers p q ssn ≡ None
+  pub phase : c.world.phase p ≡ phase_with (left n)
+  pub life : c.world.incarnation p ≡ n.own.life
+  pub own : HasOwn n.own c p (c.world.history p) (c.world.trims p) (c.world.numbers p)
+  pub received : HasReceived n.own.count n.own.base n.own.covered n.receipts (c.world.history p) (c.world.acknowledged p)
+  pub acknowledged : (k : ℕ) → k ≤ length (c.world.history p) → c.world.acknowledged p k ≡ true
+  pub fresh : (q ssn : ℕ) → q ≤ c.world.count → has_answered q n ≡ false → above_of q n < ssn → c.world.numbers p q ssn ≡ None
   pub resumed : (q : ℕ) → c.resumed p q ≡ true
-  pub restoring : (q : ℕ) → q ≤ c.count → c.restoring p q ≡ above_of q n
-  pub released : left n ≡ [] → (d : ℕ) → c.released p d ≡ sent_in_all (seen c) p d
+  pub restoring : (q : ℕ) → q ≤ c.world.count → c.restoring p q ≡ above_of q n
+  pub released : left n ≡ [] → (d : ℕ) → c.world.released p d ≡ sent_in_all c.world p d
 
 -- what the first call owes: from each cluster in which the process has finished its replay, to one with which it agrees
 abbrev pub Begins : TheReplayed → TheRestoring → Type 0
@@ -46,7 +46,7 @@ IsHanded x old new = new.own.exact ≡ true → Owes (λ c. IsSaid c.parcels x.f
 abbrev pub Takes : Option NodePacket → TheRestoring → TheRestoring → Type 0
 Takes None old new = (old.own.out ≡ []) × (new ≡ old)
 Takes (Some x) old new = (old ≡ record new { own = record new.own { out = x ∷ new.own.out } })
-    × ((c : Cluster) → StandsRestoring old c old.own.me → IsSent c.count c.parcels old.own.me x × StandsRestoring new c old.own.me)
+    × ((c : Cluster) → StandsRestoring old c old.own.me → IsSent c.world.count c.parcels old.own.me x × StandsRestoring new c old.own.me)
 
 -- its node agrees with the same clusters
 abbrev pub IsUp : TheRestoring → TheNode → Type 0

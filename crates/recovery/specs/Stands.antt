@@ -45,18 +45,18 @@ pub record IsHeldBack (q : TheQueue) (n base : ℕ) (sent : ℕ → ℕ) : Type 
 -- dropped
 pub record HasOwn (o : TheOwn) (c : Cluster) (p : ℕ) (h : List Message) (trims : ℕ → ℕ) (numbers : ℕ → ℕ → Option ℕ) : Type 0 where
   pub me : o.me ≡ p
-  pub count : o.count ≡ c.count
+  pub count : o.count ≡ c.world.count
   pub inside : IsNode c p
-  pub saved : c.saved p ≡ o.base
+  pub saved : c.world.saved p ≡ o.base
   pub many : o.base ≤ length h
-  pub state : c.handlers.state p h ≡ o.state
-  pub covered : (q : ℕ) → q ≤ c.count → slice_index_or o.covered q 0 ≡ count_of q (take o.base h)
-  pub logs : (d : ℕ) → d ≤ c.count → d ≢ p → KeepsOf (log_at o.logs d) (trims d) (c.handlers.sends p h d) (numbers d)
-  pub held : (d : ℕ) → d ≤ c.count → d ≢ p → IsHeldBack (log_at o.logs d) (length h) o.base (sent_by c.handlers p h d)
-  pub grown : (d : ℕ) → sent_by c.handlers p h d o.base ≤ length (c.handlers.sends p h d)
-  pub heard : (q : ℕ) → q ≤ c.count → c.heard p q ≡ slice_index_or o.heard q 0
+  pub state : c.world.handlers.state p h ≡ o.state
+  pub covered : (q : ℕ) → q ≤ c.world.count → slice_index_or o.covered q 0 ≡ count_of q (take o.base h)
+  pub logs : (d : ℕ) → d ≤ c.world.count → d ≢ p → KeepsOf (log_at o.logs d) (trims d) (c.world.handlers.sends p h d) (numbers d)
+  pub held : (d : ℕ) → d ≤ c.world.count → d ≢ p → IsHeldBack (log_at o.logs d) (length h) o.base (sent_by c.world.handlers p h d)
+  pub grown : (d : ℕ) → sent_by c.world.handlers p h d o.base ≤ length (c.world.handlers.sends p h d)
+  pub heard : (q : ℕ) → q ≤ c.world.count → c.heard p q ≡ slice_index_or o.heard q 0
   pub sure : IsSure o.count o.lost o.exact
-  pub out : Each (IsSent c.count c.parcels p) o.out
+  pub out : Each (IsSent c.world.count c.parcels p) o.out
 
 -- whether what a peer told reaches m; with no page at all it counts as reaching every m
 abbrev pub reached : Option Collected → ℕ → Bool
@@ -75,8 +75,8 @@ pub record IsTold (q base : ℕ) (x : TheCollected) (t : Option Collected) : Typ
 pub record StandsCollecting (n : TheCollecting) (c : Cluster) (p : ℕ) : Type 0 where
   pub stage : c.stage p ≡ Collecting
   pub life : c.stored p ≡ n.own.life
-  pub own : HasOwn n.own c p (take n.own.base (c.history p)) (c.saved_trims p) (λ _ _. None)
-  pub told : (q : ℕ) → q ≤ c.count → IsTold q n.own.base (told_of n.told q) (c.told p q)
+  pub own : HasOwn n.own c p (take n.own.base (c.world.history p)) (c.world.saved_trims p) (λ _ _. None)
+  pub told : (q : ℕ) → q ≤ c.world.count → IsTold q n.own.base (told_of n.told q) (c.told p q)
   -- it has told itself nothing
   pub alone : c.told p p ≡ None
 
@@ -111,4 +111,4 @@ IsHanded x old new = new.own.exact ≡ true → Owes (λ c. IsSaid c.parcels x.f
 abbrev pub Takes : Option NodePacket → TheCollecting → TheCollecting → Type 0
 Takes None old new = (old.own.out ≡ []) × (new ≡ old)
 Takes (Some x) old new = (old ≡ record new { own = record new.own { out = x ∷ new.own.out } })
-    × ((c : Cluster) → StandsCollecting old c old.own.me → IsSent c.count c.parcels old.own.me x × StandsCollecting new c old.own.me)
+    × ((c : Cluster) → StandsCollecting old c old.own.me → IsSent c.world.count c.parcels old.own.me x × StandsCollecting new c old.own.me)

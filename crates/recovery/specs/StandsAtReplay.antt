@@ -8,7 +8,7 @@ use Rattle.world.specs.Phases.{Phase, Replaying}
 use Rattle.world.specs.Logs.{sent_in_all}
 use Rattle.world.specs.Calls.{phase_with, peers}
 use Rattle.cluster.specs.Parcels.{Resume}
-use Rattle.cluster.specs.Cluster.{Cluster, Live, seen}
+use Rattle.cluster.specs.Cluster.{Cluster, Live}
 use Rattle.cluster.specs.Rules.{Act, Replays, Puts, Dies, May}
 use Rattle.packets.specs.declared.packet.NodePacket.{NodePacket}
 use Rattle.node.specs.declared.job.OpenJob.{OpenJob}
@@ -28,21 +28,21 @@ phase_of n ps = if is_over n then phase_with ps else Replaying n.done false fals
 pub record StandsReplaying (n : TheReplaying) (c : Cluster) (p : ℕ) : Type 0 where
   pub stage : c.stage p ≡ Live
   pub greeted : c.greeted p ≡ false
-  pub phase : c.phase p ≡ phase_of n (peers (seen c) p false)
-  pub life : c.life p ≡ n.own.life
-  pub own : HasOwn n.own c p (take (n.own.base + n.done) (c.history p)) (c.trims p) (c.numbers p)
-  pub behind : drop n.own.base (c.history p) ≡ map job_of n.plan
-  pub received : HasReceived n.own.count n.own.base n.own.covered (receipts_of n.plan) (c.history p) (c.acknowledged p)
-  pub acknowledged : (k : ℕ) → k ≤ length (c.history p) → c.acknowledged p k ≡ true
-  pub numbers : (d ssn : ℕ) → c.numbers p d ssn ≡ None
+  pub phase : c.world.phase p ≡ phase_of n (peers c.world p false)
+  pub life : c.world.incarnation p ≡ n.own.life
+  pub own : HasOwn n.own c p (take (n.own.base + n.done) (c.world.history p)) (c.world.trims p) (c.world.numbers p)
+  pub behind : drop n.own.base (c.world.history p) ≡ map job_of n.plan
+  pub received : HasReceived n.own.count n.own.base n.own.covered (receipts_of n.plan) (c.world.history p) (c.world.acknowledged p)
+  pub acknowledged : (k : ℕ) → k ≤ length (c.world.history p) → c.world.acknowledged p k ≡ true
+  pub numbers : (d ssn : ℕ) → c.world.numbers p d ssn ≡ None
   pub resumed : (q : ℕ) → c.resumed p q ≡ true
   pub restoring : (q : ℕ) → c.restoring p q ≡ 0
-  pub shut : is_over n ≡ false → (d : ℕ) → c.released p d ≡ 0
-  pub released : is_over n ≡ true → peers (seen c) p false ≡ [] → (d : ℕ) → c.released p d ≡ sent_in_all (seen c) p d
+  pub shut : is_over n ≡ false → (d : ℕ) → c.world.released p d ≡ 0
+  pub released : is_over n ≡ true → peers c.world p false ≡ [] → (d : ℕ) → c.world.released p d ≡ sent_in_all c.world p d
 
 -- each message that p received was the next of its sender, as in every run
 abbrev pub IsInOrder : Cluster → ℕ → Type 0
-IsInOrder c p = (k : ℕ) (m : Message) → slice_get (c.history p) k ≡ Some m → m.ssn ≡ suc (count_of m.sender (take k (c.history p)))
+IsInOrder c p = (k : ℕ) (m : Message) → slice_get (c.world.history p) k ≡ Some m → m.ssn ≡ suc (count_of m.sender (take k (c.world.history p)))
 
 -- what a process owes that recovers: from each cluster in which it collects, to one in which it replays
 abbrev pub ComesBack : TheCollecting → TheReplaying → Type 0
@@ -62,13 +62,13 @@ pub record AnswersAfter (f : Handlers) (p : ℕ) (h : List Message) (m : Message
 -- so does it on the next message
 abbrev pub Handles : List ℕ → List Given → TheReplaying → Cluster → Type 0
 Handles state given n c = (j : OpenJob) → next_job n ≡ Some j
-    → AnswersAfter c.handlers n.own.me (take (n.own.base + n.done) (c.history n.own.me)) (job_of j) state given
+    → AnswersAfter c.world.handlers n.own.me (take (n.own.base + n.done) (c.world.history n.own.me)) (job_of j) state given
 
 -- what `take` owes: it gives the first packet that waited, which was sent, and the process no longer has it
 abbrev pub Takes : Option NodePacket → TheReplaying → TheReplaying → Type 0
 Takes None old new = (old.own.out ≡ []) × (new ≡ old)
 Takes (Some x) old new = (old ≡ record new { own = record new.own { out = x ∷ new.own.out } })
-    × ((c : Cluster) → StandsReplaying old c old.own.me → IsSent c.count c.parcels old.own.me x × StandsReplaying new c old.own.me)
+    × ((c : Cluster) → StandsReplaying old c old.own.me → IsSent c.world.count c.parcels old.own.me x × StandsReplaying new c old.own.me)
 
 -- what a call owes that is handed a packet: the process still agrees, or is no longer exact
 abbrev pub Stays : TheReplaying → TheReplaying → Type 0
