@@ -1,11 +1,14 @@
 -- A call by the C calling convention, a record as C lays out its struct, and what a record tells.
-use Rattle.std.specs.Prelude.{◌≡◌, ℕ, ◌+◌, ◌-◌, ◌*◌, ◌^◌, ◌<◌, ◌≤◌, Some, slice_get, List, [], ◌∷◌, ◌++◌, length, map, replicate}
+use Rattle.std.specs.Prelude.{◌≡◌, ℕ, ◌+◌, ◌-◌, ◌*◌, ◌^◌, ◌<◌, ◌≤◌, Option, Some, slice_get, List, [], ◌∷◌, ◌++◌, length, map, replicate}
 use Rattle.limits.specs.declared.TheConstants.{PAYLOAD_BYTES}
+use Rattle.decode.specs.declared.insn.Insn.{Insn}
 use Rattle.helpers.specs.declared.effects.Who.{Who}
 use Rattle.helpers.specs.declared.effects.Sent.{Sent}
 use Rattle.helpers.specs.Effects.{Emitted}
 use Rattle.operations.specs.Bytes.{le_bytes}
+use Rattle.regtypes.specs.declared.image_form.ImageForm.{ImageForm}
 use Rattle.interp.specs.Words.{AreBytes}
+use Rattle.interp.specs.Flat.{IsHandledIn}
 use Rattle.x86.specs.Machine.{State, Flags, Word, At, Array, Record, value}
 use Rattle.native.specs.Correct.{IsCalled, IsReturned, Keeps}
 
@@ -82,4 +85,5 @@ KeepsCallers c last = (k r : ℕ) → slice_get callers k ≡ Some r → value l
 -- they are unchanged after each return
 abbrev pub ReturnsToC : Type 0
 ReturnsToC =
-    (who : Who) (Handled : Emitted → ℕ → ℕ → Type 0) (c last : State) → IsReturned who Handled c last → KeepsCallers c last
+    (form : ImageForm) (slots : List (Option Insn)) (who : Who) (m len : ℕ) (c last : State)
+    → IsReturned who (IsHandledIn form slots who m len c.array last.array) c last → KeepsCallers c last

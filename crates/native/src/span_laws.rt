@@ -1,7 +1,7 @@
 //! Laws of the code: there is one for each image, and it keeps the caller's registers.
 
 ghost use Rattle.std.specs.Prelude.{◌≡◌};
-ghost use Rattle.native.specs.Worked.{ReturnsToC};
+ghost use Rattle.native.specs.SpanCallers.{ReturnsToC};
 ghost use Rattle.native.specs.HandlerCode.{IsOneInAnyForm};
 ghost use Rattle.native.specs.SpanWritten.{IsOneCode};
 
