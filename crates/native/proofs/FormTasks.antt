@@ -20,7 +20,7 @@ use Rattle.decode.specs.declared.insn.Operand.TheVariants as operand
 use Rattle.decode.specs.declared.insn.Reg.{Reg}
 use Rattle.dense.specs.Forms as forms
 use Rattle.native.specs.declared.task.SlotTask.TheVariants as task
-use Rattle.native.specs.Operations.{task_for}
+use Rattle.native.specs.Inside.Operations.{task_for}
 
 module _ (pool : List ℕ) where
   pub alu_imm_task : (a : AluOp) (w : Width) (dst : Reg) (imm : ℤ) → task_for pool (forms.alu_imm a w dst imm) ≡ Some (task.Compute a w dst (operand.Imm imm))

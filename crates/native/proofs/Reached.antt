@@ -47,7 +47,7 @@ use Rattle.dense.specs.Acts.{IsWithin}
 use Rattle.native.specs.declared.task.SlotTask.{SlotTask}
 use Rattle.native.specs.declared.task.SlotTask.TheVariants as task
 use Rattle.native.specs.Tasks.{holds_word, is_read, is_eligible}
-use Rattle.native.specs.Operations.{task_for}
+use Rattle.native.specs.Inside.Operations.{task_for}
 use Rattle.native.proofs.FormTasks.{alu_imm_task, alu_reg_task, movsx_task, neg_task, swap_task, jump_imm_task, jump_reg_task, load_task, load_sx_task, store_reg_task, store_imm_task}
 
 -- ---- r10 is known to be no number

@@ -101,9 +101,7 @@ span_native insns len code typable few small whole served = record {
           r0 = slice_index f.words 0;
           steps = f.steps;
           effects = f.effects;
-          answers = f.over.answers;
-          message = f.over.message_stays;
-          left = f.over.left;
+          handled = record { answers = f.over.answers; message = f.over.message_stays; left = f.over.left };
           answer = f.answer;
           counted = f.counted;
           keeps = f.keeps;

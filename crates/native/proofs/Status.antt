@@ -7,8 +7,11 @@ use Rattle.helpers.specs.declared.effects.Who.{Who}
 use Rattle.helpers.specs.Effects.{Emitted}
 use Rattle.dense.specs.declared.op.Op.{Op}
 use Rattle.dense.specs.declared.op.Op.TheVariants as op
+use Rattle.dense.specs.declared.execution.Next.{Next}
 use Rattle.dense.specs.declared.execution.Next.TheVariants.{To, End}
-use Rattle.dense.specs.Acts.{act_of, Act, Does}
+use Rattle.dense.specs.Acts.{Act, Does, IsPerformed}
+use Rattle.dense.proofs.FormActs.{performed}
+use Rattle.dense.specs.Inside.Acts.{act_of}
 use Rattle.regtypes.specs.declared.image_form.ImageForm.{ImageForm}
 use Rattle.regtypes.specs.Typing.{Table}
 use Rattle.verifier.specs.Least.{IsLeastTyping}
@@ -17,7 +20,7 @@ use Rattle.interp.proofs.FlatCalls.{Going, Ready, in_ops, in_slots, op_within, g
 use Rattle.native.specs.declared.task.SlotTask.{SlotTask}
 use Rattle.native.specs.declared.task.SlotTask.TheVariants as task
 use Rattle.native.specs.Tasks.{task_act, TaskWithin, TaskReaches}
-use Rattle.native.specs.SlotTasks.{AreTold}
+use Rattle.native.specs.Inside.Operations.{AreTold}
 use Rattle.native.proofs.Reached.{has_code}
 use Rattle.native.proofs.Successors.{Call}
 
@@ -72,6 +75,8 @@ module _ {form : ImageForm} {slots : List (Option Insn)} {table : Table} {m len 
       let z = told slot v g.stands.shown.frame o t g.stands.shown.there x is_task in
       let found : slice_get tasks slot ≡ Some t = slice_get-get_or tasks slot task.Dead (omega (arith, v, many)) ∙ ap Some z.0 in
       let acts : act_of who pool slot words mem e o ≡ task_act who slot words mem e t = z.1.acts who slot words mem e in
+      let as_performed : (to : Next) (words' mem' : List ℕ) (e' : Emitted) → Does slot words mem e (task_act who slot words mem e t) to words' mem' e' → IsPerformed who pool slot words mem e o (λ a. Does slot words mem e a to words' mem' e') = λ to words' mem' e' d.
+          performed who pool slot words mem e o (λ a. Does slot words mem e a to words' mem' e') (subst (λ (a : Act). Does slot words mem e a to words' mem' e') (sym acts) d) in
       record {
         before = v;
         left = let s = g.stands.few in omega (arith, v, s);
@@ -82,7 +87,7 @@ module _ {form : ImageForm} {slots : List (Option Insn)} {table : Table} {m len 
         reaches = within_reaches words t (z.1.within (op_within r g o q));
         fits = z.1.fits;
         next = λ to words' mem' e' d l.
-            let d' : Does slot words mem e (act_of who pool slot words mem e o) (To to) words' mem' e' = subst (λ (a : Act). Does slot words mem e a (To to) words' mem' e') (sym acts) d in
+            let d' = as_performed (To to) words' mem' e' d in
             (later r g o q to words' mem' e' d', going_next r g o q to words' mem' e' d' l);
-        ends = λ d. ended_in r g o q words mem e (subst (λ (a : Act). Does slot words mem e a End words mem e) (sym acts) d);
+        ends = λ d. ended_in r g o q words mem e (as_performed End words mem e d);
       }

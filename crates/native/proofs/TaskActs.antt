@@ -5,10 +5,11 @@ use Rattle.helpers.specs.declared.effects.Who.{Who}
 use Rattle.helpers.specs.Effects.{Emitted}
 use Rattle.dense.specs.declared.op.Op.{Op}
 use Rattle.dense.specs.declared.op.Op.TheVariants as op
-use Rattle.dense.specs.Acts.{act_of, IsWithin}
+use Rattle.dense.specs.Acts.{IsWithin}
+use Rattle.dense.specs.Inside.Acts.{act_of}
 use Rattle.native.specs.declared.task.SlotTask.{SlotTask}
 use Rattle.native.specs.declared.task.SlotTask.TheVariants as task
-use Rattle.native.specs.Operations.{task_for, IsTaskOf}
+use Rattle.native.specs.Inside.Operations.{task_for, IsTaskOf}
 use Rattle.native.specs.Tasks.{task_act, TaskWithin, TaskFits}
 
 module _ (pool : List ℕ) (words : (k : ℕ) → slice_index pool k < 2 ^ 64) where

@@ -21,8 +21,9 @@ use Rattle.verifier.specs.Places.{target_of}
 use Rattle.verifier.specs.Dense.{position, dense_of, helper_op, IsPooled, IsDense}
 use Rattle.native.specs.declared.task.SlotTask.{SlotTask}
 use Rattle.native.specs.declared.task.SlotTask.TheVariants as task
-use Rattle.native.specs.Operations.{task_for, IsTaskOf}
-use Rattle.native.specs.SlotTasks.{helper_task, task_in, task_there, tasks_in, task_at, IsTold, AreTold}
+use Rattle.native.specs.Inside.Operations.{task_for, IsTaskOf}
+use Rattle.native.specs.SlotTasks.{helper_task, task_in, task_there, tasks_in, task_at}
+use Rattle.native.specs.Inside.Operations.{IsTold, AreTold}
 use Rattle.native.proofs.FormTasks.{alu_imm_task, alu_reg_task, movsx_task, neg_task, swap_task, jump_imm_task, jump_reg_task, load_task, load_sx_task, store_reg_task, store_imm_task}
 
 -- ---- the task of an instruction's operation is the instruction's

@@ -1,10 +1,9 @@
 -- The task of each slot.
-use Rattle.std.specs.Prelude.{◌≡◌, ◌<◌, ℕ, zero, suc, List, [], ◌∷◌, ◌++◌, Option, Some, ℤ, pos, slice_get, slice_index_or}
+use Rattle.std.specs.Prelude.{ℕ, zero, suc, List, [], ◌∷◌, ◌++◌, Option, Some, ℤ, pos, slice_index_or}
 use Rattle.decode.specs.declared.insn.Insn.{Insn}
 use Rattle.decode.specs.declared.insn.Insn.TheVariants.{Alu, MovSx, Neg, End, Jump, JumpLong, JumpIf, Call, Exit, Load, LoadSx, StoreReg}
 use Rattle.decode.specs.declared.insn.Insn.TheVariants.{StoreImm, Wide}
 use Rattle.decode.specs.Slots.{insn_at}
-use Rattle.dense.specs.declared.op.Op.{Op}
 use Rattle.regtypes.specs.declared.frame.Frame.{Frame}
 use Rattle.regtypes.specs.declared.frame.Kind.{Kind}
 use Rattle.regtypes.specs.Frame.{kind_at}
@@ -13,7 +12,6 @@ use Rattle.verifier.specs.Places.{target_of}
 use Rattle.verifier.specs.Dense.{position, payload_position}
 use Rattle.native.specs.declared.task.SlotTask.{SlotTask}
 use Rattle.native.specs.declared.task.SlotTask.TheVariants as task
-use Rattle.native.specs.Operations.{task_for, IsTaskOf}
 
 -- the task of a helper
 abbrev pub helper_task : ℕ → List Kind → ℤ → SlotTask
@@ -52,16 +50,6 @@ abbrev pub tasks_in : List (Option Insn) → Table → ℕ → ℕ → List Slot
 tasks_in slots table len zero = []
 tasks_in slots table len (suc n) = tasks_in slots table len n ++ task_there len n (frame_at table n) (insn_at slots n) ∷ []
 
--- if a call may come to the slot, this is the task of the slot's operation
-abbrev pub IsTold : Table → List Op → List ℕ → ℕ → SlotTask → Type 0
-IsTold table ops pool slot told =
-    (g : Frame) (o : Op) (t : SlotTask) → frame_at table slot ≡ Some g → slice_get ops slot ≡ Some o → task_for pool o ≡ Some t
-    → (told ≡ t) × IsTaskOf pool o t
-
 -- the task of a slot of the list
 abbrev pub task_at : List SlotTask → ℕ → SlotTask
 task_at tasks slot = slice_index_or tasks slot task.Dead
-
--- this holds for each slot below n
-abbrev pub AreTold : Table → List Op → List ℕ → List SlotTask → ℕ → Type 0
-AreTold table ops pool tasks n = (slot : ℕ) → slot < n → IsTold table ops pool slot (task_at tasks slot)

@@ -8,6 +8,7 @@ use Rattle.helpers.specs.Effects.{Emitted}
 use Rattle.operations.specs.Bytes.{le_bytes}
 use Rattle.regtypes.specs.declared.image_form.ImageForm.{ImageForm}
 use Rattle.interp.specs.Words.{AreBytes}
+use Rattle.interp.specs.Flat.{IsHandledIn}
 use Rattle.x86.specs.Machine.{State, Flags, Word, At, Array, Record, value}
 use Rattle.native.specs.Correct.{IsCalled, IsReturned, Keeps}
 
@@ -85,4 +86,4 @@ KeepsCallers c last = (k r : ℕ) → slice_get callers k ≡ Some r → value l
 abbrev pub ReturnsToC : Type 0
 ReturnsToC =
     (form : ImageForm) (slots : List (Option Insn)) (who : Who) (m len : ℕ) (c last : State)
-    → IsReturned form slots who m len c last → KeepsCallers c last
+    → IsReturned who (IsHandledIn form slots who m len c.array last.array) c last → KeepsCallers c last

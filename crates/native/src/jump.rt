@@ -1,7 +1,7 @@
 //! The tasks of conditional jumps.
 
 ghost use Rattle.std.specs.Prelude.{◌≡◌};
-ghost use Rattle.native.specs.Operations as specs;
+ghost use Rattle.native.specs.Inside.Operations as specs;
 
 use crate::task::SlotTask;
 use decode::Condition::{

@@ -3,9 +3,10 @@
 ghost use Rattle.std.specs.Prelude.{◌≡◌, ℕ, List, IfSome, length};
 ghost use Rattle.helpers.specs.declared.effects.Who.{Who};
 ghost use Rattle.helpers.specs.Effects.{Emitted};
-ghost use Rattle.dense.specs.Acts.{act_of, IsWithin};
-ghost use Rattle.native.specs.Operations as specs;
-ghost use Rattle.native.specs.Operations.{task_for};
+ghost use Rattle.dense.specs.Acts.{IsWithin};
+ghost use Rattle.dense.specs.Inside.Acts.{act_of};
+ghost use Rattle.native.specs.Inside.Operations as specs;
+ghost use Rattle.native.specs.Inside.Operations.{task_for};
 ghost use Rattle.native.specs.Tasks.{task_act, TaskWithin, TaskFits};
 
 use crate::arithmetic::arithmetic;

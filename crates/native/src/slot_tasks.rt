@@ -5,9 +5,8 @@ ghost use Rattle.decode.specs.Slots.{insn_at};
 ghost use Rattle.regtypes.specs.Typing.{frame_at};
 ghost use Rattle.verifier.specs.Dense.{IsDense};
 ghost use Rattle.verifier.specs.Least.{IsLeastTyping};
-ghost use Rattle.native.specs.Operations.{IsTaskOf, task_for};
+ghost use Rattle.native.specs.Inside.Operations.{AreTold, IsTaskOf, IsTold, task_for};
 ghost use Rattle.native.specs.SlotTasks as specs;
-ghost use Rattle.native.specs.SlotTasks.{AreTold, IsTold};
 
 use crate::operation::task_of;
 use crate::task::SlotTask;

@@ -46,11 +46,10 @@ IsReadable None f s o n = AreNumbers f s o n
 
 -- a load of n bytes through a base of this kind breaks no rule
 abbrev pub MayLoad : ℕ → Frame → SpanKind → ℤ → ℕ → Type 0
-MayLoad state f Unset o n = ⊥
-MayLoad state f (Num s) o n = ⊥
 MayLoad state f (Place Message s) o n = is_inside 512 s o n ≡ true
 MayLoad state f (Place State s) o n = is_inside state s o n ≡ true
 MayLoad state f (Place Stack s) o n = (is_inside 512 s o n ≡ true) × IsReadable (whole_word s o n) f s o n
+MayLoad state f k o n = ⊥
 
 -- the load of a whole word gives its kind, also a place; any other load gives a number of n bytes
 abbrev pub word_kind : Option ℕ → Frame → ℕ → SpanKind
@@ -60,10 +59,7 @@ word_kind None f n = Num (whole (8 * n))
 -- what a load gives
 abbrev pub loaded_kind : Frame → SpanKind → ℤ → ℕ → SpanKind
 loaded_kind f (Place Stack s) o n = word_kind (whole_word s o n) f n
-loaded_kind f (Place Message s) o n = Num (whole (8 * n))
-loaded_kind f (Place State s) o n = Num (whole (8 * n))
-loaded_kind f (Num s) o n = Num (whole (8 * n))
-loaded_kind f Unset o n = Num (whole (8 * n))
+loaded_kind f k o n = Num (whole (8 * n))
 
 -- ---- stores
 
@@ -75,11 +71,9 @@ IsWritable None f k s o n = (is_num k ≡ true) × AreNumbers f s o n
 
 -- a store of a kind through a base of kind a breaks no rule; no handler may write the message
 abbrev pub MayStore : ℕ → Frame → SpanKind → SpanKind → ℤ → ℕ → Type 0
-MayStore state f k Unset o n = ⊥
-MayStore state f k (Num s) o n = ⊥
-MayStore state f k (Place Message s) o n = ⊥
 MayStore state f k (Place State s) o n = (is_inside state s o n ≡ true) × (is_num k ≡ true)
 MayStore state f k (Place Stack s) o n = (is_inside 512 s o n ≡ true) × IsWritable (whole_word s o n) f k s o n
+MayStore state f k a o n = ⊥
 
 -- each word that may be reached can then be any number
 abbrev pub wiped : Frame → Reach → ℤ → ℕ → Frame
@@ -93,7 +87,4 @@ written_frame None f k s o n = wiped f s o n
 -- what a store leaves; of the bytes of message and state no frame says anything
 abbrev pub stored_frame : Frame → SpanKind → SpanKind → ℤ → ℕ → Frame
 stored_frame f k (Place Stack s) o n = written_frame (whole_word s o n) f k s o n
-stored_frame f k (Place Message s) o n = f
-stored_frame f k (Place State s) o n = f
-stored_frame f k (Num s) o n = f
-stored_frame f k Unset o n = f
+stored_frame f k a o n = f

@@ -27,12 +27,9 @@ IsKind (Place r s) = s.lo ≤ℤ s.hi
 -- the first kind says what the second says
 abbrev pub LeqKind : SpanKind → SpanKind → Type 0
 LeqKind a Unset = Unit {0}
-LeqKind Unset (Num t) = ⊥
 LeqKind (Num s) (Num t) = Within s t
-LeqKind (Place r s) (Num t) = ⊥
-LeqKind Unset (Place q t) = ⊥
-LeqKind (Num s) (Place q t) = ⊥
 LeqKind (Place r s) (Place q t) = (r ≡ q) × WithinReach s t
+LeqKind a b = ⊥
 
 -- what both kinds say: the numbers of both, or the places of both if they have one region
 abbrev pub joined_kind : SpanKind → SpanKind → SpanKind
@@ -44,15 +41,13 @@ joined_kind a b = Unset
 
 -- it is known to be a number
 abbrev pub is_num : SpanKind → Bool
-is_num Unset = false
 is_num (Num s) = true
-is_num (Place r s) = false
+is_num k = false
 
 -- it is known to be set, a number or a place
 abbrev pub is_set : SpanKind → Bool
 is_set Unset = false
-is_set (Num s) = true
-is_set (Place r s) = true
+is_set k = true
 
 -- ---- frames
 

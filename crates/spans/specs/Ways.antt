@@ -57,20 +57,17 @@ operand_kind width (operand.Reg r) f = f r.number
 -- applies to a span, if the kind is one
 abbrev pub from_span : (Span → Span) → SpanKind → Option SpanKind
 from_span make (Num s) = Some (Num (make s))
-from_span make (Place r s) = None
-from_span make Unset = None
+from_span make k = None
 
 -- applies to two spans, if both kinds are one
 abbrev pub from_spans : (Span → Span → Span) → SpanKind → SpanKind → Option SpanKind
 from_spans make (Num s) b = from_span (make s) b
-from_spans make (Place r s) b = None
-from_spans make Unset b = None
+from_spans make a b = None
 
 -- any kind that is set
 abbrev pub set_kind : SpanKind → Option SpanKind
 set_kind Unset = None
-set_kind (Num s) = Some (Num s)
-set_kind (Place r s) = Some (Place r s)
+set_kind k = Some k
 
 -- places with distances from their region's first byte that fit 16 bits and a sign
 abbrev pub near_place : Region → Reach → Option SpanKind
@@ -85,10 +82,7 @@ abbrev pub summed_kind : SpanKind → SpanKind → Option SpanKind
 summed_kind (Num s) (Num t) = Some (Num (result_span alu.Add 64 s t))
 summed_kind (Place r s) (Num t) = near_place r (moved_reach s (pos t.lo) (pos t.hi))
 summed_kind (Num s) (Place r t) = near_place r (moved_reach t (pos s.lo) (pos s.hi))
-summed_kind (Place r s) (Place q t) = None
-summed_kind Unset b = None
-summed_kind (Num s) Unset = None
-summed_kind (Place r s) Unset = None
+summed_kind a b = None
 
 -- words of n bits after a whole number is added
 abbrev pub moved_span : ℕ → ℤ → Span → Span
@@ -99,8 +93,7 @@ moved_span n (negsuc m) s = if nat_le (suc m) s.lo then span (s.lo - suc m) (s.h
 abbrev pub moved_kind : Width → ℤ → SpanKind → Option SpanKind
 moved_kind width z (Num s) = Some (Num (moved_span (bits_of width) z (low_span width s)))
 moved_kind W64 z (Place r s) = near_place r (moved_reach s z z)
-moved_kind W32 z (Place r s) = None
-moved_kind width z Unset = None
+moved_kind width z a = None
 
 -- what arithmetic leaves in dst, whose kind is a, with an operand of kind b
 abbrev pub result_kind : AluForm → SpanKind → SpanKind → Option SpanKind
@@ -131,15 +124,13 @@ way condition width dst o f a b = option_map (narrowed_frame f dst o) (shown con
 
 -- n bytes from a place on are in its region, for each of its distances; in the stack they are numbers
 abbrev pub HasPayload : ℕ → Frame → SpanKind → ℕ → Type 0
-HasPayload state f Unset n = ⊥
-HasPayload state f (Num s) n = ⊥
 HasPayload state f (Place r s) n = (is_inside (region_size state r) s (pos 0) n ≡ true) × (r ≡ Stack → AreNumbers f s (pos 0) n)
+HasPayload state f k n = ⊥
 
 -- the same for as many bytes as a number says, and for 256 if it may be greater
 abbrev pub HasSized : ℕ → Frame → SpanKind → SpanKind → Type 0
-HasSized state f p Unset = ⊥
-HasSized state f p (Place r s) = ⊥
 HasSized state f p (Num s) = HasPayload state f p (min s.hi 256)
+HasSized state f p k = ⊥
 
 -- there is a helper of this number, and the registers hold what it takes (docs/FORMATS.md, "Helpers")
 abbrev pub HasArguments : ℕ → Frame → ℤ → Type 0

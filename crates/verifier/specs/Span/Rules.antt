@@ -42,8 +42,7 @@ number_rule (Place r s) = Some V5
 -- the rule for what is copied, also a place: broken if nothing is known of it
 abbrev pub value_rule : SpanKind → Option Rule
 value_rule Unset = Some V3
-value_rule (Num s) = None
-value_rule (Place r s) = None
+value_rule k = None
 
 -- ---- arithmetic
 
@@ -57,9 +56,7 @@ sum_rule (Num s) (Num t) = None
 sum_rule (Place r s) (Num t) = near_rule (moved_reach s (pos t.lo) (pos t.hi))
 sum_rule (Num s) (Place r t) = near_rule (moved_reach t (pos s.lo) (pos s.hi))
 sum_rule (Place r s) (Place q t) = Some V5
-sum_rule Unset b = Some V3
-sum_rule (Num s) Unset = Some V3
-sum_rule (Place r s) Unset = Some V3
+sum_rule a b = Some V3
 
 -- a sum with a whole number; of a place only by 64 bits
 abbrev pub move_rule : Width → ℤ → SpanKind → Option Rule
@@ -121,18 +118,16 @@ argument_rule (Some r) = Some V9
 
 -- a place whose n bytes are in its region for each of its distances, and in the stack are numbers
 abbrev pub payload_rule : ℕ → Frame → SpanKind → ℕ → Option Rule
-payload_rule state f Unset n = Some V9
-payload_rule state f (Num s) n = Some V9
 payload_rule state f (Place Message s) n = unless (is_inside 512 s (pos 0) n) V9
 payload_rule state f (Place State s) n = unless (is_inside state s (pos 0) n) V9
 payload_rule state f (Place Stack s) n =
     if is_inside 512 s (pos 0) n then argument_rule (words_rule 64 f s (pos 0) n) else Some V9
+payload_rule state f k n = Some V9
 
 -- the same for as many bytes as a number says, and for 256 if it may be greater
 abbrev pub sized_rule : ℕ → Frame → SpanKind → SpanKind → Option Rule
-sized_rule state f p Unset = Some V9
-sized_rule state f p (Place r s) = Some V9
 sized_rule state f p (Num s) = payload_rule state f p (min s.hi 256)
+sized_rule state f p k = Some V9
 
 -- the call of a helper (docs/FORMATS.md, "Helpers")
 abbrev pub call_rule : ℕ → Frame → ℤ → Option Rule
@@ -146,9 +141,8 @@ call_rule state f z = Some V8
 
 -- r0 at EXIT
 abbrev pub exit_rule : SpanKind → Option Rule
-exit_rule Unset = Some V10
 exit_rule (Num s) = None
-exit_rule (Place r s) = Some V10
+exit_rule k = Some V10
 
 -- ---- instructions
 

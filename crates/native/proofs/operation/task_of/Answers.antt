@@ -1,6 +1,6 @@
 use Rattle.std.proofs.Common.{◌≡◌, refl}
 use Rattle.std.specs.Prelude.{IfSome}
-use Rattle.native.specs.Operations.{task_for, IsTaskOf}
+use Rattle.native.specs.Inside.Operations.{task_for, IsTaskOf}
 use Rattle.native.proofs.TaskActs.{found, its_acts, its_bytes, its_numbers}
 use Rattle.native.proofs.operation.task_of.Goals as goal
 

@@ -1,7 +1,7 @@
 use Rattle.std.proofs.Common.{◌≡◌, Some, sym, ap, ◌∙◌, subst}
 use Rattle.std.proofs.lemmas.Option.{slice_get-get_or, slice_get_within}
 use Rattle.dense.specs.declared.op.Op.TheVariants as op
-use Rattle.native.specs.Operations.{task_for, IsTaskOf}
+use Rattle.native.specs.Inside.Operations.{task_for, IsTaskOf}
 use Rattle.native.proofs.slot_tasks.op_task.Goals as goal
 
 pub returns-in-Some : goal.returns-in-Some

@@ -1,7 +1,8 @@
 use Rattle.std.proofs.Common.{◌≡◌, ◌+◌, length, sym, ap, ◌∙◌, subst, arith}
 use Rattle.decode.specs.Slots.{slots}
 use Rattle.decode.proofs.SlotLemmas.{length-slots_of}
-use Rattle.native.specs.SlotTasks.{tasks_in, AreTold}
+use Rattle.native.specs.SlotTasks.{tasks_in}
+use Rattle.native.specs.Inside.Operations.{AreTold}
 use Rattle.native.proofs.Told.{Telling, telling_none, telling_more}
 use Rattle.native.proofs.slot_tasks.tasks_of.Goals as goal
 

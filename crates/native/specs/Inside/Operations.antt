@@ -1,5 +1,5 @@
 -- The task of each operation.
-use Rattle.std.specs.Prelude.{ℕ, ℤ, nat_lt, List, Option, Some, None, option_map, slice_index, length, if◌then◌else◌, ◌≡◌}
+use Rattle.std.specs.Prelude.{ℕ, ℤ, nat_lt, ◌<◌, List, Option, Some, None, option_map, slice_get, slice_index, length, if◌then◌else◌, ◌≡◌}
 use Rattle.decode.specs.declared.insn.AluOp.{AluOp}
 use Rattle.decode.specs.declared.insn.Width.{Width}
 use Rattle.decode.specs.declared.insn.Condition.{Condition}
@@ -19,8 +19,12 @@ use Rattle.native.specs.declared.task.SlotTask.{SlotTask}
 use Rattle.native.specs.declared.task.SlotTask.TheVariants as task
 use Rattle.helpers.specs.declared.effects.Who.{Who}
 use Rattle.helpers.specs.Effects.{Emitted}
-use Rattle.dense.specs.Acts.{act_of, IsWithin}
+use Rattle.dense.specs.Acts.{IsWithin}
+use Rattle.dense.specs.Inside.Acts.{act_of}
+use Rattle.regtypes.specs.declared.frame.Frame.{Frame}
+use Rattle.regtypes.specs.Typing.{Table, frame_at}
 use Rattle.native.specs.Tasks.{task_act, TaskWithin, TaskFits}
+use Rattle.native.specs.SlotTasks.{task_at}
 
 -- the first of two, or the second if there is no first
 abbrev pub first_of : Option SlotTask → Option SlotTask → Option SlotTask
@@ -217,3 +221,13 @@ pub record IsTaskOf (pool : List ℕ) (o : Op) (t : SlotTask) : Type 0 where
   pub acts : (who : Who) (slot : ℕ) (ws mem : List ℕ) (e : Emitted) → act_of who pool slot ws mem e o ≡ task_act who slot ws mem e t
   pub within : IsWithin (length pool) o → TaskWithin t
   pub fits : TaskFits t
+
+-- if a call may come to the slot, this is the task of the slot's operation
+abbrev pub IsTold : Table → List Op → List ℕ → ℕ → SlotTask → Type 0
+IsTold table ops pool slot told =
+    (g : Frame) (o : Op) (t : SlotTask) → frame_at table slot ≡ Some g → slice_get ops slot ≡ Some o → task_for pool o ≡ Some t
+    → (told ≡ t) × IsTaskOf pool o t
+
+-- this holds for each slot below n
+abbrev pub AreTold : Table → List Op → List ℕ → List SlotTask → ℕ → Type 0
+AreTold table ops pool tasks n = (slot : ℕ) → slot < n → IsTold table ops pool slot (task_at tasks slot)
