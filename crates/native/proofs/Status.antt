@@ -76,7 +76,7 @@ module _ {form : ImageForm} {slots : List (Option Insn)} {table : Table} {m len 
       let found : slice_get tasks slot ≡ Some t = slice_get-get_or tasks slot task.Dead (omega (arith, v, many)) ∙ ap Some z.0 in
       let acts : act_of who pool slot words mem e o ≡ task_act who slot words mem e t = z.1.acts who slot words mem e in
       let as_performed : (to : Next) (words' mem' : List ℕ) (e' : Emitted) → Does slot words mem e (task_act who slot words mem e t) to words' mem' e' → IsPerformed who pool slot words mem e o (λ a. Does slot words mem e a to words' mem' e') = λ to words' mem' e' d.
-          performed who pool slot words mem e o (λ a. Does slot words mem e a to words' mem' e') (subst (λ (a : Act). Does slot words mem e a to words' mem' e') (sym acts) d) in
+      performed who pool slot words mem e o (λ a. Does slot words mem e a to words' mem' e') (subst (λ (a : Act). Does slot words mem e a to words' mem' e') (sym acts) d) in
       record {
         before = v;
         left = let s = g.stands.few in omega (arith, v, s);

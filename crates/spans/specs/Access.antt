@@ -4,7 +4,7 @@ use Rattle.std.specs.Prelude.{true, Option, Some, None, if◌then◌else◌}
 use Rattle.regtypes.specs.declared.frame.Region.{Region}
 use Rattle.regtypes.specs.declared.frame.Region.TheVariants.{Message, State, Stack}
 use Rattle.spans.specs.Span.{whole}
-use Rattle.spans.specs.Frame.{Reach, SpanKind, Unset, Num, Place, is_num, is_set, Frame, with_kind}
+use Rattle.spans.specs.Frame.{Reach, SpanKind, Num, Place, is_num, is_set, Frame, with_kind}
 
 -- how many bytes a region has: the message 512 with zeros after its own bytes, the state `state`, the stack 512
 abbrev pub region_size : ℕ → Region → ℕ
