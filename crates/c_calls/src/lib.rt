@@ -1,16 +1,15 @@
-//! The handles of a gateway and of a node, and the calls of one that is open.
+//! The handle of a node, the calls of one that is open, and the labels of packets.
 //!
-//! A program in C holds a gateway or a node by a handle of zeros, which means closed. `c_cluster`
-//! opens handles, and exports the functions here by one function each: a handle's call owes what the
-//! call of [`gateway`] or [`process`] owes, or says why it wasn't made, which changes nothing. The
-//! packets of a bundle are taken in and given out one after another.
+//! A program in C holds a node by a handle of zeros, which means closed. `c_cluster` opens handles,
+//! and exports the functions here by one function each: a handle's call owes what the call of
+//! [`process`] owes, or says why it wasn't made, which changes nothing. What a node gives is in
+//! `c_cluster`, as a gateway is: here is what wrong bodies are tried on, each over the whole crate.
 //!
 //! ```rust
-//! gateways::calls::input(alloc, &mut gateway, 1, &payload, &mut ssn)?;
-//! gateways::results::take_all(alloc, &mut gateway, &mut out, &mut size, &mut to, &mut count)?;
-//! nodes::calls::receive_all(alloc, &mut node, &out[..size], &mut tally)?;
+//! nodes::calls::receive_all(alloc, &mut node, &bundle, &mut tally)?;
+//! nodes::calls::work(alloc, &mut node)?;
+//! nodes::label::read(alloc, &packet, &mut label)?;
 //! ```
 #![tactic(auto)]
 
-pub mod gateways;
 pub mod nodes;

@@ -5,5 +5,3 @@ pub mod fault;
 pub mod handle;
 pub mod label;
 mod loose;
-pub mod results;
-pub mod status;

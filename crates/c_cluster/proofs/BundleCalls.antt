@@ -21,7 +21,7 @@ use Rattle.c_calls.specs.declared.nodes.fault.NodeFault.TheVariants.{Memory, Han
 use Rattle.c_handles.specs.Bundle.{IsBundle, InOrder, none_counted, Counting, GivesAll}
 use Rattle.c_calls.specs.Nodes.Bundles.{Serves, IsToWork}
 use Rattle.c_calls.specs.Nodes.Calls.{IsUnreceived, HasNotWorked}
-use Rattle.c_calls.specs.Nodes.Results.{Leaves}
+use Rattle.c_cluster.specs.Nodes.Results.{Leaves}
 use Rattle.c_cluster.specs.Nodes.HostCalls.{IsToServe, IsToTake, bytes_taken, AreMade, WereGiven, AreGiven}
 
 -- ---- what a handle holds

@@ -1,4 +1,6 @@
+mod AsBox
 mod BundleCalls
+mod Called
 mod HostCalls
 mod Opened
 mod Outcomes

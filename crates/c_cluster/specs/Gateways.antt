@@ -1,1 +1,5 @@
+pub mod Answers
+pub mod Calls
+pub mod Results
+pub mod Bundles
 pub mod Lifetime

@@ -1,3 +1,5 @@
+pub mod Results
+pub mod Status
 pub mod Lifetime
 pub mod Outcome
 pub mod NodeJob

@@ -5,4 +5,6 @@ mod laws;
 mod lifetime;
 pub mod node_job;
 mod outcome;
+mod results;
+pub mod status;
 pub mod suspension;

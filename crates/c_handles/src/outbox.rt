@@ -32,7 +32,7 @@ pub trait Outgoing<S> {
 }
 
 /// Why no packet is given out.
-#[derive(Clone, Copy, Debug)]
+#[derive(Clone, Copy)]
 pub enum Ungiven {
     /// Memory ran out.
     Memory,

@@ -1,10 +1,2 @@
-pub mod Reports
-pub mod CallLemmas
-pub mod FirstFailure
 pub mod Lent
 pub mod OpenedValue
-pub mod Laid
-pub mod AsByFile
-pub mod CallRecords
-pub mod FlatRuns
-pub mod SpanRuns

@@ -1,7 +1,1 @@
-pub mod Layout
-pub mod Calls
-pub mod Arrays
-pub mod Exports
 pub mod Handles
-pub mod MachineCode
-pub mod CallRecord

@@ -1,12 +1,12 @@
 //! The functions for C. Code 0 means done, any other code is the number of a refusal; the contracts
 //! say what that means for file, state and buffers.
 
-ghost use Rattle.c_images.specs.CallRecord.{Reports};
-ghost use Rattle.c_images.specs.Calls.{caller};
-ghost use Rattle.c_images.specs.Exports.{Answers, AnswersCall, AnswersCalls, IsChecked, IsUnchecked};
+ghost use Rattle.c_runs.specs.CallRecord.{Reports};
+ghost use Rattle.c_runs.specs.Calls.{caller};
+ghost use Rattle.c_runs.specs.Exports.{Answers, AnswersCall, AnswersCalls, IsChecked, IsUnchecked};
 
-use crate::{call_record, calls};
 use c_handles::code;
+use c_runs::{call_record, calls};
 use helpers::Who;
 use std::alloc::Global;
 

@@ -4,15 +4,16 @@
 ghost use Rattle.std.specs.Prelude.{◌≡◌, Option};
 ghost use Rattle.std.specs.Borrow.{sem};
 ghost use Rattle.interp.specs.Image.{TheImage};
-ghost use Rattle.c_images.specs.Calls.{caller};
-ghost use Rattle.c_images.specs.Handles.{owns_image, state_len_of, Opens, Runs};
-ghost use Rattle.c_images.specs.MachineCode.{Compiles};
+ghost use Rattle.c_runs.specs.Calls.{caller};
+ghost use Rattle.c_images.specs.Handles.{owns_image, state_len_of, Opens};
+ghost use Rattle.c_runs.specs.Runs.{Runs};
+ghost use Rattle.c_runs.specs.MachineCode.{Compiles};
 
-use crate::handler::OpenHandler;
 use crate::lifetime::{Opened, close, open};
-use crate::machine_code::compile;
-use crate::runs::run;
 use c_handles::Loose;
+use c_runs::handler::OpenHandler;
+use c_runs::machine_code::compile;
+use c_runs::runs::run;
 use std::alloc::Global;
 
 /// The code of a null handle.

@@ -24,20 +24,6 @@
 //! ```
 #![tactic(auto)]
 
-mod alone;
-mod array;
-mod bytes;
-mod call_record;
-mod calls;
 mod exports;
-mod handler;
 mod handles;
 mod lifetime;
-mod machine_code;
-mod message;
-mod refusal;
-mod report;
-mod runs;
-mod span_array;
-
-pub use runs::runs_are_calls;

@@ -2,13 +2,13 @@
 
 ghost use Rattle.std.specs.Prelude.{◌≡◌, Option, Some, None, IfOk, IfErr};
 ghost use Rattle.interp.specs.Image.{TheImage};
-ghost use Rattle.c_images.specs.Calls.{IsTypableFile};
-ghost use Rattle.c_images.specs.Exports.{IsFileRefusal};
+ghost use Rattle.c_runs.specs.Calls.{IsTypableFile};
+ghost use Rattle.c_runs.specs.Exports.{IsFileRefusal};
 ghost use Rattle.c_images.specs.Handles.{owns_image, Opens};
 
-use crate::handler::OpenHandler;
-use crate::refusal::ImageRefusal;
 use c_handles::{Loose, code};
+use c_runs::handler::OpenHandler;
+use c_runs::refusal::ImageRefusal;
 use interp::Handler as AnyHandler;
 use std::alloc::Global;
 use std::marker::Model;

@@ -1,16 +1,12 @@
 -- Bundles that a node is handed
-use Rattle.std.specs.Prelude.{◌≡◌, ◌⊎◌, ◌∷◌, ℕ, List, Option}
-use Rattle.packets.specs.declared.packet.NodePacket.{NodePacket}
-use Rattle.packets.specs.Format.{IsPacket}
-use Rattle.process.specs.Process.{TheProcess, out_of}
+use Rattle.std.specs.Prelude.{◌≡◌, ◌⊎◌, ℕ, List, Option}
+use Rattle.process.specs.Process.{TheProcess}
 use Rattle.c_handles.specs.declared.bundle.BundleTally.{BundleTally}
 use Rattle.c_calls.specs.declared.nodes.fault.NodeFault.{NodeFault}
 use Rattle.c_calls.specs.declared.nodes.fault.NodeFault.TheVariants.{Memory, Handle, Bytes}
-use Rattle.c_handles.specs.Bundle.{IsBundle, IsUnfit, one_taken, one_refused, one_lost, Counting, IsReceivedAll, GivesAll}
+use Rattle.c_handles.specs.Bundle.{IsBundle, one_taken, one_refused, one_lost, Counting, IsReceivedAll}
 use Rattle.c_calls.specs.Nodes.Answers.{OfBoth, OfSame, StaysClosed}
-use Rattle.c_handles.specs.Buffer.{IsUntouched}
 use Rattle.c_calls.specs.Nodes.Calls.{IsReceived, IsUnreceived, HasWorked, HasNotWorked}
-use Rattle.c_calls.specs.Nodes.Results.{Leaves, LeavesIn}
 
 -- its handler is to run on the next message
 abbrev pub IsToWork : Option TheProcess → Option TheProcess → Type 0
@@ -36,18 +32,3 @@ abbrev pub AreUnreceived : List ℕ → Option TheProcess → Option TheProcess 
 AreUnreceived bundle old new (Bytes f) = OfSame old new (λ p. (packets : List (List ℕ)) → ¬ IsBundle packets bundle)
 AreUnreceived bundle old new Handle = StaysClosed old new
 AreUnreceived bundle old new other = ⊥
-
--- ---- packets out
-
--- the first packet that waits goes to this process, and these are its bytes
-abbrev pub Waits : ℕ → List ℕ → TheProcess → Type 0
-Waits to bytes p = (x : NodePacket) × IsPacket x bytes × (x.to ≡ to) × ((rest : List NodePacket) × (out_of p.lifecycle ≡ x ∷ rest))
-
--- packets were taken from the process
-abbrev pub AreTaken : List ℕ → List ℕ → ℕ → ℕ → ℕ → Option TheProcess → Option TheProcess → Type 0
-AreTaken out out' size to count old new = OfBoth old new (GivesAll Leaves out out' size to count)
-
--- why none is taken: none waits, the first one doesn't fit the buffer, memory ran out, or the handle is closed. Nothing else has changed
-abbrev pub AreUntaken : List ℕ → List ℕ → ℕ → ℕ → Option TheProcess → Option TheProcess → NodeFault → Type 0
-AreUntaken out out' was size old new Handle = StaysClosed old new × IsUntouched out out' was size
-AreUntaken out out' was size old new why = OfBoth old new (λ p p'. LeavesIn IsUnfit out out' was size p p' why)

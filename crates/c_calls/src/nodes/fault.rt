@@ -4,38 +4,28 @@ ghost use Rattle.std.specs.Prelude.{◌≡◌, IfErr, IfOk};
 ghost use Rattle.c_calls.specs.Nodes.Answers.{fault_number, written};
 
 use c_handles::{Coded, code};
-use thiserror::Error;
 
 /// Why a function did nothing, by number.
-#[derive(Debug, Drop, Error)]
+#[derive(Drop)]
 pub enum NodeFault {
     /// 15: memory ran out.
-    #[error("out of memory")]
     Memory,
     /// 16: the handle is closed; or, when a function opens one, it is open.
-    #[error("the handle is closed; to open one, it is open")]
     Handle,
     /// 17: the file is not that of an image.
-    #[error("the image is none")]
     Image,
     /// 19: the buffer is too short.
-    #[error("the buffer is too short")]
     Room,
     /// 20: there is none, such as no packet that waits.
-    #[error("there is none")]
     Absent,
     /// 21: the bytes are refused, with a fault of this number.
-    #[error("the bytes are refused, by fault {0}")]
     Bytes(u8),
     /// 22: the call can't be made now.
-    #[error("not now")]
     Unready,
     /// 23: a limit, the number of a process or an incarnation is out of range, or there are more
     /// messages than a process takes.
-    #[error("a limit is out of its range")]
     Limit,
     /// 24: no call of the handler leaves this array and record.
-    #[error("no call leaves this array and record")]
     Left,
 }
 

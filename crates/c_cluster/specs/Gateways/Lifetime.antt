@@ -14,9 +14,9 @@ use Rattle.gateway.specs.Gateway.{TheGateway, new_gateway}
 use Rattle.gateway.specs.Since.{StandsFor, revived}
 use Rattle.gateway.specs.Stands.{Stands}
 use Rattle.c_cluster.specs.declared.gateways.lifetime.TheConstants.{MOST_PAGE, NOT_CHANGES, UNFIT}
-use Rattle.c_calls.specs.declared.gateways.fault.GatewayFault.{GatewayFault}
-use Rattle.c_calls.specs.declared.gateways.fault.GatewayFault.TheVariants.{Memory, Handle, Bytes, Early, Range}
-use Rattle.c_calls.specs.Gateways.Answers.{OfOpen, Calls, Refuses}
+use Rattle.c_cluster.specs.declared.gateways.fault.GatewayFault.{GatewayFault}
+use Rattle.c_cluster.specs.declared.gateways.fault.GatewayFault.TheVariants.{Memory, Handle, Bytes, Early, Range}
+use Rattle.c_cluster.specs.Gateways.Answers.{OfOpen, Calls, Refuses}
 
 -- the limits are in range
 abbrev pub AreLimits : ℕ → ℕ → Type 0

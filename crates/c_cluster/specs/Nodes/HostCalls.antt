@@ -19,9 +19,9 @@ use Rattle.c_calls.specs.declared.nodes.fault.NodeFault.{NodeFault}
 use Rattle.c_handles.specs.declared.bundle.BundleTally.{BundleTally}
 use Rattle.c_handles.specs.Buffer.{IsCopied}
 use Rattle.c_handles.specs.Bundle.{IsBundle}
-use Rattle.c_calls.specs.Nodes.Bundles.{AreReceived, AreTaken}
+use Rattle.c_calls.specs.Nodes.Bundles.{AreReceived}
 use Rattle.c_calls.specs.Nodes.Calls.{IsReceived, HasWorked, HasTicked, IsHeldBack, HasSaved}
-use Rattle.c_calls.specs.Nodes.Results.{IsTaken, IsMade}
+use Rattle.c_cluster.specs.Nodes.Results.{AreTaken, IsTaken, IsMade}
 use Rattle.c_cluster.specs.Nodes.NodeJob.{IsDone, IsLeftBy, state_in}
 use Rattle.c_cluster.specs.Nodes.Lifetime.{limits_of, IsImageIn, Opens, Revives}
 use Rattle.c_cluster.specs.Nodes.Suspension.{IsWritten, Resumes}

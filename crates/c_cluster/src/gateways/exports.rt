@@ -2,16 +2,15 @@
 //! say what that means for handle and buffers.
 
 ghost use Rattle.std.specs.Prelude.{◌≡◌};
-ghost use Rattle.c_calls.specs.Gateways.Answers.{Answers};
+ghost use Rattle.c_cluster.specs.Gateways.Answers.{Answers};
 ghost use Rattle.c_handles.specs.Buffer.{OnFault};
 ghost use Rattle.c_cluster.specs.Gateways.Lifetime.{IsApplied, IsOpened, IsRevived, IsUnapplied, IsUnopened, IsUnrevived};
-ghost use Rattle.c_calls.specs.Gateways.Bundles.{AreReceived, AreUnreceived, AreTaken, AreUntaken};
-ghost use Rattle.c_calls.specs.Gateways.Calls.{IsClosed, WasClosed, IsLogged, IsReceived, IsTicked, IsUnlogged, IsUnreceived};
-ghost use Rattle.c_calls.specs.Gateways.Results.{IsShown, IsStored, IsTaken, IsTold, IsUnshown, IsUnstored, IsUntaken, IsUntold};
+ghost use Rattle.c_cluster.specs.Gateways.Bundles.{AreReceived, AreUnreceived, AreTaken, AreUntaken};
+ghost use Rattle.c_cluster.specs.Gateways.Calls.{IsClosed, WasClosed, IsLogged, IsReceived, IsTicked, IsUnlogged, IsUnreceived};
+ghost use Rattle.c_cluster.specs.Gateways.Results.{IsShown, IsStored, IsTaken, IsTold, IsUnshown, IsUnstored, IsUntaken, IsUntold};
 
-use crate::gateways::lifetime;
-use c_calls::gateways::handle::GatewayHandle;
-use c_calls::gateways::{calls, results};
+use crate::gateways::handle::GatewayHandle;
+use crate::gateways::{calls, lifetime, results};
 use c_handles::bundle::BundleTally;
 use c_handles::code;
 use std::alloc::Global;

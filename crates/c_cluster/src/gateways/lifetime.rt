@@ -1,12 +1,12 @@
 //! Gateways that are opened, come back, and are closed.
 
 ghost use Rattle.std.specs.Prelude.{◌≡◌, ◌↔◌, IsTrue, MatchResult, Some};
-ghost use Rattle.c_calls.specs.declared.gateways.fault.GatewayFault.TheVariants.{Memory};
-ghost use Rattle.c_calls.specs.Gateways.Answers.{Does, Results};
+ghost use Rattle.c_cluster.specs.declared.gateways.fault.GatewayFault.TheVariants.{Memory};
+ghost use Rattle.c_cluster.specs.Gateways.Answers.{Does, Results};
 ghost use Rattle.c_cluster.specs.Gateways.Lifetime.{AreInside, AreLimits, IsApplied, IsLater, IsOpened, IsRevived, IsUnapplied, IsUnlater, IsUnopened, IsUnrevived};
 
-use c_calls::gateways::fault::GatewayFault;
-use c_calls::gateways::handle::GatewayHandle;
+use crate::gateways::fault::GatewayFault;
+use crate::gateways::handle::GatewayHandle;
 use gateway::Gateway;
 use limits::PROCESSES;
 use packets::LEAST_PAGE;

@@ -4,22 +4,22 @@
 ghost use Rattle.std.specs.Prelude.{◌≡◌};
 ghost use Rattle.c_calls.specs.Nodes.Answers.{Answers, AnswersOfBytes};
 ghost use Rattle.c_handles.specs.Buffer.{OnFault};
-ghost use Rattle.c_calls.specs.Nodes.Bundles.{AreReceived, AreUnreceived, AreTaken, AreUntaken};
+ghost use Rattle.c_calls.specs.Nodes.Bundles.{AreReceived, AreUnreceived};
 ghost use Rattle.c_calls.specs.Nodes.Calls.{IsClosed, WasClosed, IsReceived, IsUnreceived, HasWorked, HasNotWorked, HasTicked, IsHeldBack, HasSaved, HasNotSaved};
-ghost use Rattle.c_calls.specs.Nodes.Results.{IsTaken, IsUntaken, IsMade, IsUnmade, IsRead, IsUnread};
+ghost use Rattle.c_cluster.specs.Nodes.Results.{AreTaken, AreUntaken, IsTaken, IsUntaken, IsMade, IsUnmade, IsRead, IsUnread};
 ghost use Rattle.c_cluster.specs.Nodes.NodeJob.{ticket_from, IsGiven, IsNotGiven, IsDone, IsNotDone};
 ghost use Rattle.c_cluster.specs.Nodes.Lifetime.{limits_from, AnswersOpening, AnswersOpeningWith, AnswersRevival};
-ghost use Rattle.c_calls.specs.Nodes.Status.{IsStanding};
+ghost use Rattle.c_cluster.specs.Nodes.Status.{IsStanding};
 ghost use Rattle.c_calls.specs.Nodes.Label.{AnswersLabel};
 
 use crate::nodes::lifetime::NodeLimits;
 use crate::nodes::node_job::NodeJob;
-use crate::nodes::{lifetime, node_job};
+use crate::nodes::status::NodeStanding;
+use crate::nodes::{lifetime, node_job, results, status};
 use c_calls::nodes::fault::code_of_bytes;
 use c_calls::nodes::handle::NodeHandle;
 use c_calls::nodes::label::PacketLabel;
-use c_calls::nodes::status::NodeStanding;
-use c_calls::nodes::{calls, label, results, status};
+use c_calls::nodes::{calls, label};
 use c_handles::bundle::BundleTally;
 use c_handles::code;
 use process::HandlerTicket;

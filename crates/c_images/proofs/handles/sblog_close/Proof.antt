@@ -7,7 +7,7 @@ use Rattle.std.proofs.alloc.Global.TheLaws as heap_laws
 use Rattle.std.specs.contracts.impls.GlobalAllocator.TheImpl.{ghosts}
 use Rattle.c_images.specs.Handles.{may_free, owns_image}
 use Rattle.interp.specs.Image.{TheImage}
-use Rattle.c_images.specs.contracts.handler.OpenHandler.{the_row}
+use Rattle.c_runs.specs.contracts.handler.OpenHandler.{the_row}
 use Rattle.c_handles.specs.contracts.loose.Loose as loose
 use Rattle.c_images.proofs.Lent.{tested}
 use Rattle.c_handles.proofs.Loosened.{both, loose_good, loose_in}

@@ -6,14 +6,14 @@ use Rattle.std.specs.contracts.alloc.Global as heap
 use Rattle.std.proofs.alloc.Global.TheLaws as heap_laws
 use Rattle.interp.specs.Image.{TheImage}
 use Rattle.c_images.specs.Handles.{may_free, owns_image}
-use Rattle.c_images.specs.MachineCode.{Compiles}
-use Rattle.c_images.specs.declared.refusal.ImageRefusal.TheVariants.{Handle}
-use Rattle.c_images.specs.contracts.handler.OpenHandler.{the_row}
-use Rattle.c_images.proofs.handler.OpenHandler.TheLaws.{the_row_laws, the_within}
+use Rattle.c_runs.specs.MachineCode.{Compiles}
+use Rattle.c_runs.specs.declared.refusal.ImageRefusal.TheVariants.{Handle}
+use Rattle.c_runs.specs.contracts.handler.OpenHandler.{the_row}
+use Rattle.c_runs.proofs.handler.OpenHandler.TheLaws.{the_row_laws, the_within}
 use Rattle.c_images.proofs.Lent.{given_ref, given_slice, ref_left, slice_left, tested}
-use Rattle.c_images.specs.contracts.machine_code.compile as of
-use Rattle.c_images.proofs.machine_code.compile.Symbol.{name as #compile}
-use Rattle.c_images.proofs.machine_code.compile.Met as of_thm
+use Rattle.c_runs.specs.contracts.machine_code.compile as of
+use Rattle.c_runs.proofs.machine_code.compile.Symbol.{name as #compile}
+use Rattle.c_runs.proofs.machine_code.compile.Met as of_thm
 use Rattle.c_images.specs.contracts.handles.sblog_compile.Key.{name as key}
 use Rattle.c_images.specs.contracts.handles.sblog_compile as f
 use Rattle.c_images.proofs.handles.sblog_compile.Statement as stated
@@ -146,4 +146,4 @@ sblog_compile_spec 𝓤 𝓛 𝓜 𝓡 wired =
     entered 𝓤 𝓛.H (triple_of 𝓛 f.signature (f.spec 𝓛 𝓜.mem 𝓡.returns))
     (tables 𝓤 𝓛.H 𝓜 𝓡 𝓡.env).C (tables 𝓤 𝓛.H 𝓜 𝓡 𝓡.env).Λ key code.function (code.unfolded 𝓤 𝓛.H 𝓜 𝓡 wired)
     (meets 𝓛 𝓜.mem 𝓡.returns (tables_of 𝓤 𝓛.H 𝓜 (tables 𝓤 𝓛.H 𝓜 𝓡 𝓡.env))
-    (of_thm.met 𝓤 𝓛 𝓜 𝓡 (code.calls-c_images::machine_code::compile 𝓡.env wired)))
+    (of_thm.met 𝓤 𝓛 𝓜 𝓡 (code.calls-c_runs::machine_code::compile 𝓡.env wired)))

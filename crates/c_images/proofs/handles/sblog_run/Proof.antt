@@ -2,15 +2,16 @@
 use Rattle.c_handles.proofs.Steps.{◌≡◌, ℕ, ◌^◌, ◌<◌, List, [], ◌∷◌, ◌++◌, Option, Some, None, length, inr, refl, sym, subst, lit<, w8, w32, Bor, MutBor, Ura, full_share, named, Val, vint, vptr, SProp, ent, sep, emp, via, fst∗, snd∗, never, never_e, id⊢, Lft, GName, Share, ftrue, feq, flft, flent, fres, Memory, Routine, Calls, Loops, WpFn, Tables, Logic, sem, Fun, fact, fact_i, ‵, raw, ◌⊛◌, some, later, ◌$◌, ◌∵◌, !, qed, by, move, drop, keep, use0, use1, use2, learn, given, split, split3, join, pick, rewrite, use3, fsplit, fjoin, feq_l, feq_i, await, at_ret, lft_new, lft_end, and_then, no_more, of_opd, bin, lit, first, branches, skips, exec, returns, returns_within, enter, addr, stop, from, fld, hop, agg, sub, whole, alloc_all, pass_all, free_all, look_at, look_in_at, get, get_in, through, sets, lands_as, env, FmC, fm_of, WpFn-mono, yes, owns, part_at, mem, lone, uint_vals, uint_Tells, uint_Makes, uint_Lawful, u8, u32, SliceRefOf, plain, types_at, Room, shr_slice_vals, mut_slice_vals, mut_slice_Tells, shr_slice_Tells, lends_ref, ref_back, MutRef, Body, Ptr, block_ptr, null_ptr, RawPtr, rawptr_vals, rawptr_Tells, tests_null, Testable, owned, peeks, heard, nothing, calls_at, Lasts, lasts, Is, shows, Args, on_entry, alive, Meets, triple_of, entered, Stays, stay_dropped, gave_slice, walk_of, Goes-dropped, Goes-gave_slice, walked, walk_Meets, leaves, Contract, Triple}
 use contract.Running.{tables, tables_of}
 use mir.Raw.{raw as bare}
-use Rattle.c_images.specs.Handles.{may_free, owns_image, Runs as IsRun}
-use Rattle.c_images.specs.declared.refusal.ImageRefusal.TheVariants.{Handle}
+use Rattle.c_images.specs.Handles.{may_free, owns_image}
+use Rattle.c_runs.specs.Runs.{Runs as IsRun}
+use Rattle.c_runs.specs.declared.refusal.ImageRefusal.TheVariants.{Handle}
 use Rattle.helpers.specs.declared.effects.Who.{Who}
 use Rattle.c_images.proofs.Lent.{given_slice, slice_left, tested}
 use Rattle.interp.specs.Image.{TheImage}
-use Rattle.c_images.specs.contracts.handler.OpenHandler.{the_row}
-use Rattle.c_images.specs.contracts.runs.run as of
-use Rattle.c_images.proofs.runs.run.Symbol.{name as #call}
-use Rattle.c_images.proofs.runs.run.Met as of_thm
+use Rattle.c_runs.specs.contracts.handler.OpenHandler.{the_row}
+use Rattle.c_runs.specs.contracts.runs.run as of
+use Rattle.c_runs.proofs.runs.run.Symbol.{name as #call}
+use Rattle.c_runs.proofs.runs.run.Met as of_thm
 use Rattle.c_images.specs.contracts.handles.sblog_run.Key.{name as key}
 use Rattle.c_images.specs.contracts.handles.sblog_run as f
 use Rattle.c_images.proofs.handles.sblog_run.Statement as stated
@@ -158,4 +159,4 @@ sblog_run_spec 𝓤 𝓛 𝓜 𝓡 wired =
     entered 𝓤 𝓛.H (triple_of 𝓛 f.signature (f.spec 𝓛 𝓜.mem 𝓡.returns))
     (tables 𝓤 𝓛.H 𝓜 𝓡 𝓡.env).C (tables 𝓤 𝓛.H 𝓜 𝓡 𝓡.env).Λ key code.function (code.unfolded 𝓤 𝓛.H 𝓜 𝓡 wired)
     (meets 𝓛 𝓜.mem 𝓡.returns (tables_of 𝓤 𝓛.H 𝓜 (tables 𝓤 𝓛.H 𝓜 𝓡 𝓡.env))
-    (of_thm.met 𝓤 𝓛 𝓜 𝓡 (code.calls-c_images::runs::run 𝓡.env wired)))
+    (of_thm.met 𝓤 𝓛 𝓜 𝓡 (code.calls-c_runs::runs::run 𝓡.env wired)))

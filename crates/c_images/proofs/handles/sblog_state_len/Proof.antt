@@ -5,12 +5,12 @@ use contract.Running.{tables, tables_of}
 use Rattle.c_images.specs.Handles.{may_free, owns_image}
 use Rattle.c_images.specs.Handles.{state_len_of}
 use Rattle.interp.specs.Image.{TheImage}
-use Rattle.c_images.specs.contracts.handler.OpenHandler.{the_row}
-use Rattle.c_images.proofs.handler.OpenHandler.TheLaws.{the_row_laws, the_within}
+use Rattle.c_runs.specs.contracts.handler.OpenHandler.{the_row}
+use Rattle.c_runs.proofs.handler.OpenHandler.TheLaws.{the_row_laws, the_within}
 use Rattle.c_images.proofs.Lent.{tested}
-use Rattle.c_images.specs.contracts.handler.OpenHandler.state_len as of
-use Rattle.c_images.proofs.handler.OpenHandler.state_len.Symbol.{name as #len}
-use Rattle.c_images.proofs.handler.OpenHandler.state_len.Met as of_thm
+use Rattle.c_runs.specs.contracts.handler.OpenHandler.state_len as of
+use Rattle.c_runs.proofs.handler.OpenHandler.state_len.Symbol.{name as #len}
+use Rattle.c_runs.proofs.handler.OpenHandler.state_len.Met as of_thm
 use Rattle.c_images.specs.contracts.handles.sblog_state_len.Key.{name as key}
 use Rattle.c_images.specs.contracts.handles.sblog_state_len as f
 use Rattle.c_images.proofs.handles.sblog_state_len.Statement as stated
@@ -100,4 +100,4 @@ sblog_state_len_spec 𝓤 𝓛 𝓜 𝓡 wired =
     entered 𝓤 𝓛.H (triple_of 𝓛 f.signature (f.spec 𝓛 𝓜.mem 𝓡.returns))
     (tables 𝓤 𝓛.H 𝓜 𝓡 𝓡.env).C (tables 𝓤 𝓛.H 𝓜 𝓡 𝓡.env).Λ key code.function (code.unfolded 𝓤 𝓛.H 𝓜 𝓡 wired)
     (meets 𝓛 𝓜.mem 𝓡.returns (tables_of 𝓤 𝓛.H 𝓜 (tables 𝓤 𝓛.H 𝓜 𝓡 𝓡.env))
-    (of_thm.met 𝓤 𝓛 𝓜 𝓡 (code.calls-c_images::handler::OpenHandler::state_len 𝓡.env wired)))
+    (of_thm.met 𝓤 𝓛 𝓜 𝓡 (code.calls-c_runs::handler::OpenHandler::state_len 𝓡.env wired)))

@@ -2,7 +2,7 @@ use Rattle.std.proofs.Common.{rules, ◌≡◌, arith}
 use Rattle.std.specs.Prelude.{Some}
 use Rattle.std.proofs.lemmas.Grind.{common_steps}
 use Rattle.c_cluster.specs.Gateways.Lifetime.{IsLater, IsUnlater}
-use Rattle.c_calls.proofs.Called.{called}
+use Rattle.c_cluster.proofs.Called.{called}
 use Rattle.c_cluster.proofs.gateways.lifetime.apply.Goals as goal
 
 pub returns : goal.returns

@@ -1,10 +1,10 @@
 use Rattle.std.proofs.Common.{rules, ◌≡◌, sym, subst, ◌∙◌, arith}
 use Rattle.std.proofs.lemmas.Grind.{common_steps}
 use Rattle.gateway.specs.Gateway.{new_gateway}
-use Rattle.c_calls.specs.declared.gateways.fault.GatewayFault.{GatewayFault}
-use Rattle.c_calls.specs.declared.gateways.fault.GatewayFault.TheVariants.{Memory}
+use Rattle.c_cluster.specs.declared.gateways.fault.GatewayFault.{GatewayFault}
+use Rattle.c_cluster.specs.declared.gateways.fault.GatewayFault.TheVariants.{Memory}
 use Rattle.c_cluster.specs.Gateways.Lifetime.{IsUnopened}
-use Rattle.c_calls.proofs.Called.{matched}
+use Rattle.c_cluster.proofs.Called.{matched}
 use Rattle.c_cluster.proofs.gateways.lifetime.open.Goals as goal
 
 pub returns : goal.returns

@@ -3,7 +3,7 @@ use Rattle.c_handles.proofs.Steps.{◌≡◌, List, [], ◌∷◌, ◌++◌, Opt
 use Rattle.std.specs.contracts.alloc.Global as heap
 use Rattle.std.proofs.alloc.Global.TheLaws as heap_laws
 use Rattle.std.specs.contracts.impls.GlobalAllocator.TheImpl.{ghosts}
-use Rattle.c_images.specs.contracts.handler.OpenHandler as handler
+use Rattle.c_runs.specs.contracts.handler.OpenHandler as handler
 use Rattle.interp.specs.Image.{TheImage}
 use Rattle.c_handles.proofs.Loosened.{both, Loose, loose_good, loose_out}
 use Rattle.c_images.proofs.OpenedValue.{word, opened_in}

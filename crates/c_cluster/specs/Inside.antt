@@ -1,0 +1,2 @@
+-- Definitions for the crate's own functions. No public contract reaches them.
+pub mod Held

@@ -1,6 +1,0 @@
-use Rattle.std.proofs.Common.{◌+◌, ◌*◌}
-use Rattle.c_images.specs.CallRecord.{AreIn, IsSentAt}
-use Rattle.c_images.proofs.call_record.sends_in.Given as goal
-
-abbrev pub invariant-loop-k : goal.invariant-loop-k
-invariant-loop-k l = AreIn (λ k. IsSentAt l.bytes (64 + 272 * k)) l.k l.sends.items

@@ -1,0 +1,16 @@
+use Rattle.std.proofs.Common.{rules}
+use Rattle.c_runs.proofs.FirstFailure.{no_seat, no_messages, no_room, no_result}
+use Rattle.c_runs.proofs.calls.call.Goals as goal
+
+pub returns-then-not-is_seat-clause-refused : goal.returns-then-not-is_seat-clause-refused
+returns-then-not-is_seat-clause-refused c = no_seat _ _ _ _ _ (search rules)
+
+pub returns-then-message-ne-MESSAGE-clause-refused : goal.returns-then-message-ne-MESSAGE-clause-refused
+returns-then-message-ne-MESSAGE-clause-refused c = no_messages _ _ _ _ _ (search rules) (search rules)
+
+pub returns-then-out-lt-REPORT_LIMIT-clause-refused : goal.returns-then-out-lt-REPORT_LIMIT-clause-refused
+returns-then-out-lt-REPORT_LIMIT-clause-refused c = no_room _ _ _ _ _ (search rules) (search rules) (search rules)
+
+pub returns-in_err-handler-clause-refused : goal.returns-in_err-handler-clause-refused
+returns-in_err-handler-clause-refused c =
+    no_result _ _ _ _ _ _ (search rules) (search rules) (search rules) (search rules)
