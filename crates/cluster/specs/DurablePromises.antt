@@ -42,7 +42,8 @@ InOrder h = (i : ℕ) (m : Message) → slice_get h i ≡ Some m → m.ssn ≡ s
 -- order
 abbrev pub AlwaysInOrder : Type 0
 AlwaysInOrder = (n : ℕ) (f : Handlers) (durable : ℕ → Bool) (es : List Event) → Grows f → Events durable (opening n f) es
-    → ((p : ℕ) → InOrder ((after_events durable (opening n f) es).world.history p)) × InOrder (after_events durable (opening n f) es).world.shown
+    → ((p : ℕ) → InOrder ((after_events durable (opening n f) es).world.history p))
+    × InOrder (after_events durable (opening n f) es).world.shown
 
 -- in each run in which some nodes are durable
 abbrev pub DurableKeep : Type 0

@@ -20,4 +20,5 @@ pub record IsHandledIn (code : List Insn) (who : Who) (m len : ℕ) (mem mem' : 
 pub record IsSpanNative (code : List Insn) (len : ℕ) (bytes : List ℕ) : Type 0 where
   pub runs : (m : ℕ) (who : Who) (c : State) → m ≤ PAYLOAD_BYTES → length c.array ≡ 2048
       → HoldsEntry len (slice_range c.array 0 m) (state_in len c.array) c.array → who.me ≤ PROCESSES → who.from ≤ PROCESSES
-      → IsCalled who m c → (n : ℕ) × (last : State) × Runs bytes n 0 c last × IsReturned who (IsHandledIn code who m len c.array last.array) c last
+      → IsCalled who m c → (n : ℕ) × (last : State) × Runs bytes n 0 c last
+      × IsReturned who (IsHandledIn code who m len c.array last.array) c last

@@ -117,7 +117,8 @@ pub record Stands (n : TheNode) (c : Cluster) (p : ℕ) : Type 0 where
   pub logs : (d : ℕ) → d ≤ c.world.count → d ≢ p
       → KeepsOf (log_at n.logs d) (c.world.trims p d) (c.world.handlers.sends p (c.world.history p) d) (c.world.numbers p d)
   pub gates : (d : ℕ) → d ≤ c.world.count → d ≢ p
-      → IsShut (log_at n.logs d) (length (c.world.history p)) (most_released n.limits.durable c p d) (sent_by c.world.handlers p (c.world.history p) d)
+      → IsShut (log_at n.logs d) (length (c.world.history p)) (most_released n.limits.durable c p d)
+      (sent_by c.world.handlers p (c.world.history p) d)
   -- what the node may release is released in the cluster
   pub free : (d : ℕ) → sent_by c.world.handlers p (c.world.history p) d (freed_in n.limits.durable c p) ≤ c.world.released p d
   pub heard : (q : ℕ) → q ≤ c.world.count → c.heard p q ≡ slice_index_or n.heard q 0

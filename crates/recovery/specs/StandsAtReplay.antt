@@ -42,7 +42,8 @@ pub record StandsReplaying (n : TheReplaying) (c : Cluster) (p : ℕ) : Type 0 w
 
 -- each message that p received was the next of its sender, as in every run
 abbrev pub IsInOrder : Cluster → ℕ → Type 0
-IsInOrder c p = (k : ℕ) (m : Message) → slice_get (c.world.history p) k ≡ Some m → m.ssn ≡ suc (count_of m.sender (take k (c.world.history p)))
+IsInOrder c p = (k : ℕ) (m : Message) → slice_get (c.world.history p) k ≡ Some m
+    → m.ssn ≡ suc (count_of m.sender (take k (c.world.history p)))
 
 -- what a process owes that recovers: from each cluster in which it collects, to one in which it replays
 abbrev pub ComesBack : TheCollecting → TheReplaying → Type 0
