@@ -1,9 +1,8 @@
 //! Packets that wait to be sent, and are given out as those of a bundle.
 
 ghost use Rattle.std.specs.Prelude.{◌≡◌, ◌+◌, ◌<◌, ℕ, List, length, true, IfOk, IfErr, IfSome, IfNone, MatchOption, MatchResult, OnErr};
-ghost use Rattle.operations.specs.Bytes.{overwritten};
 ghost use Rattle.c_handles.specs.Buffer.{IsUncopied};
-ghost use Rattle.c_handles.specs.Bundle.{part_bytes, FitsFrom, IsUnfit, GivesFirst, GivesAll, GivesNext, IsNoMore};
+ghost use Rattle.c_handles.specs.Bundle.{FitsFrom, IsUnfit, GivesFirst, GivesAll, GivesNext, IsNoMore};
 ghost use Rattle.c_handles.specs.Outbox.{GivesNone, IsNoFirst};
 
 use crate::buffer::copy;
@@ -88,12 +87,8 @@ pub fn give_all<S, O: Outgoing<S>>(
     ensures all { IfOk result (λ all. all ≡ true → IsNoMore (O.is_empty sender.new) (O.waits sender.new) to.new size.new (length out.old)) }
     ensures kept { OnErr result ((to.new ≡ to.old) × (count.new ≡ count.old)) }
 {
-    let (receiver, packet) = first_of::<S, O>(alloc, sender)?;
-    if !fits(out, 0, &packet) {
-        *size = LENGTH_BYTES + packet.len();
-        return Err(Ungiven::Room);
-    }
-    *size = give::<S, O>(sender, out, 0, &packet);
+    let (receiver, end) = give_front::<S, O>(alloc, sender, out, size)?;
+    *size = end;
     *to = receiver;
     *count = 1;
     loop {
@@ -106,6 +101,24 @@ pub fn give_all<S, O: Outgoing<S>>(
             Err(_) => return Ok(false),
         }
     }
+}
+
+/// Writes the first packet that waits as that of a bundle, if it fits, and takes it. Answers its
+/// receiver and the place after it.
+fn give_front<S, O: Outgoing<S>>(
+    alloc: Global,
+    sender: &mut S,
+    out: &mut [u8],
+    size: &mut usize,
+) -> Result<(u8, usize), Ungiven>
+    ensures { MatchResult result (λ v. GivesNext O.leaves out.old out.new 0 v.1 v.0 sender.old sender.new) (GivesNone O.is_empty O.waits IsUnfit out.old out.new size.old size.new sender.old sender.new) }
+{
+    let (receiver, packet) = first_of::<S, O>(alloc, sender)?;
+    let Some(end) = give::<S, O>(sender, out, 0, &packet) else {
+        *size = LENGTH_BYTES + packet.len();
+        return Err(Ungiven::Room);
+    };
+    Ok((receiver, end))
 }
 
 /// Writes the first packet that waits at `at`, if it goes to this process and fits, and takes it.
@@ -124,21 +137,27 @@ fn give_next<S, O: Outgoing<S>>(
     let Some((next, packet)) = O::first(alloc, sender)? else {
         return Ok(None);
     };
-    if next != to || !fits(out, at, &packet) {
+    if next != to {
         return Ok(None);
     }
-    Ok(Some(give::<S, O>(sender, out, at, &packet)))
+    Ok(give::<S, O>(sender, out, at, &packet))
 }
 
-/// Writes the first packet that waits at `at`, after its length, and takes it. Answers the place after
-/// it.
-fn give<S, O: Outgoing<S>>(sender: &mut S, out: &mut [u8], at: usize, packet: &[u8]) -> usize
-    requires { FitsFrom at (length out.old) packet.now }
-    ensures given { (to : ℕ) → O.waits sender.old to packet.now → O.leaves to packet.now sender.old sender.new }
-    ensures written { out.new ≡ overwritten out.old at (part_bytes packet.now) }
-    ensures end { result ≡ at + length (part_bytes packet.now) }
+/// Writes the first packet that waits at `at`, after its length, if it fits, and takes it. Answers the
+/// place after it.
+fn give<S, O: Outgoing<S>>(
+    sender: &mut S,
+    out: &mut [u8],
+    at: usize,
+    packet: &[u8],
+) -> Option<usize>
+    ensures some { IfSome result (λ end. (to : ℕ) → O.waits sender.old to packet.now → 0 < length packet.now → GivesNext O.leaves out.old out.new at end to sender.old sender.new) }
+    ensures none { IfNone result ((¬ FitsFrom at (length out.old) packet.now) × (sender.new ≡ sender.old) × (out.new ≡ out.old)) }
 {
+    if !fits(out, at, packet) {
+        return None;
+    }
     let end = put_part(out, at, packet);
     O::take_first(sender);
-    end
+    Some(end)
 }

@@ -1,6 +1,6 @@
-use Rattle.std.proofs.Common.{rules, ◌≡◌, ◌<◌, [], ℕ, List, length, refl, sym, subst, arith}
+use Rattle.std.proofs.Common.{rules, ◌≡◌, [], length, refl, arith}
 use Rattle.std.proofs.lemmas.Grind.{common_steps}
-use Rattle.c_handles.specs.Bundle.{FitsFrom, GivesNext}
+use Rattle.c_handles.specs.Bundle.{GivesNext}
 use Rattle.c_handles.proofs.Bundles.{none_laid, next_laid}
 use Rattle.c_handles.proofs.outbox.give_all.Goals as goal
 
@@ -8,13 +8,7 @@ pub loop-end-init : goal.loop-end-init
 loop-end-init g c =
     let out = c.args.out.now in
     let sender = c.args.sender.now in
-    let to = c.in_ok-receiver.receiver in
-    let bytes = c.deref-2.result.now in
-    let first : g.O.Outgoing.waits sender to bytes × (0 < length bytes) = first_of (search rules, grind (arith, common_steps)) in
-    let fits : FitsFrom 0 (length out) bytes = first_of (search rules, grind (arith, common_steps)) in
-    let one : GivesNext g.O.Outgoing.leaves out c.give.new.out 0 c.give.result to sender c.give.new.sender =
-    record { packet = bytes; some = first.1; fits = fits; given = c.give.ensures.given to first.0; written = c.give.ensures.written; end_is = c.give.ensures.end } in
-    let all = next_laid g.O.Outgoing.leaves out out c.give.new.out 0 c.give.result 0 to [] sender sender c.give.new.sender (none_laid out) refl refl one in
+    let all = next_laid g.O.Outgoing.leaves out out c.give_front.new.out 0 c.in_ok-receiver.end 0 c.in_ok-receiver.receiver [] sender sender c.give_front.new.sender (none_laid out) refl refl c.in_ok-receiver.ensures in
     (all.0, all.1, all.2, omega arith, refl)
 
 pub loop-end-preserved : goal.loop-end-preserved
