@@ -1,29 +1,22 @@
 //! Why a function did nothing.
 
 use c_handles::Coded;
-use thiserror::Error;
 use world::Refusal;
 
 /// Why a function did nothing, by number.
-#[derive(Debug, Drop, Error)]
+#[derive(Clone, Copy)]
 pub enum SessionFault {
     /// 1 to 15: the session refused the call.
-    #[error(transparent)]
     Session(Refusal),
     /// 16: the handle is closed; or if one is to be opened, it is open.
-    #[error("the handle is closed; to open one, it is open")]
     Handle,
     /// 17: a file is no image file, or the files aren't as long as their lengths say.
-    #[error("a file is none of an image, or the lengths don't fit")]
     File,
     /// 18: a payload has more than 256 bytes.
-    #[error("a payload has more than 256 bytes")]
     Payload,
     /// 19: the buffer is too short.
-    #[error("the buffer is too short")]
     Room,
     /// 20: nothing has this number.
-    #[error("there is none of this number")]
     Absent,
 }
 

@@ -1,8 +1,8 @@
 //! Opening a session from image files.
 
-ghost use Rattle.std.specs.Prelude.{◌≡◌, ◌≤◌, MatchResult, OnOk, IfErr, length, map};
+ghost use Rattle.std.specs.Prelude.{◌≡◌, ◌≤◌, MatchResult, OnOk, IfOk, IfErr, length, map};
 ghost use Rattle.interp.specs.Image.{image_in};
-ghost use Rattle.c_sessions.specs.Inside.Loads.{AreMore, IsUnread};
+ghost use Rattle.c_sessions.specs.Inside.Loads.{AreMore, AreOpened, IsOneMore, IsUnread, opened};
 ghost use Rattle.c_sessions.specs.Lifetime.{IsImageIn, IsMisfit, IsOpened, IsRefused, IsUnopened};
 ghost use Rattle.c_sessions.specs.Session.{Results};
 
@@ -31,6 +31,18 @@ fn handler_of(alloc: Global, file: &[u8]) -> Result<Arc<Handler>, SessionFault>
     }
 }
 
+/// Loads the image of a file, after those that are there.
+fn load(alloc: Global, file: &[u8], images: &mut Vec<Arc<Handler>>) -> Result<(), SessionFault>
+    ensures loaded { OnOk result (IsOneMore file.now (map image_in images.old.items) (map image_in images.new.items)) }
+    ensures refused { IfErr result (IsUnread (IsRefused file.now)) }
+{
+    let image = handler_of(alloc, file)?;
+    if images.push(image).is_err() {
+        return Err(SessionFault::Session(Refusal::Memory));
+    }
+    Ok(())
+}
+
 /// Loads the images of files that come one after the other, each as long as its length says.
 fn load_each(
     alloc: Global,
@@ -52,11 +64,32 @@ fn load_each(
         return Err(SessionFault::File);
     }
     let (file, others) = files.split_at(size);
-    let image = handler_of(alloc, file)?;
-    if images.push(image).is_err() {
-        return Err(SessionFault::Session(Refusal::Memory));
-    }
+    load(alloc, file, images)?;
     load_each(alloc, others, rest, images)
+}
+
+/// A session of these images on the heap.
+fn boxed(alloc: Global, images: Vec<Arc<Handler>>) -> Result<Box<Service>, SessionFault>
+    ensures { MatchResult result (λ b. b.value ≡ opened (map image_in images.items)) (IsUnread ⊥) }
+{
+    // There are 1 to 15 images, so only memory can be lacking.
+    let Ok(service) = Service::open(alloc, images) else {
+        return Err(SessionFault::Session(Refusal::Memory));
+    };
+    match Box::new(alloc, service) {
+        Ok(service) => Ok(service),
+        Err(_) => Err(SessionFault::Session(Refusal::Memory)),
+    }
+}
+
+/// A session of the images of these files on the heap.
+fn session_of(alloc: Global, files: &[u8], lengths: &[u32]) -> Result<Box<Service>, SessionFault>
+    ensures opened { IfOk result (λ b. AreOpened files.now lengths.now b.value) }
+    ensures refused { IfErr result (IsUnread (IsMisfit files.now lengths.now)) }
+{
+    let mut images = Vec::new(alloc);
+    load_each(alloc, files, lengths, &mut images)?;
+    boxed(alloc, images)
 }
 
 /// Opens a session of the images of files that come one after the other, each as long as its length
@@ -75,15 +108,6 @@ pub(crate) fn open(
     if lengths.is_empty() || lengths.len() > PROCESSES {
         return Err(SessionFault::Session(Refusal::NoSuchProcess));
     }
-    let mut images = Vec::new(alloc);
-    load_each(alloc, files, lengths, &mut images)?;
-    // There are 1 to 15 images, so only memory can be lacking.
-    let Ok(service) = Service::open(alloc, images) else {
-        return Err(SessionFault::Session(Refusal::Memory));
-    };
-    let Ok(boxed) = Box::new(alloc, service) else {
-        return Err(SessionFault::Session(Refusal::Memory));
-    };
-    handle.put(boxed);
+    handle.put(session_of(alloc, files, lengths)?);
     Ok(())
 }
