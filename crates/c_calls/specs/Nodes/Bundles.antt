@@ -5,7 +5,7 @@ use Rattle.c_handles.specs.declared.bundle.BundleTally.{BundleTally}
 use Rattle.c_calls.specs.declared.nodes.fault.NodeFault.{NodeFault}
 use Rattle.c_calls.specs.declared.nodes.fault.NodeFault.TheVariants.{Memory, Handle, Bytes}
 use Rattle.c_handles.specs.Bundle.{IsBundle, one_taken, one_refused, one_lost, Counting, IsReceivedAll}
-use Rattle.c_calls.specs.Nodes.Answers.{OfBoth, OfSame, StaysClosed}
+use Rattle.c_calls.specs.Nodes.Answers.{OfSame, StaysClosed}
 use Rattle.c_calls.specs.Nodes.Calls.{IsReceived, IsUnreceived, HasWorked, HasNotWorked}
 
 -- its handler is to run on the next message
