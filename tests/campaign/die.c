@@ -102,7 +102,7 @@ int ftruncate64(int file, off_t size) {
 int ftruncate(int file, off_t size) { return ftruncate64(file, size); }
 
 int unlink(const char *path) {
-    if (is_last("unlink")) return die();
+    if (access(path, F_OK) == 0 && is_last("unlink")) return die();
     return ((int (*)(const char *))next("unlink"))(path);
 }
 
