@@ -16,7 +16,8 @@
 
 enum { TURN = 512, REPLAYS = 1024, LATE = 5 * SECOND }; /* messages of a turn; microseconds after which a way back is long */
 
-/* A volatile node has this share of its time for checkpoints; if they take longer, it makes them so many times more rarely at most. */
+/* A volatile node waits so many times as long as a checkpoint takes before it makes the next, but takes at most so many times the messages
+   that the option says. */
 enum { SHARE = 10, MORE_RARELY = 4 };
 
 static const char *const STAGES[] = {"up", "busy", "frozen", "collecting", "replaying", "resuming"};
