@@ -13,6 +13,7 @@ pub mod CallLemmas
 pub mod Parts
 pub mod Operations
 pub mod FlatCalls
+pub mod Causes
 pub mod Fits
 pub mod Exits
 pub mod WordsKept
