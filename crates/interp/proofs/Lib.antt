@@ -14,6 +14,7 @@ pub mod Parts
 pub mod Operations
 pub mod FlatCalls
 pub mod Causes
+pub mod Given
 pub mod Fits
 pub mod Exits
 pub mod WordsKept
