@@ -13,6 +13,8 @@ pub mod CallLemmas
 pub mod Parts
 pub mod Operations
 pub mod FlatCalls
+pub mod Causes
+pub mod Given
 pub mod Fits
 pub mod Exits
 pub mod WordsKept

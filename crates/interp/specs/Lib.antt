@@ -1,4 +1,3 @@
-pub mod Value
 pub mod Configuration
 pub mod Step
 pub mod Run
