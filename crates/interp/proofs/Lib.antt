@@ -1,16 +1,11 @@
 pub mod Shows
 pub mod ByteLemmas
-pub mod WordLemmas
-pub mod Values
-pub mod PlaceLemmas
 pub mod ArithmeticLemmas
-pub mod AccessLemmas
-pub mod Simulation
-pub mod HelperLemmas
 pub mod Counts
 pub mod RunLemmas
 pub mod CallLemmas
 pub mod Parts
+pub mod Payloads
 pub mod Operations
 pub mod FlatCalls
 pub mod Fits
