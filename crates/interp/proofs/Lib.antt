@@ -8,6 +8,8 @@ pub mod Parts
 pub mod Payloads
 pub mod Operations
 pub mod FlatCalls
+pub mod FlatFills
+pub mod Causes
 pub mod Fits
 pub mod Exits
 pub mod WordsKept
