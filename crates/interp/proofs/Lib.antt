@@ -4,12 +4,11 @@ pub mod ArithmeticLemmas
 pub mod Counts
 pub mod RunLemmas
 pub mod CallLemmas
+pub mod Arrays
 pub mod Parts
 pub mod Payloads
 pub mod Operations
 pub mod FlatCalls
-pub mod FlatFills
-pub mod Causes
 pub mod Fits
 pub mod Exits
 pub mod WordsKept
@@ -19,4 +18,5 @@ pub mod Entries
 pub mod Progress
 pub mod Status
 pub mod Fills
+pub mod FlatFills
 pub mod Ops
