@@ -1,16 +1,12 @@
 pub mod Shows
 pub mod ByteLemmas
-pub mod WordLemmas
-pub mod Values
-pub mod PlaceLemmas
 pub mod ArithmeticLemmas
-pub mod AccessLemmas
-pub mod Simulation
-pub mod HelperLemmas
 pub mod Counts
 pub mod RunLemmas
 pub mod CallLemmas
+pub mod Arrays
 pub mod Parts
+pub mod Payloads
 pub mod Operations
 pub mod FlatCalls
 pub mod Causes
@@ -24,4 +20,5 @@ pub mod Entries
 pub mod Progress
 pub mod Status
 pub mod Fills
+pub mod FlatFills
 pub mod Ops
