@@ -1,51 +1,41 @@
 -- Calls of form 3, slot by slot.
-use Rattle.std.proofs.Common.{◌≡◌, ℕ, ◌+◌, ◌-◌, ◌<◌, ◌≤◌, ℤ, pos, negsuc, ◌+ℤ◌, ◌<ℤ◌, true, List, [], Option, Some, None, inl, inr, length, refl, sym, ap, ◌∙◌, subst, arith, rules}
-use Rattle.std.specs.Prelude.{slice_index, slice_range, unsigned_abs}
-use Rattle.std.proofs.lemmas.Int.{ints}
-use Rattle.std.proofs.lemmas.Bool.{cases_lt}
-use Rattle.std.proofs.lemmas.List.{get_or_past, places}
+use Rattle.std.proofs.Common.{◌≡◌, ℕ, ◌+◌, ◌<◌, ◌≤◌, pos, ◌+ℤ◌, true, List, [], Option, Some, None, length, refl, sym, ap, ◌∙◌, subst, arith}
+use Rattle.std.specs.Prelude.{slice_index}
 use Rattle.decode.specs.declared.insn.Insn.{Insn}
-use Rattle.decode.specs.declared.insn.Insn.TheVariants.{Wide}
+use Rattle.decode.specs.Distance.{distance}
+use Rattle.decode.specs.Flow.{flow_of}
 use Rattle.decode.specs.Slots.{insn_at, size_of}
 use Rattle.helpers.specs.declared.effects.Who.{Who}
 use Rattle.helpers.specs.Effects.{Emitted}
 use Rattle.dense.specs.declared.execution.Next.{Next}
 use Rattle.dense.specs.declared.execution.Next.TheVariants as next
 use Rattle.dense.specs.Acts.{Act, Does}
-use Rattle.interp.specs.HandlerCall.{Handled}
-use Rattle.spans.specs.Frame.{Frame, entry_frame}
-use Rattle.spans.specs.Ways.{LeqWay}
-use Rattle.spans.specs.Configuration.{Configuration, IsConfiguration, entry, own_frame}
-use Rattle.spans.specs.Step.{Ends, Fault, Goes, Leaps, Outcome, step}
-use Rattle.spans.specs.Laws.{Lands}
-use Rattle.spans.proofs.Entry.{entered}
-use Rattle.spans.proofs.Order.{Leq-trans}
-use Rattle.spans.specs.Concrete as concrete
-use Rattle.spans.specs.Concrete.{Concrete, ConcreteOutcome, array_size, concrete_step}
-use Rattle.spans.specs.Calls.{ConcreteLast, Last, Replies, Request, ShowsLast, call_from, concrete_request, noted, replied}
-use Rattle.spans.specs.CallLaws.{KeepsMessage}
-use Rattle.spans.specs.Shows.{Shows, ShowsOutcome}
-use Rattle.spans.specs.Slices.{listed}
-use Rattle.spans.specs.Typing.{Enters, IsAllowed, IsTyping, Table, target}
-use Rattle.decode.specs.Distance.{distance}
-use Rattle.spans.proofs.Calls.{call_from-run}
-use Rattle.spans.proofs.CallEntry.{messages-kept}
-use Rattle.spans.proofs.Runs.{runs}
-use Rattle.verifier.specs.Span.Typing.{IsTyped}
-use Rattle.verifier.proofs.Spans.Forms.{typing_of}
-use Rattle.decode.specs.Flow.{flow_of}
-use Rattle.regtypes.specs.Rules.{first_broken}
-use Rattle.regtypes.specs.Typing.{flow_tests}
-use Rattle.verifier.specs.Span.Rules.{frame_pointer_rule}
 use Rattle.dense.specs.SpanActs.{insn_act, IsReached}
 use Rattle.dense.specs.Machine.{machine}
 use Rattle.dense.specs.Mirrors.{Mirrors}
 use Rattle.dense.specs.Replies.{replies}
 use Rattle.dense.proofs.Steps.{performed}
-use Rattle.interp.specs.CallArray.{HoldsEntry, IsLeft, state_in}
-use Rattle.interp.specs.SpanCall.{called}
-use Rattle.interp.proofs.Replies.{replies-few}
-use Rattle.interp.proofs.Entries.{called-is, ended_leaves, entry_behind, entry_between, same_slices}
+use Rattle.regtypes.specs.Rules.{first_broken}
+use Rattle.regtypes.specs.Typing.{flow_tests}
+use Rattle.verifier.specs.Span.Rules.{frame_pointer_rule}
+use Rattle.spans.specs.Frame.{Frame}
+use Rattle.spans.specs.Ways.{LeqWay}
+use Rattle.spans.specs.Configuration.{Configuration, IsConfiguration, own_frame}
+use Rattle.spans.specs.Step.{Ends, Fault, Goes, Leaps, Outcome, step}
+use Rattle.spans.specs.Laws.{Lands}
+use Rattle.spans.specs.Concrete as concrete
+use Rattle.spans.specs.Concrete.{Concrete, ConcreteOutcome, array_size, concrete_step}
+use Rattle.spans.specs.Calls.{ConcreteLast, Request, ShowsLast, concrete_request, noted, replied}
+use Rattle.spans.specs.Shows.{Shows, ShowsOutcome}
+use Rattle.spans.specs.Typing.{Enters, IsAllowed, Table, target}
+use Rattle.spans.proofs.Calls.{call_from-run}
+use Rattle.spans.proofs.Order.{Leq-trans}
+use Rattle.spans.proofs.Runs.{runs}
+use Rattle.interp.specs.CallArray.{state_in}
+use Rattle.interp.proofs.Replies.{replied-few, replies-few}
+use Rattle.interp.proofs.SpanCalls.{later, some_size}
+use Rattle.interp.proofs.Entries as entries
+use Rattle.interp.proofs.Entries.{fits_first, leaves, message, typing, whole_call}
 use Rattle.interp.proofs.Progress.{EndsBy, Going, Over, ends_by, going_entry, going_next, over, run, some_left, within}
 use Rattle.native.specs.Tasks.{task_act, is_eligible}
 use Rattle.native.proofs.Successors.{Call}
@@ -58,42 +48,11 @@ use Rattle.native.proofs.Locked.{Kept, Locked, end_word, no_number, step_kept}
 use Rattle.native.proofs.Opened.{entry_shown}
 use Rattle.native.proofs.SpanTasks.{task_found}
 
-slice_bytes : (xs : List ℕ) (p q : ℕ) → q ≤ length xs → ((a : ℕ) → slice_index xs a < 256) → (a : ℕ) → slice_index (slice_range xs p q) a < 256
-slice_bytes xs p q h b a = elim (cases_lt a (length (slice_range xs p q))) [
-  | inl l ↦ subst (λ x. x < 256) (sym (read l)) (b (p + a))
-  | inr g ↦ subst (λ x. x < 256) (sym (get_or_past (slice_range xs p q) a 0 (omega (arith, g)))) (omega arith)
-]
-  where
-    read : a < length (slice_range xs p q) → slice_index (slice_range xs p q) a ≡ slice_index xs (p + a)
-    read l = grind (arith, places)
-
-few : (reply : Replies) → ((p : List Request) (r : Request) → reply p r ≤ 15) → (q : List Request) (r : Option Request) → replied reply q r ≤ 15
-few reply h q None = omega arith
-few reply h q (Some r) = h q r
-
-later_slot : (s : ℕ) (z : ℤ) → pos s <ℤ z → s < unsigned_abs z
-later_slot s (pos n) h = grind (arith, ints)
-later_slot s (negsuc n) h = absurd (no s n h)
-  where
-    no : (s n : ℕ) → pos s <ℤ negsuc n → ⊥
-    no s n h = grind (arith, ints)
-
-some_size : (i : Insn) → 0 < size_of i
-some_size (Wide dst value) = omega arith
-some_size i = omega arith
-
 -- what is known as a call begins, with words of which r1, r2, r3 and r10 are the positions of message and state, the
 -- message's length, and the end of the array
 pub record Begun (slots : List (Option Insn)) (n long : ℕ) (who : Who) (table : Table) (first ws : List ℕ) : Type 0 where
-  pub typed : IsTyped n slots table
+  pub begun : entries.Begun slots n long who table first
   pub few_slots : length slots ≤ 1024
-  pub small : n ≤ 1024
-  pub short : long ≤ 256
-  pub whole : length first ≡ 2048
-  pub bytes : (a : ℕ) → slice_index first a < 256
-  pub holds : HoldsEntry n (slice_range first 0 long) (state_in n first) first
-  pub me : who.me ≤ 15
-  pub from : who.from ≤ 15
   pub eleven : length ws ≡ 11
   pub message_is : slice_index ws 1 ≡ 0
   pub state_is : slice_index ws 2 ≡ 512
@@ -104,49 +63,33 @@ module _ {slots : List (Option Insn)} {n long : ℕ} {who : Who} {table : Table}
   abbrev pub count : ℕ
   count = length slots
 
-  abbrev message : List ℕ
-  message = slice_range first 0 long
-
-  typing : IsTyping n count (insn_at slots) table
-  typing = typing_of n slots table r.typed
-
-  -- the call of the configurations, and that by words and array
-  abbrev whole_call : Last
-  whole_call = call_from n (insn_at slots) (replies who) count 0 (entry long (listed message) (listed (state_in n first))) []
-
+  -- the call by words and array
   abbrev total : ConcreteLast
   total = run n slots who count 0 (machine opened first) []
 
-  message_bytes : (a : ℕ) → listed message a < 256
-  message_bytes = let s = r.short in let w = r.whole in slice_bytes first 0 long (omega (arith, s, w)) r.bytes
-
-  state_bytes : (a : ℕ) → listed (state_in n first) a < 256
-  state_bytes = let s = r.small in let w = r.whole in slice_bytes first 512 (512 + n) (omega (arith, s, w)) r.bytes
-
   begins : Locked n table opened first 0
   begins =
-      let s = typing.start in
-      let e = entered.1 long (listed message) (listed (state_in n first)) r.short message_bytes state_bytes in
-      let small = r.small in
+      let small = r.begun.small in
+      let e = fits_first r.begun in
       record {
-        c = entry long (listed message) (listed (state_in n first));
-        f = s.0;
-        there = s.1;
+        c = entries.begins r.begun;
+        f = (typing r.begun).start.0;
+        there = (typing r.begun).start.1;
         conf = e.0;
-        shows = entry_shown n long message (state_in n first) first opened (omega (arith, small)) r.holds r.message_is r.state_is r.long_is r.end_is;
-        leq = Leq-trans (own_frame (entry long (listed message) (listed (state_in n first)))) entry_frame s.0 e.1 s.2;
+        shows = entry_shown n long (message r.begun) (state_in n first) first opened (omega (arith, small)) r.begun.holds r.message_is r.state_is r.long_is r.end_is;
+        leq = e.1;
         ten = refl;
       }
 
-  shown : ShowsLast n count whole_call total
+  shown : ShowsLast n count (whole_call r.begun) total
   unfolding begins
   shown =
-      let small = r.small in
+      let small = r.begun.small in
       let b = begins in
-      call_from-run n count (insn_at slots) table (replies who) count 0 b.c (machine opened first) [] b.f (omega (arith, small)) typing (replies-few who r.me r.from) (omega arith) b.there b.conf b.shows b.leq
+      call_from-run n count (insn_at slots) table (replies who) count 0 b.c (machine opened first) [] b.f (omega (arith, small)) (typing r.begun) (replies-few who r.begun.me r.begun.from) (omega arith) b.there b.conf b.shows b.leq
 
   ended : EndsBy count total
-  ended = ends_by n count whole_call total shown
+  ended = ends_by n count (whole_call r.begun) total shown
 
   -- ---- how a call stands
 
@@ -158,31 +101,29 @@ module _ {slots : List (Option Insn)} {n long : ℕ} {who : Who} {table : Table}
     pub locked : Locked n table ws mem s
 
   -- what a call leaves
-  pub record Leaves (bs mem : List ℕ) (steps : ℕ) (e : Emitted) : Type 0 where
-    pub answers : called slots who (state_in n first) message ≡ Some (record { state = state_in n mem; effects = e; r0 = slice_index bs 0; steps = steps })
-    pub message_stays : slice_range mem 0 512 ≡ slice_range first 0 512
-    pub left : IsLeft long n mem
+  abbrev pub Leaves : List ℕ → List ℕ → ℕ → Emitted → Type 0
+  Leaves bs mem steps e = entries.Leaves r.begun mem e (slice_index bs 0) steps
 
   -- ---- one step of both
 
   module _ {ws mem : List ℕ} {s steps : ℕ} {e : Emitted} (g : Going n slots who total first ws mem s steps e) (k : Locked n table ws mem s) where
     a : IsAllowed n count (insn_at slots) table s k.f
-    a = typing.each s k.f k.there
+    a = (typing r.begun).each s k.f k.there
 
     abbrev i : Insn
     i = a.insn
 
     placed : (first_broken (flow_tests slots s (flow_of i)) ≡ None) × (frame_pointer_rule i ≡ None)
-    placed = (r.typed.allowed s k.f a.before k.there).1 i a.there
+    placed = (r.begun.typed.allowed s k.f a.before k.there).1 i a.there
 
     eligible_here : (is_eligible s (task_in n s i) ≡ true) × JumpsWithin s i
     eligible_here = eligible slots n s r.few_slots k.f (no_number k) i a.ways placed.0 placed.1 a.leaves
 
     reached : IsReached ws i
-    reached = within n slots who total first ws mem s steps e count ended g i a.there r.small
+    reached = within n slots who total first ws mem s steps e count ended g i a.there r.begun.small
 
     same : insn_act who s ws mem e i ≡ task_act who s (blind ws) mem e (task_in n s i)
-    same = acts who s n ws mem e (end_word k r.small) i eligible_here.0 eligible_here.1 reached
+    same = acts who s n ws mem e (end_word k r.begun.small) i eligible_here.0 eligible_here.1 reached
 
     spares : SparesTen (insn_act who s ws mem e i)
     spares = subst SparesTen (sym same) (task_spares who s (blind ws) mem e (task_in n s i) eligible_here.0)
@@ -220,7 +161,7 @@ module _ {slots : List (Option Insn)} {n long : ℕ} {who : Who} {table : Table}
       lands (Goes d) (concrete.Leaps m) l h t y = absurd h
       lands (Goes d) (concrete.Ends x) l h t y = absurd h
       lands (Goes d) concrete.Crash l h t y = absurd h
-      lands (Leaps d) (concrete.Leaps m) l h t y = on_at (target s i) a.ways.1 (later_slot s (pos (s + 1) +ℤ distance i) a.later) y.0 a.leaps d m l.0 l.1 h t y.1
+      lands (Leaps d) (concrete.Leaps m) l h t y = on_at (target s i) a.ways.1 (later s (pos (s + 1) +ℤ distance i) a.later) y.0 a.leaps d m l.0 l.1 h t y.1
       lands (Leaps d) (concrete.Goes m) l h t y = absurd h
       lands (Leaps d) (concrete.Ends x) l h t y = absurd h
       lands (Leaps d) concrete.Crash l h t y = absurd h
@@ -233,47 +174,22 @@ module _ {slots : List (Option Insn)} {n long : ℕ} {who : Who} {table : Table}
       -- the call goes on at a later slot, whose frame it fits
       locked_next : Does s ws mem e (insn_act who s ws mem e i) (next.To to) ws' mem' e' → (s < to) × Locked n table ws' mem' to
       locked_next d =
-          let small = r.small in
-          let both = runs n answer i k.c (machine ws mem) k.f a.ways (omega (arith, small)) (few (replies who) (replies-few who r.me r.from) g.asked (concrete_request n (machine ws mem) i)) a.fits k.conf k.shows a.frame k.leq a.leaves in
+          let small = r.begun.small in
+          let both = runs n answer i k.c (machine ws mem) k.f a.ways (omega (arith, small)) (replied-few who r.begun.me r.begun.from g.asked (concrete_request n (machine ws mem) i)) a.fits k.conf k.shows a.frame k.leq a.leaves in
           let mirrored = performed who n s i ws mem ws' mem' e' (next.To to) g.asked small a.fits g.eleven g.whole (subst (λ x. Does s ws mem x (insn_act who s ws mem x i) (next.To to) ws' mem' e') g.emits d) in
           lands (step n answer i k.c) (concrete_step n answer i (machine ws mem)) both.0 both.1 (step_kept n answer i k.c placed.1) mirrored
 
     -- ---- the end
 
     module _ (ws' : List ℕ) (l : length ws' ≡ 11) (d : Does s ws mem e (insn_act who s ws mem e i) next.End ws' mem e) where
-      is_over : Over n slots who total first ws mem s steps e count ended g i a.there r.small a.fits ws' mem e l g.whole
-      is_over = over n slots who total first ws mem s steps e count ended g i a.there r.small a.fits ws' mem e l g.whole d
+      is_over : Over n slots who total first ws mem s steps e count ended g i a.there r.begun.small a.fits ws' mem e l g.whole
+      is_over = over n slots who total first ws mem s steps e count ended g i a.there r.begun.small a.fits ws' mem e l g.whole d
 
-      shown_end : ShowsLast n count whole_call (ConcreteLast.Ended (steps + 1) (slice_index ws' 0) now_asked (machine ws' mem))
-      shown_end = subst (ShowsLast n count whole_call) is_over.total_is shown
-
-      stays : (b : ℕ) → b < 512 → slice_index mem b ≡ slice_index first b
-      stays = subst (KeepsMessage (machine opened first)) is_over.total_is (messages-kept n (insn_at slots) (replies who) count 0 (machine opened first) [])
-
-      leaves : (bs' : List ℕ) → bs' ≡ blind ws' → Leaves bs' mem (steps + 1) e
-      leaves bs' is =
-          let small = r.small in
-          let short = r.short in
-          let wf = r.whole in
-          let w = g.whole in
-          let ls : length (state_in n first) ≡ n = length_slice first 512 (512 + n) (omega (arith, small, wf)) ∙ omega arith in
-          let lm : length message ≡ long = length_slice first 0 long (omega (arith, short, wf)) ∙ omega arith in
+      over_leaves : (bs' : List ℕ) → bs' ≡ blind ws' → Leaves bs' mem (steps + 1) e
+      over_leaves bs' is =
           let r0 : slice_index ws' 0 ≡ slice_index bs' 0 = sym (blind_is ws' 0 (omega arith)) ∙ ap (λ l. slice_index l 0) (sym is) in
-          record {
-            answers =
-                called-is slots who (state_in n first) message n long ls lm
-                ∙ ended_leaves n count (steps + 1) (slice_index ws' 0) who now_asked ws' mem whole_call r.small w shown_end
-                ∙ ap (λ (z : Emitted). let h : Handled = record { state = state_in n mem; effects = z; r0 = slice_index ws' 0; steps = steps + 1 } in Some h) (sym is_over.emits)
-                ∙ ap (λ (z : ℕ). let h : Handled = record { state = state_in n mem; effects = e; r0 = z; steps = steps + 1 } in Some h) r0;
-            message_stays = same_slices mem first 0 0 512 (omega (arith, w)) (omega (arith, wf)) (λ j h. stays (0 + j) (omega (arith, h)));
-            left = record {
-              between = λ b x y. stays b y ∙ entry_between n message (state_in n first) first r.holds b (omega (arith, x, lm)) y;
-              behind = λ b x. is_over.behind b x ∙ entry_behind n message (state_in n first) first r.holds b x;
-            };
-          }
-        where
-          length_slice : (xs : List ℕ) (a b : ℕ) → b ≤ length xs → length (slice_range xs a b) ≡ b - a
-          length_slice xs a b h = search (rules, places)
+          subst (λ z. entries.Leaves r.begun mem e z (steps + 1)) r0
+          (leaves r.begun opened (steps + 1) (slice_index ws' 0) now_asked ws' mem e shown is_over.total_is is_over.emits g.whole is_over.behind)
 
     -- the slot's task, and what comes of it
     calls_here : Call who (tasks_in slots n count) 2048 count Stand Leaves (blind ws) mem s steps e
@@ -284,7 +200,7 @@ module _ {slots : List (Option Insn)} {n long : ℕ} {who : Who} {table : Table}
       this = task_in n s i;
       there = task_found slots n count s i a.before a.there;
       eligible = eligible_here.0;
-      reaches = reaches s n ws (end_word k r.small) i reached;
+      reaches = reaches s n ws (end_word k r.begun.small) i reached;
       fits = fits_in s n i a.fits;
       next = λ to bs' mem' e' d l.
           let x = done (next.To to) bs' mem' e' d in
@@ -293,11 +209,11 @@ module _ {slots : List (Option Insn)} {n long : ℕ} {who : Who} {table : Table}
             record {
               ws = x.0;
               is = x.1;
-              going = going_next n slots who total first ws mem s steps e count ended g i a.there r.small a.fits x.0 mem' e' x.2 l to x.3;
+              going = going_next n slots who total first ws mem s steps e count ended g i a.there r.begun.small a.fits x.0 mem' e' x.2 l to x.3;
               locked = y.1;
             },
           );
-      ends = λ d. let x = done next.End (blind ws) mem e d in leaves x.0 x.2 x.3 (blind ws) x.1;
+      ends = λ d. let x = done next.End (blind ws) mem e d in over_leaves x.0 x.2 x.3 (blind ws) x.1;
     }
 
   -- wherever a call stands
@@ -309,6 +225,6 @@ module _ {slots : List (Option Insn)} {n long : ℕ} {who : Who} {table : Table}
   stands e x y = record {
     ws = opened;
     is = refl;
-    going = going_entry n slots who first opened 0 e r.eleven r.whole x y;
+    going = going_entry n slots who first opened 0 e r.eleven r.begun.whole x y;
     locked = begins;
   }
