@@ -16,15 +16,15 @@ use Rattle.interp.specs.Answer.{shown, IsRun, HasRun, MayRunAs}
 use Rattle.c_runs.specs.Arrays.{flat_image}
 use Rattle.c_runs.specs.Calls.{IsCallableForm, IsSeat}
 
-run_in : (form : ImageForm) (code : List Insn) (who : Who) (state message : List ℕ) (h : Handled) → length message ≡ 64 → IsHandled form (slots_of code) who state message h → IsRun (file_form_of form) code who state (shown (file_form_of form) message) h
+run_in : (form : ImageForm) (code : List Insn) (who : Who) (state message : List ℕ) (h : Handled) → length message ≡ 64 → IsHandled (file_form_of form) (slots_of code) who state message h → IsRun (file_form_of form) code who state (shown (file_form_of form) message) h
 run_in two.Sbi1 code who state message h size r =
-    subst (λ m. IsHandled two.Sbi1 (slots_of code) who state m h) (sym (view64-whole message size)) r
+    subst (λ m. IsHandled Sbi1 (slots_of code) who state m h) (sym (view64-whole message size)) r
 run_in two.Sbi2 code who state message h size r = r
 
 -- a call by a message of 64 bytes
-pub has_run : (image : Typed) (who : Who) (state message : List ℕ) (h : Handled) → image.slots ≡ slots_of image.code → length message ≡ 64 → IsHandled image.form image.slots who state message h → HasRun (flat_image image) who state message h
+pub has_run : (image : Typed) (who : Who) (state message : List ℕ) (h : Handled) → image.slots ≡ slots_of image.code → length message ≡ 64 → IsHandled (file_form_of image.form) image.slots who state message h → HasRun (flat_image image) who state message h
 has_run image who state message h slots size r =
-    run_in image.form image.code who state message h size (subst (λ s. IsHandled image.form s who state message h) slots r)
+    run_in image.form image.code who state message h size (subst (λ s. IsHandled (file_form_of image.form) s who state message h) slots r)
 
 first_of : (form : ImageForm) → file_form_of form ≢ Sbi2 → form ≡ two.Sbi1
 first_of two.Sbi1 n = refl

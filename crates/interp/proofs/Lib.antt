@@ -15,7 +15,7 @@ pub mod Fits
 pub mod Exits
 pub mod WordsKept
 pub mod Replies
-pub mod SpanCounts
+pub mod Opened
 pub mod Entries
 pub mod Progress
 pub mod Status

@@ -1,4 +1,4 @@
--- Words and an array beside the configuration that they show.
+-- r10 stays the end of the stack.
 use Rattle.std.proofs.Common.{◌≡◌, ℕ, ◌+◌, ◌/◌, ◌%◌, ◌^◌, ◌≤◌, ℤ, pos, ◌+ℤ◌, Bool, true, false, cond, List, Option, Some, None, refl, sym, ap, ◌∙◌, subst, arith}
 use Rattle.std.specs.Prelude.{◌==◌, slice_index, if◌then◌else◌}
 use Rattle.std.specs.Option.{option_and_then, option_map_or}
@@ -17,7 +17,7 @@ use Rattle.regtypes.specs.Rules.{is_frame_pointer}
 use Rattle.spans.specs.declared.kind.SpanKind.{SpanKind}
 use Rattle.spans.specs.declared.kind.SpanKind.TheVariants.{Unset, Num, Place}
 use Rattle.spans.specs.Frame.{Frame, Leq, LeqKind, at_place, is_num}
-use Rattle.spans.specs.Configuration.{Value, Number, At, Configuration, IsConfiguration, put, own_frame, own_kind}
+use Rattle.spans.specs.Configuration.{Value, Number, At, Configuration, put, own_frame, own_kind}
 use Rattle.spans.specs.Memory.{are_numbers, index_in, is_word, load, patched_cells, store, write_at}
 use Rattle.spans.specs.Access.{region_size}
 use Rattle.spans.specs.Step.{Outcome, Goes, Leaps, Ends, Fault, answers, branches, ends_with, from_number, gives_value, goes_on, operand_value, result_value, step, taken_by}
@@ -25,12 +25,9 @@ use Rattle.spans.specs.Ways.{alu_form}
 use Rattle.verifier.specs.Span.Rules.{frame_pointer_rule}
 use Rattle.spans.specs.Concrete.{array_size}
 use Rattle.spans.specs.Shows.{Shows, ShowsWord}
-use Rattle.spans.specs.Typing.{Table}
 use Rattle.dense.specs.Machine.{machine}
 use Rattle.native.proofs.Allowed.{some_none}
 use Rattle.native.proofs.Reached.{alu_written}
-
--- ---- r10 stays where it is
 
 -- behind a step cell 10 is as it was
 abbrev pub Kept : Configuration → Outcome → Type 0
@@ -119,30 +116,19 @@ step_kept state answer (LoadSx z dst src d) c h =
 step_kept state answer (StoreReg z dst src d) c h = goes_kept c _ (store_kept state c (c.cells src.number) (c.cells dst.number) d (bytes_in z))
 step_kept state answer (StoreImm z dst d imm) c h = goes_kept c _ (store_kept state c (operand_value W64 (operand.Imm imm) c) (c.cells dst.number) d (bytes_in z))
 
--- ---- together
+-- ---- what is known of it
 
--- a configuration that the words and the array show fits the slot's frame, and r10 is the end of its stack
-pub record Locked (len : ℕ) (table : Table) (ws mem : List ℕ) (s : ℕ) : Type 0 where
-  pub c : Configuration
-  pub f : Frame
-  pub there : table s ≡ Some f
-  pub conf : IsConfiguration c
-  pub shows : Shows len c (machine ws mem)
-  pub leq : Leq (own_frame c) f
-  pub ten : c.cells 10 ≡ Some (At Stack (pos 512))
+-- its word is the end of the array
+pub end_word : (len : ℕ) (c : Configuration) (ws mem : List ℕ) → Shows len c (machine ws mem) → c.cells 10 ≡ Some (At Stack (pos 512)) → len ≤ 1024 → slice_index ws 10 ≡ array_size len
+end_word len c ws mem shows ten small =
+    let w = subst (λ v. ShowsWord len v (slice_index ws 10)) ten (shows.words 10 (omega arith)) in
+    w ∙ mod-eq_of_lt (omega (arith, small))
 
-module _ {len : ℕ} {table : Table} {ws mem : List ℕ} {s : ℕ} (k : Locked len table ws mem s) where
-  -- so its word is the end of the array
-  pub end_word : len ≤ 1024 → slice_index ws 10 ≡ array_size len
-  end_word small =
-      let w = subst (λ v. ShowsWord len v (slice_index ws 10)) k.ten (k.shows.words 10 (omega arith)) in
-      w ∙ mod-eq_of_lt (omega (arith, small))
-
-  -- and nowhere is it known to be a number
-  pub no_number : is_num (k.f 10) ≡ false
-  no_number = of_kind (k.f 10) (subst (λ v. LeqKind (own_kind v) (k.f 10)) k.ten (k.leq 10))
-    where
-      of_kind : (q : SpanKind) → LeqKind (Place Stack (at_place (pos 512))) q → is_num q ≡ false
-      of_kind Unset h = refl
-      of_kind (Num t) h = absurd h
-      of_kind (Place r t) h = refl
+-- and nowhere is it known to be a number
+pub no_number : (c : Configuration) (f : Frame) → Leq (own_frame c) f → c.cells 10 ≡ Some (At Stack (pos 512)) → is_num (f 10) ≡ false
+no_number c f leq ten = of_kind (f 10) (subst (λ v. LeqKind (own_kind v) (f 10)) ten (leq 10))
+  where
+    of_kind : (q : SpanKind) → LeqKind (Place Stack (at_place (pos 512))) q → is_num q ≡ false
+    of_kind Unset h = refl
+    of_kind (Num t) h = absurd h
+    of_kind (Place r t) h = refl

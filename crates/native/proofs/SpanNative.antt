@@ -75,15 +75,8 @@ span_native insns len code typable few small whole served = record {
       let words = opened len m who c called in
       let none : Emitted = record { sends = []; outputs = [] } in
       let b : Begun slots len m who typable.0 c.array words = record {
-        typed = typable.1;
+        begun = record { typed = typable.1; small = small; short = short; whole = sized; bytes = bytes_below c.array called.bytes; holds = holds; me = me; from = from };
         few_slots = few;
-        small = small;
-        short = short;
-        whole = sized;
-        bytes = bytes_below c.array called.bytes;
-        holds = holds;
-        me = me;
-        from = from;
         eleven = refl;
         message_is = refl;
         state_is = refl;
@@ -101,7 +94,7 @@ span_native insns len code typable few small whole served = record {
           r0 = slice_index f.words 0;
           steps = f.steps;
           effects = f.effects;
-          handled = record { answers = f.over.answers; message = f.over.message_stays; left = f.over.left };
+          handled = record { answers = f.over.answers; message = f.over.message_stays; left = f.over.zeros };
           answer = f.answer;
           counted = f.counted;
           keeps = f.keeps;

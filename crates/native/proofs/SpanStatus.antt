@@ -1,52 +1,28 @@
 -- Calls of form 3, slot by slot.
-use Rattle.std.proofs.Common.{◌≡◌, ℕ, ◌+◌, ◌-◌, ◌<◌, ◌≤◌, ℤ, pos, negsuc, ◌+ℤ◌, ◌<ℤ◌, true, List, [], Option, Some, None, inl, inr, length, refl, sym, ap, ◌∙◌, subst, arith, rules}
-use Rattle.std.specs.Prelude.{slice_index, slice_range, unsigned_abs}
-use Rattle.std.proofs.lemmas.Int.{ints}
-use Rattle.std.proofs.lemmas.Bool.{cases_lt}
-use Rattle.std.proofs.lemmas.List.{get_or_past, places}
+use Rattle.std.proofs.Common.{◌≡◌, ℕ, ◌+◌, ◌≤◌, pos, true, List, [], Option, Some, None, length, refl, sym, ap, ◌∙◌, subst, arith}
+use Rattle.std.specs.Prelude.{slice_index}
 use Rattle.decode.specs.declared.insn.Insn.{Insn}
-use Rattle.decode.specs.declared.insn.Insn.TheVariants.{Wide}
-use Rattle.decode.specs.Slots.{insn_at, size_of}
+use Rattle.decode.specs.Flow.{flow_of}
+use Rattle.decode.specs.Slots.{insn_at}
 use Rattle.helpers.specs.declared.effects.Who.{Who}
 use Rattle.helpers.specs.Effects.{Emitted}
 use Rattle.dense.specs.declared.execution.Next.{Next}
 use Rattle.dense.specs.declared.execution.Next.TheVariants as next
 use Rattle.dense.specs.Acts.{Act, Does}
-use Rattle.interp.specs.HandlerCall.{Handled}
-use Rattle.spans.specs.Frame.{Frame, entry_frame}
-use Rattle.spans.specs.Ways.{LeqWay}
-use Rattle.spans.specs.Configuration.{Configuration, IsConfiguration, entry, own_frame}
-use Rattle.spans.specs.Step.{Ends, Fault, Goes, Leaps, Outcome, step}
-use Rattle.spans.specs.Laws.{Lands}
-use Rattle.spans.proofs.Entry.{entered}
-use Rattle.spans.proofs.Order.{Leq-trans}
-use Rattle.spans.specs.Concrete as concrete
-use Rattle.spans.specs.Concrete.{Concrete, ConcreteOutcome, array_size, concrete_step}
-use Rattle.spans.specs.Calls.{ConcreteLast, Last, Replies, Request, ShowsLast, call_from, concrete_request, noted, replied}
-use Rattle.spans.specs.CallLaws.{KeepsMessage}
-use Rattle.spans.specs.Shows.{Shows, ShowsOutcome}
-use Rattle.spans.specs.Slices.{listed}
-use Rattle.spans.specs.Typing.{Enters, IsAllowed, IsTyping, Table, target}
-use Rattle.decode.specs.Distance.{distance}
-use Rattle.spans.proofs.Calls.{call_from-run}
-use Rattle.spans.proofs.CallEntry.{messages-kept}
-use Rattle.spans.proofs.Runs.{runs}
-use Rattle.verifier.specs.Span.Typing.{IsTyped}
-use Rattle.verifier.proofs.Spans.Forms.{typing_of}
-use Rattle.decode.specs.Flow.{flow_of}
+use Rattle.dense.specs.SpanActs.{insn_act}
+use Rattle.regtypes.specs.declared.frame.Region.TheVariants.{Stack}
 use Rattle.regtypes.specs.Rules.{first_broken}
 use Rattle.regtypes.specs.Typing.{flow_tests}
 use Rattle.verifier.specs.Span.Rules.{frame_pointer_rule}
-use Rattle.dense.specs.SpanActs.{insn_act, IsReached}
-use Rattle.dense.specs.Machine.{machine}
-use Rattle.dense.specs.Mirrors.{Mirrors}
-use Rattle.dense.specs.Replies.{replies}
-use Rattle.dense.proofs.Steps.{performed}
-use Rattle.interp.specs.CallArray.{HoldsEntry, IsLeft, state_in}
-use Rattle.interp.specs.SpanCall.{called}
-use Rattle.interp.proofs.Replies.{replies-few}
-use Rattle.interp.proofs.Entries.{called-is, ended_leaves, entry_behind, entry_between, same_slices}
-use Rattle.interp.proofs.Progress.{EndsBy, Going, Over, ends_by, going_entry, going_next, over, run, some_left, within}
+use Rattle.spans.specs.Configuration.{At, Configuration}
+use Rattle.spans.specs.Step.{Ends, Fault, Goes, Leaps, Outcome, step}
+use Rattle.spans.specs.Concrete.{array_size}
+use Rattle.spans.specs.Typing.{IsAllowed, Table}
+use Rattle.interp.specs.CallArray.{state_in}
+use Rattle.interp.proofs.Entries as entries
+use Rattle.interp.proofs.Entries.{message}
+use Rattle.interp.proofs.Opened.{entry_shown}
+use Rattle.interp.proofs.Progress.{Came, Stands, allowed, answer, ends, goes_on, insn, not_done, stands_first, within}
 use Rattle.native.specs.Tasks.{task_act, is_eligible}
 use Rattle.native.proofs.Successors.{Call}
 use Rattle.native.specs.SpanTasks.{task_in, tasks_in}
@@ -54,46 +30,14 @@ use Rattle.native.proofs.Blind.{blind, blind_is, SparesTen, does_blind}
 use Rattle.native.proofs.SpanActs.{acts, Lands as JumpsWithin}
 use Rattle.native.proofs.Allowed.{eligible}
 use Rattle.native.proofs.Spared.{task_spares, reaches, fits_in}
-use Rattle.native.proofs.Locked.{Kept, Locked, end_word, no_number, step_kept}
-use Rattle.native.proofs.Opened.{entry_shown}
+use Rattle.native.proofs.Locked.{Kept, end_word, no_number, step_kept}
 use Rattle.native.proofs.SpanTasks.{task_found}
-
-slice_bytes : (xs : List ℕ) (p q : ℕ) → q ≤ length xs → ((a : ℕ) → slice_index xs a < 256) → (a : ℕ) → slice_index (slice_range xs p q) a < 256
-slice_bytes xs p q h b a = elim (cases_lt a (length (slice_range xs p q))) [
-  | inl l ↦ subst (λ x. x < 256) (sym (read l)) (b (p + a))
-  | inr g ↦ subst (λ x. x < 256) (sym (get_or_past (slice_range xs p q) a 0 (omega (arith, g)))) (omega arith)
-]
-  where
-    read : a < length (slice_range xs p q) → slice_index (slice_range xs p q) a ≡ slice_index xs (p + a)
-    read l = grind (arith, places)
-
-few : (reply : Replies) → ((p : List Request) (r : Request) → reply p r ≤ 15) → (q : List Request) (r : Option Request) → replied reply q r ≤ 15
-few reply h q None = omega arith
-few reply h q (Some r) = h q r
-
-later_slot : (s : ℕ) (z : ℤ) → pos s <ℤ z → s < unsigned_abs z
-later_slot s (pos n) h = grind (arith, ints)
-later_slot s (negsuc n) h = absurd (no s n h)
-  where
-    no : (s n : ℕ) → pos s <ℤ negsuc n → ⊥
-    no s n h = grind (arith, ints)
-
-some_size : (i : Insn) → 0 < size_of i
-some_size (Wide dst value) = omega arith
-some_size i = omega arith
 
 -- what is known as a call begins, with words of which r1, r2, r3 and r10 are the positions of message and state, the
 -- message's length, and the end of the array
 pub record Begun (slots : List (Option Insn)) (n long : ℕ) (who : Who) (table : Table) (first ws : List ℕ) : Type 0 where
-  pub typed : IsTyped n slots table
+  pub begun : entries.Begun slots n long who table first
   pub few_slots : length slots ≤ 1024
-  pub small : n ≤ 1024
-  pub short : long ≤ 256
-  pub whole : length first ≡ 2048
-  pub bytes : (a : ℕ) → slice_index first a < 256
-  pub holds : HoldsEntry n (slice_range first 0 long) (state_in n first) first
-  pub me : who.me ≤ 15
-  pub from : who.from ≤ 15
   pub eleven : length ws ≡ 11
   pub message_is : slice_index ws 1 ≡ 0
   pub state_is : slice_index ws 2 ≡ 512
@@ -104,85 +48,37 @@ module _ {slots : List (Option Insn)} {n long : ℕ} {who : Who} {table : Table}
   abbrev pub count : ℕ
   count = length slots
 
-  abbrev message : List ℕ
-  message = slice_range first 0 long
-
-  typing : IsTyping n count (insn_at slots) table
-  typing = typing_of n slots table r.typed
-
-  -- the call of the configurations, and that by words and array
-  abbrev whole_call : Last
-  whole_call = call_from n (insn_at slots) (replies who) count 0 (entry long (listed message) (listed (state_in n first))) []
-
-  abbrev total : ConcreteLast
-  total = run n slots who count 0 (machine opened first) []
-
-  message_bytes : (a : ℕ) → listed message a < 256
-  message_bytes = let s = r.short in let w = r.whole in slice_bytes first 0 long (omega (arith, s, w)) r.bytes
-
-  state_bytes : (a : ℕ) → listed (state_in n first) a < 256
-  state_bytes = let s = r.small in let w = r.whole in slice_bytes first 512 (512 + n) (omega (arith, s, w)) r.bytes
-
-  begins : Locked n table opened first 0
-  begins =
-      let s = typing.start in
-      let e = entered.1 long (listed message) (listed (state_in n first)) r.short message_bytes state_bytes in
-      let small = r.small in
-      record {
-        c = entry long (listed message) (listed (state_in n first));
-        f = s.0;
-        there = s.1;
-        conf = e.0;
-        shows = entry_shown n long message (state_in n first) first opened (omega (arith, small)) r.holds r.message_is r.state_is r.long_is r.end_is;
-        leq = Leq-trans (own_frame (entry long (listed message) (listed (state_in n first)))) entry_frame s.0 e.1 s.2;
-        ten = refl;
-      }
-
-  shown : ShowsLast n count whole_call total
-  unfolding begins
-  shown =
-      let small = r.small in
-      let b = begins in
-      call_from-run n count (insn_at slots) table (replies who) count 0 b.c (machine opened first) [] b.f (omega (arith, small)) typing (replies-few who r.me r.from) (omega arith) b.there b.conf b.shows b.leq
-
-  ended : EndsBy count total
-  ended = ends_by n count whole_call total shown
-
-  -- ---- how a call stands
-
   -- the words without r10 at a slot, and what is known there
   pub record Stand (bs mem : List ℕ) (s steps : ℕ) (e : Emitted) : Type 0 where
     pub ws : List ℕ
     pub is : bs ≡ blind ws
-    pub going : Going n slots who total first ws mem s steps e
-    pub locked : Locked n table ws mem s
+    pub stands : Stands r.begun ws mem s steps e
+    pub ten : stands.c.cells 10 ≡ Some (At Stack (pos 512))
 
   -- what a call leaves
-  pub record Leaves (bs mem : List ℕ) (steps : ℕ) (e : Emitted) : Type 0 where
-    pub answers : called slots who (state_in n first) message ≡ Some (record { state = state_in n mem; effects = e; r0 = slice_index bs 0; steps = steps })
-    pub message_stays : slice_range mem 0 512 ≡ slice_range first 0 512
-    pub left : IsLeft long n mem
+  abbrev pub Leaves : List ℕ → List ℕ → ℕ → Emitted → Type 0
+  Leaves bs mem steps e = entries.Leaves r.begun mem e (slice_index bs 0) steps
 
   -- ---- one step of both
 
-  module _ {ws mem : List ℕ} {s steps : ℕ} {e : Emitted} (g : Going n slots who total first ws mem s steps e) (k : Locked n table ws mem s) where
-    a : IsAllowed n count (insn_at slots) table s k.f
-    a = typing.each s k.f k.there
+  module _ {ws mem : List ℕ} {s steps : ℕ} {e : Emitted} (g : Stands r.begun ws mem s steps e) (ten : g.c.cells 10 ≡ Some (At Stack (pos 512))) where
+    a : IsAllowed n count (insn_at slots) table s g.f
+    a = allowed r.begun g
 
     abbrev i : Insn
-    i = a.insn
+    i = insn r.begun g
 
     placed : (first_broken (flow_tests slots s (flow_of i)) ≡ None) × (frame_pointer_rule i ≡ None)
-    placed = (r.typed.allowed s k.f a.before k.there).1 i a.there
+    placed = (r.begun.typed.allowed s g.f a.before g.there).1 i a.there
 
     eligible_here : (is_eligible s (task_in n s i) ≡ true) × JumpsWithin s i
-    eligible_here = eligible slots n s r.few_slots k.f (no_number k) i a.ways placed.0 placed.1 a.leaves
+    eligible_here = eligible slots n s r.few_slots g.f (no_number g.c g.f g.leq ten) i a.ways placed.0 placed.1 a.leaves
 
-    reached : IsReached ws i
-    reached = within n slots who total first ws mem s steps e count ended g i a.there r.small
+    ends_at : slice_index ws 10 ≡ array_size n
+    ends_at = end_word n g.c ws mem g.shows ten r.begun.small
 
     same : insn_act who s ws mem e i ≡ task_act who s (blind ws) mem e (task_in n s i)
-    same = acts who s n ws mem e (end_word k r.small) i eligible_here.0 eligible_here.1 reached
+    same = acts who s n ws mem e ends_at i eligible_here.0 eligible_here.1 (within r.begun g)
 
     spares : SparesTen (insn_act who s ws mem e i)
     spares = subst SparesTen (sym same) (task_spares who s (blind ws) mem e (task_in n s i) eligible_here.0)
@@ -191,124 +87,43 @@ module _ {slots : List (Option Insn)} {n long : ℕ} {who : Who} {table : Table}
     done : (to : Next) (bs' mem' : List ℕ) (e' : Emitted) → Does s (blind ws) mem e (task_act who s (blind ws) mem e (task_in n s i)) to bs' mem' e' → (ws' : List ℕ) × (bs' ≡ blind ws') × (length ws' ≡ 11) × Does s ws mem e (insn_act who s ws mem e i) to ws' mem' e'
     done to bs' mem' e' d = does_blind (insn_act who s ws mem e i) s ws mem e to bs' mem' e' spares g.eleven (subst (λ (x : Act). Does s (blind ws) mem e x to bs' mem' e') (sym same) d)
 
-    abbrev answer : ℕ
-    answer = replied (replies who) g.asked (concrete_request n (machine ws mem) i)
+    ten_kept : (c : Configuration) (o : Outcome) → Came c o → Kept g.c o → c.cells 10 ≡ Some (At Stack (pos 512))
+    ten_kept c (Goes d) is k = ap (λ (x : Configuration). x.cells 10) (sym is) ∙ k ∙ ten
+    ten_kept c (Leaps d) is k = ap (λ (x : Configuration). x.cells 10) (sym is) ∙ k ∙ ten
+    ten_kept c Ends is k = absurd is
+    ten_kept c Fault is k = absurd is
 
-    abbrev now_asked : List Request
-    now_asked = noted g.asked (concrete_request n (machine ws mem) i)
-
-    module _ (to : ℕ) (ws' mem' : List ℕ) (e' : Emitted) where
-      arrives : (d : Configuration) (m : Concrete) (v : Option Frame) → Enters table to v → IsConfiguration d → LeqWay (Some (own_frame d)) v → Shows n d m → d.cells 10 ≡ k.c.cells 10 → m ≡ machine ws' mem' → Locked n table ws' mem' to
-      arrives d m None x h l shows ten is = absurd l
-      arrives d m (Some f) x h l shows ten is = record {
-        c = d;
-        f = x.0;
-        there = x.1;
-        conf = h;
-        shows = subst (Shows n d) is shows;
-        leq = Leq-trans (own_frame d) f x.0 l x.2;
-        ten = ten ∙ k.ten;
-      }
-
-      on_at : (t : ℕ) (v : Option Frame) → s < t → next.To to ≡ next.To t → Enters table t v → (d : Configuration) (m : Concrete) → IsConfiguration d → LeqWay (Some (own_frame d)) v → Shows n d m → d.cells 10 ≡ k.c.cells 10 → m ≡ machine ws' mem' → (s < to) × Locked n table ws' mem' to
-      on_at t v lt e x d m h l shows ten is =
-          let q : to ≡ t = cc in
-          (subst (λ y. s < y) (sym q) lt, arrives d m v (subst (λ y. Enters table y v) (sym q) x) h l shows ten is)
-
-      lands : (o : Outcome) (x : ConcreteOutcome) → Lands o a.ways → ShowsOutcome n k.c o x → Kept k.c o → Mirrors who s i now_asked (machine ws mem) x (next.To to) ws' mem' e' → (s < to) × Locked n table ws' mem' to
-      lands (Goes d) (concrete.Goes m) l h t y = on_at (s + size_of i) a.ways.0 (omega (arith, some_size i)) y.0 a.goes d m l.0 l.1 h t y.1
-      lands (Goes d) (concrete.Leaps m) l h t y = absurd h
-      lands (Goes d) (concrete.Ends x) l h t y = absurd h
-      lands (Goes d) concrete.Crash l h t y = absurd h
-      lands (Leaps d) (concrete.Leaps m) l h t y = on_at (target s i) a.ways.1 (later_slot s (pos (s + 1) +ℤ distance i) a.later) y.0 a.leaps d m l.0 l.1 h t y.1
-      lands (Leaps d) (concrete.Goes m) l h t y = absurd h
-      lands (Leaps d) (concrete.Ends x) l h t y = absurd h
-      lands (Leaps d) concrete.Crash l h t y = absurd h
-      lands Ends (concrete.Ends x) l h t y = let z : next.To to ≡ next.End = y.0 in let no : ⊥ = cc in absurd no
-      lands Ends (concrete.Goes m) l h t y = absurd h
-      lands Ends (concrete.Leaps m) l h t y = absurd h
-      lands Ends concrete.Crash l h t y = absurd h
-      lands Fault x l h t y = absurd l
-
-      -- the call goes on at a later slot, whose frame it fits
-      locked_next : Does s ws mem e (insn_act who s ws mem e i) (next.To to) ws' mem' e' → (s < to) × Locked n table ws' mem' to
-      locked_next d =
-          let small = r.small in
-          let both = runs n answer i k.c (machine ws mem) k.f a.ways (omega (arith, small)) (few (replies who) (replies-few who r.me r.from) g.asked (concrete_request n (machine ws mem) i)) a.fits k.conf k.shows a.frame k.leq a.leaves in
-          let mirrored = performed who n s i ws mem ws' mem' e' (next.To to) g.asked small a.fits g.eleven g.whole (subst (λ x. Does s ws mem x (insn_act who s ws mem x i) (next.To to) ws' mem' e') g.emits d) in
-          lands (step n answer i k.c) (concrete_step n answer i (machine ws mem)) both.0 both.1 (step_kept n answer i k.c placed.1) mirrored
-
-    -- ---- the end
-
-    module _ (ws' : List ℕ) (l : length ws' ≡ 11) (d : Does s ws mem e (insn_act who s ws mem e i) next.End ws' mem e) where
-      is_over : Over n slots who total first ws mem s steps e count ended g i a.there r.small a.fits ws' mem e l g.whole
-      is_over = over n slots who total first ws mem s steps e count ended g i a.there r.small a.fits ws' mem e l g.whole d
-
-      shown_end : ShowsLast n count whole_call (ConcreteLast.Ended (steps + 1) (slice_index ws' 0) now_asked (machine ws' mem))
-      shown_end = subst (ShowsLast n count whole_call) is_over.total_is shown
-
-      stays : (b : ℕ) → b < 512 → slice_index mem b ≡ slice_index first b
-      stays = subst (KeepsMessage (machine opened first)) is_over.total_is (messages-kept n (insn_at slots) (replies who) count 0 (machine opened first) [])
-
-      leaves : (bs' : List ℕ) → bs' ≡ blind ws' → Leaves bs' mem (steps + 1) e
-      leaves bs' is =
-          let small = r.small in
-          let short = r.short in
-          let wf = r.whole in
-          let w = g.whole in
-          let ls : length (state_in n first) ≡ n = length_slice first 512 (512 + n) (omega (arith, small, wf)) ∙ omega arith in
-          let lm : length message ≡ long = length_slice first 0 long (omega (arith, short, wf)) ∙ omega arith in
-          let r0 : slice_index ws' 0 ≡ slice_index bs' 0 = sym (blind_is ws' 0 (omega arith)) ∙ ap (λ l. slice_index l 0) (sym is) in
-          record {
-            answers =
-                called-is slots who (state_in n first) message n long ls lm
-                ∙ ended_leaves n count (steps + 1) (slice_index ws' 0) who now_asked ws' mem whole_call r.small w shown_end
-                ∙ ap (λ (z : Emitted). let h : Handled = record { state = state_in n mem; effects = z; r0 = slice_index ws' 0; steps = steps + 1 } in Some h) (sym is_over.emits)
-                ∙ ap (λ (z : ℕ). let h : Handled = record { state = state_in n mem; effects = e; r0 = z; steps = steps + 1 } in Some h) r0;
-            message_stays = same_slices mem first 0 0 512 (omega (arith, w)) (omega (arith, wf)) (λ j h. stays (0 + j) (omega (arith, h)));
-            left = record {
-              between = λ b x y. stays b y ∙ entry_between n message (state_in n first) first r.holds b (omega (arith, x, lm)) y;
-              behind = λ b x. is_over.behind b x ∙ entry_behind n message (state_in n first) first r.holds b x;
-            };
-          }
-        where
-          length_slice : (xs : List ℕ) (a b : ℕ) → b ≤ length xs → length (slice_range xs a b) ≡ b - a
-          length_slice xs a b h = search (rules, places)
+    leaves : (ws' : List ℕ) → blind ws ≡ blind ws' → length ws' ≡ 11 → Does s ws mem e (insn_act who s ws mem e i) next.End ws' mem e → Leaves (blind ws) mem (steps + 1) e
+    leaves ws' is l d =
+        let r0 : slice_index ws' 0 ≡ slice_index (blind ws) 0 = sym (blind_is ws' 0 (omega arith)) ∙ ap (λ l. slice_index l 0) (sym is) in
+        subst (λ z. entries.Leaves r.begun mem e z (steps + 1)) r0 (ends r.begun g ws' mem e l g.whole d)
 
     -- the slot's task, and what comes of it
     calls_here : Call who (tasks_in slots n count) 2048 count Stand Leaves (blind ws) mem s steps e
     calls_here = record {
       before = a.before;
-      left = some_left n slots who total first ws mem s steps e count ended g;
+      left = not_done r.begun g;
       array = g.whole;
       this = task_in n s i;
       there = task_found slots n count s i a.before a.there;
       eligible = eligible_here.0;
-      reaches = reaches s n ws (end_word k r.small) i reached;
+      reaches = reaches s n ws ends_at i (within r.begun g);
       fits = fits_in s n i a.fits;
       next = λ to bs' mem' e' d l.
           let x = done (next.To to) bs' mem' e' d in
-          let y = locked_next to x.0 mem' e' x.3 in (
-            y.0,
-            record {
-              ws = x.0;
-              is = x.1;
-              going = going_next n slots who total first ws mem s steps e count ended g i a.there r.small a.fits x.0 mem' e' x.2 l to x.3;
-              locked = y.1;
-            },
-          );
-      ends = λ d. let x = done next.End (blind ws) mem e d in leaves x.0 x.2 x.3 (blind ws) x.1;
+          let y = goes_on r.begun g x.0 mem' e' x.2 l to x.3 in
+          let kept = step_kept n (answer r.begun g) i g.c placed.1 in
+          (y.0, record { ws = x.0; is = x.1; stands = y.1.0; ten = ten_kept y.1.0.c (step n (answer r.begun g) i g.c) y.1.1 kept });
+      ends = λ d. let x = done next.End (blind ws) mem e d in leaves x.0 x.1 x.2 x.3;
     }
 
   -- wherever a call stands
   pub calls : (bs mem : List ℕ) (s steps : ℕ) (e : Emitted) → Stand bs mem s steps e → Call who (tasks_in slots n count) 2048 count Stand Leaves bs mem s steps e
-  calls bs mem s steps e g = subst (λ b. Call who (tasks_in slots n count) 2048 count Stand Leaves b mem s steps e) (sym g.is) (calls_here g.going g.locked)
+  calls bs mem s steps e g = subst (λ b. Call who (tasks_in slots n count) 2048 count Stand Leaves b mem s steps e) (sym g.is) (calls_here g.stands g.ten)
 
   -- as a call begins
   pub stands : (e : Emitted) → e.sends ≡ [] → e.outputs ≡ [] → Stand (blind opened) first 0 0 e
-  stands e x y = record {
-    ws = opened;
-    is = refl;
-    going = going_entry n slots who first opened 0 e r.eleven r.whole x y;
-    locked = begins;
-  }
+  stands e x y =
+      let small = r.begun.small in
+      let shows = entry_shown n long (message r.begun) (state_in n first) first opened (omega (arith, small)) r.begun.holds r.message_is r.state_is r.long_is r.end_is in
+      record { ws = opened; is = refl; stands = stands_first r.begun opened e shows r.eleven x y; ten = refl }

@@ -6,6 +6,7 @@ use Rattle.limits.specs.declared.TheConstants.{MEMORY_BYTES}
 use Rattle.dense.specs.declared.array.TheConstants.{ARRAY_BYTES}
 use Rattle.verifier.specs.declared.any_image.AnyImage.{AnyImage}
 use Rattle.verifier.specs.declared.any_image.AnyImage.TheVariants.{Flat, Span}
+use Rattle.verifier.specs.FileForm.{file_form_of}
 use Rattle.verifier.specs.AnyImage.{form_of, code_of, state_of as image_state}
 use Rattle.interp.specs.HandlerCall.{Handled}
 use Rattle.interp.specs.Configuration.{entry}
@@ -97,7 +98,7 @@ pub record IsSpanLaid (len : ℕ) (state payload array : List ℕ) : Type 0 wher
 -- the same of any form: in forms 1 and 2 the state is at 256
 abbrev pub IsLaid : AnyImage → List ℕ → List ℕ → List ℕ → Type 0
 IsLaid (Flat image) state payload array =
-    Holds (length (shown_by (Flat image) payload)) image.len (entry image.form state (shown_by (Flat image) payload)) array
+    Holds (length (shown_by (Flat image) payload)) image.len (entry (file_form_of image.form) state (shown_by (Flat image) payload)) array
 IsLaid (Span image) state payload array = IsSpanLaid image.len state payload array
 
 -- ---- answers

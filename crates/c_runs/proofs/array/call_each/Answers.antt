@@ -1,6 +1,7 @@
 use Rattle.std.proofs.Common.{◌+◌, sym, subst, ap, ◌∙◌}
 use Rattle.std.specs.Prelude.{slice_range}
 use Rattle.regtypes.specs.declared.frame.Region.TheVariants.{Message, State}
+use Rattle.verifier.specs.FileForm.{file_form_of}
 use Rattle.interp.specs.Configuration.{entry}
 use Rattle.interp.specs.Flat.{part, Holds, entry_in}
 use Rattle.interp.proofs.FlatCalls.{filled_with}
@@ -34,7 +35,7 @@ calls-preserved c =
     let before = part 64 p.len State l.mem in
     let message = c.message_at-message.result.now in
     let after = part 64 p.len State once.new.mem in
-    let f = filled_with p.form 64 p.len before message c.refill.new.mem (subst (λ n. Holds n p.len (entry p.form before message) c.refill.new.mem) c.message_at-message.ensures.size c.refill.ensures.holds) in
+    let f = filled_with p.form 64 p.len before message c.refill.new.mem (subst (λ n. Holds n p.len (entry (file_form_of p.form) before message) c.refill.new.mem) c.message_at-message.ensures.size c.refill.ensures.holds) in
     let by_state = subst (λ s. IsReported (flat_image p) c.args.who s (part 64 p.len Message c.refill.new.mem) after l.out l.end once.new.out once.result) f.state_is once.ensures.reported in
     let one = subst (λ m. IsReported (flat_image p) c.args.who before m after l.out l.end once.new.out once.result) f.message_is by_state in
     record {
