@@ -26,10 +26,11 @@ use Rattle.recovery.specs.StandsAtReplay.{StandsReplaying}
 use Rattle.recovery.specs.Moment.{HadReceived}
 use Rattle.recovery.proofs.Had.{keeps-what-it-had}
 use Rattle.recovery.proofs.ReplayLemmas as replays
-use Rattle.node_laws.specs.Together.{IsFirst}
-use Rattle.node_laws.specs.Process.{Process, Up, Collects, Replays, StandsAs, Recovers, Acts}
-use Rattle.node_laws.specs.System.{System, new_system, Call, Did, Calls, after_call, after_calls, StayExact, AllStand}
-use Rattle.node_laws.specs.Back.{length_of, HasBack, NothingIsLost, kept_of, RecoversExactly}
+use Rattle.node_laws.specs.HostProcess.{IsFirst}
+use Rattle.node_laws.specs.Inside.Process.{Process, Up, Collects, Replays, StandsAs, Recovers, Acts}
+use Rattle.node_laws.specs.Inside.System.{System, new_system, Call, Did, Calls, after_call, after_calls, StayExact, AllStand}
+use Rattle.node_laws.specs.Back.{length_of, HasBack}
+use Rattle.node_laws.specs.Inside.Back.{NothingIsLost, kept_of, RecoversExactly}
 use Rattle.node_laws.proofs.Lives.{Holds, Onward, calls-go, begins, all-stand}
 
 -- a run of the cluster leads to where all of a system stand
@@ -123,7 +124,7 @@ module _ (n : ℕ) (f : Handlers) (x y : System) (p : ℕ) (a b : TheNode) (acts
       let two : take (run_at a) (c.world.history p) ≡ c.world.history p = take_all (run_at a) (c.world.history p) (omega (arith, all, was-long)) in
       sym state-is ∙ ap (f.state p) (sym one ∙ k ∙ two) ∙ state-was
 
-  has-back : HasBack n f x y p a b
+  has-back : HasBack n f (AllStand n x) (AllStand n y) p a b
   has-back =
       record {
         acts = acts;

@@ -19,10 +19,11 @@ use Rattle.node.specs.Runs.{Answering, handlers_of}
 use Rattle.node.specs.Stands.{Each}
 use Rattle.node.proofs.Lists.{all-more}
 use Rattle.gateway.proofs.Steps.{by-if}
-use Rattle.node_laws.specs.Together.{IsFirst}
-use Rattle.node_laws.specs.Process.{Process, Up, Collects, Killed, Gives, Hears, Works, Acts, WaitsFor, covered, IsTold, Wakes, ComesFrom}
-use Rattle.node_laws.specs.System.{System, new_system, AreStored, Call, Gave, Handed, Worked, Did, Stored, Saved, Resumed, Died, Revived, DoesIt, after_call, Calls, after_calls}
-use Rattle.node_laws.specs.Durable.{AreAfter, IsSentBy, given_by, ReplaysAll, ReplaysWhole, ReplayWhole, KeepsDurable, StaysDurable, HasAfter, StoredStays, DurableLast}
+use Rattle.node_laws.specs.HostProcess.{IsFirst}
+use Rattle.node_laws.specs.Inside.Process.{Process, Up, Collects, Killed, Gives, Hears, Works, Acts, WaitsFor, covered, IsTold, Wakes, ComesFrom}
+use Rattle.node_laws.specs.Inside.System.{System, new_system, AreStored, Call, Gave, Handed, Worked, Did, Stored, Saved, Resumed, Died, Revived, DoesIt, after_call, Calls, after_calls}
+use Rattle.node_laws.specs.Durable.{AreAfter, IsSentBy, HasAfter}
+use Rattle.node_laws.specs.Inside.Durable.{given_by, ReplaysAll, ReplaysWhole, ReplayWhole, KeepsDurable, StaysDurable, StoredStays, DurableLast}
 use Rattle.node_laws.proofs.Held.{Holds}
 use Rattle.node_laws.proofs.HeldNode.{keeping, counting-again}
 use Rattle.node_laws.proofs.HeldState.{IsGiven, OfNode}

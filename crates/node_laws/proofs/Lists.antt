@@ -4,23 +4,25 @@ use Rattle.std.specs.Prelude.{◌==◌, if◌then◌else◌}
 use Rattle.verifier.specs.declared.any_image.AnyImage.{AnyImage}
 use Rattle.world.specs.declared.message.Message.{Message}
 use Rattle.node.specs.Runs.{Answering}
-use Rattle.node_laws.specs.Together.{IsFirst}
-use Rattle.node_laws.specs.Process.{Process, Up, Covered, Replays, is_exact}
-use Rattle.node_laws.specs.System.{System as Lived, Call, Gave, Handed, Worked, Did, Stored, Saved, Resumed, Died, Revived, GaveOut, HandedOut, DidOut, StoredOut, StoredBut, RevivedOut, handed_out, Calls, after_call, after_calls, AreExact, StayExact}
-use Rattle.node_laws.specs.Alone.{OneAtATime}
-use Rattle.node_laws.specs.Durable.{ReplayWhole, StaysDurable, given_by, outputs_of}
-use Rattle.node_laws.specs.Outputs.{OneLife}
+use Rattle.node_laws.specs.HostProcess.{IsFirst}
+use Rattle.node_laws.specs.Inside.Process.{Process, Up, Covered, Replays, is_exact}
+use Rattle.node_laws.specs.Inside.System.{System as Lived, Call, Gave, Handed, Worked, Did, Stored, Saved, Resumed, Died, Revived, GaveOut, HandedOut, DidOut, StoredOut, StoredBut, RevivedOut, Calls, after_call, after_calls, AreExact, StayExact}
+use Rattle.node_laws.specs.HostSystem.{handed_out}
+use Rattle.node_laws.specs.Inside.Alone.{OneAtATime}
+use Rattle.node_laws.specs.Inside.Durable.{ReplayWhole, StaysDurable, given_by, outputs_of}
+use Rattle.node_laws.specs.Inside.Outputs.{OneLife}
 pub use Rattle.node_laws.proofs.Back.{after-append}
 use Rattle.node_laws.proofs.Durability.{IsFor}
 use Rattle.node_laws.proofs.Durable.{Now, nothing, all-fair, step}
-use Rattle.node_laws.specs.HostSystem.{System, HostCall, as_lives, AreCalls, DoesIt}
+use Rattle.node_laws.specs.HostSystem.{System, HostCall, AreCalls, DoesIt}
 use Rattle.node_laws.specs.HostSystem as hosted
 use Rattle.node_laws.specs.HostReplies.{answering}
-use Rattle.node_laws.specs.HostLives.{IsAs}
-use Rattle.node_laws.specs.HostLives as laws
+use Rattle.node_laws.specs.Inside.Hosted.{IsAs}
+use Rattle.node_laws.specs.HostLaws as laws
 use Rattle.node_laws.proofs.Calls.{IsHere}
 use Rattle.node_laws.proofs.HostStep.{AreGood, Steps}
 use Rattle.node_laws.proofs.HostSteps.{steps}
+use Rattle.node_laws.proofs.Views.{exact-as}
 
 -- ---- calls in all lives behind others
 
@@ -121,11 +123,11 @@ here-of f states n p low h (Replays m) s = (s.me, s.count)
 here-of f states n p low h other s = tt
 
 -- one is as exact as the other
-exact-here : (n : ℕ) (s : System) (t : Lived) → IsAs n s t → AreExact n t → AreExact n (as_lives s)
-exact-here n s t st e p l = ap is_exact (sym (st.processes p l)) ∙ e p l
+exact-here : (n : ℕ) (s : System) (t : Lived) → IsAs n s t → AreExact n t → laws.AreExact n s
+exact-here n s t st e p l = sym (exact-as (s.processes p)) ∙ ap is_exact (sym (st.processes p l)) ∙ e p l
 
-pub exact-there : (n : ℕ) (s : System) (t : Lived) → IsAs n s t → AreExact n (as_lives s) → AreExact n t
-exact-there n s t st e p l = ap is_exact (st.processes p l) ∙ e p l
+pub exact-there : (n : ℕ) (s : System) (t : Lived) → IsAs n s t → laws.AreExact n s → AreExact n t
+exact-there n s t st e p l = ap is_exact (st.processes p l) ∙ exact-as (s.processes p) ∙ e p l
 
 -- ---- and behind them
 

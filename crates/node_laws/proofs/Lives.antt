@@ -35,10 +35,11 @@ use Rattle.gateway.specs.Stands as gateways
 use Rattle.gateway.proofs.Openings as gateway_opening
 use Rattle.gateway.proofs.Steps.{stays}
 use Rattle.gateway.proofs.Views.{takes-so}
-use Rattle.node_laws.specs.Together.{IsFirst}
+use Rattle.node_laws.specs.HostProcess.{IsFirst}
 use Rattle.node_laws.proofs.JointGateways.{gateway-stands, all-by-gateway}
-use Rattle.node_laws.specs.Process.{Process, Collects, Killed, StandsAs, is_exact, covered}
-use Rattle.node_laws.specs.System.{System, new_system, AreStored, Call, Gave, Handed, Worked, Did, Stored, Saved, Resumed, Died, Revived, GaveOut, HandedOut, DidOut, StoredOut, StoredBut, RevivedOut, handed_out, untaken, DoesIt, after_call, Calls, after_calls, AreStoredOf, AreExact, StayExact, AllStand, LivesRun}
+use Rattle.node_laws.specs.Inside.Process.{Process, Collects, Killed, StandsAs, is_exact, covered}
+use Rattle.node_laws.specs.Inside.System.{System, new_system, AreStored, Call, Gave, Handed, Worked, Did, Stored, Saved, Resumed, Died, Revived, GaveOut, HandedOut, DidOut, StoredOut, StoredBut, RevivedOut, DoesIt, after_call, Calls, after_calls, AreStoredOf, AreExact, StayExact, AllStand, LivesRun}
+use Rattle.node_laws.specs.HostSystem.{handed_out, untaken}
 use Rattle.node_laws.proofs.Moves.{Moves, stands-still, stored-still, lives-still}
 use Rattle.node_laws.proofs.Steps.{giving, hearing, working, acting, storing, telling, waking, dying, reviving}
 use Rattle.node_laws.proofs.Losses.{loss-is-dropped}

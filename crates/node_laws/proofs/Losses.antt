@@ -8,7 +8,7 @@ use Rattle.node.specs.Calls as nodes
 use Rattle.gateway.specs.Gateway.{TheGateway}
 use Rattle.gateway.specs.Calls as outside
 use Rattle.recovery.specs.Overlap.{is_loss}
-use Rattle.node_laws.specs.System.{LossIsDropped}
+use Rattle.node_laws.specs.Losses.{LossIsDropped}
 
 -- of two values that are the same either is
 either : {X : Type 0} (b : Bool) (x y : X) → x ≡ y → (if b then x else y) ≡ y

@@ -1,4 +1,4 @@
--- The worked list of calls with messages
+-- The process of the worked list, and the gateway
 use Rattle.std.proofs.Common.{◌≡◌, inl, inr, ℕ, zero, suc, ◌+◌, ◌<◌, ◌≤◌, List, [], ◌∷◌, ◌++◌, length, Bool, true, false, refl, sym, ap, ◌∙◌, arith, length-append}
 use Rattle.std.specs.Prelude.{Option, Some, None, is_some, slice_index_or, ◌==◌, if◌then◌else◌}
 use Rattle.std.specs.List.{AllByRecursion}
@@ -12,41 +12,22 @@ use Rattle.world.specs.Plan.{if_next}
 use Rattle.rsn.specs.Receipts.{Received}
 use Rattle.stores.specs.Store.{IsOf}
 use Rattle.node.specs.declared.job.OpenJob.{OpenJob}
-use Rattle.node.specs.declared.limit.TheConstants.{PAGE, TICK}
 use Rattle.node.specs.Limit.{usual}
 use Rattle.node.specs.Queue.{TheQueue, no_queue}
 use Rattle.node.specs.Node.{TheNode, IsWithin, Within, IsPeer, OfPeer, HasSsn, MaySend, log_at}
 use Rattle.node.specs.Kept.{kept_of}
 use Rattle.node.specs.Suspension.{suspended_bytes, IsWhole, CanSuspend, IsSuspended}
-use Rattle.node.specs.Runs.{Answer}
 use Rattle.node.specs.Stands.{job_of}
-use Rattle.node.proofs.Freezes.{freezes, saves}
-use Rattle.node.proofs.Handover as nodes
-use Rattle.node.proofs.Preservation.{kept-covers}
 use Rattle.node.proofs.Lists.{count-append}
-use Rattle.node.proofs.Views as views
 use Rattle.recovery.specs.Own.{TheOwn, MayGive}
 use Rattle.recovery.specs.Plan.{told_under, Plans}
-use Rattle.recovery.specs.Replays.{next_job}
-use Rattle.recovery.specs.StandsAtReplay.{replayed_of}
-use Rattle.recovery.proofs.Revival.{revives}
-use Rattle.recovery.proofs.Reports as collecting
 use Rattle.recovery.proofs.Moments.{comes-back}
-use Rattle.recovery.proofs.ReplayLemmas.{ends-so, collecting-takes, replays-so}
-use Rattle.recovery.specs.Restoration.{IsRestoring, up}
-use Rattle.recovery.proofs.Beginnings.{beginning}
-use Rattle.recovery.proofs.RestorationReports as restoring
-use Rattle.recovery.proofs.Returns as returns
-use Rattle.gateway.specs.Gateway.{TheGateway, new_gateway}
-use Rattle.gateway.proofs.Transmission.{putting-in}
-use Rattle.gateway.proofs.Views as gateways
-use Rattle.gateway.proofs.Handover.{handed-so}
-use Rattle.node_laws.specs.Process.{Recovers}
-use Rattle.node_laws.specs.System.{Calls, after_calls}
-use Rattle.node_laws.specs.Worked.{sent}
-use Rattle.node_laws.specs.Messages.{last, input, delivery, number, acknowledgement, covers, ask, told, resume, restored, gave, g1, g2, g3, g4, g5, g6, g7, g8, quiet, n0, n1, n2, n3, n4, n5, n6, n7, n8, n9, n10, comes, asks, has_all, job, replays, replays_more, replayed, begins, resumes, has_answer, before, behind, opened, ReplaysTwo}
+use Rattle.recovery.specs.Restoration.{IsRestoring}
+use Rattle.gateway.specs.Gateway.{TheGateway}
+use Rattle.node_laws.specs.HostProcess.{IsFirst}
+use Rattle.node_laws.specs.Inside.Process.{Recovers}
+use Rattle.node_laws.specs.Messages.{input, quiet, n0, n1, n2, n4, n5, n6, n7, n8, n9, has_all, job, replays, resumes}
 use Rattle.node_laws.proofs.Lives.{usual-allowed}
-use Rattle.node_laws.proofs.Worked.{first, stays-exact}
 
 -- ---- what the node keeps, which sends nothing
 
@@ -105,14 +86,8 @@ of-gateway = (omega arith, λ e. absurd (omega (arith, e)))
 
 -- ---- what the handler answers
 
-gives-none : (n : TheNode) → MaySend n []
+pub gives-none : (n : TheNode) → MaySend n []
 gives-none n = record { few = omega arith; others = λ i s e. absurd (cc) }
-
-abbrev to-answer : OpenJob → Answer
-to-answer z = record { state = z.payload; given = [] }
-
-same-job : (k : ℕ) (o : Option OpenJob) (j : OpenJob) → o ≡ Some (job k) → o ≡ Some j → job k ≡ j
-same-job k o j is e = let both : Some (job k) ≡ Some j = sym is ∙ e in cc
 
 -- ---- what is told is replayed
 
@@ -142,55 +117,59 @@ plans h c =
       most = ap (λ k. if_next (h ++ m2 ∷ m3 ∷ []) (f (suc k))) long3;
     }
 
-recovers : Recovers has_all replays
+pub recovers : Recovers has_all replays
 unfolding entries_in_range
 recovers = record { all = refl; is = record { own = refl; plans = plans; none = refl }; acts = comes-back has_all jobs refl plans }
 
-is-restoring : IsRestoring resumes.own resumes.above resumes.answered
+pub is-restoring : IsRestoring resumes.own resumes.above resumes.answered
 unfolding entries_in_range
 is-restoring = record { wide = refl; answered_wide = refl; heard_wide = refl; logs_wide = refl; alone = refl }
 
-first-of : (g : TheGateway) → length g.store.peers ≡ 1 → IsOf 1 g.store
+pub first-of : (g : TheGateway) → length g.store.peers ≡ 1 → IsOf 1 g.store
 first-of g one = record { some = omega arith; low = omega (arith, one) }
 
-early : 1 < 2
+-- the process is the first
+pub first : IsFirst 1 1
+first = (omega arith, omega arith)
+
+pub early : 1 < 2
 early = omega arith
 
 -- ---- the node as it goes on
 
-within-n0 : Within n0
+pub within-n0 : Within n0
 unfolding entries_in_range
 within-n0 = rests 0 [] 0 [] (omega arith) (omega arith) (omega arith) tt false
 
-within-n1 : Within n1
+pub within-n1 : Within n1
 unfolding entries_in_range
 within-n1 = works-on 0 [] 0 [] (omega arith) (omega arith) (omega arith) tt 1 (omega arith) (omega arith)
 
-within-q2 : Within (quiet n2)
+pub within-q2 : Within (quiet n2)
 unfolding entries_in_range
 within-q2 = rests 0 (false ∷ []) 1 (0 ∷ []) (omega arith) (omega arith) (omega arith) (of-gateway, tt) false
 
-within-n4 : Within n4
+pub within-n4 : Within n4
 unfolding entries_in_range
 within-n4 = rests 0 (true ∷ []) 0 (0 ∷ []) (omega arith) (omega arith) (omega arith) (of-gateway, tt) true
 
-within-q5 : Within (quiet n5)
+pub within-q5 : Within (quiet n5)
 unfolding entries_in_range
 within-q5 = rests 1 [] 0 [] (omega arith) (omega arith) (omega arith) tt false
 
-within-n6 : Within n6
+pub within-n6 : Within n6
 unfolding entries_in_range
 within-n6 = works-on 1 [] 0 [] (omega arith) (omega arith) (omega arith) tt 2 (omega arith) (omega arith)
 
-within-q7 : Within (quiet n7)
+pub within-q7 : Within (quiet n7)
 unfolding entries_in_range
 within-q7 = rests 1 (false ∷ []) 1 (0 ∷ []) (omega arith) (omega arith) (omega arith) (of-gateway, tt) false
 
-within-n8 : Within n8
+pub within-n8 : Within n8
 unfolding entries_in_range
 within-n8 = works-on 1 (false ∷ []) 1 (0 ∷ []) (omega arith) (omega arith) (omega arith) (of-gateway, tt) 3 (omega arith) (omega arith)
 
-within-q9 : Within (quiet n9)
+pub within-q9 : Within (quiet n9)
 unfolding entries_in_range
 within-q9 = rests 1 (false ∷ false ∷ []) 2 (0 ∷ 0 ∷ []) (omega arith) (omega arith) (omega arith) (of-gateway, (of-gateway, tt)) false
 
@@ -224,33 +203,5 @@ can-suspend =
 pub suspended-5 : IsSuspended (quiet n5) (suspended_bytes (quiet n5))
 suspended-5 = record { within = within-q5; can = can-suspend; bytes_are = refl }
 
-gives-nothing : (o : TheOwn) → MayGive o []
+pub gives-nothing : (o : TheOwn) → MayGive o []
 gives-nothing o = record { few = omega arith; others = λ i s e. absurd (cc) }
-
-calls-before : (stored : ℕ → List ℕ) (bytes : List ℕ) → IsKept (kept_of n4) bytes → Calls last 1 (opened stored) (before bytes)
-unfolding entries_in_range pairs_in_range
-calls-before stored bytes kept = ((inl (1, (input 1, (refl, first-of (new_gateway 1 PAGE TICK) refl))), putting-in (new_gateway 1 PAGE TICK) 1 (input 1) (first-of (new_gateway 1 PAGE TICK) refl)), (tt, ((refl, gateways.takes-so (Some (delivery 1)) g1 [] refl), ((first, (inl refl, (n1, (refl, (refl, nodes.handed-so (delivery 1) n0 within-n0))))), ((first, (λ j e. ap to-answer (same-job 1 n1.working j refl e), (n2, (refl, (refl, nodes.worked-so n1 (input 1) [] within-n1 (gives-none n1)))))), ((first, (quiet n2, (refl, views.takes-so (Some (number 1)) n2 [] refl))), ((inl refl, (refl, handed-so (number 1) (sent g1))), (tt, ((refl, gateways.takes-so (Some (acknowledgement 1)) g2 [] refl), ((first, (inl refl, (n3, (refl, (refl, nodes.handed-so (acknowledgement 1) (quiet n2) within-q2))))), ((first, (n4, (refl, (inr refl, freezes n3)))), ((first, (refl, (kept, kept-covers n4 within-n4))), ((first, (n5, (refl, (refl, saves n4 within-n4)))), ((first, (quiet n5, (refl, views.takes-so (Some covers) n5 [] refl))), ((first, (can-suspend, (quiet n5, (refl, refl)))), ((inl (1, (input 2, (refl, first-of (sent g2) refl))), putting-in (sent g2) 1 (input 2) (first-of (sent g2) refl)), ((inl (1, (input 3, (refl, first-of g3 refl))), putting-in g3 1 (input 3) (first-of g3 refl)), (tt, ((refl, gateways.takes-so (Some (delivery 2)) g4 (delivery 3 ∷ []) refl), ((refl, gateways.takes-so (Some (delivery 3)) (gave (delivery 3 ∷ []) g4) [] refl), ((first, (inr (inl refl), (n6, (refl, (refl, nodes.handed-so (delivery 2) (quiet n5) within-q5))))), ((first, (λ j e. ap to-answer (same-job 2 n6.working j refl e), (n7, (refl, (refl, nodes.worked-so n6 (input 2) [] within-n6 (gives-none n6)))))), ((first, (quiet n7, (refl, views.takes-so (Some (number 2)) n7 [] refl))), ((first, (inr (inl refl), (n8, (refl, (refl, nodes.handed-so (delivery 3) (quiet n7) within-q7))))), ((first, (λ j e. ap to-answer (same-job 3 n8.working j refl e), (n9, (refl, (refl, nodes.worked-so n8 (input 3) [] within-n8 (gives-none n8)))))), ((first, (quiet n9, (refl, views.takes-so (Some (number 3)) n9 [] refl))), ((inr (inl refl), (refl, handed-so (number 2) (sent g4))), ((inl refl, (refl, handed-so (number 3) g5)), (tt, ((refl, gateways.takes-so (Some (acknowledgement 2)) g6 (acknowledgement 3 ∷ []) refl), ((refl, gateways.takes-so (Some (acknowledgement 3)) (gave (acknowledgement 3 ∷ []) g6) [] refl), ((first, (inr (inl refl), (n10, (refl, (refl, nodes.handed-so (acknowledgement 2) (quiet n9) within-q9))))), tt))))))))))))))))))))))))))))))))
-
-calls-behind : (stored : ℕ → List ℕ) (bytes : List ℕ) → IsKept (kept_of n4) bytes → Calls last 1 (after_calls (opened stored) (before bytes)) behind
-unfolding entries_in_range pairs_in_range
-calls-behind stored bytes kept = (first, ((first, (tt, (early, (kept_of n4, (kept, ((usual, refl), revives usual (kept_of n4) 2)))))), ((first, (asks, (refl, collecting-takes (Some ask) comes [] refl))), ((inl refl, (refl, handed-so ask (sent g6))), (tt, ((refl, gateways.takes-so (Some told) g7 [] refl), ((first, (inl refl, (has_all, (refl, (refl, collecting.handing asks told refl refl))))), ((first, inr (replays, (refl, recovers))), ((first, (λ j e. ap to-answer (same-job 2 (next_job replays) j refl e), (replays_more, (refl, (refl, replays-so replays (input 2) [] refl (gives-nothing replays.own)))))), ((first, (λ j e. ap to-answer (same-job 3 (next_job replays_more) j refl e), (replayed, (refl, (refl, replays-so replays_more (input 3) [] refl (gives-nothing replays_more.own)))))), ((first, (replayed_of replayed, (refl, (refl, ends-so replayed refl (omega arith))))), ((first, (begins, (refl, (refl, beginning (replayed_of replayed))))), ((first, (resumes, (refl, returns.takes-so (Some resume) begins [] refl))), ((inl refl, (refl, handed-so resume (sent g7))), (tt, ((refl, gateways.takes-so (Some restored) g8 [] refl), ((first, (inl refl, (has_answer, (refl, (refl, restoring.handing resumes restored is-restoring))))), ((first, inr (up has_answer, (refl, (refl, returns.is-up has_answer refl)))), tt))))))))))))))))))
-
-pub replays-two : ReplaysTwo
-unfolding entries_in_range pairs_in_range
-replays-two stored bytes at_opening kept =
-    record {
-      calls = calls-before stored bytes kept;
-      more = calls-behind stored bytes kept;
-      exact = stays-exact (opened stored) (before bytes) (refl, (refl, (refl, (refl, (refl, (refl, (refl, (refl, (refl, (refl, (refl, (refl, (refl, (refl, (refl, (refl, (refl, (refl, (refl, (refl, (refl, (refl, (refl, (refl, (refl, (refl, (refl, (refl, (refl, (refl, (refl, (refl, tt))))))))))))))))))))))))))))))));
-      exact_more = stays-exact (after_calls (opened stored) (before bytes)) behind (refl, (refl, (refl, (refl, (refl, (refl, (refl, (refl, (refl, (refl, (refl, (refl, (refl, (refl, (refl, (refl, (refl, (refl, tt))))))))))))))))));
-      alone = (λ q inside other. absurd (omega (arith, inside.0, inside.1, other)), (tt, (tt, (tt, (tt, (tt, (tt, (tt, (tt, (tt, (tt, (tt, (tt, (tt, (tt, (tt, (tt, (tt, tt))))))))))))))))));
-      whole = (tt, (tt, (tt, (tt, (tt, (tt, (tt, (tt, (tt, (tt, (refl, (tt, (tt, (tt, (tt, (tt, (tt, (tt, tt))))))))))))))))));
-      was_up = refl;
-      had = refl;
-      acknowledged = refl;
-      was = refl;
-      is_up = refl;
-      has = refl;
-      life = refl;
-      state = refl;
-    }

@@ -14,9 +14,13 @@ use Rattle.node.specs.declared.limit.Limits.{Limits}
 use Rattle.node.specs.Runs.{Answering, handlers_of}
 use Rattle.node.specs.Stands.{Each, InOrderFrom}
 use Rattle.node.proofs.Lists.{all-more}
-use Rattle.node_laws.specs.System.{System, new_system, Call, after_call, Calls, after_calls}
-use Rattle.node_laws.specs.Durable.{outputs_of, Keep}
-use Rattle.node_laws.specs.Outputs.{OneLife, IsOut, AllOut, LeavesNoGap, AreBehind, SayTheSame, OutputsInOrder, OutputsWithoutGap, OutputsStayOut, OutputsAgree}
+use Rattle.node_laws.specs.Inside.System.{System, new_system, Call, after_call, Calls, after_calls}
+use Rattle.node_laws.specs.Inside.Durable.{outputs_of}
+use Rattle.packets.specs.declared.packet.NodePacket.{NodePacket}
+use Rattle.node.specs.Node.{TheNode}
+use Rattle.node_laws.specs.Durable.{Keep}
+use Rattle.node_laws.specs.Inside.Outputs.{OneLife, OutputsInOrder, OutputsWithoutGap, OutputsStayOut}
+use Rattle.node_laws.specs.Outputs.{IsOut, AllOut, LeavesNoGap, AreBehind, SayTheSame}
 use Rattle.node_laws.proofs.Back.{after-append, calls-parts}
 use Rattle.node_laws.proofs.Preservation.{IsShown, durable-keep}
 use Rattle.node_laws.proofs.HeldGateway.{OfGateway}
@@ -255,13 +259,8 @@ said-same f durable h a b x y d p i =
     let same : Some a.payload ≡ Some b.payload = sym there ∙ other in
     cc
 
-pub keep-same : (n : ℕ) (f : Handlers) (durable : ℕ → Bool) (s : System) (outputs : List Output) → Keep n f durable s outputs → SayTheSame durable outputs
-keep-same n f durable s outputs k =
+pub keep-same : (n : ℕ) (f : Handlers) (durable : ℕ → Bool) (bytes : ℕ → List ℕ) (Up : ℕ → TheNode → Type 0) (given : List NodePacket) (outputs : List Output) → Keep n f durable bytes Up given outputs → SayTheSame durable outputs
+keep-same n f durable bytes Up given outputs k =
     let Same : Output → Output → Type 0 = λ a b. durable a.process ≡ true → a.process ≡ b.process → a.ssn ≡ b.ssn → a.payload ≡ b.payload in
     let Sent : Output → Type 0 = IsShown f durable k.messages in
     all-more Sent (λ a. Each (Same a) outputs) outputs (λ a x. all-more Sent (Same a) outputs (λ b y. said-same f durable k.messages a b x y) k.shown) k.shown
-
-pub outputs-agree : OutputsAgree
-outputs-agree f n page tick limits states bytes calls durable stored lasting m v w =
-    let s : System = new_system n limits states bytes page tick in
-    keep-same n (handlers_of f states) durable (after_calls s calls) (outputs_of s calls) (durable-keep f n page tick limits states bytes calls durable stored lasting m v w)

@@ -22,10 +22,12 @@ use Rattle.node.proofs.Lists.{all-more}
 use Rattle.node.proofs.Runs.{grows, one-was}
 use Rattle.recovery.proofs.Preservation.{each-drop}
 use Rattle.recovery.proofs.Lists.{each-append}
-use Rattle.node_laws.specs.Together.{IsFirst}
-use Rattle.node_laws.specs.Process.{Process, Up, Gives, WaitsFor, covered}
-use Rattle.node_laws.specs.System.{System, new_system, Call, Gave, Handed, Stored, GaveOut, HandedOut, DidOut, StoredOut, StoredBut, RevivedOut, handed_out, untaken, DoesIt, after_call, Calls, after_calls}
-use Rattle.node_laws.specs.Durable.{ReplaysWhole, ReplayWhole, KeepsDurable, StaysDurable, HasAfter, IsSentBy, outputs_of, Knows, DurableKeep}
+use Rattle.node_laws.specs.HostProcess.{IsFirst}
+use Rattle.node_laws.specs.Inside.Process.{Process, Up, Gives, WaitsFor, covered}
+use Rattle.node_laws.specs.Inside.System.{System, new_system, Call, Gave, Handed, Stored, GaveOut, HandedOut, DidOut, StoredOut, StoredBut, RevivedOut, DoesIt, after_call, Calls, after_calls}
+use Rattle.node_laws.specs.HostSystem.{handed_out, untaken}
+use Rattle.node_laws.specs.Inside.Durable.{ReplaysWhole, ReplayWhole, KeepsDurable, StaysDurable, outputs_of, DurableKeep}
+use Rattle.node_laws.specs.Durable.{HasAfter, IsSentBy, Knows}
 use Rattle.node_laws.proofs.Taken.{IsFair, fair-more, fair-of}
 use Rattle.node_laws.proofs.HeldState.{grown}
 use Rattle.node_laws.proofs.HeldGateway.{IsQuiet, OfGateway, EachOutput, each-deals, each-hands}

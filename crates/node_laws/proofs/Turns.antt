@@ -21,9 +21,10 @@ use Rattle.node.specs.Stands.{Each, InOrderFrom}
 use Rattle.node.proofs.Lists.{count-append}
 use Rattle.node.proofs.Numbers.{InOrderFrom-push}
 use Rattle.recovery.proofs.Lists.{each-append}
-use Rattle.node_laws.specs.System.{System, Call, Gave, GaveOut, HandedOut, DidOut, StoredOut, StoredBut, RevivedOut, handed_out, untaken, DoesIt, after_call}
-use Rattle.node_laws.specs.Durable.{outputs_of}
-use Rattle.node_laws.specs.Outputs.{LivesOn}
+use Rattle.node_laws.specs.Inside.System.{System, Call, Gave, GaveOut, HandedOut, DidOut, StoredOut, StoredBut, RevivedOut, DoesIt, after_call}
+use Rattle.node_laws.specs.HostSystem.{handed_out, untaken}
+use Rattle.node_laws.specs.Inside.Durable.{outputs_of}
+use Rattle.node_laws.specs.Inside.Outputs.{LivesOn}
 use Rattle.node_laws.proofs.HeldGateway.{OfGateway, Steady, output, hands, puts, ticks, tells}
 use Rattle.node_laws.proofs.Untaken.{IsQuietDeal, DealsSo, deals-so, deals-alike, handed-alike, handing-so}
 

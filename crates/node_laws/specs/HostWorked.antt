@@ -18,20 +18,17 @@ use Rattle.node.specs.Transmission.{ticked, run_at}
 use Rattle.node.specs.Kept.{kept_of}
 use Rattle.node.specs.Suspension.{suspended_bytes}
 use Rattle.recovery.specs.Restoration.{up}
-use Rattle.node_laws.specs.System.{GaveOut, HandedOut, DidOut, StoredOut}
 use Rattle.node_laws.specs.Back.{length_of}
-use Rattle.node_laws.specs.Worked.{sent}
-use Rattle.node_laws.specs.Messages.{input, delivery, number, acknowledgement, covers, ask, told, resume, restored, gave, g1, g2, g3, g4}
-use Rattle.node_laws.specs.Messages.{g5, g6, g7, g8, quiet, n0, n1, n2, n3, n4, n5, n6, n7, n8, n9, n10, comes, asks, replays}
+use Rattle.node_laws.specs.Messages.{sent, input, delivery, number, acknowledgement, covers, ask, told, resume, restored, gave, g1, g2, g3}
+use Rattle.node_laws.specs.Messages.{g4, g5, g6, g7, g8, quiet, n0, n1, n2, n3, n4, n5, n6, n7, n8, n9, n10, comes, asks, replays}
 use Rattle.node_laws.specs.Messages.{replays_more, begins, resumes, has_answer}
 use Rattle.process.specs.declared.lifecycle.Lifecycle.{Lifecycle}
 use Rattle.process.specs.declared.lifecycle.Lifecycle.TheVariants.{Up, Collecting, Replaying, Restoring}
 use Rattle.process.specs.Process.{TheProcess}
 use Rattle.node_laws.specs.HostProcess.{Absent, Runs, Sleeps}
 use Rattle.node_laws.specs.HostSystem.{System, Opens, new_system, HostCall, Gave, Handed, Worked, Froze, Stored, Saved, Suspended, Resumed}
-use Rattle.node_laws.specs.HostSystem.{Died, Revived}
-use Rattle.node_laws.specs.HostSystem.{Outside, AreCalls, after_calls}
-use Rattle.node_laws.specs.HostLives.{StayExact, OneAtATime}
+use Rattle.node_laws.specs.HostSystem.{Died, Revived, GaveOut, HandedOut, DidOut, StoredOut, AreCalls, after_calls}
+use Rattle.node_laws.specs.HostLaws.{StayExact, OneAtATime}
 
 -- ---- its handler
 
@@ -61,18 +58,18 @@ process image lifecycle = record { image = image; lifecycle = lifecycle }
 abbrev pub before : AnyImage → List ℕ → List HostCall
 before image bytes =
     -- an input comes for the process, and the gateway sends it
-    Outside (DidOut g1)
-    ∷ Outside StoredOut
-    ∷ Outside (GaveOut (delivery 1) (sent g1))
+    DidOut g1
+    ∷ StoredOut
+    ∷ GaveOut (delivery 1) (sent g1)
     -- the process gets the message
     ∷ Handed 1 (delivery 1) (process image (Up n1))
     -- its handler runs on the message
     ∷ Worked 1 (process image (Up n2))
     -- it tells the gateway the RSN of the message, and the gateway acknowledges it
     ∷ Gave 1 (number 1) (process image (Up (quiet n2)))
-    ∷ Outside (HandedOut (number 1) g2)
-    ∷ Outside StoredOut
-    ∷ Outside (GaveOut (acknowledgement 1) (sent g2))
+    ∷ HandedOut (number 1) g2
+    ∷ StoredOut
+    ∷ GaveOut (acknowledgement 1) (sent g2)
     ∷ Handed 1 (acknowledgement 1) (process image (Up n3))
     -- it makes a checkpoint, which is stored, and is told so
     ∷ Froze 1 bytes (process image (Up n4))
@@ -84,11 +81,11 @@ before image bytes =
     ∷ Suspended 1 (suspended_bytes (quiet n5))
     ∷ Resumed 1 usual (process image (Up (quiet n5)))
     -- two more inputs come, and the gateway sends them
-    ∷ Outside (DidOut g3)
-    ∷ Outside (DidOut g4)
-    ∷ Outside StoredOut
-    ∷ Outside (GaveOut (delivery 2) (gave (delivery 3 ∷ []) g4))
-    ∷ Outside (GaveOut (delivery 3) (sent g4))
+    ∷ DidOut g3
+    ∷ DidOut g4
+    ∷ StoredOut
+    ∷ GaveOut (delivery 2) (gave (delivery 3 ∷ []) g4)
+    ∷ GaveOut (delivery 3) (sent g4)
     -- the process gets the second message, works on it and tells its RSN
     ∷ Handed 1 (delivery 2) (process image (Up n6))
     ∷ Worked 1 (process image (Up n7))
@@ -98,11 +95,11 @@ before image bytes =
     ∷ Worked 1 (process image (Up n9))
     ∷ Gave 1 (number 3) (process image (Up (quiet n9)))
     -- the gateway acknowledges both RSNs
-    ∷ Outside (HandedOut (number 2) g5)
-    ∷ Outside (HandedOut (number 3) g6)
-    ∷ Outside StoredOut
-    ∷ Outside (GaveOut (acknowledgement 2) (gave (acknowledgement 3 ∷ []) g6))
-    ∷ Outside (GaveOut (acknowledgement 3) (sent g6))
+    ∷ HandedOut (number 2) g5
+    ∷ HandedOut (number 3) g6
+    ∷ StoredOut
+    ∷ GaveOut (acknowledgement 2) (gave (acknowledgement 3 ∷ []) g6)
+    ∷ GaveOut (acknowledgement 3) (sent g6)
     -- the process gets one of these acknowledgements
     ∷ Handed 1 (acknowledgement 2) (process image (Up n10))
     ∷ []
@@ -116,9 +113,9 @@ behind image =
     ∷ Revived 1 usual 2 (process image (Collecting comes))
     -- it asks the gateway what its log holds, and the gateway answers
     ∷ Gave 1 ask (process image (Collecting asks))
-    ∷ Outside (HandedOut ask g7)
-    ∷ Outside StoredOut
-    ∷ Outside (GaveOut told (sent g7))
+    ∷ HandedOut ask g7
+    ∷ StoredOut
+    ∷ GaveOut told (sent g7)
     -- it gets the answer, and begins to replay two messages
     ∷ Handed 1 told (process image (Replaying replays))
     -- its handler runs on the second message again
@@ -127,9 +124,9 @@ behind image =
     ∷ Worked 1 (process image (Restoring begins))
     -- it asks the gateway for these, and the gateway answers
     ∷ Gave 1 resume (process image (Restoring resumes))
-    ∷ Outside (HandedOut resume g8)
-    ∷ Outside StoredOut
-    ∷ Outside (GaveOut restored (sent g8))
+    ∷ HandedOut resume g8
+    ∷ StoredOut
+    ∷ GaveOut restored (sent g8)
     -- it gets the answer, and is up
     ∷ Handed 1 restored (process image (Up (ticked (up has_answer))))
     ∷ []

@@ -1,49 +1,40 @@
--- A worked list of calls with messages: the only process of a cluster receives three. After the first it keeps a checkpoint, and is
--- suspended and resumed. It is killed when two are acknowledged, and comes back with all, of which it replays two
-use Rattle.std.specs.Prelude.{◌≡◌, ℕ, List, [], ◌∷◌, Some, true, false}
+-- The only process of a cluster and the gateway, as three messages come: the first before a checkpoint of the process, two more before it is
+-- killed. It comes back and replays these two
+use Rattle.std.specs.Prelude.{ℕ, List, [], ◌∷◌, Some, true, false}
+use Rattle.packets.specs.declared.packet.Body.{Body}
 use Rattle.packets.specs.declared.packet.Body.TheVariants.{Delivery, Number, Acknowledgement, Saved, Ask, Told, Resume, Restored}
 use Rattle.packets.specs.declared.packet.NodePacket.{NodePacket}
 use Rattle.packets.specs.declared.page.LoggedMessage.{LoggedMessage}
 use Rattle.packets.specs.Packet.{flags_of}
-use Rattle.packets.specs.Kept.{IsKept}
 use Rattle.node.specs.declared.job.OpenJob.{OpenJob}
 use Rattle.node.specs.declared.limit.TheConstants.{PAGE, TICK}
 use Rattle.node.specs.Limit.{usual}
 use Rattle.node.specs.Node.{TheNode, new_node}
 use Rattle.node.specs.Calls as nodes
 use Rattle.node.specs.Checkpoints as saving
-use Rattle.node.specs.Transmission.{run_at}
 use Rattle.node.specs.Kept.{kept_of}
-use Rattle.node.specs.Runs.{Answer, Answering}
 use Rattle.recovery.specs.Collection.{TheCollecting, revived}
 use Rattle.recovery.specs.Collection as collecting
 use Rattle.recovery.specs.Replays.{TheReplaying, did_replay}
 use Rattle.recovery.specs.StandsAtReplay.{replayed_of}
-use Rattle.recovery.specs.Restoration.{TheRestoring, begun, up}
+use Rattle.recovery.specs.Restoration.{TheRestoring, begun}
 use Rattle.recovery.specs.Restoration as restoring
 use Rattle.gateway.specs.Gateway.{TheGateway, new_gateway, puts_in}
 use Rattle.gateway.specs.Calls as gateways
-use Rattle.node_laws.specs.Process.{Up, Collects, Replays, Replayed, Restores}
-use Rattle.node_laws.specs.System.{System, new_system, AreStored, Call, Gave, Handed, Worked, Did, Stored, Saved as WasSaved, Resumed, Died}
-use Rattle.node_laws.specs.System.{Revived, GaveOut, HandedOut, DidOut, StoredOut, Calls, after_calls, StayExact}
-use Rattle.node_laws.specs.Alone.{OneAtATime}
-use Rattle.node_laws.specs.Back.{length_of}
-use Rattle.node_laws.specs.Durable.{ReplayWhole}
-use Rattle.node_laws.specs.Worked.{from_process, from_gateway, sent}
-
--- the state of the handler is the last message, and it sends nothing
-abbrev pub last : Answering
-last p state m = record { state = m.payload; given = [] }
 
 -- the k-th input is this one byte
 abbrev pub input : ℕ → List ℕ
 input k = k ∷ []
 
--- the handler's answer to the k-th input
-abbrev pub answer : ℕ → Answer
-answer k = record { state = input k; given = [] }
-
 -- ---- its packets
+
+-- from the process to the gateway
+abbrev pub from_process : Body → NodePacket
+from_process b = record { count = 1; from = 1; to = 0; body = b }
+
+-- from the gateway to the process
+abbrev pub from_gateway : Body → NodePacket
+from_gateway b = record { count = 1; from = 0; to = 1; body = b }
 
 -- the k-th message, to the process
 abbrev pub delivery : ℕ → NodePacket
@@ -82,6 +73,10 @@ abbrev pub restored : NodePacket
 restored = from_gateway (Restored 2 1 0 0 (flags_of true false true) [])
 
 -- ---- the gateway
+
+-- it gave its packets
+abbrev pub sent : TheGateway → TheGateway
+sent g = record g { out = [] }
 
 -- it still has to give these packets
 abbrev pub gave : List NodePacket → TheGateway → TheGateway
@@ -214,91 +209,3 @@ resumes = record begins { own = record begins.own { out = [] } }
 -- the gateway has answered it
 abbrev pub has_answer : TheRestoring
 has_answer = restoring.handed restored resumes
-
--- ---- the calls
-
--- up to its death, if its checkpoint has these bytes
-abbrev pub before : List ℕ → List Call
-before bytes =
-    DidOut g1
-    ∷ StoredOut
-    ∷ GaveOut (delivery 1) (sent g1)
-    ∷ Handed 1 (delivery 1) (Up n1)
-    ∷ Worked 1 (answer 1) (Up n2)
-    ∷ Gave 1 (number 1) (Up (quiet n2))
-    ∷ HandedOut (number 1) g2
-    ∷ StoredOut
-    ∷ GaveOut (acknowledgement 1) (sent g2)
-    ∷ Handed 1 (acknowledgement 1) (Up n3)
-    ∷ Did 1 (Up n4)
-    ∷ Stored 1 bytes
-    ∷ WasSaved 1 (Up n5)
-    ∷ Gave 1 covers (Up (quiet n5))
-    ∷ Resumed 1 usual (Up (quiet n5))
-    ∷ DidOut g3
-    ∷ DidOut g4
-    ∷ StoredOut
-    ∷ GaveOut (delivery 2) (gave (delivery 3 ∷ []) g4)
-    ∷ GaveOut (delivery 3) (sent g4)
-    ∷ Handed 1 (delivery 2) (Up n6)
-    ∷ Worked 1 (answer 2) (Up n7)
-    ∷ Gave 1 (number 2) (Up (quiet n7))
-    ∷ Handed 1 (delivery 3) (Up n8)
-    ∷ Worked 1 (answer 3) (Up n9)
-    ∷ Gave 1 (number 3) (Up (quiet n9))
-    ∷ HandedOut (number 2) g5
-    ∷ HandedOut (number 3) g6
-    ∷ StoredOut
-    ∷ GaveOut (acknowledgement 2) (gave (acknowledgement 3 ∷ []) g6)
-    ∷ GaveOut (acknowledgement 3) (sent g6)
-    ∷ Handed 1 (acknowledgement 2) (Up n10)
-    ∷ []
-
--- from its death until it is up again
-abbrev pub behind : List Call
-behind =
-    Died 1
-    ∷ Revived 1 2 comes
-    ∷ Gave 1 ask (Collects asks)
-    ∷ HandedOut ask g7
-    ∷ StoredOut
-    ∷ GaveOut told (sent g7)
-    ∷ Handed 1 told (Collects has_all)
-    ∷ Did 1 (Replays replays)
-    ∷ Worked 1 (answer 2) (Replays replays_more)
-    ∷ Worked 1 (answer 3) (Replays replayed)
-    ∷ Did 1 (Replayed (replayed_of replayed))
-    ∷ Did 1 (Restores begins)
-    ∷ Gave 1 resume (Restores resumes)
-    ∷ HandedOut resume g8
-    ∷ StoredOut
-    ∷ GaveOut restored (sent g8)
-    ∷ Handed 1 restored (Restores has_answer)
-    ∷ Did 1 (Up (up has_answer))
-    ∷ []
-
--- the process is opened, with these bytes of its opening
-abbrev pub opened : (ℕ → List ℕ) → System
-opened stored = new_system 1 (λ _. usual) (λ _. 0 ∷ []) stored PAGE TICK
-
--- they are such calls, and it stays exact. When it is killed it has three messages, of which two are acknowledged without a gap; in the end
--- it is up in its second incarnation, with these three and the state that it had
-pub record IsWorked (stored : ℕ → List ℕ) (bytes : List ℕ) : Type 0 where
-  pub calls : Calls last 1 (opened stored) (before bytes)
-  pub more : Calls last 1 (after_calls (opened stored) (before bytes)) behind
-  pub exact : StayExact 1 (opened stored) (before bytes)
-  pub exact_more : StayExact 1 (after_calls (opened stored) (before bytes)) behind
-  pub alone : OneAtATime 1 (after_calls (opened stored) (before bytes)) behind
-  pub whole : ReplayWhole (after_calls (opened stored) (before bytes)) behind
-  pub was_up : (after_calls (opened stored) (before bytes)).processes 1 ≡ Up n10
-  pub had : length_of n10 ≡ 3
-  pub acknowledged : run_at n10 ≡ 2
-  pub was : n10.state ≡ input 3
-  pub is_up : (after_calls (after_calls (opened stored) (before bytes)) behind).processes 1 ≡ Up (up has_answer)
-  pub has : length_of (up has_answer) ≡ 3
-  pub life : (up has_answer).life ≡ 2
-  pub state : (up has_answer).state ≡ input 3
-
--- so it goes for all bytes of its opening and of its checkpoint
-abbrev pub ReplaysTwo : Type 0
-ReplaysTwo = (stored : ℕ → List ℕ) (bytes : List ℕ) → AreStored 1 (λ _. 0 ∷ []) stored → IsKept (kept_of n4) bytes → IsWorked stored bytes
