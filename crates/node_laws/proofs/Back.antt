@@ -27,7 +27,7 @@ use Rattle.recovery.specs.Moment.{HadReceived}
 use Rattle.recovery.proofs.Had.{keeps-what-it-had}
 use Rattle.recovery.proofs.ReplayLemmas as replays
 use Rattle.node_laws.specs.HostProcess.{IsFirst}
-use Rattle.node_laws.specs.Inside.Process.{Process, Up, Collects, Replays, StandsAs, Recovers, Acts}
+use Rattle.node_laws.specs.Inside.Process.{Process, Up, Covered, IsUp, Collects, Replays, StandsAs, Recovers, Acts}
 use Rattle.node_laws.specs.Inside.System.{System, new_system, Call, Did, Calls, after_call, after_calls, StayExact, AllStand}
 use Rattle.node_laws.specs.Back.{length_of, HasBack}
 use Rattle.node_laws.specs.Inside.Back.{NothingIsLost, kept_of, RecoversExactly}
@@ -150,6 +150,12 @@ module _ (n : ℕ) (f : Handlers) (x y : System) (p : ℕ) (a b : TheNode) (acts
 stands-known : (f : Handlers) (n : ℕ) (s : System) (c : Cluster) (p : ℕ) (process : Process) → Holds f n s c → IsFirst n p → s.processes p ≡ process → StandsAs process c p
 stands-known f n s c p process h first e = subst (λ z. StandsAs z c p) e (h.processes p first)
 
+-- so one that is up, and its node
+stands-up : (m : TheNode) (process : Process) (c : Cluster) (p : ℕ) → IsUp m process → StandsAs process c p → Stands m c p
+stands-up m (Up n) c p e s = subst (λ z. Stands z c p) e s
+stands-up m (Covered n) c p e s = subst (λ z. Stands z c p) e s.1
+stands-up m other c p e s = absurd e
+
 pub nothing-is-lost : NothingIsLost
 nothing-is-lost f n page tick limits states bytes calls more p a b few stored first m exact is_a is_b =
     let g : Handlers = handlers_of f states in
@@ -160,8 +166,8 @@ nothing-is-lost f n page tick limits states bytes calls more p a b few stored fi
     let two = goes-on f states n (after_calls o calls) one.more more one.reached parts.1.0 sure.1 in
     let c : Cluster = after_run (opening n g) one.more in
     let d : Cluster = after_run (opening n g) (one.more ++ two.more) in
-    let s : Stands a c p = stands-known g n (after_calls o calls) c p (Up a) one.reached.holds first is_a in
-    let t : Stands b d p = stands-known g n (after_calls (after_calls o calls) more) d p (Up b) two.reached.holds first (sym (ap (λ (z : System). z.processes p) parts.1.1) ∙ is_b) in
+    let s : Stands a c p = stands-up a ((after_calls o calls).processes p) c p is_a (one.reached.holds.processes p first) in
+    let t : Stands b d p = stands-up b ((after_calls (after_calls o calls) more).processes p) d p (subst (λ (z : System). IsUp b (z.processes p)) parts.1.1 is_b) (two.reached.holds.processes p first) in
     has-back n g (after_calls o calls) (after_calls o (calls ++ more)) p a b one.more two.more two.reached.run (all-stand g n (after_calls o calls) c one.reached.holds)
     (subst (λ z. AllStand n z d) (sym parts.1.1) (all-stand g n (after_calls (after_calls o calls) more) d two.reached.holds)) s t one.reached.holds.handlers two.reached.holds.handlers
     (acknowledged-stay n g one.more two.more p (run_at a) few (grows f states) two.reached.run (acknowledged-run a c p s))
@@ -257,5 +263,5 @@ recovers-exactly f n page tick limits states bytes calls more p old new few stor
       stays = stays-so n g p old new c b d had recovers.is.own replays_so first_same all_same;
       back = λ x is_x as_many.
           is-as-it-was n g p old new c b d had recovers.is.own replays_so first_same all_same x
-          (stands-known g n (after_calls (after_call s k) more) d p (Up x) last.holds first (sym (ap (λ (z : System). z.processes p) end) ∙ is_x)) last.holds.handlers as_many;
+          (stands-up x ((after_calls (after_call s k) more).processes p) d p (subst (λ (z : System). IsUp x (z.processes p)) end is_x) (last.holds.processes p first)) last.holds.handlers as_many;
     }

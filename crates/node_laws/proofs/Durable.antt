@@ -1,5 +1,5 @@
 -- What is stored of a durable process only grows, and makes it send all that it gave
-use Rattle.std.proofs.Common.{◌≡◌, ◌≢◌, ℕ, zero, suc, ◌+◌, ◌≤◌, List, [], ◌∷◌, ◌++◌, length, Bool, true, false, refl, sym, ap, ◌∙◌, subst, arith}
+use Rattle.std.proofs.Common.{◌≡◌, ◌≢◌, ℕ, zero, suc, ◌+◌, ◌≤◌, List, [], ◌∷◌, ◌++◌, length, Bool, true, false, refl, sym, ap, ◌∙◌, subst, append-nil, arith}
 use Rattle.std.specs.Prelude.{slice_index_or, replicate, ◌==◌, if◌then◌else◌}
 use Rattle.std.proofs.lemmas.Bool.Decides.{nat_tests}
 use Rattle.std.proofs.lemmas.List.{length-replicate}
@@ -20,7 +20,7 @@ use Rattle.node.specs.Stands.{Each}
 use Rattle.node.proofs.Lists.{all-more}
 use Rattle.gateway.proofs.Steps.{by-if}
 use Rattle.node_laws.specs.HostProcess.{IsFirst}
-use Rattle.node_laws.specs.Inside.Process.{Process, Up, Collects, Killed, Gives, Hears, Works, Acts, WaitsFor, covered, IsTold, Wakes, ComesFrom}
+use Rattle.node_laws.specs.Inside.Process.{Process, Up, Covered, IsUp, Collects, Killed, Gives, Hears, Works, Acts, WaitsFor, covered, IsTold, Wakes, ComesFrom}
 use Rattle.node_laws.specs.Inside.System.{System, new_system, AreStored, Call, Gave, Handed, Worked, Did, Stored, Saved, Resumed, Died, Revived, DoesIt, after_call, Calls, after_calls}
 use Rattle.node_laws.specs.Durable.{AreAfter, IsSentBy, HasAfter}
 use Rattle.node_laws.specs.Inside.Durable.{given_by, ReplaysAll, ReplaysWhole, ReplayWhole, KeepsDurable, StaysDurable, StoredStays, DurableLast}
@@ -272,10 +272,11 @@ pub after-of : (n : ℕ) (f : Handlers) (p : ℕ) (D : ℕ → Bool) (In : ℕ �
 after-of n f p D In h bytes s = (s.0, (s.1.0, s.1.1.0))
 
 -- a node that is up has what is stored, and maybe more
-up-has : (f : Answering) (states : ℕ → List ℕ) (n p : ℕ) (low : p ≤ n) (h : List Message) (process : Process) (m : TheNode) → IsFor f states n p false false (λ q. false) nothing low h process → process ≡ Up m → HasAfter (handlers_of f states) p h m
-up-has f states n p low h process m s e =
-    let up : IsFor f states n p false false (λ q. false) nothing low h (Up m) = subst (IsFor f states n p false false (λ q. false) nothing low h) e s in
-    record { rest = up.1.more; many = ap length up.1.begins ∙ up.1.many; state = ap ((handlers_of f states).state p) up.1.begins ∙ up.1.state }
+up-has : (f : Answering) (states : ℕ → List ℕ) (n p : ℕ) (low : p ≤ n) (h : List Message) (process : Process) (m : TheNode) → IsFor f states n p false false (λ q. false) nothing low h process → IsUp m process → HasAfter (handlers_of f states) p h m
+up-has f states n p low h (Up k) m s e = subst (HasAfter (handlers_of f states) p h) e (record { rest = s.1.more; many = ap length s.1.begins ∙ s.1.many; state = ap ((handlers_of f states).state p) s.1.begins ∙ s.1.state })
+up-has f states n p low h (Covered k) m s e =
+    subst (HasAfter (handlers_of f states) p h) e (record { rest = []; many = ap length (append-nil h) ∙ s.1.0.many; state = ap ((handlers_of f states).state p) (append-nil h) ∙ s.1.0.state })
+up-has f states n p low h other m s e = absurd e
 
 pub stored-stays : StoredStays
 stored-stays f n page tick limits states bytes calls more p stored first m v =

@@ -27,11 +27,11 @@ use Rattle.node_laws.specs.Inside.Hosted.{IsAs}
 use Rattle.node_laws.proofs.Lives.{at-each}
 use Rattle.node_laws.proofs.Back.{recovers-exactly}
 use Rattle.node_laws.proofs.HostStep.{AreGood}
-use Rattle.node_laws.proofs.Views.{is-up, collects, stands-as, stored-as}
+use Rattle.node_laws.proofs.Views.{collects, stands-as, stored-as}
 use Rattle.node_laws.proofs.Acts.{Beside}
 use Rattle.node_laws.proofs.Moments.{Moment}
 use Rattle.node_laws.proofs.Lists.{State, Are, One, one-goes, are-go, calls-append, exact-append, exact-there, after-append}
-use Rattle.node_laws.proofs.Promised.{lived, made, are-stored, all-stand, after-more, calls-split, exact-split, hosted-alone}
+use Rattle.node_laws.proofs.Promised.{lived, made, are-stored, all-stand, up-in, after-more, calls-split, exact-split, hosted-alone}
 
 -- where all is as s has it but for p, and p collects, all stand
 stand-still : (images : ℕ → AnyImage) (n p : ℕ) → IsFirst n p → (s : System) (u : Lived) (now : TheProcess) (m : TheCollecting) (c : Cluster) → AreGood images n s → Beside n p s u → u.processes p ≡ stages.Collects m → called.AllStand n u c → AllStand n (still s p now m) c
@@ -68,7 +68,7 @@ recovered images n p first f s s2 t t2 u ks now m goods is st b =
       had = subst (HadReceived (after_run (opening n f) b.acts) p m.collected.own.base) m.plan b.had;
       kept = m.kept ∙ ap (λ (z : List OpenJob). m.collected.own.base + length z) m.plan;
       stays = subst (λ k. take k ((after_run (opening n f) (b.acts ++ b.more)).world.history p) ≡ take k ((after_run (opening n f) b.acts).world.history p)) (sym m.kept) b.stays;
-      back = λ e up many. subst (λ k. f.state p (take k ((after_run (opening n f) b.acts).world.history p)) ≡ e.state) (sym m.kept) (b.back e (st.stand.processes p first ∙ is-up e (s2.processes p) up) (many ∙ m.kept));
+      back = λ e up many. subst (λ k. f.state p (take k ((after_run (opening n f) b.acts).world.history p)) ≡ e.state) (sym m.kept) (b.back e (up-in n s2 t2 p e st.stand first up) (many ∙ m.kept));
     }
 
 -- three lists, the middle one of two and a call between

@@ -13,6 +13,7 @@ use Rattle.node.proofs.Handover as nodes
 use Rattle.node.proofs.Views as views
 use Rattle.recovery.specs.Collection.{TheCollecting}
 use Rattle.recovery.specs.Plan.{Plans}
+use Rattle.recovery.specs.Replays.{TheReplaying}
 use Rattle.recovery.specs.StandsAtReplay.{replayed_of}
 use Rattle.recovery.proofs.Revival.{revives}
 use Rattle.recovery.proofs.Reports as collecting
@@ -31,12 +32,15 @@ use Rattle.rsn.specs.declared.receipts.TheConstants.{LIMIT}
 use Rattle.process.specs.declared.lifecycle.Lifecycle.TheVariants.{Up, Collecting, Replaying, Replayed, Restoring}
 use Rattle.process.specs.Transitions.{Passes}
 use Rattle.node_laws.specs.HostProcess.{IsFirst}
-use Rattle.node_laws.specs.Messages.{sent, quiet}
-use Rattle.node_laws.specs.HostBeside.{ask, told, resume, restored, asked, resumed, other_asked, other_resumed, comes, asks, hears, has_all, replays, begins, resumes, enters, has_answers, Open, MayOpen, HostsComeBackBeside}
+use Rattle.node_laws.specs.Messages.{gave, quiet, collects, restores}
+use Rattle.node_laws.specs.HostBeside.{ask, told, resume, restored, asked, resumed, other_asked, other_resumed, comes, hears, has_all, begins, enters, has_answers, Open, MayOpen, HostsComeBackBeside}
 use Rattle.node_laws.proofs.Messages.{early}
 use Rattle.node_laws.proofs.HostWorked.{hears-up, gives-up, stays-up, revives-as, opens-as}
 use Rattle.node_laws.specs.Inside.Process.{Recovers}
 use Rattle.node_laws.proofs.Lives.{usual-allowed}
+
+abbrev replays : List ℕ → TheReplaying
+replays initial = record { own = (has_all initial).own; plan = []; done = 0 }
 
 -- nothing was told, so nothing is planned
 none-planned : (initial : List ℕ) → Plans (has_all initial) []
@@ -47,7 +51,7 @@ recovers : (initial : List ℕ) → Recovers (has_all initial) (replays initial)
 unfolding entries_in_range
 recovers initial = record { all = refl; is = record { own = refl; plans = none-planned initial; none = refl }; acts = comes-back (has_all initial) [] refl (none-planned initial) }
 
-is-restoring : (initial : List ℕ) → IsRestoring (resumes initial []).own (resumes initial []).above (resumes initial []).answered
+is-restoring : (initial : List ℕ) → IsRestoring (restores [] (begins initial)).own (restores [] (begins initial)).above (restores [] (begins initial)).answered
 unfolding entries_in_range
 is-restoring initial = record { wide = refl; answered_wide = refl; heard_wide = refl; logs_wide = refl; alone = refl }
 
@@ -131,7 +135,7 @@ hosts-come-back-beside images initial page tick bytes may =
     record { told = Restoring (has_answers initial); ran = Restoring (has_answers initial); asks = Restoring (has_answers initial); recovers = refl; finishes = refl; begins = refl; returns = (refl, (up (has_answers initial), (refl, returns.is-up (has_answers initial) refl, refl, ticking (up (has_answers initial))))) } in
     record {
       opens = may-open images usual initial bytes usual-allowed may;
-      calls = (first, ((first, (refl, (early, revives-as one usual (kept_of (new_node usual 1 2 initial)) (bytes 1) 2 (may 1 first).1 refl (may 1 first).0))), ((first, record { image = refl; does = collecting-takes (Some (ask 0)) (comes initial) (ask 2 ∷ []) refl }), ((first, record { image = refl; does = collecting-takes (Some (ask 2)) (asks initial (ask 2 ∷ [])) [] refl }), ((inr (inl refl), (refl, handed-so (ask 0) (new_gateway 2 page tick))), (tt, ((refl, gateways.takes-so (Some (told 0)) (asked page tick) [] refl), ((second, (inr (inl refl), hears-up two (ask 2) (new_node usual 2 2 initial) (other_asked initial) (refl, nodes.handed-so (ask 2) (new_node usual 2 2 initial) (within (1 ∷ 1 ∷ 1 ∷ []) (true ∷ true ∷ true ∷ []) refl refl)))), ((second, gives-up two (told 2) (other_asked initial) [] refl), ((first, (inr (inl refl), record { image = refl; mid = Collecting (hears initial); does = (refl, collecting.handing (asks initial []) (told 0) refl refl); passes = still-collects (hears initial) })), ((first, (inl refl, record { image = refl; mid = Collecting (has_all initial); does = (refl, collecting.handing (hears initial) (told 2) refl refl); passes = over })), ((first, record { image = refl; does = returns.takes-so (Some (resume 0)) (begins initial) (resume 2 ∷ []) refl }), ((first, record { image = refl; does = returns.takes-so (Some (resume 2)) (resumes initial (resume 2 ∷ [])) [] refl }), ((inr (inl refl), (refl, handed-so (resume 0) (sent (asked page tick)))), (tt, ((refl, gateways.takes-so (Some (restored 0)) (resumed page tick) [] refl), ((second, (inr (inl refl), hears-up two (resume 2) (quiet (other_asked initial)) (other_resumed initial) (refl, nodes.handed-so (resume 2) (quiet (other_asked initial)) (within (1 ∷ 2 ∷ 1 ∷ []) (true ∷ false ∷ true ∷ []) refl refl)))), ((second, gives-up two (restored 2) (other_resumed initial) [] refl), ((first, (inr (inl refl), record { image = refl; mid = Restoring (enters initial); does = (refl, restoring.handing (resumes initial []) (restored 0) (is-restoring initial)); passes = waits })), ((first, (inl refl, record { image = refl; mid = Restoring (has_answers initial); does = (refl, restoring.handing (enters initial) (restored 2) (enters-still initial)); passes = returned })), tt))))))))))))))))))));
+      calls = (first, ((first, (refl, (early, revives-as one usual (kept_of (new_node usual 1 2 initial)) (bytes 1) 2 (may 1 first).1 refl (may 1 first).0))), ((first, record { image = refl; does = collecting-takes (Some (ask 1 0)) (comes usual 1 initial) (ask 1 2 ∷ []) refl }), ((first, record { image = refl; does = collecting-takes (Some (ask 1 2)) (collects (ask 1 2 ∷ []) (comes usual 1 initial)) [] refl }), ((inr (inl refl), (refl, handed-so (ask 1 0) (new_gateway 2 page tick))), (tt, ((refl, gateways.takes-so (Some (told 0)) (asked page tick) [] refl), ((second, (inr (inl refl), hears-up two (ask 1 2) (new_node usual 2 2 initial) (other_asked initial) (refl, nodes.handed-so (ask 1 2) (new_node usual 2 2 initial) (within (1 ∷ 1 ∷ 1 ∷ []) (true ∷ true ∷ true ∷ []) refl refl)))), ((second, gives-up two (told 2) (other_asked initial) [] refl), ((first, (inr (inl refl), record { image = refl; mid = Collecting (hears initial); does = (refl, collecting.handing (collects [] (comes usual 1 initial)) (told 0) refl refl); passes = still-collects (hears initial) })), ((first, (inl refl, record { image = refl; mid = Collecting (has_all initial); does = (refl, collecting.handing (hears initial) (told 2) refl refl); passes = over })), ((first, record { image = refl; does = returns.takes-so (Some (resume 0)) (begins initial) (resume 2 ∷ []) refl }), ((first, record { image = refl; does = returns.takes-so (Some (resume 2)) (restores (resume 2 ∷ []) (begins initial)) [] refl }), ((inr (inl refl), (refl, handed-so (resume 0) (gave [] (asked page tick)))), (tt, ((refl, gateways.takes-so (Some (restored 0)) (resumed page tick) [] refl), ((second, (inr (inl refl), hears-up two (resume 2) (quiet (other_asked initial)) (other_resumed initial) (refl, nodes.handed-so (resume 2) (quiet (other_asked initial)) (within (1 ∷ 2 ∷ 1 ∷ []) (true ∷ false ∷ true ∷ []) refl refl)))), ((second, gives-up two (restored 2) (other_resumed initial) [] refl), ((first, (inr (inl refl), record { image = refl; mid = Restoring (enters initial); does = (refl, restoring.handing (restores [] (begins initial)) (restored 0) (is-restoring initial)); passes = waits })), ((first, (inl refl, record { image = refl; mid = Restoring (has_answers initial); does = (refl, restoring.handing (enters initial) (restored 2) (enters-still initial)); passes = returned })), tt))))))))))))))))))));
       alone = ((λ q inside other. refl), (tt, (tt, (tt, (tt, (tt, (tt, (tt, (tt, (tt, (tt, (tt, (tt, (tt, (tt, (tt, (tt, (tt, (tt, (tt, tt))))))))))))))))))));
       node = ticked (up (has_answers initial));
       is_up = refl;

@@ -8,7 +8,9 @@ use Rattle.node.specs.Kept.{kept_of}
 use Rattle.recovery.proofs.Reports as collecting
 use Rattle.recovery.proofs.ReplayLemmas.{collecting-takes}
 use Rattle.process.specs.declared.lifecycle.Lifecycle.TheVariants.{Collecting}
-use Rattle.node_laws.specs.HostOverlap.{lasting, ask, loss, comes, gives, hears, learns, HostsMeet}
+use Rattle.node_laws.specs.HostOverlap.{lasting, loss, hears, learns, HostsMeet}
+use Rattle.node_laws.specs.HostBeside.{ask, comes}
+use Rattle.node_laws.specs.Messages.{collects}
 use Rattle.node_laws.proofs.Messages.{early}
 use Rattle.node_laws.proofs.HostWorked.{revives-as}
 use Rattle.node_laws.proofs.HostBeside.{first, second, may-open, still-collects}
@@ -21,7 +23,7 @@ unfolding entries_in_range pairs_in_range
 hosts-meet images initial page tick bytes may =
     record {
       opens = may-open images lasting initial bytes lasting-allowed may;
-      calls = (first, (second, ((first, (refl, (early, revives-as (images 1) lasting (kept_of (new_node usual 1 2 initial)) (bytes 1) 2 (may 1 first).1 refl (may 1 first).0))), ((second, (refl, (early, revives-as (images 2) lasting (kept_of (new_node usual 2 2 initial)) (bytes 2) 2 (may 2 second).1 refl (may 2 second).0))), ((second, record { image = refl; does = collecting-takes (Some (ask 2 0)) (comes initial 2) (ask 2 1 ∷ []) refl }), ((second, record { image = refl; does = collecting-takes (Some (ask 2 1)) (gives (comes initial 2) (ask 2 1 ∷ [])) [] refl }), ((first, (inl refl, record { image = refl; mid = Collecting (hears initial); does = (refl, collecting.handing (comes initial 1) (ask 2 1) refl refl); passes = still-collects (hears initial) })), ((first, record { image = refl; does = collecting-takes (Some (ask 1 0)) (hears initial) (ask 1 2 ∷ ask 1 2 ∷ loss ∷ []) refl }), ((first, record { image = refl; does = collecting-takes (Some (ask 1 2)) (gives (hears initial) (ask 1 2 ∷ ask 1 2 ∷ loss ∷ [])) (ask 1 2 ∷ loss ∷ []) refl }), ((first, record { image = refl; does = collecting-takes (Some (ask 1 2)) (gives (hears initial) (ask 1 2 ∷ loss ∷ [])) (loss ∷ []) refl }), ((first, record { image = refl; does = collecting-takes (Some loss) (gives (hears initial) (loss ∷ [])) [] refl }), ((second, (inl refl, record { image = refl; mid = Collecting (learns initial); does = (refl, collecting.handing (gives (comes initial 2) []) loss refl refl); passes = still-collects (learns initial) })), tt))))))))))));
+      calls = (first, (second, ((first, (refl, (early, revives-as (images 1) lasting (kept_of (new_node usual 1 2 initial)) (bytes 1) 2 (may 1 first).1 refl (may 1 first).0))), ((second, (refl, (early, revives-as (images 2) lasting (kept_of (new_node usual 2 2 initial)) (bytes 2) 2 (may 2 second).1 refl (may 2 second).0))), ((second, record { image = refl; does = collecting-takes (Some (ask 2 0)) (comes lasting 2 initial) (ask 2 1 ∷ []) refl }), ((second, record { image = refl; does = collecting-takes (Some (ask 2 1)) (collects (ask 2 1 ∷ []) (comes lasting 2 initial)) [] refl }), ((first, (inl refl, record { image = refl; mid = Collecting (hears initial); does = (refl, collecting.handing (comes lasting 1 initial) (ask 2 1) refl refl); passes = still-collects (hears initial) })), ((first, record { image = refl; does = collecting-takes (Some (ask 1 0)) (hears initial) (ask 1 2 ∷ ask 1 2 ∷ loss ∷ []) refl }), ((first, record { image = refl; does = collecting-takes (Some (ask 1 2)) (collects (ask 1 2 ∷ ask 1 2 ∷ loss ∷ []) (hears initial)) (ask 1 2 ∷ loss ∷ []) refl }), ((first, record { image = refl; does = collecting-takes (Some (ask 1 2)) (collects (ask 1 2 ∷ loss ∷ []) (hears initial)) (loss ∷ []) refl }), ((first, record { image = refl; does = collecting-takes (Some loss) (collects (loss ∷ []) (hears initial)) [] refl }), ((second, (inl refl, record { image = refl; mid = Collecting (learns initial); does = (refl, collecting.handing (collects [] (comes lasting 2 initial)) loss refl refl); passes = still-collects (learns initial) })), tt))))))))))));
       durable = λ p. (tt, (tt, (λ e. refl, (λ e. refl, (tt, (tt, (tt, (tt, (tt, (tt, (tt, (tt, tt))))))))))));
       inexact = refl;
     }

@@ -51,7 +51,7 @@ use Rattle.recovery.specs.RestorationStands.{IsUp}
 use Rattle.node_laws.specs.HostProcess.{IsFirst}
 use Rattle.node_laws.specs.HostSystem.{System, Opens, HostCall, Died, RevivesAs, DoesIt, AreCalls, after_call, after_calls}
 use Rattle.node_laws.specs.HostLaws.{FailsAlone, OneAtATime}
-use Rattle.node_laws.specs.Messages.{sent, input, delivery, number, acknowledgement, covers, ask, told, resume, restored, gave, g1, g2, g3, g4, g5, g6, g7, g8, quiet, n0, n1, n2, n3, n4, n5, n6, n7, n8, n9, n10, comes, asks, has_all, job, replays, replays_more, replayed, begins, resumes, has_answer}
+use Rattle.node_laws.specs.Messages.{gave, quiet, collects, restores, input, delivery, number, acknowledgement, covers, ask, told, resume, restored, g1, g2, g3, g4, g5, g6, g7, g8, n0, n1, n2, n3, n4, n5, n6, n7, n8, n9, n10, comes, has_all, job, replays, replays_more, replayed, begins, has_answer}
 use Rattle.node_laws.specs.HostWorked.{copies, IsCopying, process, before, behind, opened, IsWorked, HostsCanCall}
 use Rattle.node_laws.proofs.Lives.{usual-allowed}
 use Rattle.node_laws.proofs.Messages.{suspended-5, gives-none, recovers, is-restoring, first-of, first, early, within-n0, within-n1, within-q2, within-n4, within-q5, within-n6, within-q7, within-n8, within-q9, gives-nothing}
@@ -173,7 +173,7 @@ module _ (image : AnyImage) (is : IsCopying image) (stored bytes : List ℕ) (ke
   calls-before : AreCalls (λ _. image) 1 (opened image stored) (before image bytes)
   unfolding entries_in_range pairs_in_range
   calls-before =
-      ((inl (1, (input 1, (refl, first-of (new_gateway 1 PAGE TICK) refl))), putting-in (new_gateway 1 PAGE TICK) 1 (input 1) (first-of (new_gateway 1 PAGE TICK) refl)), (tt, ((refl, gateways.takes-so (Some (delivery 1)) g1 [] refl), ((first, (inl refl, hears-up image (delivery 1) n0 n1 (refl, nodes.handed-so (delivery 1) n0 within-n0))), ((first, works image (Up n1) (Up n2) (Up n2) 1 refl (answers image is me 0 1 (runs-1 me 0)) (refl, nodes.worked-so n1 (input 1) [] within-n1 (gives-none n1)) (stays-up n2)), ((first, gives-up image (number 1) n2 [] refl), ((inl refl, (refl, handed-so (number 1) (sent g1))), (tt, ((refl, gateways.takes-so (Some (acknowledgement 1)) g2 [] refl), ((first, (inl refl, hears-up image (acknowledgement 1) (quiet n2) n3 (refl, nodes.handed-so (acknowledgement 1) (quiet n2) within-q2))), ((first, (record { may = refl; state = omega arith; entries = omega arith }, ((kept-4, kept-covers n4 within-n4), record { image = refl; does = (refl, freezes n3) }))), ((first, refl), ((first, (refl, record { image = refl; does = (refl, saves n4 within-n4) })), ((first, gives-up image covers n5 [] refl), ((first, suspended-5), ((first, (image, (refl, resumed-5))), ((inl (1, (input 2, (refl, first-of (sent g2) refl))), putting-in (sent g2) 1 (input 2) (first-of (sent g2) refl)), ((inl (1, (input 3, (refl, first-of g3 refl))), putting-in g3 1 (input 3) (first-of g3 refl)), (tt, ((refl, gateways.takes-so (Some (delivery 2)) g4 (delivery 3 ∷ []) refl), ((refl, gateways.takes-so (Some (delivery 3)) (gave (delivery 3 ∷ []) g4) [] refl), ((first, (inr (inl refl), hears-up image (delivery 2) (quiet n5) n6 (refl, nodes.handed-so (delivery 2) (quiet n5) within-q5))), ((first, works image (Up n6) (Up n7) (Up n7) 2 refl (answers image is me 1 2 (runs-2 me 1)) (refl, nodes.worked-so n6 (input 2) [] within-n6 (gives-none n6)) (stays-up n7)), ((first, gives-up image (number 2) n7 [] refl), ((first, (inr (inl refl), hears-up image (delivery 3) (quiet n7) n8 (refl, nodes.handed-so (delivery 3) (quiet n7) within-q7))), ((first, works image (Up n8) (Up n9) (Up n9) 3 refl (answers image is me 2 3 (runs-3 me 2)) (refl, nodes.worked-so n8 (input 3) [] within-n8 (gives-none n8)) (stays-up n9)), ((first, gives-up image (number 3) n9 [] refl), ((inr (inl refl), (refl, handed-so (number 2) (sent g4))), ((inl refl, (refl, handed-so (number 3) g5)), (tt, ((refl, gateways.takes-so (Some (acknowledgement 2)) g6 (acknowledgement 3 ∷ []) refl), ((refl, gateways.takes-so (Some (acknowledgement 3)) (gave (acknowledgement 3 ∷ []) g6) [] refl), ((first, (inr (inl refl), hears-up image (acknowledgement 2) (quiet n9) n10 (refl, nodes.handed-so (acknowledgement 2) (quiet n9) within-q9))), tt)))))))))))))))))))))))))))))))))
+      ((inl (1, (input 1, (refl, first-of (new_gateway 1 PAGE TICK) refl))), putting-in (new_gateway 1 PAGE TICK) 1 (input 1) (first-of (new_gateway 1 PAGE TICK) refl)), (tt, ((refl, gateways.takes-so (Some (delivery 1)) g1 [] refl), ((first, (inl refl, hears-up image (delivery 1) n0 n1 (refl, nodes.handed-so (delivery 1) n0 within-n0))), ((first, works image (Up n1) (Up n2) (Up n2) 1 refl (answers image is me 0 1 (runs-1 me 0)) (refl, nodes.worked-so n1 (input 1) [] within-n1 (gives-none n1)) (stays-up n2)), ((first, gives-up image (number 1) n2 [] refl), ((inl refl, (refl, handed-so (number 1) (gave [] g1))), (tt, ((refl, gateways.takes-so (Some (acknowledgement 1)) g2 [] refl), ((first, (inl refl, hears-up image (acknowledgement 1) (quiet n2) n3 (refl, nodes.handed-so (acknowledgement 1) (quiet n2) within-q2))), ((first, (record { may = refl; state = omega arith; entries = omega arith }, ((kept-4, kept-covers n4 within-n4), record { image = refl; does = (refl, freezes n3) }))), ((first, refl), ((first, (refl, record { image = refl; does = (refl, saves n4 within-n4) })), ((first, gives-up image covers n5 [] refl), ((first, suspended-5), ((first, (image, (refl, resumed-5))), ((inl (1, (input 2, (refl, first-of (gave [] g2) refl))), putting-in (gave [] g2) 1 (input 2) (first-of (gave [] g2) refl)), ((inl (1, (input 3, (refl, first-of g3 refl))), putting-in g3 1 (input 3) (first-of g3 refl)), (tt, ((refl, gateways.takes-so (Some (delivery 2)) g4 (delivery 3 ∷ []) refl), ((refl, gateways.takes-so (Some (delivery 3)) (gave (delivery 3 ∷ []) g4) [] refl), ((first, (inr (inl refl), hears-up image (delivery 2) (quiet n5) n6 (refl, nodes.handed-so (delivery 2) (quiet n5) within-q5))), ((first, works image (Up n6) (Up n7) (Up n7) 2 refl (answers image is me 1 2 (runs-2 me 1)) (refl, nodes.worked-so n6 (input 2) [] within-n6 (gives-none n6)) (stays-up n7)), ((first, gives-up image (number 2) n7 [] refl), ((first, (inr (inl refl), hears-up image (delivery 3) (quiet n7) n8 (refl, nodes.handed-so (delivery 3) (quiet n7) within-q7))), ((first, works image (Up n8) (Up n9) (Up n9) 3 refl (answers image is me 2 3 (runs-3 me 2)) (refl, nodes.worked-so n8 (input 3) [] within-n8 (gives-none n8)) (stays-up n9)), ((first, gives-up image (number 3) n9 [] refl), ((inr (inl refl), (refl, handed-so (number 2) (gave [] g4))), ((inl refl, (refl, handed-so (number 3) g5)), (tt, ((refl, gateways.takes-so (Some (acknowledgement 2)) g6 (acknowledgement 3 ∷ []) refl), ((refl, gateways.takes-so (Some (acknowledgement 3)) (gave (acknowledgement 3 ∷ []) g6) [] refl), ((first, (inr (inl refl), hears-up image (acknowledgement 2) (quiet n9) n10 (refl, nodes.handed-so (acknowledgement 2) (quiet n9) within-q9))), tt)))))))))))))))))))))))))))))))))
 
   calls-behind : AreCalls (λ _. image) 1 (after_calls (opened image stored) (before image bytes)) (behind image)
   unfolding entries_in_range pairs_in_range
@@ -185,7 +185,7 @@ module _ (image : AnyImage) (is : IsCopying image) (stored bytes : List ℕ) (ke
       record { told = Replaying replayed; ran = Replayed (replayed_of replayed); asks = Restoring begins; recovers = refl; finishes = (refl, refl, ends-so replayed refl (omega arith)); begins = (refl, beginning (replayed_of replayed)); returns = (refl, refl) } in
       let returned : Passes (Restoring has_answer) (Up (ticked (up has_answer))) =
       record { told = Restoring has_answer; ran = Restoring has_answer; asks = Restoring has_answer; recovers = refl; finishes = refl; begins = refl; returns = (refl, (up has_answer, (refl, returns.is-up has_answer refl, refl, ticking (up has_answer)))) } in
-      (first, ((first, (refl, (early, revives-as image usual (kept_of n4) bytes 2 kept-4 refl (sym is.is_image.len_is)))), ((first, record { image = refl; does = collecting-takes (Some ask) comes [] refl }), ((inl refl, (refl, handed-so ask (sent g6))), (tt, ((refl, gateways.takes-so (Some told) g7 [] refl), ((first, (inl refl, record { image = refl; mid = Collecting has_all; does = (refl, collecting.handing asks told refl refl); passes = recovered })), ((first, works image (Replaying replays) (Replaying replays_more) (Replaying replays_more) 2 refl (answers image is me 1 2 (runs-2 me 1)) (refl, replays-so replays (input 2) [] refl (gives-nothing replays.own)) (replays-on replays_more refl)), ((first, works image (Replaying replays_more) (Replaying replayed) (Restoring begins) 3 refl (answers image is me 2 3 (runs-3 me 2)) (refl, replays-so replays_more (input 3) [] refl (gives-nothing replays_more.own)) over), ((first, record { image = refl; does = returns.takes-so (Some resume) begins [] refl }), ((inl refl, (refl, handed-so resume (sent g7))), (tt, ((refl, gateways.takes-so (Some restored) g8 [] refl), ((first, (inl refl, record { image = refl; mid = Restoring has_answer; does = (refl, restoring.handing resumes restored is-restoring); passes = returned })), tt))))))))))))))
+      (first, ((first, (refl, (early, revives-as image usual (kept_of n4) bytes 2 kept-4 refl (sym is.is_image.len_is)))), ((first, record { image = refl; does = collecting-takes (Some ask) comes [] refl }), ((inl refl, (refl, handed-so ask (gave [] g6))), (tt, ((refl, gateways.takes-so (Some told) g7 [] refl), ((first, (inl refl, record { image = refl; mid = Collecting has_all; does = (refl, collecting.handing (collects [] comes) told refl refl); passes = recovered })), ((first, works image (Replaying replays) (Replaying replays_more) (Replaying replays_more) 2 refl (answers image is me 1 2 (runs-2 me 1)) (refl, replays-so replays (input 2) [] refl (gives-nothing replays.own)) (replays-on replays_more refl)), ((first, works image (Replaying replays_more) (Replaying replayed) (Restoring begins) 3 refl (answers image is me 2 3 (runs-3 me 2)) (refl, replays-so replays_more (input 3) [] refl (gives-nothing replays_more.own)) over), ((first, record { image = refl; does = returns.takes-so (Some resume) begins [] refl }), ((inl refl, (refl, handed-so resume (gave [] g7))), (tt, ((refl, gateways.takes-so (Some restored) g8 [] refl), ((first, (inl refl, record { image = refl; mid = Restoring has_answer; does = (refl, restoring.handing (restores [] begins) restored is-restoring); passes = returned })), tt))))))))))))))
 
 -- ---- it fails alone
 

@@ -26,7 +26,7 @@ use Rattle.recovery.specs.Restoration.{IsRestoring}
 use Rattle.gateway.specs.Gateway.{TheGateway}
 use Rattle.node_laws.specs.HostProcess.{IsFirst}
 use Rattle.node_laws.specs.Inside.Process.{Recovers}
-use Rattle.node_laws.specs.Messages.{input, quiet, n0, n1, n2, n4, n5, n6, n7, n8, n9, has_all, job, replays, resumes}
+use Rattle.node_laws.specs.Messages.{quiet, restores, n0, n1, n2, n4, n5, n6, n7, n8, n9, has_all, job, replays, begins}
 use Rattle.node_laws.proofs.Lives.{usual-allowed}
 
 -- ---- what the node keeps, which sends nothing
@@ -121,7 +121,7 @@ pub recovers : Recovers has_all replays
 unfolding entries_in_range
 recovers = record { all = refl; is = record { own = refl; plans = plans; none = refl }; acts = comes-back has_all jobs refl plans }
 
-pub is-restoring : IsRestoring resumes.own resumes.above resumes.answered
+pub is-restoring : IsRestoring (restores [] begins).own (restores [] begins).above (restores [] begins).answered
 unfolding entries_in_range
 is-restoring = record { wide = refl; answered_wide = refl; heard_wide = refl; logs_wide = refl; alone = refl }
 

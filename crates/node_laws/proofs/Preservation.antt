@@ -1,5 +1,5 @@
 -- What anyone has of a durable process is what is stored of it to be sent
-use Rattle.std.proofs.Common.{◌≡◌, ◌≢◌, ℕ, ◌≤◌, List, [], ◌∷◌, ◌++◌, length, drop, Bool, true, false, refl, sym, ap, ◌∙◌, subst, arith}
+use Rattle.std.proofs.Common.{◌≡◌, ◌≢◌, ℕ, ◌≤◌, List, [], ◌∷◌, ◌++◌, length, drop, Bool, true, false, refl, sym, ap, ◌∙◌, subst, append-nil, arith}
 use Rattle.std.specs.Prelude.{Some, ◌==◌, if◌then◌else◌}
 use Rattle.std.proofs.lemmas.Bool.Decides.{nat_tests}
 use Rattle.theorems.specs.Growth.{Begins}
@@ -23,7 +23,7 @@ use Rattle.node.proofs.Runs.{grows, one-was}
 use Rattle.recovery.proofs.Preservation.{each-drop}
 use Rattle.recovery.proofs.Lists.{each-append}
 use Rattle.node_laws.specs.HostProcess.{IsFirst}
-use Rattle.node_laws.specs.Inside.Process.{Process, Up, Gives, WaitsFor, covered}
+use Rattle.node_laws.specs.Inside.Process.{Process, Up, Covered, IsUp, Gives, WaitsFor, covered}
 use Rattle.node_laws.specs.Inside.System.{System, new_system, Call, Gave, Handed, Stored, GaveOut, HandedOut, DidOut, StoredOut, StoredBut, RevivedOut, DoesIt, after_call, Calls, after_calls}
 use Rattle.node_laws.specs.HostSystem.{handed_out, untaken}
 use Rattle.node_laws.specs.Inside.Durable.{ReplaysWhole, ReplayWhole, KeepsDurable, StaysDurable, outputs_of, DurableKeep}
@@ -252,12 +252,18 @@ module _ (f : Answering) (states : ℕ → List ℕ) (n : ℕ) (D : ℕ → Bool
       record { messages = rest.messages; later = λ q. begins-trans (H q) (one.messages q) (rest.messages q) (one.later q) (rest.later q); all = rest.all; shown = one.shows ks rest.messages rest.later rest.shown }
 
   -- what a node that is up received
-  up-knows : (H : ℕ → List Message) (p : ℕ) (l : IsFirst n p) (process : Process) (m : TheNode) → IsFor f states n p (D p) (D p) D (In H p) l.1 (H p) process → process ≡ Up m → (has : HasAfter F p (H p) m) × Knows F D H p (H p ++ has.rest)
-  up-knows H p l process m s e =
-      let up : IsFor f states n p (D p) (D p) D (In H p) l.1 (H p) (Up m) = subst (IsFor f states n p (D p) (D p) D (In H p) l.1 (H p)) e s in (
-        record { rest = up.1.more; many = ap length up.1.begins ∙ up.1.many; state = ap (F.state p) up.1.begins ∙ up.1.state },
-        subst (Knows F D H p) (sym up.1.begins) (record { ordered = up.1.taken.ordered; known = up.1.taken.known }),
+  up-knows : (H : ℕ → List Message) (p : ℕ) (l : IsFirst n p) (process : Process) (m : TheNode) → IsFor f states n p (D p) (D p) D (In H p) l.1 (H p) process → IsUp m process → (has : HasAfter F p (H p) m) × Knows F D H p (H p ++ has.rest)
+  up-knows H p l (Up k) m s e =
+      subst (λ z. (has : HasAfter F p (H p) z) × Knows F D H p (H p ++ has.rest)) e (
+        record { rest = s.1.more; many = ap length s.1.begins ∙ s.1.many; state = ap (F.state p) s.1.begins ∙ s.1.state },
+        subst (Knows F D H p) (sym s.1.begins) (record { ordered = s.1.taken.ordered; known = s.1.taken.known }),
       )
+  up-knows H p l (Covered k) m s e =
+      subst (λ z. (has : HasAfter F p (H p) z) × Knows F D H p (H p ++ has.rest)) e (
+        record { rest = []; many = ap length (append-nil (H p)) ∙ s.1.0.many; state = ap (F.state p) (append-nil (H p)) ∙ s.1.0.state },
+        subst (Knows F D H p) (sym (append-nil (H p))) (record { ordered = s.1.0.taken.ordered; known = s.1.0.taken.known }),
+      )
+  up-knows H p l other m s e = absurd e
 
 pub durable-keep : DurableKeep
 durable-keep f n page tick limits states bytes calls durable stored lasting m v w =

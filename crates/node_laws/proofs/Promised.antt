@@ -121,6 +121,9 @@ all-stand images n s t c at a =
       shown = λ p l. subst (λ (z : TheGateway). (peer_of p z).shown ≡ count_of p c.world.shown) st.durable (a.shown p l);
     }
 
+pub up-in : (n : ℕ) (s : System) (t : Lived) (p : ℕ) (m : TheNode) → IsAs n s t → IsFirst n p → IsUp m (s.processes p) → lives.IsUp m (t.processes p)
+up-in n s t p m st l up = subst (lives.IsUp m) (sym (st.processes p l)) (is-up m (s.processes p) up)
+
 -- ---- the laws
 
 pub hosted-run : HostedRun
@@ -152,7 +155,7 @@ hosted-back h calls more few g e p a b l was is =
     let v : Lived = called.after_calls (lived h) (t.early.calls ++ t.late.calls) in
     let k = nothing-is-lost (answering h.n h.images) h.n h.page h.tick h.limits h.states h.bytes t.early.calls t.late.calls p a b few (are-stored h) l t.are
         (exact-append h.n (lived h) t.early.calls t.late.calls (t.early.exact exact.0) (t.late.exact exact.1))
-        (t.early.state.stand.processes p l ∙ is-up a ((after h calls).processes p) was) (t.end.stand.processes p l ∙ is-up b ((after h (calls ++ more)).processes p) is) in
+        (up-in h.n (after h calls) u p a t.early.state.stand l was) (up-in h.n (after h (calls ++ more)) v p b t.end.stand l is) in
     record {
       acts = k.acts;
       more = k.more;
@@ -185,7 +188,7 @@ hosted-stays h calls more p g l =
       more = k.more;
       stored_was = subst (AreAfter h.n (handlers h) p k.was) (t.early.state.stand.stored p l) k.stored_was;
       stored_is = subst (AreAfter h.n (handlers h) p (k.was ++ k.more)) (t.end.stand.stored p l) k.stored_is;
-      up = λ m e. k.up m (t.end.stand.processes p l ∙ is-up m ((after h (calls ++ more)).processes p) e);
+      up = λ m e. k.up m (up-in h.n (after h (calls ++ more)) (called.after_calls (lived h) (t.early.calls ++ t.late.calls)) p m t.end.stand l e);
     }
 
 pub hosted-last : HostedLast
@@ -214,7 +217,7 @@ hosted-keep h calls durable g lasting =
       messages = k.messages;
       stored = λ p l. subst (AreAfter h.n (handlers h) p (k.messages p)) (st.stored p l) (k.stored p l);
       received = k.received;
-      up = λ p l m e. k.up p l m (st.processes p l ∙ is-up m ((after h calls).processes p) e);
+      up = λ p l m e. k.up p l m (up-in h.n (after h calls) (called.after_calls (lived h) a.calls) p m st l e);
       given = subst (Each (λ (x : NodePacket). durable x.from ≡ true → IsSentBy (handlers h) x.from (k.messages x.from) x)) st.given k.given;
       shown = subst (Each (λ (o : Output). durable o.process ≡ true → nth ((handlers h).sends o.process (k.messages o.process) 0) o.ssn ≡ Some o.payload)) a.outputs k.shown;
     }

@@ -1,5 +1,5 @@
 -- What a host sees of a process holds of the process in all lives
-use Rattle.std.proofs.Common.{◌≡◌, ℕ, List, Bool, true, false, refl, ap, ◌∙◌}
+use Rattle.std.proofs.Common.{◌≡◌, ℕ, List, Bool, true, false, refl, sym, ap, ◌∙◌, subst}
 use Rattle.cluster.specs.Cluster.{Cluster}
 use Rattle.verifier.specs.declared.any_image.AnyImage.{AnyImage}
 use Rattle.packets.specs.declared.kept.Kept.{Kept}
@@ -53,10 +53,13 @@ up-as Killed = refl
 
 -- ---- its stage
 
-pub is-up : (m : TheNode) (h : Hosted) → IsUp m h → as_process h ≡ lives.Up m
-is-up m (Runs process Durable) u = absurd u
-is-up m (Runs process checkpoint) u = ap stage_of u
-is-up m (Sleeps process bytes) u = ap stage_of u
+up-seen : (m : TheNode) (w : Checkpoint) → lives.IsUp m (seen w (Up m))
+up-seen m Durable = refl
+up-seen m other = refl
+
+pub is-up : (m : TheNode) (h : Hosted) → IsUp m h → lives.IsUp m (as_process h)
+is-up m (Runs process w) u = subst (λ c. lives.IsUp m (seen w c)) (sym u) (up-seen m w)
+is-up m (Sleeps process bytes) u = subst (λ c. lives.IsUp m (stage_of c)) (sym u) refl
 is-up m Killed u = absurd u
 
 pub collects : (h : Hosted) → Alive Collects h → (m : TheCollecting) × (as_process h ≡ lives.Collects m)

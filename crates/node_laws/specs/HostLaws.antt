@@ -3,6 +3,7 @@ use Rattle.std.specs.Prelude.{◌≡◌, ◌≢◌, ℕ, ◌≤◌, List, [], �
 use Rattle.packets.specs.declared.packet.NodePacket.{NodePacket}
 use Rattle.stores.specs.declared.change.Output.{Output}
 use Rattle.node.specs.Node.{TheNode}
+use Rattle.node.specs.Stands.{Each}
 use Rattle.process.specs.Process.{TheProcess}
 use Rattle.node_laws.specs.HostProcess.{IsFirst, Checkpoint, Runs, Alive, is_up, is_exact, IsUp}
 use Rattle.node_laws.specs.HostSystem.{System, Hosting, start, after, Makes, handlers, HostCall, Gave, GaveBytes, Resumed, Died, Revived}
@@ -42,8 +43,7 @@ KeepsDurable p call = Unit {0}
 
 -- so by each of these calls
 abbrev pub StaysDurable : ℕ → List HostCall → Type 0
-StaysDurable p [] = Unit {0}
-StaysDurable p (k ∷ ks) = KeepsDurable p k × StaysDurable p ks
+StaysDurable p calls = Each (KeepsDurable p) calls
 
 -- these processes are durable from their opening on, and by each of these calls
 abbrev pub AreDurable : Hosting → (ℕ → Bool) → List HostCall → Type 0
@@ -57,8 +57,7 @@ LivesOn call = Unit {0}
 
 -- nor by any of these: they are of one life of the gateway
 abbrev pub OneLife : List HostCall → Type 0
-OneLife [] = Unit {0}
-OneLife (k ∷ ks) = LivesOn k × OneLife ks
+OneLife calls = Each LivesOn calls
 
 -- ---- what is given
 

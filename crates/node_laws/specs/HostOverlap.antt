@@ -1,63 +1,51 @@
 -- A worked list of calls of hosts of two durable processes that are killed at once and whose recoveries meet: these failures overlap
 use Rattle.std.specs.Prelude.{◌≡◌, ℕ, List, [], ◌∷◌, true, false}
-use Rattle.packets.specs.declared.packet.Body.TheVariants.{Ask, Told}
+use Rattle.packets.specs.declared.packet.Body.TheVariants.{Told}
 use Rattle.packets.specs.declared.packet.NodePacket.{NodePacket}
 use Rattle.packets.specs.Packet.{flags_of}
 use Rattle.verifier.specs.declared.any_image.AnyImage.{AnyImage}
 use Rattle.node.specs.declared.limit.Limits.{Limits}
 use Rattle.node.specs.Limit.{usual}
-use Rattle.node.specs.Node.{new_node}
-use Rattle.node.specs.Kept.{kept_of}
-use Rattle.recovery.specs.Collection.{TheCollecting, revived, handed}
+use Rattle.recovery.specs.Collection.{TheCollecting, handed}
 use Rattle.process.specs.declared.lifecycle.Lifecycle.TheVariants.{Collecting}
 use Rattle.node_laws.specs.HostProcess.{is_exact}
 use Rattle.node_laws.specs.HostSystem.{HostCall, Gave, Handed, Died, Revived, AreCalls, after_calls}
 use Rattle.node_laws.specs.HostLaws.{StaysDurable}
-use Rattle.node_laws.specs.HostBeside.{packet, at, opened, Open, MayOpen}
+use Rattle.node_laws.specs.Messages.{packet, collects}
+use Rattle.node_laws.specs.HostWorked.{process}
+use Rattle.node_laws.specs.HostBeside.{ask, comes, opened, Open, MayOpen}
 
 -- the limits of both
 abbrev pub lasting : Limits
 lasting = record usual { durable = true }
 
--- the question of a process in its second incarnation
-abbrev pub ask : ℕ → ℕ → NodePacket
-ask from to = packet from to (Ask 2 0)
-
 -- the first process answers the second that all is lost
 abbrev pub loss : NodePacket
-loss = packet 1 2 (Told 2 2 0 (flags_of true true false) [])
-
--- it comes back
-abbrev pub comes : List ℕ → ℕ → TheCollecting
-comes initial p = revived lasting (kept_of (new_node usual p 2 initial)) 2
-
--- it still has to give these packets
-abbrev pub gives : TheCollecting → List NodePacket → TheCollecting
-gives n out = record n { own = record n.own { out = out } }
+loss = packet 2 1 2 (Told 2 2 0 (flags_of true true false) [])
 
 -- the first process hears that the other is recovering too
 abbrev pub hears : List ℕ → TheCollecting
-hears initial = handed (ask 2 1) (comes initial 1)
+hears initial = handed (ask 2 1) (comes lasting 1 initial)
 
 -- the second process hears that all is lost
 abbrev pub learns : List ℕ → TheCollecting
-learns initial = handed loss (gives (comes initial 2) [])
+learns initial = handed loss (collects [] (comes lasting 2 initial))
 
 -- both die, come back, and hear of each other
 abbrev pub met : (ℕ → AnyImage) → List ℕ → List HostCall
 met images initial =
     Died 1
     ∷ Died 2
-    ∷ Revived 1 lasting 2 (at images 1 (Collecting (comes initial 1)))
-    ∷ Revived 2 lasting 2 (at images 2 (Collecting (comes initial 2)))
-    ∷ Gave 2 (ask 2 0) (at images 2 (Collecting (gives (comes initial 2) (ask 2 1 ∷ []))))
-    ∷ Gave 2 (ask 2 1) (at images 2 (Collecting (gives (comes initial 2) [])))
-    ∷ Handed 1 (ask 2 1) (at images 1 (Collecting (hears initial)))
-    ∷ Gave 1 (ask 1 0) (at images 1 (Collecting (gives (hears initial) (ask 1 2 ∷ ask 1 2 ∷ loss ∷ []))))
-    ∷ Gave 1 (ask 1 2) (at images 1 (Collecting (gives (hears initial) (ask 1 2 ∷ loss ∷ []))))
-    ∷ Gave 1 (ask 1 2) (at images 1 (Collecting (gives (hears initial) (loss ∷ []))))
-    ∷ Gave 1 loss (at images 1 (Collecting (gives (hears initial) [])))
-    ∷ Handed 2 loss (at images 2 (Collecting (learns initial)))
+    ∷ Revived 1 lasting 2 (process (images 1) (Collecting (comes lasting 1 initial)))
+    ∷ Revived 2 lasting 2 (process (images 2) (Collecting (comes lasting 2 initial)))
+    ∷ Gave 2 (ask 2 0) (process (images 2) (Collecting (collects (ask 2 1 ∷ []) (comes lasting 2 initial))))
+    ∷ Gave 2 (ask 2 1) (process (images 2) (Collecting (collects [] (comes lasting 2 initial))))
+    ∷ Handed 1 (ask 2 1) (process (images 1) (Collecting (hears initial)))
+    ∷ Gave 1 (ask 1 0) (process (images 1) (Collecting (collects (ask 1 2 ∷ ask 1 2 ∷ loss ∷ []) (hears initial))))
+    ∷ Gave 1 (ask 1 2) (process (images 1) (Collecting (collects (ask 1 2 ∷ loss ∷ []) (hears initial))))
+    ∷ Gave 1 (ask 1 2) (process (images 1) (Collecting (collects (loss ∷ []) (hears initial))))
+    ∷ Gave 1 loss (process (images 1) (Collecting (collects [] (hears initial))))
+    ∷ Handed 2 loss (process (images 2) (Collecting (learns initial)))
     ∷ []
 
 -- they are such calls, and both stay durable; in the end one of them isn't exact

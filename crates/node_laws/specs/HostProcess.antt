@@ -68,9 +68,8 @@ is_exact (Runs process checkpoint) = (standing_at process.lifecycle).exact
 is_exact (Sleeps process bytes) = (standing_at process.lifecycle).exact
 is_exact Killed = true
 
--- it is up as this node, unless its checkpoint is stored and it wasn't told so yet
+-- it is up as this node
 abbrev pub IsUp : TheNode → Hosted → Type 0
-IsUp node (Runs process Durable) = ⊥
 IsUp node (Runs process checkpoint) = process.lifecycle ≡ Up node
 IsUp node (Sleeps process bytes) = process.lifecycle ≡ Up node
 IsUp node Killed = ⊥

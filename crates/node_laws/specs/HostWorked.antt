@@ -19,9 +19,9 @@ use Rattle.node.specs.Kept.{kept_of}
 use Rattle.node.specs.Suspension.{suspended_bytes}
 use Rattle.recovery.specs.Restoration.{up}
 use Rattle.node_laws.specs.Back.{length_of}
-use Rattle.node_laws.specs.Messages.{sent, input, delivery, number, acknowledgement, covers, ask, told, resume, restored, gave, g1, g2, g3}
-use Rattle.node_laws.specs.Messages.{g4, g5, g6, g7, g8, quiet, n0, n1, n2, n3, n4, n5, n6, n7, n8, n9, n10, comes, asks, replays}
-use Rattle.node_laws.specs.Messages.{replays_more, begins, resumes, has_answer}
+use Rattle.node_laws.specs.Messages.{gave, quiet, collects, restores, input, delivery, number, acknowledgement, covers, ask, told, resume}
+use Rattle.node_laws.specs.Messages.{restored, g1, g2, g3, g4, g5, g6, g7, g8, n0, n1, n2, n3, n4, n5, n6, n7, n8, n9, n10, comes}
+use Rattle.node_laws.specs.Messages.{replays, replays_more, begins, has_answer}
 use Rattle.process.specs.declared.lifecycle.Lifecycle.{Lifecycle}
 use Rattle.process.specs.declared.lifecycle.Lifecycle.TheVariants.{Up, Collecting, Replaying, Restoring}
 use Rattle.process.specs.Process.{TheProcess}
@@ -60,7 +60,7 @@ before image bytes =
     -- an input comes for the process, and the gateway sends it
     DidOut g1
     ∷ StoredOut
-    ∷ GaveOut (delivery 1) (sent g1)
+    ∷ GaveOut (delivery 1) (gave [] g1)
     -- the process gets the message
     ∷ Handed 1 (delivery 1) (process image (Up n1))
     -- its handler runs on the message
@@ -69,7 +69,7 @@ before image bytes =
     ∷ Gave 1 (number 1) (process image (Up (quiet n2)))
     ∷ HandedOut (number 1) g2
     ∷ StoredOut
-    ∷ GaveOut (acknowledgement 1) (sent g2)
+    ∷ GaveOut (acknowledgement 1) (gave [] g2)
     ∷ Handed 1 (acknowledgement 1) (process image (Up n3))
     -- it makes a checkpoint, which is stored, and is told so
     ∷ Froze 1 bytes (process image (Up n4))
@@ -85,7 +85,7 @@ before image bytes =
     ∷ DidOut g4
     ∷ StoredOut
     ∷ GaveOut (delivery 2) (gave (delivery 3 ∷ []) g4)
-    ∷ GaveOut (delivery 3) (sent g4)
+    ∷ GaveOut (delivery 3) (gave [] g4)
     -- the process gets the second message, works on it and tells its RSN
     ∷ Handed 1 (delivery 2) (process image (Up n6))
     ∷ Worked 1 (process image (Up n7))
@@ -99,7 +99,7 @@ before image bytes =
     ∷ HandedOut (number 3) g6
     ∷ StoredOut
     ∷ GaveOut (acknowledgement 2) (gave (acknowledgement 3 ∷ []) g6)
-    ∷ GaveOut (acknowledgement 3) (sent g6)
+    ∷ GaveOut (acknowledgement 3) (gave [] g6)
     -- the process gets one of these acknowledgements
     ∷ Handed 1 (acknowledgement 2) (process image (Up n10))
     ∷ []
@@ -112,10 +112,10 @@ behind image =
     -- it is revived from its checkpoint
     ∷ Revived 1 usual 2 (process image (Collecting comes))
     -- it asks the gateway what its log holds, and the gateway answers
-    ∷ Gave 1 ask (process image (Collecting asks))
+    ∷ Gave 1 ask (process image (Collecting (collects [] comes)))
     ∷ HandedOut ask g7
     ∷ StoredOut
-    ∷ GaveOut told (sent g7)
+    ∷ GaveOut told (gave [] g7)
     -- it gets the answer, and begins to replay two messages
     ∷ Handed 1 told (process image (Replaying replays))
     -- its handler runs on the second message again
@@ -123,10 +123,10 @@ behind image =
     -- and on the third; the replay is over, and it begins to restore its RSNs
     ∷ Worked 1 (process image (Restoring begins))
     -- it asks the gateway for these, and the gateway answers
-    ∷ Gave 1 resume (process image (Restoring resumes))
+    ∷ Gave 1 resume (process image (Restoring (restores [] begins)))
     ∷ HandedOut resume g8
     ∷ StoredOut
-    ∷ GaveOut restored (sent g8)
+    ∷ GaveOut restored (gave [] g8)
     -- it gets the answer, and is up
     ∷ Handed 1 restored (process image (Up (ticked (up has_answer))))
     ∷ []
@@ -155,7 +155,7 @@ pub record IsWorked (image : AnyImage) (stored bytes : List ℕ) : Type 0 where
   pub had : length_of n10 ≡ 3
   pub acknowledged : run_at n10 ≡ 2
   pub was : n10.state ≡ input 3
-  pub collects : (later image stored bytes 6).processes 1 ≡ Runs (process image (Collecting asks)) Absent
+  pub collects : (later image stored bytes 6).processes 1 ≡ Runs (process image (Collecting (collects [] comes))) Absent
   pub recovers : (later image stored bytes 7).processes 1 ≡ Runs (process image (Replaying replays)) Absent
   pub replays_two : length replays.plan ≡ 2
   pub node : TheNode

@@ -22,39 +22,53 @@ use Rattle.recovery.specs.Restoration as restoring
 use Rattle.gateway.specs.Gateway.{TheGateway, new_gateway, puts_in}
 use Rattle.gateway.specs.Calls as gateways
 
+-- ---- a cluster of any size
+
+-- a packet of a cluster of so many
+abbrev pub packet : ℕ → ℕ → ℕ → Body → NodePacket
+packet count from to b = record { count = count; from = from; to = to; body = b }
+
+-- the gateway still has to give these packets
+abbrev pub gave : List NodePacket → TheGateway → TheGateway
+gave out g = record g { out = out }
+
+-- a process that is up gave its packets
+abbrev pub quiet : TheNode → TheNode
+quiet n = record n { out = [] }
+
+-- one that collects still has to give these packets
+abbrev pub collects : List NodePacket → TheCollecting → TheCollecting
+collects out n = record n { own = record n.own { out = out } }
+
+-- one that restores its RSNs still has to give these packets
+abbrev pub restores : List NodePacket → TheRestoring → TheRestoring
+restores out n = record n { own = record n.own { out = out } }
+
+-- ---- its packets
+
 -- the k-th input is this one byte
 abbrev pub input : ℕ → List ℕ
 input k = k ∷ []
 
--- ---- its packets
-
--- from the process to the gateway
-abbrev pub from_process : Body → NodePacket
-from_process b = record { count = 1; from = 1; to = 0; body = b }
-
--- from the gateway to the process
-abbrev pub from_gateway : Body → NodePacket
-from_gateway b = record { count = 1; from = 0; to = 1; body = b }
-
 -- the k-th message, to the process
 abbrev pub delivery : ℕ → NodePacket
-delivery k = from_gateway (Delivery 1 k (input k))
+delivery k = packet 1 0 1 (Delivery 1 k (input k))
 
 -- the k-th message has the RSN k
 abbrev pub number : ℕ → NodePacket
-number k = from_process (Number 1 k k)
+number k = packet 1 1 0 (Number 1 k k)
 
 -- the gateway acknowledges the k-th RSN
 abbrev pub acknowledgement : ℕ → NodePacket
-acknowledgement k = from_gateway (Acknowledgement 1 k)
+acknowledgement k = packet 1 0 1 (Acknowledgement 1 k)
 
 -- its checkpoint covers one
 abbrev pub covers : NodePacket
-covers = from_process (Saved 1)
+covers = packet 1 1 0 (Saved 1)
 
 -- the process asks what is logged for it after its first message
 abbrev pub ask : NodePacket
-ask = from_process (Ask 2 1)
+ask = packet 1 1 0 (Ask 2 1)
 
 -- the log's entry of the k-th message
 abbrev pub entry : ℕ → LoggedMessage
@@ -62,25 +76,17 @@ entry k = record { number = k; ssn = k; payload = input k }
 
 -- the gateway tells the second message and the third
 abbrev pub told : NodePacket
-told = from_gateway (Told 2 1 1 (flags_of true false true) (entry 2 ∷ entry 3 ∷ []))
+told = packet 1 0 1 (Told 2 1 1 (flags_of true false true) (entry 2 ∷ entry 3 ∷ []))
 
 -- the process asks under which RSNs its messages were received
 abbrev pub resume : NodePacket
-resume = from_process (Resume 2 3 0)
+resume = packet 1 1 0 (Resume 2 3 0)
 
 -- the gateway answers that it received none
 abbrev pub restored : NodePacket
-restored = from_gateway (Restored 2 1 0 0 (flags_of true false true) [])
+restored = packet 1 0 1 (Restored 2 1 0 0 (flags_of true false true) [])
 
 -- ---- the gateway
-
--- it gave its packets
-abbrev pub sent : TheGateway → TheGateway
-sent g = record g { out = [] }
-
--- it still has to give these packets
-abbrev pub gave : List NodePacket → TheGateway → TheGateway
-gave out g = record g { out = out }
 
 -- it took the first input
 abbrev pub g1 : TheGateway
@@ -88,11 +94,11 @@ g1 = puts_in 1 (input 1) (new_gateway 1 PAGE TICK)
 
 -- it gave that, and heard its RSN
 abbrev pub g2 : TheGateway
-g2 = gateways.handed (number 1) (sent g1)
+g2 = gateways.handed (number 1) (gave [] g1)
 
 -- it took the second input
 abbrev pub g3 : TheGateway
-g3 = puts_in 1 (input 2) (sent g2)
+g3 = puts_in 1 (input 2) (gave [] g2)
 
 -- it took the third input
 abbrev pub g4 : TheGateway
@@ -100,7 +106,7 @@ g4 = puts_in 1 (input 3) g3
 
 -- it gave both, and heard the RSN of the second
 abbrev pub g5 : TheGateway
-g5 = gateways.handed (number 2) (sent g4)
+g5 = gateways.handed (number 2) (gave [] g4)
 
 -- it heard the RSN of the third
 abbrev pub g6 : TheGateway
@@ -108,17 +114,13 @@ g6 = gateways.handed (number 3) g5
 
 -- it was asked by the process that came back
 abbrev pub g7 : TheGateway
-g7 = gateways.handed ask (sent g6)
+g7 = gateways.handed ask (gave [] g6)
 
 -- it was asked for RSNs
 abbrev pub g8 : TheGateway
-g8 = gateways.handed resume (sent g7)
+g8 = gateways.handed resume (gave [] g7)
 
 -- ---- the process while it is up
-
--- it gave its packets
-abbrev pub quiet : TheNode → TheNode
-quiet n = record n { out = [] }
 
 -- the handler ran on the k-th message
 abbrev pub works : ℕ → TheNode → TheNode
@@ -174,13 +176,9 @@ n10 = nodes.handed (acknowledgement 2) (quiet n9)
 abbrev pub comes : TheCollecting
 comes = revived usual (kept_of n4) 2
 
--- its question is taken
-abbrev pub asks : TheCollecting
-asks = record comes { own = record comes.own { out = [] } }
-
 -- the gateway has told it both messages
 abbrev pub has_all : TheCollecting
-has_all = collecting.handed told asks
+has_all = collecting.handed told (collects [] comes)
 
 -- the job of the k-th message
 abbrev pub job : ℕ → OpenJob
@@ -202,10 +200,6 @@ replayed = did_replay (input 3) [] (Some (job 3)) replays_more
 abbrev pub begins : TheRestoring
 begins = begun (replayed_of replayed)
 
--- its request is taken
-abbrev pub resumes : TheRestoring
-resumes = record begins { own = record begins.own { out = [] } }
-
 -- the gateway has answered it
 abbrev pub has_answer : TheRestoring
-has_answer = restoring.handed restored resumes
+has_answer = restoring.handed restored (restores [] begins)

@@ -11,7 +11,7 @@ use Rattle.recovery.specs.Replays.{TheReplaying}
 use Rattle.recovery.specs.Moment.{HadReceived}
 use Rattle.node_laws.specs.HostProcess.{IsFirst}
 use Rattle.node_laws.specs.Back.{length_of, HasBack}
-use Rattle.node_laws.specs.Inside.Process.{Up, Collects, Replays}
+use Rattle.node_laws.specs.Inside.Process.{IsUp, Collects, Replays}
 use Rattle.node_laws.specs.Inside.System.{System, new_system, AreStored, Call, Did, Calls, after_calls, StayExact, AllStand}
 
 -- whatever happens between the two moments, if each process that is alive stays exact
@@ -20,8 +20,8 @@ NothingIsLost = (f : Answering) (n page tick : ℕ) (limits : ℕ → Limits) (s
     (a b : TheNode) → n ≤ 15 → AreStored n states bytes → IsFirst n p
     → Calls f n (new_system n limits states bytes page tick) (calls ++ more)
     → StayExact n (new_system n limits states bytes page tick) (calls ++ more)
-    → (after_calls (new_system n limits states bytes page tick) calls).processes p ≡ Up a
-    → (after_calls (new_system n limits states bytes page tick) (calls ++ more)).processes p ≡ Up b
+    → IsUp a ((after_calls (new_system n limits states bytes page tick) calls).processes p)
+    → IsUp b ((after_calls (new_system n limits states bytes page tick) (calls ++ more)).processes p)
     → HasBack n (handlers_of f states)
     (AllStand n (after_calls (new_system n limits states bytes page tick) calls))
     (AllStand n (after_calls (new_system n limits states bytes page tick) (calls ++ more))) p a b
@@ -41,7 +41,7 @@ pub record IsBack (n : ℕ) (f : Handlers) (s t : System) (p : ℕ) (old : TheCo
   pub had : HadReceived (after_run (opening n f) acts) p old.own.base new.plan
   pub stays : take (kept_of old new)
       ((after_run (opening n f) (acts ++ more)).world.history p) ≡ take (kept_of old new) ((after_run (opening n f) acts).world.history p)
-  pub back : (m : TheNode) → t.processes p ≡ Up m → length_of m ≡ kept_of old new
+  pub back : (m : TheNode) → IsUp m (t.processes p) → length_of m ≡ kept_of old new
       → f.state p (take (kept_of old new) ((after_run (opening n f) acts).world.history p)) ≡ m.state
 
 -- a process that recovers comes back with what it keeps, if all stay exact

@@ -9,7 +9,7 @@ use Rattle.stores.specs.declared.change.Output.{Output}
 use Rattle.node_laws.specs.HostProcess.{IsFirst}
 use Rattle.node_laws.specs.HostSystem.{handed_out}
 use Rattle.node_laws.specs.Durable.{Stays, Lasts, Keep}
-use Rattle.node_laws.specs.Inside.Process.{Process, Up, Replays, Replayed}
+use Rattle.node_laws.specs.Inside.Process.{Process, IsUp, Replays, Replayed}
 use Rattle.node_laws.specs.Inside.System.{System, new_system, AreStored, Call, Gave, Did, Resumed, Revived, DidOut, Calls, after_call}
 use Rattle.node_laws.specs.Inside.System.{after_calls}
 
@@ -61,7 +61,7 @@ StoredStays = (f : Answering) (n page tick : ℕ) (limits : ℕ → Limits) (sta
     → AreStored n states bytes → IsFirst n p → Calls f n (new_system n limits states bytes page tick) (calls ++ more) → ReplayWhole (new_system n limits states bytes page tick) (calls ++ more)
     → Stays n (handlers_of f states) p ((after_calls (new_system n limits states bytes page tick) calls).stored p)
     ((after_calls (new_system n limits states bytes page tick) (calls ++ more)).stored p)
-    (λ m. (after_calls (new_system n limits states bytes page tick) (calls ++ more)).processes p ≡ Up m)
+    (λ m. IsUp m ((after_calls (new_system n limits states bytes page tick) (calls ++ more)).processes p))
 
 -- they send all that it gave, if it is durable
 abbrev pub DurableLast : Type 0
@@ -78,5 +78,5 @@ DurableKeep = (f : Answering) (n page tick : ℕ) (limits : ℕ → Limits) (sta
     → Bool) → AreStored n states bytes → ((p : ℕ) → durable p ≡ true → IsFirst n p × ((limits p).durable ≡ true))
     → Calls f n (new_system n limits states bytes page tick) calls → ReplayWhole (new_system n limits states bytes page tick) calls → ((p : ℕ) → durable p ≡ true → StaysDurable p (new_system n limits states bytes page tick) calls)
     → Keep n (handlers_of f states) durable (after_calls (new_system n limits states bytes page tick) calls).stored
-    (λ p m. (after_calls (new_system n limits states bytes page tick) calls).processes p ≡ Up m)
+    (λ p m. IsUp m ((after_calls (new_system n limits states bytes page tick) calls).processes p))
     (after_calls (new_system n limits states bytes page tick) calls).given (outputs_of (new_system n limits states bytes page tick) calls)

@@ -70,6 +70,12 @@ is_exact (Replayed n) = n.own.exact
 is_exact (Restores n) = n.own.exact
 is_exact Killed = true
 
+-- it is up as this node, also before it is told of its checkpoint
+abbrev pub IsUp : TheNode → Process → Type 0
+IsUp m (Up n) = n ≡ m
+IsUp m (Covered n) = n ≡ m
+IsUp m process = ⊥
+
 -- ---- its calls, each as its function's contract says
 
 -- it becomes a process in the stage that is named, and P holds of that
