@@ -51,7 +51,7 @@ use Rattle.node_laws.proofs.Acts.{dids, dids-give, Ran, ran, Beside, ends}
 use Rattle.node_laws.proofs.Wakings.{still-seen, wakes-up}
 use Rattle.node_laws.proofs.Moments.{Moment, of-acts, behind-one, dead-end, not-collecting}
 use Rattle.node_laws.proofs.HostStep.{IsGood, AreGood, Steps}
-use Rattle.node_laws.proofs.Views.{up-as}
+use Rattle.node_laws.proofs.Views.{up-so}
 
 module _ (images : ℕ → AnyImage) (n : ℕ) (s : System) (t : Lived) (st : IsAs n s t) (goods : AreGood images n s) (heres : (p : ℕ) → IsFirst n p → IsHere n p (t.processes p)) where
   abbrev f : Answering
@@ -278,7 +278,7 @@ module _ (images : ℕ → AnyImage) (n : ℕ) (s : System) (t : Lived) (st : Is
 
   dies : (p : ℕ) → IsFirst n p → Steps images n s t (Died p)
   dies p l =
-      by-call (Died p) p Killed (called.Died p) stages.Killed [] l l tt (raised-here t.processes p stages.Killed) refl (beside-one p Killed stages.Killed) refl tt (λ a q m o. ap is_up (st.processes q m) ∙ up-as (s.processes q) ∙ a q m o) (λ q z. tt) refl refl (λ q. refl) tt (λ from at. inr refl)
+      by-call (Died p) p Killed (called.Died p) stages.Killed [] l l tt (raised-here t.processes p stages.Killed) refl (beside-one p Killed stages.Killed) refl tt (λ a q m o. ap is_up (st.processes q m) ∙ up-so (a q m o).0 (s.processes q) (a q m o).1) (λ q z. tt) refl refl (λ q. refl) tt (λ from at. inr refl)
 
   revives : (p : ℕ) (limits : Limits) (life : ℕ) (new : TheProcess) → IsFirst n p → s.processes p ≡ Killed → s.lives p < life → RevivesAs (images p) limits (s.stored p) life new → Steps images n s t (Revived p limits life new)
   revives p limits life new l e above comes =

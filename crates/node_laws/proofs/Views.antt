@@ -8,10 +8,10 @@ use Rattle.node.specs.Kept.{IsKeptOf}
 use Rattle.recovery.specs.Collection.{TheCollecting}
 use Rattle.process.specs.declared.lifecycle.Lifecycle.{Lifecycle}
 use Rattle.process.specs.declared.lifecycle.Lifecycle.TheVariants.{Up, Collecting, Replaying, Replayed, Restoring, Passing}
-use Rattle.process.specs.Process.{TheProcess, is_settled, is_node}
+use Rattle.process.specs.Process.{TheProcess, is_settled}
 use Rattle.process.specs.Calls.{standing_at, is_frozen}
 use Rattle.process.specs.Suspension.{Suspends}
-use Rattle.node_laws.specs.HostProcess.{Checkpoint, Absent, Pending, Durable, Hosted, Runs, Sleeps, Killed, Alive, is_up, is_exact, IsUp}
+use Rattle.node_laws.specs.HostProcess.{Checkpoint, Absent, Pending, Durable, Hosted, Runs, Sleeps, Killed, Alive, is_exact, IsUp}
 use Rattle.node_laws.specs.HostBack.{Collects}
 use Rattle.node_laws.specs.Agreement.{Stands, StandsAs, IsStoredOf}
 use Rattle.node_laws.specs.Inside.Process as lives
@@ -21,7 +21,7 @@ use Rattle.node_laws.specs.Inside.Hosted.{stage_of, seen, as_process}
 use Rattle.node_laws.proofs.Stages.{Fits, unsettled}
 use Rattle.node_laws.proofs.HostStep.{IsGood}
 
--- ---- whether it is exact, and up
+-- ---- whether it is exact
 
 exact-stage : (c : Lifecycle) → lives.is_exact (stage_of c) ≡ (standing_at c).exact
 exact-stage Passing = refl
@@ -37,20 +37,6 @@ exact-as (Runs process checkpoint) = exact-stage process.lifecycle
 exact-as (Sleeps process bytes) = exact-stage process.lifecycle
 exact-as Killed = refl
 
-up-stage : (c : Lifecycle) → lone.is_up (stage_of c) ≡ is_node c
-up-stage Passing = refl
-up-stage other = refl
-
-up-durable : (c : Lifecycle) → lone.is_up (covered (stage_of c)) ≡ is_node c
-up-durable Passing = refl
-up-durable other = refl
-
-pub up-as : (h : Hosted) → lone.is_up (as_process h) ≡ is_up h
-up-as (Runs process Durable) = up-durable process.lifecycle
-up-as (Runs process checkpoint) = up-stage process.lifecycle
-up-as (Sleeps process bytes) = up-stage process.lifecycle
-up-as Killed = refl
-
 -- ---- its stage
 
 up-seen : (m : TheNode) (w : Checkpoint) → lives.IsUp m (seen w (Up m))
@@ -61,6 +47,14 @@ pub is-up : (m : TheNode) (h : Hosted) → IsUp m h → lives.IsUp m (as_process
 is-up m (Runs process w) u = subst (λ c. lives.IsUp m (seen w c)) (sym u) (up-seen m w)
 is-up m (Sleeps process bytes) u = subst (λ c. lives.IsUp m (stage_of c)) (sym u) refl
 is-up m Killed u = absurd u
+
+up-holds : (m : TheNode) (process : lives.Process) → lives.IsUp m process → lone.is_up process ≡ true
+up-holds m (lives.Up n) u = refl
+up-holds m (lives.Covered n) u = refl
+up-holds m other u = absurd u
+
+pub up-so : (m : TheNode) (h : Hosted) → IsUp m h → lone.is_up (as_process h) ≡ true
+up-so m h u = up-holds m (as_process h) (is-up m h u)
 
 pub collects : (h : Hosted) → Alive Collects h → (m : TheCollecting) × (as_process h ≡ lives.Collects m)
 collects (Runs process checkpoint) u = (u.0, ap (seen checkpoint) u.1 ∙ seen-so checkpoint u.0)

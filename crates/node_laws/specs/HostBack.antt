@@ -9,7 +9,7 @@ use Rattle.node.specs.Node.{TheNode}
 use Rattle.recovery.specs.Collection.{TheCollecting}
 use Rattle.recovery.specs.Moment.{HadReceived}
 use Rattle.process.specs.declared.lifecycle.Lifecycle.{Lifecycle}
-use Rattle.process.specs.declared.lifecycle.Lifecycle.TheVariants.{Up, Collecting, Replaying, Replayed, Restoring}
+use Rattle.process.specs.declared.lifecycle.Lifecycle.TheVariants.{Collecting, Replaying, Passing}
 use Rattle.process.specs.Process.{TheProcess}
 use Rattle.process.specs.Calls.{standing_at}
 use Rattle.node_laws.specs.HostProcess.{Absent, Runs, IsUp}
@@ -23,11 +23,9 @@ Collects process = (n : TheCollecting) × (process.lifecycle ≡ Collecting n)
 
 -- it no longer collects
 abbrev pub has_recovered : Lifecycle → Bool
-has_recovered (Up n) = true
-has_recovered (Replaying n) = true
-has_recovered (Replayed n) = true
-has_recovered (Restoring n) = true
-has_recovered c = false
+has_recovered (Collecting n) = false
+has_recovered Passing = false
+has_recovered c = true
 
 -- the messages that it goes on to replay
 abbrev pub plan_of : Lifecycle → List OpenJob

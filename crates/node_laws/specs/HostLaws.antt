@@ -5,7 +5,7 @@ use Rattle.stores.specs.declared.change.Output.{Output}
 use Rattle.node.specs.Node.{TheNode}
 use Rattle.node.specs.Stands.{Each}
 use Rattle.process.specs.Process.{TheProcess}
-use Rattle.node_laws.specs.HostProcess.{IsFirst, Checkpoint, Runs, Alive, is_up, is_exact, IsUp}
+use Rattle.node_laws.specs.HostProcess.{IsFirst, Checkpoint, Runs, Alive, is_exact, IsUp}
 use Rattle.node_laws.specs.HostSystem.{System, Hosting, start, after, Makes, handlers, HostCall, Gave, GaveBytes, Resumed, Died, Revived}
 use Rattle.node_laws.specs.HostSystem.{DidOut, RevivedOut, handed_out, after_call}
 use Rattle.node_laws.specs.Agreement.{AllStand, IsRunOf}
@@ -27,7 +27,7 @@ StayExact n s (k ∷ ks) = AreExact n (after_call s k) × StayExact n (after_cal
 
 -- a process is killed only while all others are up. One that is down or recovering may be killed again, and the gateway at any moment
 abbrev pub FailsAlone : ℕ → System → HostCall → Type 0
-FailsAlone n s (Died p) = (q : ℕ) → IsFirst n q → q ≢ p → is_up (s.processes q) ≡ true
+FailsAlone n s (Died p) = (q : ℕ) → IsFirst n q → q ≢ p → (node : TheNode) × IsUp node (s.processes q)
 FailsAlone n s call = Unit {0}
 
 -- so by each of these calls

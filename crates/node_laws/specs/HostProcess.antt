@@ -1,9 +1,9 @@
 -- A process and its host
-use Rattle.std.specs.Prelude.{◌≡◌, ℕ, ◌<◌, ◌≤◌, List, Bool, true, false}
+use Rattle.std.specs.Prelude.{◌≡◌, ℕ, ◌<◌, ◌≤◌, List, Bool, true}
 use Rattle.node.specs.Node.{TheNode}
 use Rattle.process.specs.declared.lifecycle.Lifecycle.TheVariants.{Up}
 use Rattle.process.specs.Calls.{standing_at}
-use Rattle.process.specs.Process.{TheProcess, is_node}
+use Rattle.process.specs.Process.{TheProcess}
 
 -- one of the first n processes
 abbrev pub IsFirst : ℕ → ℕ → Type 0
@@ -56,19 +56,13 @@ keeps other = other
 
 -- ---- what its host sees of it
 
--- it is up, also while it is suspended
-abbrev pub is_up : Hosted → Bool
-is_up (Runs process checkpoint) = is_node process.lifecycle
-is_up (Sleeps process bytes) = is_node process.lifecycle
-is_up Killed = false
-
 -- it tells that it is exact; one that was killed tells nothing
 abbrev pub is_exact : Hosted → Bool
 is_exact (Runs process checkpoint) = (standing_at process.lifecycle).exact
 is_exact (Sleeps process bytes) = (standing_at process.lifecycle).exact
 is_exact Killed = true
 
--- it is up as this node
+-- it is up as this node, also while it is suspended
 abbrev pub IsUp : TheNode → Hosted → Type 0
 IsUp node (Runs process checkpoint) = process.lifecycle ≡ Up node
 IsUp node (Sleeps process bytes) = process.lifecycle ≡ Up node
