@@ -10,9 +10,8 @@ use Rattle.node_laws.specs.Inside.Alone.{OneAtATime}
 use Rattle.node_laws.specs.Inside.Durable.{ReplaysAll, ReplayWhole, StaysDurable, given_by, outputs_of}
 use Rattle.node_laws.specs.Inside.Outputs.{OneLife}
 use Rattle.node_laws.proofs.Sound.{raised-here, raised-other}
-use Rattle.node_laws.specs.Inside.Hosted.{as_process}
+use Rattle.node_laws.specs.Inside.Hosted.{as_process, IsAs}
 use Rattle.node_laws.specs.HostSystem.{System}
-use Rattle.node_laws.specs.Inside.Hosted.{IsAs}
 use Rattle.node_laws.proofs.Chains.{Chain}
 
 abbrev pub dids : ℕ → List Process → List Call

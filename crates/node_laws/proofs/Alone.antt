@@ -26,8 +26,8 @@ use Rattle.recovery.specs.RestorationStands.{StandsRestoring}
 use Rattle.recovery.proofs.Fits.{pages-fit}
 use Rattle.gateway.specs.Gateway.{TheGateway}
 use Rattle.node_laws.specs.HostProcess.{IsFirst}
-use Rattle.node_laws.specs.Inside.Process.{Process, Up, Covered, Collects, Replays, Restores, Killed, StandsAs, IsKilled, IsStoredOf, ComesFrom, covered}
-use Rattle.node_laws.specs.Inside.System.{System, new_system, AreStoredOf, Call, Gave, Handed, Worked, Did, Stored, Saved, Resumed, Died, Revived, GaveOut, HandedOut, DidOut, RevivedOut, DoesIt, after_call, Calls, AreExact, StayExact}
+use Rattle.node_laws.specs.Inside.Process.{Process, Up, Covered, Collects, Restores, Killed, StandsAs, IsKilled, IsStoredOf, ComesFrom, covered}
+use Rattle.node_laws.specs.Inside.System.{System, AreStoredOf, Call, Gave, Handed, Worked, Did, Stored, Saved, Resumed, Died, Revived, GaveOut, HandedOut, DidOut, RevivedOut, DoesIt, after_call, Calls, AreExact, StayExact, Living, start}
 use Rattle.node_laws.specs.Inside.Alone.{is_up, FailsAlone, OneAtATime, LoneFailuresStayExact}
 use Rattle.node_laws.proofs.Lives.{WasPut}
 use Rattle.node_laws.proofs.Lives as runs
@@ -179,9 +179,9 @@ stays-alone f states n s acts (k ∷ ks) r h m a =
     (exact, stays-alone f states n (after_call s k) (acts ++ on.more) ks on.reached after m.1 a.1)
 
 -- at the opening all are up
-begins-alone : (n page tick : ℕ) (limits : ℕ → Limits) (states bytes : ℕ → List ℕ) → IsLone n (new_system n limits states bytes page tick)
-begins-alone n page tick limits states bytes = record { outside = refl; alone = λ p q a b apart e. refl; good = λ p first. record { exact = refl; life = refl; knows = tt; out = tt }; given = tt; out = tt }
+begins-alone : (l : Living) → IsLone l.n (start l)
+begins-alone l = record { outside = refl; alone = λ p q a b apart e. refl; good = λ p first. record { exact = refl; life = refl; knows = tt; out = tt }; given = tt; out = tt }
 
 pub lone-failures-stay-exact : LoneFailuresStayExact
-lone-failures-stay-exact f n page tick limits states bytes calls few stored m a =
-    stays-alone f states n (new_system n limits states bytes page tick) [] calls (record { run = tt; holds = runs.begins f n page tick limits states bytes few stored }) (begins-alone n page tick limits states bytes) m a
+lone-failures-stay-exact l calls few m a =
+    stays-alone l.f l.states l.n (start l) [] calls (record { run = tt; holds = runs.begins l few }) (begins-alone l) m a

@@ -1,5 +1,5 @@
 -- What a process keeps that recovers in a call of its host
-use Rattle.std.proofs.Common.{◌≡◌, ◌≢◌, ℕ, ◌+◌, ◌≤◌, List, ◌∷◌, ◌++◌, length, take, refl, sym, ap, ◌∙◌, subst, append_assoc}
+use Rattle.std.proofs.Common.{◌≡◌, ◌≢◌, ℕ, ◌+◌, ◌≤◌, List, ◌∷◌, ◌++◌, length, take, sym, ap, ◌∙◌, subst, append_assoc}
 use Rattle.world.specs.History.{count_of}
 use Rattle.world.specs.Handlers.{Handlers}
 use Rattle.cluster.specs.Cluster.{Cluster, opening}
@@ -23,7 +23,6 @@ use Rattle.node_laws.specs.Inside.Process as stages
 use Rattle.node_laws.specs.Inside.System.{System as Lived, Call, Did}
 use Rattle.node_laws.specs.Inside.System as called
 use Rattle.node_laws.specs.Inside.Back.{IsBack}
-use Rattle.node_laws.specs.Inside.Hosted.{IsAs}
 use Rattle.node_laws.proofs.Lives.{at-each}
 use Rattle.node_laws.proofs.Back.{recovers-exactly}
 use Rattle.node_laws.proofs.HostStep.{AreGood}
@@ -31,7 +30,7 @@ use Rattle.node_laws.proofs.Views.{collects, stands-as, stored-as}
 use Rattle.node_laws.proofs.Acts.{Beside}
 use Rattle.node_laws.proofs.Moments.{Moment}
 use Rattle.node_laws.proofs.Lists.{State, Are, One, one-goes, are-go, calls-append, exact-append, exact-there, after-append}
-use Rattle.node_laws.proofs.Promised.{lived, made, are-stored, all-stand, up-in, after-more, calls-split, exact-split, hosted-alone}
+use Rattle.node_laws.proofs.Promised.{living, lived, made, all-stand, up-in, after-more, calls-split, exact-split, hosted-alone}
 
 -- where all is as s has it but for p, and p collects, all stand
 stand-still : (images : ℕ → AnyImage) (n p : ℕ) → IsFirst n p → (s : System) (u : Lived) (now : TheProcess) (m : TheCollecting) (c : Cluster) → AreGood images n s → Beside n p s u → u.processes p ≡ stages.Collects m → called.AllStand n u c → AllStand n (still s p now m) c
@@ -105,7 +104,7 @@ hosted-recovers h calls more k few g e p now w l was is rec =
     subst (λ z. State h.images n z v) (sym (after-more s calls (k ∷ more))) (subst (State h.images n (after_calls s2 more)) (sym end) b.state) in
     let before : called.after_calls t (a.calls ++ m.before) ≡ called.after_calls u m.before = after-append t a.calls m.before in
     recovered h.images n p l (handlers h) s2 (after h (calls ++ k ∷ more)) u v (called.after_calls t (a.calls ++ m.before)) one.steps.calls now m one.state.good before last
-    (recovers-exactly f n h.page h.tick h.limits h.states h.bytes (a.calls ++ m.before) (m.behind ++ b.calls) p m.collected m.replays few (are-stored h) (subst (called.Calls f n t) same are)
+    (recovers-exactly (living h) (a.calls ++ m.before) (m.behind ++ b.calls) p m.collected m.replays few (subst (called.Calls f n t) same are)
     (subst (called.StayExact n t) same stay) (ap (λ (z : Lived). z.processes p) before ∙ m.here))
 
 pub hosted-recovers-alone : HostedRecoversAlone

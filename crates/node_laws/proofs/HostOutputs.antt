@@ -12,20 +12,20 @@ use Rattle.node_laws.specs.Inside.System as called
 use Rattle.node_laws.specs.Inside.Durable.{outputs_of as lives_outputs}
 use Rattle.node_laws.proofs.Outputs.{outputs-in-order, outputs-without-gap, outputs-stay-out, keep-same}
 use Rattle.node_laws.proofs.Lists.{Are, are-go, calls-append, after-append}
-use Rattle.node_laws.proofs.Promised.{lived, made, Parts, parts, after-more, calls-split, hosted-keep}
+use Rattle.node_laws.proofs.Promised.{living, lived, made, Parts, parts, after-more, calls-split, hosted-keep}
 
 pub hosted-in-order : HostedInOrder
 hosted-in-order h calls life g one =
     let t : Parts h calls life = parts h calls life g in
     let u : Lived = called.after_calls (lived h) t.early.calls in
     let are : GoOn (lives_outputs (lived h) t.early.calls) (lives_outputs u t.late.calls) =
-        outputs-in-order (answering h.n h.images) h.n h.page h.tick h.limits h.states h.bytes t.early.calls t.late.calls t.are (t.late.life one) in
+    outputs-in-order (living h) t.early.calls t.late.calls t.are (t.late.life one) in
     subst (GoOn (outputs_of (start h) calls)) t.late.outputs (subst (λ z. GoOn z (lives_outputs u t.late.calls)) t.early.outputs are)
 
 pub hosted-without-gap : HostedWithoutGap
 hosted-without-gap h calls g =
     let a = made h calls g in
-    subst NoGap a.outputs (outputs-without-gap (answering h.n h.images) h.n h.page h.tick h.limits h.states h.bytes a.calls a.are)
+    subst NoGap a.outputs (outputs-without-gap (living h) a.calls a.are)
 
 pub hosted-stay-out : HostedStayOut
 hosted-stay-out h calls life more g one lasts =
@@ -44,7 +44,7 @@ hosted-stay-out h calls life more g one lasts =
     let same : s2.durable.store ≡ s2.gateway.store = subst (λ (z : System). z.durable.store ≡ z.gateway.store) here lasts in
     let kept : v.durable.store ≡ v.gateway.store = ap (λ (z : TheGateway). z.store) b.state.stand.durable ∙ same ∙ sym (ap (λ (z : TheGateway). z.store) b.state.stand.gateway) in
     let are : AreBehind (lives_outputs u b.calls) (lives_outputs (called.after_calls t (a.calls ++ b.calls)) c.calls) =
-    outputs-stay-out f h.n h.page h.tick h.limits h.states h.bytes a.calls b.calls c.calls (calls-append f h.n t a.calls (b.calls ++ c.calls) a.are (calls-append f h.n u b.calls c.calls b.are c.are)) (b.life one)
+    outputs-stay-out (living h) a.calls b.calls c.calls (calls-append f h.n t a.calls (b.calls ++ c.calls) a.are (calls-append f h.n u b.calls c.calls b.are c.are)) (b.life one)
     (subst (λ (z : Lived). z.durable.store ≡ z.gateway.store) (sym there) kept) in
     let ours : AreBehind (lives_outputs u b.calls) (outputs_of s2 more) = subst (AreBehind (lives_outputs u b.calls)) c.outputs (subst (λ z. AreBehind (lives_outputs u b.calls) (lives_outputs z c.calls)) there are) in
     subst (λ z. AreBehind (outputs_of s1 life) (outputs_of z more)) (sym here) (subst (λ z. AreBehind z (outputs_of s2 more)) b.outputs ours)

@@ -1,9 +1,9 @@
 -- One call of a host, as calls in all lives
-use Rattle.std.proofs.Common.{◌≡◌, ℕ, List, [], true}
+use Rattle.std.proofs.Common.{◌≡◌, ℕ, List, true}
 use Rattle.verifier.specs.declared.any_image.AnyImage.{AnyImage}
 use Rattle.interp.specs.Image.{as_image}
 use Rattle.recovery.specs.Collection.{TheCollecting}
-use Rattle.node_laws.specs.HostProcess.{IsFirst}
+use Rattle.node_laws.specs.HostProcess.{IsFirst, Checkpoint, Hosted, Runs, Sleeps, Killed}
 use Rattle.node_laws.specs.Inside.Process as stages
 use Rattle.node_laws.specs.Inside.System.{System as Lived, Call, AreExact, StayExact}
 use Rattle.node_laws.specs.Inside.System as called
@@ -13,7 +13,6 @@ use Rattle.node_laws.specs.Inside.Durable.{ReplayWhole}
 use Rattle.node_laws.specs.Inside.Outputs.{OneLife}
 use Rattle.process.specs.Process.{TheProcess, is_settled}
 use Rattle.process.specs.Suspension.{Suspends}
-use Rattle.node_laws.specs.HostProcess.{Checkpoint, Hosted, Runs, Sleeps, Killed}
 use Rattle.node_laws.specs.HostReplies.{answering}
 use Rattle.node_laws.specs.HostSystem.{System, HostCall, after_call}
 use Rattle.node_laws.specs.Inside.Hosted.{IsAs}

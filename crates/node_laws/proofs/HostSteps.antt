@@ -16,11 +16,11 @@ use Rattle.gateway.specs.Gateway.{TheGateway}
 use Rattle.gateway.specs.Calls as outside
 use Rattle.gateway.specs.Stands as gateways
 use Rattle.gateway.specs.Since as since
-use Rattle.node_laws.specs.HostProcess.{IsFirst}
+use Rattle.node_laws.specs.HostProcess.{IsFirst, Checkpoint, Absent, Pending, Durable, Hosted, Runs, Sleeps, Killed, Alive, Has, Asleep, goes_on, sleeps, keeps}
 use Rattle.node_laws.specs.Inside.Process.{Process, Gives, Hears, Works, WaitsFor, covered, IsTold, Wakes, IsKilled, ComesFrom}
 use Rattle.node_laws.specs.Inside.Process as stages
 use Rattle.node_laws.specs.Inside.System.{System as Lived, Call}
-use Rattle.node_laws.specs.HostSystem.{handed_out, untaken, Deals}
+use Rattle.node_laws.specs.HostSystem.{handed_out, untaken, Deals, System, HostCall, Gave, GaveBytes, Handed, HandedBytes, Worked, Answered, Ticked, Froze, Paused, Stored, Saved, Suspended, Resumed, Died, Revived, GaveOut, HandedOut, DidOut, StoredOut, StoredBut, RevivedOut, AnswersSo, RevivesAs, ResumesAs, DoesIt, after_call}
 use Rattle.node_laws.specs.Inside.System as called
 use Rattle.node_laws.specs.Inside.Alone as lone
 use Rattle.node_laws.specs.Inside.Alone.{is_up}
@@ -37,11 +37,8 @@ use Rattle.process.specs.Job.{IsAnswered, WorksAs}
 use Rattle.process.specs.Checkpoints.{IsSavable, Keeps}
 use Rattle.process.specs.Suspension.{Suspends}
 use Rattle.process.specs.Work as working
-use Rattle.node_laws.specs.HostProcess.{Checkpoint, Absent, Pending, Durable, Hosted, Runs, Sleeps, Killed, Alive, Has, Asleep, goes_on, sleeps, keeps}
-use Rattle.node_laws.specs.Inside.Hosted.{stage_of, seen, as_process}
+use Rattle.node_laws.specs.Inside.Hosted.{stage_of, seen, as_process, IsAs}
 use Rattle.node_laws.specs.HostReplies.{answering}
-use Rattle.node_laws.specs.HostSystem.{System, HostCall, Gave, GaveBytes, Handed, HandedBytes, Worked, Answered, Ticked, Froze, Paused, Stored, Saved, Suspended, Resumed, Died, Revived, GaveOut, HandedOut, DidOut, StoredOut, StoredBut, RevivedOut, AnswersSo, RevivesAs, ResumesAs, DoesIt, after_call}
-use Rattle.node_laws.specs.Inside.Hosted.{IsAs}
 use Rattle.node_laws.specs.HostLaws.{FailsAlone, KeepsDurable, LivesOn, gave_by, shown_by}
 use Rattle.node_laws.specs.HostBack.{has_recovered}
 use Rattle.node_laws.proofs.Chains.{Chain, chain-append, revived-limits}

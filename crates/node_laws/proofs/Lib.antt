@@ -27,7 +27,7 @@ pub mod Durable
 pub mod Preservation
 pub mod Turns
 pub mod Outputs
-pub mod Messages
+pub mod WorkedMessages
 pub mod Chains
 pub mod Stages
 pub mod Wakings
@@ -42,6 +42,6 @@ pub mod Promised
 pub mod HostOutputs
 pub mod HostBack
 pub mod CopyingLemmas
-pub mod HostWorked
-pub mod HostBeside
-pub mod HostOverlap
+pub mod Worked
+pub mod WorkedBeside
+pub mod WorkedOverlap

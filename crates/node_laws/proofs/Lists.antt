@@ -7,14 +7,13 @@ use Rattle.node.specs.Runs.{Answering}
 use Rattle.node_laws.specs.HostProcess.{IsFirst}
 use Rattle.node_laws.specs.Inside.Process.{Process, Up, Covered, Replays, is_exact}
 use Rattle.node_laws.specs.Inside.System.{System as Lived, Call, Gave, Handed, Worked, Did, Stored, Saved, Resumed, Died, Revived, GaveOut, HandedOut, DidOut, StoredOut, StoredBut, RevivedOut, Calls, after_call, after_calls, AreExact, StayExact}
-use Rattle.node_laws.specs.HostSystem.{handed_out}
+use Rattle.node_laws.specs.HostSystem.{handed_out, System, HostCall, AreCalls, DoesIt}
 use Rattle.node_laws.specs.Inside.Alone.{OneAtATime}
 use Rattle.node_laws.specs.Inside.Durable.{ReplayWhole, StaysDurable, given_by, outputs_of}
 use Rattle.node_laws.specs.Inside.Outputs.{OneLife}
 pub use Rattle.node_laws.proofs.Back.{after-append}
 use Rattle.node_laws.proofs.Durability.{IsFor}
 use Rattle.node_laws.proofs.Durable.{Now, nothing, all-fair, step}
-use Rattle.node_laws.specs.HostSystem.{System, HostCall, AreCalls, DoesIt}
 use Rattle.node_laws.specs.HostSystem as hosted
 use Rattle.node_laws.specs.HostReplies.{answering}
 use Rattle.node_laws.specs.Inside.Hosted.{IsAs}

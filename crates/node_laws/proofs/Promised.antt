@@ -1,7 +1,6 @@
 -- What holds of hosted processes
-use Rattle.std.proofs.Common.{◌≡◌, ℕ, ◌≤◌, List, [], ◌∷◌, ◌++◌, Bool, true, false, refl, sym, ap, ◌∙◌, subst, append_assoc}
+use Rattle.std.proofs.Common.{◌≡◌, ℕ, ◌≤◌, List, [], ◌∷◌, ◌++◌, true, false, refl, sym, ap, ◌∙◌, subst, append_assoc}
 use Rattle.std.specs.Prelude.{Some}
-use Rattle.world.specs.Handlers.{Handlers}
 use Rattle.world.specs.History.{count_of, nth}
 use Rattle.verifier.specs.declared.any_image.AnyImage.{AnyImage}
 use Rattle.interp.specs.Image.{as_image}
@@ -10,30 +9,27 @@ use Rattle.stores.specs.declared.change.Output.{Output}
 use Rattle.cluster.specs.Cluster.{Cluster, opening}
 use Rattle.cluster.specs.Rules.{after_run}
 use Rattle.node.specs.Node.{TheNode}
-use Rattle.node.specs.Runs.{Answering}
 use Rattle.node.specs.Stands.{Each}
 use Rattle.gateway.specs.Gateway.{TheGateway, peer_of}
 use Rattle.gateway.specs.Stands as gateways
 use Rattle.process.specs.Process.{is_settled}
 use Rattle.process.specs.Checkpoints.{Keeps}
-use Rattle.node_laws.specs.HostProcess.{IsFirst, Hosted, IsUp}
+use Rattle.node_laws.specs.HostProcess.{IsFirst, IsUp}
 use Rattle.node_laws.specs.HostReplies.{answering}
 use Rattle.node_laws.specs.HostSystem.{System, Hosting, start, after, Makes, handlers, HostCall, AreCalls, after_call, after_calls}
-use Rattle.node_laws.specs.Agreement.{AllStand, IsRunOf}
-use Rattle.node_laws.specs.Back.{HasBack}
-use Rattle.node_laws.specs.Durable.{AreAfter, IsSentBy, Stays, Lasts, Keep}
-use Rattle.node_laws.specs.HostLaws.{StayExact, StaysDurable, gave_by, given_by, outputs_of, HostedRun, HostedAlone, HostedRunAlone, HostedBack, HostedBackAlone, HostedStays, HostedLast, HostedKeep}
+use Rattle.node_laws.specs.Agreement.{AllStand}
+use Rattle.node_laws.specs.Durable.{AreAfter, IsSentBy}
+use Rattle.node_laws.specs.HostLaws.{StayExact, StaysDurable, gave_by, given_by, HostedRun, HostedAlone, HostedRunAlone, HostedBack, HostedBackAlone, HostedStays, HostedLast, HostedKeep}
 use Rattle.node_laws.specs.Inside.Process as lives
 use Rattle.node_laws.specs.Inside.System as called
-use Rattle.node_laws.specs.Inside.System.{System as Lived, AreStored}
-use Rattle.node_laws.specs.Inside.Durable.{ReplayWhole, given_by as lives_given, outputs_of as lives_outputs}
+use Rattle.node_laws.specs.Inside.System.{System as Lived, AreStored, Living}
+use Rattle.node_laws.specs.Inside.Durable.{ReplayWhole, given_by as lives_given}
 use Rattle.node_laws.specs.Inside.Hosted.{IsAs, stage_of, as_process}
 use Rattle.node_laws.proofs.Lives.{lives-run}
 use Rattle.node_laws.proofs.Back.{nothing-is-lost}
 use Rattle.node_laws.proofs.Alone.{lone-failures-stay-exact}
 use Rattle.node_laws.proofs.Durable.{nothing, begins-now, stored-stays, durable-last}
 use Rattle.node_laws.proofs.Preservation.{durable-keep}
-use Rattle.node_laws.proofs.HostStep.{AreGood}
 use Rattle.node_laws.proofs.Views.{is-up, stands-as, stored-as}
 use Rattle.node_laws.proofs.Lists.{State, Are, are-go, calls-append, whole-append, exact-append, durable-append, given-append, after-append}
 
@@ -43,8 +39,11 @@ pub are-stored : (h : Hosting) → AreStored h.n h.states h.bytes
 are-stored h p l = (subst (λ z. Keeps z (h.bytes p)) (h.opens.opened p l).lifecycle_is (h.opens.stored p l)).0
 
 -- its opening in all lives
+abbrev pub living : Hosting → Living
+living h = record { f = answering h.n h.images; n = h.n; limits = h.limits; states = h.states; bytes = h.bytes; page = h.page; tick = h.tick; stored = are-stored h }
+
 abbrev pub lived : Hosting → Lived
-lived h = called.new_system h.n h.limits h.states h.bytes h.page h.tick
+lived h = called.start (living h)
 
 pub opened : (h : Hosting) → State h.images h.n (start h) (lived h)
 opened h =
@@ -111,7 +110,7 @@ pub all-stand : (images : ℕ → AnyImage) (n : ℕ) (s : System) (t : Lived) (
 all-stand images n s t c at a =
     let st : IsAs n s t = at.stand in
     let old : (p : ℕ) → IsFirst n p → called.AreStoredOf (s.stored p) (as_process (s.processes p)) c p =
-        λ p l. subst (λ z. called.AreStoredOf z (as_process (s.processes p)) c p) (st.stored p l) (subst (λ z. called.AreStoredOf (t.stored p) z c p) (st.processes p l) (a.stored p l)) in
+    λ p l. subst (λ z. called.AreStoredOf z (as_process (s.processes p)) c p) (st.stored p l) (subst (λ z. called.AreStoredOf (t.stored p) z c p) (st.processes p l) (a.stored p l)) in
     record {
       processes = λ p l. stands-as (images p) (s.processes p) c p (at.good p l) (subst (λ z. lives.StandsAs z c p) (st.processes p l) (a.processes p l));
       stored = λ p l. ((old p l).0, ((old p l).1.0, stored-as (old p l).0 (images p) (s.processes p) c p (at.good p l) (old p l).1.1));
@@ -129,7 +128,7 @@ up-in n s t p m st l up = subst (lives.IsUp m) (sym (st.processes p l)) (is-up m
 pub hosted-run : HostedRun
 hosted-run h calls few g e =
     let a : Are h.images h.n (start h) (lived h) calls = made h calls g in
-    let r = lives-run (answering h.n h.images) h.n h.page h.tick h.limits h.states h.bytes a.calls few (are-stored h) a.are (a.exact e) in
+    let r = lives-run (living h) a.calls few a.are (a.exact e) in
     record {
       acts = r.acts;
       run = r.run;
@@ -142,7 +141,7 @@ hosted-run h calls few g e =
 pub hosted-alone : HostedAlone
 hosted-alone h calls few g one =
     let a : Are h.images h.n (start h) (lived h) calls = made h calls g in
-    a.stays (λ p l. refl) (lone-failures-stay-exact (answering h.n h.images) h.n h.page h.tick h.limits h.states h.bytes a.calls few (are-stored h) a.are (a.alone one))
+    a.stays (λ p l. refl) (lone-failures-stay-exact (living h) a.calls few a.are (a.alone one))
 
 pub hosted-run-alone : HostedRunAlone
 hosted-run-alone h calls few g one = hosted-run h calls few g (hosted-alone h calls few g one)
@@ -153,9 +152,9 @@ hosted-back h calls more few g e p a b l was is =
     let exact = exact-split h.n (start h) calls more e in
     let u : Lived = called.after_calls (lived h) t.early.calls in
     let v : Lived = called.after_calls (lived h) (t.early.calls ++ t.late.calls) in
-    let k = nothing-is-lost (answering h.n h.images) h.n h.page h.tick h.limits h.states h.bytes t.early.calls t.late.calls p a b few (are-stored h) l t.are
-        (exact-append h.n (lived h) t.early.calls t.late.calls (t.early.exact exact.0) (t.late.exact exact.1))
-        (up-in h.n (after h calls) u p a t.early.state.stand l was) (up-in h.n (after h (calls ++ more)) v p b t.end.stand l is) in
+    let k = nothing-is-lost (living h) t.early.calls t.late.calls p a b few l t.are
+    (exact-append h.n (lived h) t.early.calls t.late.calls (t.early.exact exact.0) (t.late.exact exact.1))
+    (up-in h.n (after h calls) u p a t.early.state.stand l was) (up-in h.n (after h (calls ++ more)) v p b t.end.stand l is) in
     record {
       acts = k.acts;
       more = k.more;
@@ -182,7 +181,7 @@ hosted-back-alone h calls more few g one = hosted-back h calls more few g (hoste
 pub hosted-stays : HostedStays
 hosted-stays h calls more p g l =
     let t : Parts h calls more = parts h calls more g in
-    let k = stored-stays (answering h.n h.images) h.n h.page h.tick h.limits h.states h.bytes t.early.calls t.late.calls p (are-stored h) l t.are t.whole in
+    let k = stored-stays (living h) t.early.calls t.late.calls p l t.are t.whole in
     record {
       was = k.was;
       more = k.more;
@@ -196,9 +195,9 @@ hosted-last h calls more p g l durable d =
     let t : Parts h calls more = parts h calls more g in
     let lasting = durable-split p calls more d in
     let gave : lives_given p (t.early.calls ++ t.late.calls) ≡ given_by p (calls ++ more) =
-        given-append p t.early.calls t.late.calls ∙ ap (λ z. z ++ lives_given p t.late.calls) (t.early.gave p) ∙ ap (λ z. given_by p calls ++ z) (t.late.gave p) ∙ sym (given-more p calls more) in
-    let k = durable-last (answering h.n h.images) h.n h.page h.tick h.limits h.states h.bytes t.early.calls t.late.calls p (are-stored h) l durable t.are t.whole
-        (durable-append p (lived h) t.early.calls t.late.calls (t.early.durable p lasting.0) (t.late.durable p lasting.1)) in
+    given-append p t.early.calls t.late.calls ∙ ap (λ z. z ++ lives_given p t.late.calls) (t.early.gave p) ∙ ap (λ z. given_by p calls ++ z) (t.late.gave p) ∙ sym (given-more p calls more) in
+    let k = durable-last (living h) t.early.calls t.late.calls p l durable t.are t.whole
+    (durable-append p (lived h) t.early.calls t.late.calls (t.early.durable p lasting.0) (t.late.durable p lasting.1)) in
     record {
       was = k.was;
       more = k.more;
@@ -212,7 +211,7 @@ pub hosted-keep : HostedKeep
 hosted-keep h calls durable g lasting =
     let a : Are h.images h.n (start h) (lived h) calls = made h calls g in
     let st : IsAs h.n (after h calls) (called.after_calls (lived h) a.calls) = a.state.stand in
-    let k = durable-keep (answering h.n h.images) h.n h.page h.tick h.limits h.states h.bytes a.calls durable (are-stored h) (λ p e. ((lasting p e).0, (lasting p e).1.0)) a.are a.whole (λ p e. a.durable p (lasting p e).1.1) in
+    let k = durable-keep (living h) a.calls durable (λ p e. ((lasting p e).0, (lasting p e).1.0)) a.are a.whole (λ p e. a.durable p (lasting p e).1.1) in
     record {
       messages = k.messages;
       stored = λ p l. subst (AreAfter h.n (handlers h) p (k.messages p)) (st.stored p l) (k.stored p l);

@@ -207,22 +207,6 @@ module _ (D : ℕ → Bool) (In : ℕ → List Payload) (top p : ℕ) where
         few = t.few;
       }
 
-  -- what its checkpoint covers
-  pub taken-first : (h g : List Message) (covered senders : List ℕ) → Has h g covered senders → Has h h covered []
-  taken-first h g covered senders t =
-      let whole : (q : ℕ) → count_of q g ≡ count_of q h + count_of q t.more = λ q. ap (count_of q) (sym t.begins) ∙ count-append q h t.more in
-      record {
-        wide = t.wide;
-        counts = t.counts;
-        more = [];
-        begins = append-nil h;
-        are = refl;
-        ordered = ordered-first (λ q. 0) h t.more (subst (InOrderFrom (λ q. 0)) (sym t.begins) t.ordered);
-        none = (let w = whole p in omega (arith, w, t.none));
-        known = each-first (IsIn D In) h t.more (subst (Each (IsIn D In)) (sym t.begins) t.known);
-        few = λ q d. (let w = whole q in let l = t.few q d in omega (arith, w, l));
-      }
-
   -- ---- a plan
 
   next-of : (hh : List Message) (o : Option Message) (m : Message) → if_next hh o ≡ Some m → (o ≡ Some m) × (m.ssn ≡ suc (count_of m.sender hh))

@@ -1,5 +1,5 @@
 -- What a host sees of a process holds of the process in all lives
-use Rattle.std.proofs.Common.{◌≡◌, ℕ, List, Bool, true, false, refl, sym, ap, ◌∙◌, subst}
+use Rattle.std.proofs.Common.{◌≡◌, ℕ, List, true, refl, sym, ap, ◌∙◌, subst}
 use Rattle.cluster.specs.Cluster.{Cluster}
 use Rattle.verifier.specs.declared.any_image.AnyImage.{AnyImage}
 use Rattle.packets.specs.declared.kept.Kept.{Kept}
@@ -7,11 +7,11 @@ use Rattle.node.specs.Node.{TheNode}
 use Rattle.node.specs.Kept.{IsKeptOf}
 use Rattle.recovery.specs.Collection.{TheCollecting}
 use Rattle.process.specs.declared.lifecycle.Lifecycle.{Lifecycle}
-use Rattle.process.specs.declared.lifecycle.Lifecycle.TheVariants.{Up, Collecting, Replaying, Replayed, Restoring, Passing}
+use Rattle.process.specs.declared.lifecycle.Lifecycle.TheVariants.{Up, Collecting, Passing}
 use Rattle.process.specs.Process.{TheProcess, is_settled}
 use Rattle.process.specs.Calls.{standing_at, is_frozen}
 use Rattle.process.specs.Suspension.{Suspends}
-use Rattle.node_laws.specs.HostProcess.{Checkpoint, Absent, Pending, Durable, Hosted, Runs, Sleeps, Killed, Alive, is_exact, IsUp}
+use Rattle.node_laws.specs.HostProcess.{Checkpoint, Durable, Hosted, Runs, Sleeps, Killed, Alive, is_exact, IsUp}
 use Rattle.node_laws.specs.HostBack.{Collects}
 use Rattle.node_laws.specs.Agreement.{Stands, StandsAs, IsStoredOf}
 use Rattle.node_laws.specs.Inside.Process as lives

@@ -12,9 +12,9 @@ use Rattle.node.specs.Transmission.{run_at}
 abbrev pub length_of : TheNode → ℕ
 length_of n = n.base + length n.receipts.senders
 
--- the process p is up as the node a, and later as b. A cluster agrees at both moments, so what p received is its history then, and its state
--- is the one after that. Up to the RSN up to which all are acknowledged at a, the two histories are the same. So if all are, and b has no
--- more messages, it has the state of a
+-- the process p is up as the node a, and later as b. At both moments a cluster agrees, so what p received is its history then, and its
+-- state is the one after that. Up to the RSN up to which all are acknowledged at a, the two histories are the same. So if all are, and b
+-- has no more messages, it has the state of a
 pub record HasBack (n : ℕ) (f : Handlers) (Before After : Cluster → Type 0) (p : ℕ) (a b : TheNode) : Type 0 where
   pub acts : List Act
   pub more : List Act

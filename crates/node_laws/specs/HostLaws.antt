@@ -144,7 +144,8 @@ HostedStays = (h : Hosting) (calls more : List HostCall) (p : ℕ) → Makes h (
 abbrev pub HostedLast : Type 0
 HostedLast = (h : Hosting) (calls more : List HostCall) (p : ℕ) → Makes h (calls ++ more) → IsFirst h.n p
     → (h.limits p).durable ≡ true → StaysDurable p (calls ++ more)
-    → Lasts h.n (handlers h) p ((after h calls).stored p) ((after h (calls ++ more)).stored p) (given_by p calls) (given_by p (calls ++ more))
+    → Lasts h.n (handlers h) p ((after h calls).stored p) ((after h (calls ++ more)).stored p) (given_by p calls)
+    (given_by p (calls ++ more))
 
 -- and all that anyone has from it
 abbrev pub HostedKeep : Type 0

@@ -60,7 +60,8 @@ new_system n processes bytes page tick =
       given = [];
     }
 
--- a call that isn't refused and changes a process, and the process after it; or something that its host does with it
+-- a call that isn't refused and changes a process, and the process after it; or something that its host does with it. Or a call of the
+-- gateway, and the gateway after it; or something that happens to it
 pub data HostCall : Type 0 where
   -- `take` gave this packet
   Gave : ℕ → NodePacket → TheProcess → HostCall
@@ -226,8 +227,8 @@ start h = new_system h.n h.processes h.bytes h.page h.tick
 abbrev pub after : Hosting → List HostCall → System
 after h calls = after_calls (start h) calls
 
--- these are calls of its hosts and of the gateway, in any order: packets may come late, twice or never, and processes and the gateway may be
--- killed and brought back at any moment
+-- these are calls of its hosts and of the gateway, in any order: packets may come late, twice or never, and processes and the gateway may
+-- be killed and brought back at any moment
 abbrev pub Makes : Hosting → List HostCall → Type 0
 Makes h calls = AreCalls h.images h.n (start h) calls
 

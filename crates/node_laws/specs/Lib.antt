@@ -9,7 +9,7 @@ pub mod Outputs
 pub mod HostBack
 pub mod HostLaws
 pub mod Losses
-pub mod Messages
-pub mod HostWorked
-pub mod HostBeside
-pub mod HostOverlap
+pub mod WorkedMessages
+pub mod Worked
+pub mod WorkedBeside
+pub mod WorkedOverlap

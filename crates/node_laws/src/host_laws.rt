@@ -1,11 +1,11 @@
 //! What holds of the calls that hosts make.
 
-ghost use Rattle.node_laws.specs.HostBeside.{HostsComeBackBeside};
 ghost use Rattle.node_laws.specs.HostLaws.{HostedAgree, HostedAlone, HostedBack, HostedBackAlone, HostedInOrder, HostedKeep, HostedLast};
 ghost use Rattle.node_laws.specs.HostLaws.{HostedRecovers, HostedRecoversAlone, HostedRun, HostedRunAlone, HostedStayOut, HostedStays, HostedWithoutGap};
-ghost use Rattle.node_laws.specs.HostOverlap.{HostsMeet};
-ghost use Rattle.node_laws.specs.HostWorked.{HostsCanCall};
 ghost use Rattle.node_laws.specs.Losses.{LossIsDropped};
+ghost use Rattle.node_laws.specs.Worked.{HostsCanCall};
+ghost use Rattle.node_laws.specs.WorkedBeside.{HostsComeBackBeside};
+ghost use Rattle.node_laws.specs.WorkedOverlap.{HostsMeet};
 
 /// Calls of hosts on their processes, as the contracts of the functions say, and of the gateway,
 /// from their opening on, are a run of a cluster, if at the end of each call all processes that are

@@ -1,11 +1,9 @@
 -- Failures that come one at a time
 use Rattle.std.specs.Prelude.{◌≡◌, ℕ, ◌≤◌, List, [], ◌∷◌, Bool, true, false}
 use Rattle.std.proofs.Common.{◌≢◌}
-use Rattle.node.specs.declared.limit.Limits.{Limits}
-use Rattle.node.specs.Runs.{Answering}
 use Rattle.node_laws.specs.HostProcess.{IsFirst}
 use Rattle.node_laws.specs.Inside.Process.{Process, Up, Covered}
-use Rattle.node_laws.specs.Inside.System.{System, new_system, AreStored, Call, Died, Calls, after_call, StayExact}
+use Rattle.node_laws.specs.Inside.System.{System, Call, Died, after_call, StayExact, Living, start, Makes}
 
 -- whether it is up, also while it waits for its checkpoint
 abbrev pub is_up : Process → Bool
@@ -25,6 +23,5 @@ OneAtATime n s (k ∷ ks) = FailsAlone n s k × OneAtATime n (after_call s k) ks
 
 -- then each process that is alive stays exact, whatever packets come late or twice
 abbrev pub LoneFailuresStayExact : Type 0
-LoneFailuresStayExact = (f : Answering) (n page tick : ℕ) (limits : ℕ → Limits) (states bytes : ℕ → List ℕ) (calls : List Call)
-    → n ≤ 15 → AreStored n states bytes → Calls f n (new_system n limits states bytes page tick) calls
-    → OneAtATime n (new_system n limits states bytes page tick) calls → StayExact n (new_system n limits states bytes page tick) calls
+LoneFailuresStayExact = (l : Living) (calls : List Call) → l.n ≤ 15 → Makes l calls → OneAtATime l.n (start l) calls
+    → StayExact l.n (start l) calls

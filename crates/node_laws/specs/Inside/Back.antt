@@ -3,28 +3,20 @@ use Rattle.std.specs.Prelude.{◌≡◌, ℕ, ◌+◌, ◌≤◌, List, ◌∷�
 use Rattle.world.specs.Handlers.{Handlers}
 use Rattle.cluster.specs.Cluster.{opening}
 use Rattle.cluster.specs.Rules.{Act, Run, after_run}
-use Rattle.node.specs.declared.limit.Limits.{Limits}
 use Rattle.node.specs.Node.{TheNode}
-use Rattle.node.specs.Runs.{Answering, handlers_of}
 use Rattle.recovery.specs.Collection.{TheCollecting}
 use Rattle.recovery.specs.Replays.{TheReplaying}
 use Rattle.recovery.specs.Moment.{HadReceived}
 use Rattle.node_laws.specs.HostProcess.{IsFirst}
 use Rattle.node_laws.specs.Back.{length_of, HasBack}
 use Rattle.node_laws.specs.Inside.Process.{IsUp, Collects, Replays}
-use Rattle.node_laws.specs.Inside.System.{System, new_system, AreStored, Call, Did, Calls, after_calls, StayExact, AllStand}
+use Rattle.node_laws.specs.Inside.System.{System, Call, Did, StayExact, AllStand, Living, start, after, Makes, handlers}
 
 -- whatever happens between the two moments, if each process that is alive stays exact
 abbrev pub NothingIsLost : Type 0
-NothingIsLost = (f : Answering) (n page tick : ℕ) (limits : ℕ → Limits) (states bytes : ℕ → List ℕ) (calls more : List Call) (p : ℕ)
-    (a b : TheNode) → n ≤ 15 → AreStored n states bytes → IsFirst n p
-    → Calls f n (new_system n limits states bytes page tick) (calls ++ more)
-    → StayExact n (new_system n limits states bytes page tick) (calls ++ more)
-    → IsUp a ((after_calls (new_system n limits states bytes page tick) calls).processes p)
-    → IsUp b ((after_calls (new_system n limits states bytes page tick) (calls ++ more)).processes p)
-    → HasBack n (handlers_of f states)
-    (AllStand n (after_calls (new_system n limits states bytes page tick) calls))
-    (AllStand n (after_calls (new_system n limits states bytes page tick) (calls ++ more))) p a b
+NothingIsLost = (l : Living) (calls more : List Call) (p : ℕ) (a b : TheNode) → l.n ≤ 15 → IsFirst l.n p → Makes l (calls ++ more)
+    → StayExact l.n (start l) (calls ++ more) → IsUp a ((after l calls).processes p) → IsUp b ((after l (calls ++ more)).processes p)
+    → HasBack l.n (handlers l) (AllStand l.n (after l calls)) (AllStand l.n (after l (calls ++ more))) p a b
 
 -- how many messages a process keeps that recovers
 abbrev pub kept_of : TheCollecting → TheReplaying → ℕ
@@ -46,11 +38,7 @@ pub record IsBack (n : ℕ) (f : Handlers) (s t : System) (p : ℕ) (old : TheCo
 
 -- a process that recovers comes back with what it keeps, if all stay exact
 abbrev pub RecoversExactly : Type 0
-RecoversExactly = (f : Answering) (n page tick : ℕ) (limits : ℕ → Limits) (states bytes : ℕ → List ℕ) (calls more : List Call) (p : ℕ)
-    (old : TheCollecting) (new : TheReplaying) → n ≤ 15 → AreStored n states bytes
-    → Calls f n (new_system n limits states bytes page tick) (calls ++ Did p (Replays new) ∷ more)
-    → StayExact n (new_system n limits states bytes page tick) (calls ++ Did p (Replays new) ∷ more)
-    → (after_calls (new_system n limits states bytes page tick) calls).processes p ≡ Collects old
-    → IsBack n (handlers_of f states)
-    (after_calls (new_system n limits states bytes page tick) calls)
-    (after_calls (new_system n limits states bytes page tick) (calls ++ Did p (Replays new) ∷ more)) p old new
+RecoversExactly = (l : Living) (calls more : List Call) (p : ℕ) (old : TheCollecting) (new : TheReplaying) → l.n ≤ 15
+    → Makes l (calls ++ Did p (Replays new) ∷ more) → StayExact l.n (start l) (calls ++ Did p (Replays new) ∷ more)
+    → (after l calls).processes p ≡ Collects old
+    → IsBack l.n (handlers l) (after l calls) (after l (calls ++ Did p (Replays new) ∷ more)) p old new

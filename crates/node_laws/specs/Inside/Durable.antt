@@ -1,17 +1,14 @@
 -- Durable processes, whatever fails
 use Rattle.std.specs.Prelude.{◌≡◌, ℕ, List, [], ◌∷◌, ◌++◌, Bool, true, ◌==◌, if◌then◌else◌}
 use Rattle.packets.specs.declared.packet.NodePacket.{NodePacket}
-use Rattle.node.specs.declared.limit.Limits.{Limits}
-use Rattle.node.specs.Node.{TheNode}
-use Rattle.node.specs.Runs.{Answering, handlers_of}
 use Rattle.recovery.specs.Replays.{is_over}
 use Rattle.stores.specs.declared.change.Output.{Output}
 use Rattle.node_laws.specs.HostProcess.{IsFirst}
 use Rattle.node_laws.specs.HostSystem.{handed_out}
 use Rattle.node_laws.specs.Durable.{Stays, Lasts, Keep}
 use Rattle.node_laws.specs.Inside.Process.{Process, IsUp, Replays, Replayed}
-use Rattle.node_laws.specs.Inside.System.{System, new_system, AreStored, Call, Gave, Did, Resumed, Revived, DidOut, Calls, after_call}
-use Rattle.node_laws.specs.Inside.System.{after_calls}
+use Rattle.node_laws.specs.Inside.System.{System, Call, Gave, Did, Resumed, Revived, DidOut, after_call, Living, start, after}
+use Rattle.node_laws.specs.Inside.System.{Makes, handlers}
 
 -- the packets that p gave
 abbrev pub given_by : ℕ → List Call → List NodePacket
@@ -57,26 +54,22 @@ StaysDurable p s (k ∷ ks) = KeepsDurable p s k × StaysDurable p (after_call s
 
 -- what is stored of p is what it has after some messages, which only become more
 abbrev pub StoredStays : Type 0
-StoredStays = (f : Answering) (n page tick : ℕ) (limits : ℕ → Limits) (states bytes : ℕ → List ℕ) (calls more : List Call) (p : ℕ)
-    → AreStored n states bytes → IsFirst n p → Calls f n (new_system n limits states bytes page tick) (calls ++ more) → ReplayWhole (new_system n limits states bytes page tick) (calls ++ more)
-    → Stays n (handlers_of f states) p ((after_calls (new_system n limits states bytes page tick) calls).stored p)
-    ((after_calls (new_system n limits states bytes page tick) (calls ++ more)).stored p)
-    (λ m. IsUp m ((after_calls (new_system n limits states bytes page tick) (calls ++ more)).processes p))
+StoredStays = (l : Living) (calls more : List Call) (p : ℕ) → IsFirst l.n p → Makes l (calls ++ more)
+    → ReplayWhole (start l) (calls ++ more)
+    → Stays l.n (handlers l) p ((after l calls).stored p) ((after l (calls ++ more)).stored p)
+    (λ m. IsUp m ((after l (calls ++ more)).processes p))
 
 -- they send all that it gave, if it is durable
 abbrev pub DurableLast : Type 0
-DurableLast = (f : Answering) (n page tick : ℕ) (limits : ℕ → Limits) (states bytes : ℕ → List ℕ) (calls more : List Call) (p : ℕ)
-    → AreStored n states bytes → IsFirst n p → (limits p).durable ≡ true
-    → Calls f n (new_system n limits states bytes page tick) (calls ++ more) → ReplayWhole (new_system n limits states bytes page tick) (calls ++ more)
-    → StaysDurable p (new_system n limits states bytes page tick) (calls ++ more)
-    → Lasts n (handlers_of f states) p ((after_calls (new_system n limits states bytes page tick) calls).stored p)
-    ((after_calls (new_system n limits states bytes page tick) (calls ++ more)).stored p) (given_by p calls) (given_by p (calls ++ more))
+DurableLast = (l : Living) (calls more : List Call) (p : ℕ) → IsFirst l.n p → (l.limits p).durable ≡ true → Makes l (calls ++ more)
+    → ReplayWhole (start l) (calls ++ more) → StaysDurable p (start l) (calls ++ more)
+    → Lasts l.n (handlers l) p ((after l calls).stored p) ((after l (calls ++ more)).stored p) (given_by p calls)
+    (given_by p (calls ++ more))
 
 -- and all that anyone has from it, whichever processes are durable
 abbrev pub DurableKeep : Type 0
-DurableKeep = (f : Answering) (n page tick : ℕ) (limits : ℕ → Limits) (states bytes : ℕ → List ℕ) (calls : List Call) (durable : ℕ
-    → Bool) → AreStored n states bytes → ((p : ℕ) → durable p ≡ true → IsFirst n p × ((limits p).durable ≡ true))
-    → Calls f n (new_system n limits states bytes page tick) calls → ReplayWhole (new_system n limits states bytes page tick) calls → ((p : ℕ) → durable p ≡ true → StaysDurable p (new_system n limits states bytes page tick) calls)
-    → Keep n (handlers_of f states) durable (after_calls (new_system n limits states bytes page tick) calls).stored
-    (λ p m. IsUp m ((after_calls (new_system n limits states bytes page tick) calls).processes p))
-    (after_calls (new_system n limits states bytes page tick) calls).given (outputs_of (new_system n limits states bytes page tick) calls)
+DurableKeep = (l : Living) (calls : List Call) (durable : ℕ → Bool)
+    → ((p : ℕ) → durable p ≡ true → IsFirst l.n p × ((l.limits p).durable ≡ true)) → Makes l calls → ReplayWhole (start l) calls
+    → ((p : ℕ) → durable p ≡ true → StaysDurable p (start l) calls)
+    → Keep l.n (handlers l) durable (after l calls).stored (λ p m. IsUp m ((after l calls).processes p)) (after l calls).given
+    (outputs_of (start l) calls)

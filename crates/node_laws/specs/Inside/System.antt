@@ -1,6 +1,7 @@
 -- Calls of processes in any stage, and of the gateway, one after another
 use Rattle.std.specs.Prelude.{◌≡◌, ℕ, ◌<◌, ◌≤◌, List, [], ◌∷◌, ◌++◌, drop, Some, true}
 use Rattle.world.specs.History.{count_of}
+use Rattle.world.specs.Handlers.{Handlers}
 use Rattle.world.specs.World.{put}
 use Rattle.packets.specs.declared.packet.NodePacket.{NodePacket}
 use Rattle.packets.specs.declared.kept.Kept.{Kept}
@@ -20,8 +21,8 @@ use Rattle.gateway.specs.Since.{revived, StandsFor}
 use Rattle.node_laws.specs.HostProcess.{IsFirst}
 use Rattle.node_laws.specs.HostSystem.{handed_out, untaken, Deals}
 use Rattle.node_laws.specs.Agreement.{IsRunOf}
-use Rattle.node_laws.specs.Inside.Process.{Process, Up, Collects, Killed, StandsAs, IsStoredOf, is_exact, Gives, Hears, Works, Acts, WaitsFor}
-use Rattle.node_laws.specs.Inside.Process.{covered, IsTold, Wakes, IsKilled, ComesFrom}
+use Rattle.node_laws.specs.Inside.Process.{Process, Up, Collects, Killed, StandsAs, IsStoredOf, is_exact, Gives, Hears, Works}
+use Rattle.node_laws.specs.Inside.Process.{Acts, WaitsFor, covered, IsTold, Wakes, IsKilled, ComesFrom}
 
 -- the processes by number; for each the bytes that are stored, and the greatest incarnation; the gateway, and the gateway that its store
 -- gives; the outputs that it gave without having stored so; and the packets that were given
@@ -156,10 +157,37 @@ pub record AllStand (n : ℕ) (s : System) (c : Cluster) : Type 0 where
   -- the gateway counts as many outputs of a process as were shown of it
   pub shown : (p : ℕ) → IsFirst n p → (peer_of p s.durable).shown ≡ count_of p c.world.shown
 
--- calls of processes and the gateway in any order, with packets that come late, twice or never, and processes killed and brought back at
--- any moment, are a run of a cluster, if each that is alive stays exact
+-- ---- from the opening on
+
+-- so many processes with their answers, limits and opening states, and what is stored of them before they open; and the limits of the
+-- gateway
+pub record Living : Type 0 where
+  pub f : Answering
+  pub n : ℕ
+  pub limits : ℕ → Limits
+  pub states : ℕ → List ℕ
+  pub bytes : ℕ → List ℕ
+  pub page : ℕ
+  pub tick : ℕ
+  pub stored : AreStored n states bytes
+
+-- before the first call
+abbrev pub start : Living → System
+start l = new_system l.n l.limits l.states l.bytes l.page l.tick
+
+-- after these calls
+abbrev pub after : Living → List Call → System
+after l calls = after_calls (start l) calls
+
+-- these are calls from the opening on
+abbrev pub Makes : Living → List Call → Type 0
+Makes l calls = Calls l.f l.n (start l) calls
+
+-- its handlers
+abbrev pub handlers : Living → Handlers
+handlers l = handlers_of l.f l.states
+
+-- if each process that is alive stays exact, the calls are a run of a cluster
 abbrev pub LivesRun : Type 0
-LivesRun = (f : Answering) (n page tick : ℕ) (limits : ℕ → Limits) (states bytes : ℕ → List ℕ) (calls : List Call) → n ≤ 15
-    → AreStored n states bytes → Calls f n (new_system n limits states bytes page tick) calls
-    → StayExact n (new_system n limits states bytes page tick) calls
-    → IsRunOf n (handlers_of f states) (AllStand n (after_calls (new_system n limits states bytes page tick) calls))
+LivesRun = (l : Living) (calls : List Call) → l.n ≤ 15 → Makes l calls → StayExact l.n (start l) calls
+    → IsRunOf l.n (handlers l) (AllStand l.n (after l calls))

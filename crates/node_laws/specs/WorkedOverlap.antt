@@ -11,9 +11,9 @@ use Rattle.process.specs.declared.lifecycle.Lifecycle.TheVariants.{Collecting}
 use Rattle.node_laws.specs.HostProcess.{is_exact}
 use Rattle.node_laws.specs.HostSystem.{HostCall, Gave, Handed, Died, Revived, AreCalls, after_calls}
 use Rattle.node_laws.specs.HostLaws.{StaysDurable}
-use Rattle.node_laws.specs.Messages.{packet, collects}
-use Rattle.node_laws.specs.HostWorked.{process}
-use Rattle.node_laws.specs.HostBeside.{ask, comes, opened, Open, MayOpen}
+use Rattle.node_laws.specs.WorkedMessages.{packet, collects}
+use Rattle.node_laws.specs.Worked.{process}
+use Rattle.node_laws.specs.WorkedBeside.{ask, comes, opened, Open, MayOpen}
 
 -- the limits of both
 abbrev pub lasting : Limits

@@ -1,7 +1,6 @@
--- A worked list of calls of hosts of two processes: one is killed while the other is up, and comes back from the answers of the other and the
--- gateway
+-- A worked list of calls of hosts: of two processes one is killed while the other is up, and comes back from the answers of the other and
+-- the gateway
 use Rattle.std.specs.Prelude.{◌≡◌, ℕ, List, [], ◌∷◌, length, true, false}
-use Rattle.packets.specs.declared.packet.Body.{Body}
 use Rattle.packets.specs.declared.packet.Body.TheVariants.{Ask, Told, Resume, Restored}
 use Rattle.packets.specs.declared.packet.NodePacket.{NodePacket}
 use Rattle.packets.specs.Packet.{flags_of}
@@ -26,8 +25,8 @@ use Rattle.node_laws.specs.HostProcess.{IsFirst, IsUp}
 use Rattle.node_laws.specs.HostSystem.{System, Opens, new_system, HostCall, Gave, Handed, Died, Revived, GaveOut, HandedOut, StoredOut}
 use Rattle.node_laws.specs.HostSystem.{AreCalls, after_calls}
 use Rattle.node_laws.specs.HostLaws.{OneAtATime}
-use Rattle.node_laws.specs.Messages.{packet, gave, quiet, collects, restores}
-use Rattle.node_laws.specs.HostWorked.{process}
+use Rattle.node_laws.specs.WorkedMessages.{packet, gave, quiet, collects, restores}
+use Rattle.node_laws.specs.Worked.{process}
 
 -- ---- packets between the first process, the second and the gateway
 

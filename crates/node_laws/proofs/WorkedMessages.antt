@@ -1,11 +1,11 @@
 -- The process of the worked list, and the gateway
-use Rattle.std.proofs.Common.{◌≡◌, inl, inr, ℕ, zero, suc, ◌+◌, ◌<◌, ◌≤◌, List, [], ◌∷◌, ◌++◌, length, Bool, true, false, refl, sym, ap, ◌∙◌, arith, length-append}
+use Rattle.std.proofs.Common.{◌≡◌, ℕ, zero, suc, ◌+◌, ◌<◌, ◌≤◌, List, [], ◌∷◌, ◌++◌, length, Bool, true, false, refl, sym, ap, ◌∙◌, arith, length-append}
 use Rattle.std.specs.Prelude.{Option, Some, None, is_some, slice_index_or, ◌==◌, if◌then◌else◌}
 use Rattle.std.specs.List.{AllByRecursion}
 use Rattle.std.proofs.lemmas.Bool.Decides.{nat_tests}
 use Rattle.packets.specs.Format.{short_bytes, long_bytes, checksum_bytes, IsLong}
-use Rattle.packets.specs.Kept.{IsKept, KeptFits, word_bytes, kept_bytes}
-use Rattle.packets.specs.Packet.{entries_in_range, pairs_in_range}
+use Rattle.packets.specs.Kept.{KeptFits, word_bytes, kept_bytes}
+use Rattle.packets.specs.Packet.{entries_in_range}
 use Rattle.world.specs.declared.message.Message.{Message}
 use Rattle.world.specs.History.{count_of}
 use Rattle.world.specs.Plan.{if_next}
@@ -26,7 +26,7 @@ use Rattle.recovery.specs.Restoration.{IsRestoring}
 use Rattle.gateway.specs.Gateway.{TheGateway}
 use Rattle.node_laws.specs.HostProcess.{IsFirst}
 use Rattle.node_laws.specs.Inside.Process.{Recovers}
-use Rattle.node_laws.specs.Messages.{quiet, restores, n0, n1, n2, n4, n5, n6, n7, n8, n9, has_all, job, replays, begins}
+use Rattle.node_laws.specs.WorkedMessages.{quiet, restores, n0, n1, n2, n4, n5, n6, n7, n8, n9, has_all, job, replays, begins}
 use Rattle.node_laws.proofs.Lives.{usual-allowed}
 
 -- ---- what the node keeps, which sends nothing

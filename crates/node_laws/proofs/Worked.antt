@@ -1,5 +1,5 @@
 -- The worked list of calls of hosts
-use Rattle.std.proofs.Common.{◌≡◌, inl, inr, ℕ, ◌≤◌, ◌<◌, List, [], ◌∷◌, ◌++◌, length, true, false, refl, sym, ap, ◌∙◌, subst, arith}
+use Rattle.std.proofs.Common.{◌≡◌, inl, inr, ℕ, ◌≤◌, List, [], ◌∷◌, ◌++◌, length, true, false, refl, sym, ap, ◌∙◌, subst, arith}
 use Rattle.std.specs.Prelude.{Some}
 use Rattle.decode.specs.declared.insn.Reg.{Reg}
 use Rattle.decode.specs.declared.insn.Insn.{Insn}
@@ -21,15 +21,13 @@ use Rattle.node.specs.Node.{TheNode, new_node}
 use Rattle.node.specs.Transmission.{ticked}
 use Rattle.node.specs.Kept.{kept_of, comes_back}
 use Rattle.node.specs.Suspension.{suspended_bytes}
-use Rattle.node.specs.Runs.{Answering}
 use Rattle.node.proofs.Begun.{within-begun}
 use Rattle.node.proofs.Freezes.{freezes, saves}
 use Rattle.node.proofs.Preservation.{kept-covers}
 use Rattle.node.proofs.Openings.{stands-opened}
 use Rattle.node.proofs.Sendings.{ticking}
-use Rattle.recovery.specs.Collection.{TheCollecting, revived}
+use Rattle.recovery.specs.Collection.{revived}
 use Rattle.recovery.specs.Replays.{TheReplaying, is_over}
-use Rattle.recovery.specs.Replayed.{TheReplayed}
 use Rattle.recovery.specs.StandsAtReplay.{replayed_of}
 use Rattle.recovery.proofs.Revival.{revives}
 use Rattle.recovery.proofs.Reports as collecting
@@ -46,15 +44,14 @@ use Rattle.node.proofs.Views as views
 use Rattle.node.specs.declared.limit.Limits.{Limits}
 use Rattle.packets.specs.declared.kept.Kept.{Kept}
 use Rattle.process.specs.Checkpoints.{Keeps}
-use Rattle.recovery.specs.Restoration.{TheRestoring, up}
-use Rattle.recovery.specs.RestorationStands.{IsUp}
+use Rattle.recovery.specs.Restoration.{up}
 use Rattle.node_laws.specs.HostProcess.{IsFirst}
 use Rattle.node_laws.specs.HostSystem.{System, Opens, HostCall, Died, RevivesAs, DoesIt, AreCalls, after_call, after_calls}
 use Rattle.node_laws.specs.HostLaws.{FailsAlone, OneAtATime}
-use Rattle.node_laws.specs.Messages.{gave, quiet, collects, restores, input, delivery, number, acknowledgement, covers, ask, told, resume, restored, g1, g2, g3, g4, g5, g6, g7, g8, n0, n1, n2, n3, n4, n5, n6, n7, n8, n9, n10, comes, has_all, job, replays, replays_more, replayed, begins, has_answer}
-use Rattle.node_laws.specs.HostWorked.{copies, IsCopying, process, before, behind, opened, IsWorked, HostsCanCall}
+use Rattle.node_laws.specs.WorkedMessages.{gave, quiet, collects, restores, input, delivery, number, acknowledgement, covers, ask, told, resume, restored, g1, g2, g3, g4, g5, g6, g7, g8, n0, n1, n2, n3, n4, n5, n6, n7, n8, n9, n10, comes, has_all, job, replays, replays_more, replayed, begins, has_answer}
+use Rattle.node_laws.specs.Worked.{copies, IsCopying, process, before, behind, opened, IsWorked, HostsCanCall}
 use Rattle.node_laws.proofs.Lives.{usual-allowed}
-use Rattle.node_laws.proofs.Messages.{suspended-5, gives-none, recovers, is-restoring, first-of, first, early, within-n0, within-n1, within-q2, within-n4, within-q5, within-n6, within-q7, within-n8, within-q9, gives-nothing}
+use Rattle.node_laws.proofs.WorkedMessages.{suspended-5, gives-none, recovers, is-restoring, first-of, first, early, within-n0, within-n1, within-q2, within-n4, within-q5, within-n6, within-q7, within-n8, within-q9, gives-nothing}
 use Rattle.node_laws.proofs.Promised.{hosted-alone}
 use Rattle.node_laws.proofs.CopyingLemmas.{r0, r1, r2, copying-loads}
 use Rattle.rsn.specs.declared.receipts.TheConstants.{LIMIT}
@@ -142,9 +139,9 @@ revives-as image limits k bytes life kept comes long =
 pub opens-as : (image : AnyImage) (limits : Limits) (n p : ℕ) (initial bytes : List ℕ) → AreAllowed limits → IsFirst n p → n ≤ 15 → length initial ≡ state_of image → IsKept (kept_of (new_node usual p n initial)) bytes
     → IsOpened image limits p n initial (process image (Up (new_node limits p n initial))) × Keeps (Up (new_node limits p n initial)) bytes
 opens-as image limits n p initial bytes allowed l few long kept = (
-    record { long = long; image_is = refl; lifecycle_is = refl; stands = λ f b. stands-opened limits p n initial f l.0 l.1 b },
-    (kept, kept-covers (new_node limits p n initial) (within-begun limits p n initial allowed l.0 l.1 few)),
-  )
+  record { long = long; image_is = refl; lifecycle_is = refl; stands = λ f b. stands-opened limits p n initial f l.0 l.1 b },
+  (kept, kept-covers (new_node limits p n initial) (within-begun limits p n initial allowed l.0 l.1 few)),
+)
 
 -- as whom its handler runs on a message of the gateway
 abbrev me : Who

@@ -1,5 +1,5 @@
--- The only process of a cluster and the gateway, as three messages come: the first before a checkpoint of the process, two more before it is
--- killed. It comes back and replays these two
+-- The only process of a cluster and the gateway, as three messages come: the first before a checkpoint of the process, two more before it
+-- is killed. It comes back and replays these two
 use Rattle.std.specs.Prelude.{ℕ, List, [], ◌∷◌, Some, true, false}
 use Rattle.packets.specs.declared.packet.Body.{Body}
 use Rattle.packets.specs.declared.packet.Body.TheVariants.{Delivery, Number, Acknowledgement, Saved, Ask, Told, Resume, Restored}

@@ -1,5 +1,5 @@
 -- The worked list of calls of hosts of two durable processes that meet
-use Rattle.std.proofs.Common.{inl, ℕ, List, [], ◌∷◌, refl, arith}
+use Rattle.std.proofs.Common.{inl, [], ◌∷◌, refl, arith}
 use Rattle.std.specs.Prelude.{Some}
 use Rattle.packets.specs.Packet.{entries_in_range, pairs_in_range}
 use Rattle.node.specs.Limit.{usual, AreAllowed}
@@ -8,12 +8,12 @@ use Rattle.node.specs.Kept.{kept_of}
 use Rattle.recovery.proofs.Reports as collecting
 use Rattle.recovery.proofs.ReplayLemmas.{collecting-takes}
 use Rattle.process.specs.declared.lifecycle.Lifecycle.TheVariants.{Collecting}
-use Rattle.node_laws.specs.HostOverlap.{lasting, loss, hears, learns, HostsMeet}
-use Rattle.node_laws.specs.HostBeside.{ask, comes}
-use Rattle.node_laws.specs.Messages.{collects}
-use Rattle.node_laws.proofs.Messages.{early}
-use Rattle.node_laws.proofs.HostWorked.{revives-as}
-use Rattle.node_laws.proofs.HostBeside.{first, second, may-open, still-collects}
+use Rattle.node_laws.specs.WorkedOverlap.{lasting, loss, hears, learns, HostsMeet}
+use Rattle.node_laws.specs.WorkedBeside.{ask, comes}
+use Rattle.node_laws.specs.WorkedMessages.{collects}
+use Rattle.node_laws.proofs.WorkedMessages.{early}
+use Rattle.node_laws.proofs.Worked.{revives-as}
+use Rattle.node_laws.proofs.WorkedBeside.{first, second, may-open, still-collects}
 
 lasting-allowed : AreAllowed lasting
 lasting-allowed = record { page = (omega arith, omega arith); tick = omega arith; numbers = (omega arith, omega arith); receipts = (omega arith, omega arith) }

@@ -1,5 +1,5 @@
 -- The worked list of calls of hosts of two processes
-use Rattle.std.proofs.Common.{◌≡◌, inl, inr, ℕ, zero, suc, ◌+◌, ◌<◌, ◌≤◌, List, [], ◌∷◌, length, Bool, true, false, refl, arith}
+use Rattle.std.proofs.Common.{◌≡◌, inl, inr, ℕ, zero, suc, ◌+◌, ◌≤◌, List, [], ◌∷◌, length, Bool, true, false, refl, arith}
 use Rattle.std.specs.Prelude.{Some, None, slice_index_or}
 use Rattle.packets.specs.Packet.{entries_in_range, pairs_in_range}
 use Rattle.rsn.specs.Receipts.{Received}
@@ -10,12 +10,10 @@ use Rattle.node.specs.Node.{IsWithin, log_at, new_node}
 use Rattle.node.specs.Kept.{kept_of}
 use Rattle.node.specs.Transmission.{ticked}
 use Rattle.node.proofs.Handover as nodes
-use Rattle.node.proofs.Views as views
 use Rattle.recovery.specs.Collection.{TheCollecting}
 use Rattle.recovery.specs.Plan.{Plans}
 use Rattle.recovery.specs.Replays.{TheReplaying}
 use Rattle.recovery.specs.StandsAtReplay.{replayed_of}
-use Rattle.recovery.proofs.Revival.{revives}
 use Rattle.recovery.proofs.Reports as collecting
 use Rattle.recovery.proofs.Moments.{comes-back}
 use Rattle.recovery.proofs.ReplayLemmas.{ends-so, collecting-takes}
@@ -32,10 +30,10 @@ use Rattle.rsn.specs.declared.receipts.TheConstants.{LIMIT}
 use Rattle.process.specs.declared.lifecycle.Lifecycle.TheVariants.{Up, Collecting, Replaying, Replayed, Restoring}
 use Rattle.process.specs.Transitions.{Passes}
 use Rattle.node_laws.specs.HostProcess.{IsFirst}
-use Rattle.node_laws.specs.Messages.{gave, quiet, collects, restores}
-use Rattle.node_laws.specs.HostBeside.{ask, told, resume, restored, asked, resumed, other_asked, other_resumed, comes, hears, has_all, begins, enters, has_answers, Open, MayOpen, HostsComeBackBeside}
-use Rattle.node_laws.proofs.Messages.{early}
-use Rattle.node_laws.proofs.HostWorked.{hears-up, gives-up, stays-up, revives-as, opens-as}
+use Rattle.node_laws.specs.WorkedMessages.{gave, quiet, collects, restores}
+use Rattle.node_laws.specs.WorkedBeside.{ask, told, resume, restored, asked, resumed, other_asked, other_resumed, comes, hears, has_all, begins, enters, has_answers, Open, MayOpen, HostsComeBackBeside}
+use Rattle.node_laws.proofs.WorkedMessages.{early}
+use Rattle.node_laws.proofs.Worked.{hears-up, gives-up, revives-as, opens-as}
 use Rattle.node_laws.specs.Inside.Process.{Recovers}
 use Rattle.node_laws.proofs.Lives.{usual-allowed}
 
