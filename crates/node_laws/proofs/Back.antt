@@ -132,10 +132,6 @@ module _ (n : ℕ) (f : Handlers) (x y : System) (p : ℕ) (a b : TheNode) (acts
         run = run;
         before = before;
         after = after;
-        was = c.world.history p;
-        is = d.world.history p;
-        history_was = refl;
-        history_is = refl;
         many_was = was-long;
         many_is = is-long;
         state_was = state-was;

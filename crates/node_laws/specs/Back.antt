@@ -12,24 +12,24 @@ use Rattle.node.specs.Transmission.{run_at}
 abbrev pub length_of : TheNode → ℕ
 length_of n = n.base + length n.receipts.senders
 
--- the process p is up as the node a, and later as b. At both moments a cluster agrees, so what p received is its history then, and its
--- state is the one after that. Up to the RSN up to which all are acknowledged at a, the two histories are the same. So if all are, and b
--- has no more messages, it has the state of a
+-- what p received in the cluster of n after these acts
+abbrev pub received : ℕ → Handlers → ℕ → List Act → List Message
+received n f p acts = (after_run (opening n f) acts).world.history p
+
+-- the process p is up as the node a, and later as b. At both moments a cluster agrees: what p received there is as much as its node has, and
+-- its state is the one after that. Up to the RSN up to which all are acknowledged at a, both received the same. So if all are, and b has no
+-- more messages, it has the state of a
 pub record HasBack (n : ℕ) (f : Handlers) (Before After : Cluster → Type 0) (p : ℕ) (a b : TheNode) : Type 0 where
   pub acts : List Act
   pub more : List Act
   pub run : Run (opening n f) (acts ++ more)
   pub before : Before (after_run (opening n f) acts)
   pub after : After (after_run (opening n f) (acts ++ more))
-  pub was : List Message
-  pub is : List Message
-  pub history_was : was ≡ (after_run (opening n f) acts).world.history p
-  pub history_is : is ≡ (after_run (opening n f) (acts ++ more)).world.history p
-  pub many_was : length was ≡ length_of a
-  pub many_is : length is ≡ length_of b
-  pub state_was : f.state p was ≡ a.state
-  pub state_is : f.state p is ≡ b.state
+  pub many_was : length (received n f p acts) ≡ length_of a
+  pub many_is : length (received n f p (acts ++ more)) ≡ length_of b
+  pub state_was : f.state p (received n f p acts) ≡ a.state
+  pub state_is : f.state p (received n f p (acts ++ more)) ≡ b.state
   pub acknowledged : AllAcknowledged (after_run (opening n f) acts) p (run_at a)
   pub within : run_at a ≤ length_of b
-  pub same : take (run_at a) is ≡ take (run_at a) was
+  pub same : take (run_at a) (received n f p (acts ++ more)) ≡ take (run_at a) (received n f p acts)
   pub back : run_at a ≡ length_of a → length_of b ≡ length_of a → b.state ≡ a.state

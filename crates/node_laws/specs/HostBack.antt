@@ -15,7 +15,7 @@ use Rattle.process.specs.Calls.{standing_at}
 use Rattle.node_laws.specs.HostProcess.{Absent, Runs, IsUp}
 use Rattle.node_laws.specs.HostSystem.{System}
 use Rattle.node_laws.specs.Agreement.{AllStand}
-use Rattle.node_laws.specs.Back.{length_of}
+use Rattle.node_laws.specs.Back.{length_of, received}
 
 -- it collects
 abbrev pub Collects : TheProcess → Type 0
@@ -52,7 +52,6 @@ pub record HasRecovered (n : ℕ) (f : Handlers) (s t : System) (p : ℕ) (now :
   pub after : AllStand n t (after_run (opening n f) (acts ++ more))
   pub had : HadReceived (after_run (opening n f) acts) p collected.own.base (plan_of now.lifecycle)
   pub kept : keeps now.lifecycle ≡ collected.own.base + length (plan_of now.lifecycle)
-  pub stays : take (keeps now.lifecycle) ((after_run (opening n f) (acts ++ more)).world.history p)
-      ≡ take (keeps now.lifecycle) ((after_run (opening n f) acts).world.history p)
+  pub stays : take (keeps now.lifecycle) (received n f p (acts ++ more)) ≡ take (keeps now.lifecycle) (received n f p acts)
   pub back : (m : TheNode) → IsUp m (t.processes p) → length_of m ≡ keeps now.lifecycle
-      → f.state p (take (keeps now.lifecycle) ((after_run (opening n f) acts).world.history p)) ≡ m.state
+      → f.state p (take (keeps now.lifecycle) (received n f p acts)) ≡ m.state

@@ -8,7 +8,7 @@ use Rattle.recovery.specs.Collection.{TheCollecting}
 use Rattle.recovery.specs.Replays.{TheReplaying}
 use Rattle.recovery.specs.Moment.{HadReceived}
 use Rattle.node_laws.specs.HostProcess.{IsFirst}
-use Rattle.node_laws.specs.Back.{length_of, HasBack}
+use Rattle.node_laws.specs.Back.{length_of, received, HasBack}
 use Rattle.node_laws.specs.Inside.Process.{IsUp, Collects, Replays}
 use Rattle.node_laws.specs.Inside.System.{System, Call, Did, StayExact, AllStand, Living, start, after, Makes, handlers}
 
@@ -31,10 +31,9 @@ pub record IsBack (n : ℕ) (f : Handlers) (s t : System) (p : ℕ) (old : TheCo
   pub before : AllStand n s (after_run (opening n f) acts)
   pub after : AllStand n t (after_run (opening n f) (acts ++ more))
   pub had : HadReceived (after_run (opening n f) acts) p old.own.base new.plan
-  pub stays : take (kept_of old new)
-      ((after_run (opening n f) (acts ++ more)).world.history p) ≡ take (kept_of old new) ((after_run (opening n f) acts).world.history p)
+  pub stays : take (kept_of old new) (received n f p (acts ++ more)) ≡ take (kept_of old new) (received n f p acts)
   pub back : (m : TheNode) → IsUp m (t.processes p) → length_of m ≡ kept_of old new
-      → f.state p (take (kept_of old new) ((after_run (opening n f) acts).world.history p)) ≡ m.state
+      → f.state p (take (kept_of old new) (received n f p acts)) ≡ m.state
 
 -- a process that recovers comes back with what it keeps, if all stay exact
 abbrev pub RecoversExactly : Type 0
