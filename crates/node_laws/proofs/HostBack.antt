@@ -1,5 +1,5 @@
 -- What a process keeps that recovers in a call of its host
-use Rattle.std.proofs.Common.{◌≡◌, ◌≢◌, ℕ, ◌+◌, ◌≤◌, List, ◌∷◌, ◌++◌, length, take, sym, ap, ◌∙◌, subst, append_assoc}
+use Rattle.std.proofs.Common.{◌≡◌, ℕ, ◌+◌, ◌≤◌, List, ◌∷◌, ◌++◌, length, take, sym, ap, ◌∙◌, subst, append_assoc}
 use Rattle.world.specs.History.{count_of}
 use Rattle.world.specs.Handlers.{Handlers}
 use Rattle.cluster.specs.Cluster.{Cluster, opening}
@@ -39,17 +39,14 @@ stand-still images n p first s u now m c goods b here a =
     let at : called.AreStoredOf (s.stored p) (stages.Collects m) c p = subst (λ z. called.AreStoredOf (s.stored p) z c p) here (subst (λ z. called.AreStoredOf z (u.processes p) c p) (b.stored p first) (a.stored p first)) in
     record {
       processes = λ q l. at-each (λ k z. StandsAs z c k) s.processes p q new (λ o. stands-as (images q) (s.processes q) c q (goods q l) (subst (λ z. stages.StandsAs z c q) (b.processes q l o) (a.processes q l))) (subst (λ z. stages.StandsAs z c p) here (a.processes p first));
-      stored = λ q l. at-each (λ k z. AreStoredOf (s.stored k) z c k) s.processes p q new (λ o. others q l o) (at.0, (at.1.0, at.1.1));
+      stored = λ q l. at-each (λ k z. AreStoredOf (s.stored k) z c k) s.processes p q new
+          (λ o. stored-as (s.stored q) (images q) (s.processes q) c q (goods q l) (subst (λ z. called.AreStoredOf (s.stored q) z c q) (b.processes q l o) (subst (λ z. called.AreStoredOf z (u.processes q) c q) (b.stored q l) (a.stored q l))))
+          (at.0, (at.1.0, at.1.1));
       lives = λ q l. subst (λ z. c.stored q ≤ z) (b.lives q l) (a.lives q l);
       durable = subst (λ z. gateways.Stands z c) b.durable a.durable;
       gateway = subst (λ z. gateways.Goes z c) b.gateway a.gateway;
       shown = λ q l. subst (λ (z : TheGateway). (peer_of q z).shown ≡ count_of q c.world.shown) b.durable (a.shown q l);
     }
-  where
-    others : (q : ℕ) → IsFirst n q → q ≢ p → AreStoredOf (s.stored q) (s.processes q) c q
-    others q l o =
-        let old = subst (λ z. called.AreStoredOf (s.stored q) z c q) (b.processes q l o) (subst (λ z. called.AreStoredOf z (u.processes q) c q) (b.stored q l) (a.stored q l)) in
-        (old.0, (old.1.0, stored-as old.0 (images q) (s.processes q) c q (goods q l) old.1.1))
 
 -- what holds at the moment among the calls in all lives holds of the call of the host
 recovered : (images : ℕ → AnyImage) (n p : ℕ) → IsFirst n p → (f : Handlers) (s s2 : System) (t t2 u : Lived) (ks : List Call) (now : TheProcess) (m : Moment n p s t ks now.lifecycle) → AreGood images n s → u ≡ called.after_calls t m.before → State images n s2 t2

@@ -109,11 +109,10 @@ parts h calls more g =
 pub all-stand : (images : ℕ → AnyImage) (n : ℕ) (s : System) (t : Lived) (c : Cluster) → State images n s t → called.AllStand n t c → AllStand n s c
 all-stand images n s t c at a =
     let st : IsAs n s t = at.stand in
-    let old : (p : ℕ) → IsFirst n p → called.AreStoredOf (s.stored p) (as_process (s.processes p)) c p =
-    λ p l. subst (λ z. called.AreStoredOf z (as_process (s.processes p)) c p) (st.stored p l) (subst (λ z. called.AreStoredOf (t.stored p) z c p) (st.processes p l) (a.stored p l)) in
     record {
       processes = λ p l. stands-as (images p) (s.processes p) c p (at.good p l) (subst (λ z. lives.StandsAs z c p) (st.processes p l) (a.processes p l));
-      stored = λ p l. ((old p l).0, ((old p l).1.0, stored-as (old p l).0 (images p) (s.processes p) c p (at.good p l) (old p l).1.1));
+      stored = λ p l. stored-as (s.stored p) (images p) (s.processes p) c p (at.good p l)
+          (subst (λ z. called.AreStoredOf z (as_process (s.processes p)) c p) (st.stored p l) (subst (λ z. called.AreStoredOf (t.stored p) z c p) (st.processes p l) (a.stored p l)));
       lives = λ p l. subst (λ z. c.stored p ≤ z) (st.lives p l) (a.lives p l);
       durable = subst (λ z. gateways.Stands z c) st.durable a.durable;
       gateway = subst (λ z. gateways.Goes z c) st.gateway a.gateway;

@@ -13,8 +13,9 @@ use Rattle.process.specs.Calls.{standing_at, is_frozen}
 use Rattle.process.specs.Suspension.{Suspends}
 use Rattle.node_laws.specs.HostProcess.{Checkpoint, Durable, Hosted, Runs, Sleeps, Killed, Alive, is_exact, IsUp}
 use Rattle.node_laws.specs.HostBack.{Collects}
-use Rattle.node_laws.specs.Agreement.{Stands, StandsAs, IsStoredOf}
+use Rattle.node_laws.specs.Agreement.{Stands, StandsAs, IsStoredOf, AreStoredOf}
 use Rattle.node_laws.specs.Inside.Process as lives
+use Rattle.node_laws.specs.Inside.System as called
 use Rattle.node_laws.specs.Inside.Process.{covered}
 use Rattle.node_laws.specs.Inside.Alone as lone
 use Rattle.node_laws.specs.Inside.Hosted.{stage_of, seen, as_process}
@@ -92,8 +93,11 @@ stored-durable : (k : Kept) (process : TheProcess) (c : Lifecycle) (d : Cluster)
 stored-durable k process (Up n) d p f g = g
 stored-durable k process other d p f g = absurd f
 
-pub stored-as : (k : Kept) (image : AnyImage) (h : Hosted) (d : Cluster) (p : ℕ) → IsGood image h → lives.IsStoredOf k (as_process h) d p → IsStoredOf k h d p
-stored-as k image (Runs process Durable) d p good g = stored-durable k process process.lifecycle d p good.1.1 g
-stored-as k image (Runs process checkpoint) d p good g = stored-stage k process.lifecycle d p g
-stored-as k image (Sleeps process bytes) d p good g = stored-stage k process.lifecycle d p g
-stored-as k image Killed d p good g = g
+kept-as : (k : Kept) (image : AnyImage) (h : Hosted) (d : Cluster) (p : ℕ) → IsGood image h → lives.IsStoredOf k (as_process h) d p → IsStoredOf k h d p
+kept-as k image (Runs process Durable) d p good g = stored-durable k process process.lifecycle d p good.1.1 g
+kept-as k image (Runs process checkpoint) d p good g = stored-stage k process.lifecycle d p g
+kept-as k image (Sleeps process bytes) d p good g = stored-stage k process.lifecycle d p g
+kept-as k image Killed d p good g = g
+
+pub stored-as : (bytes : List ℕ) (image : AnyImage) (h : Hosted) (d : Cluster) (p : ℕ) → IsGood image h → called.AreStoredOf bytes (as_process h) d p → AreStoredOf bytes h d p
+stored-as bytes image h d p good g = (g.0, (g.1.0, kept-as g.0 image h d p good g.1.1))

@@ -16,9 +16,9 @@ length_of n = n.base + length n.receipts.senders
 abbrev pub received : ℕ → Handlers → ℕ → List Act → List Message
 received n f p acts = (after_run (opening n f) acts).world.history p
 
--- the process p is up as the node a, and later as b. At both moments a cluster agrees: what p received there is as much as its node has, and
--- its state is the one after that. Up to the RSN up to which all are acknowledged at a, both received the same. So if all are, and b has no
--- more messages, it has the state of a
+-- the process p is up as the node a, and later as b. At both moments a cluster agrees: what p received there is as much as its node has,
+-- and its state is the one after that. Up to the RSN up to which all are acknowledged at a, both received the same. So if all are, and b
+-- has no more messages, it has the state of a
 pub record HasBack (n : ℕ) (f : Handlers) (Before After : Cluster → Type 0) (p : ℕ) (a b : TheNode) : Type 0 where
   pub acts : List Act
   pub more : List Act

@@ -19,9 +19,9 @@ use Rattle.node.specs.Kept.{kept_of}
 use Rattle.node.specs.Suspension.{suspended_bytes}
 use Rattle.recovery.specs.Restoration.{up}
 use Rattle.node_laws.specs.Back.{length_of}
-use Rattle.node_laws.specs.WorkedMessages.{gave, quiet, collects, restores, input, delivery, number, acknowledgement, covers, ask, told, resume}
-use Rattle.node_laws.specs.WorkedMessages.{restored, g1, g2, g3, g4, g5, g6, g7, g8, n0, n1, n2, n3, n4, n5, n6, n7, n8, n9, n10, comes}
-use Rattle.node_laws.specs.WorkedMessages.{replays, replays_more, begins, has_answer}
+use Rattle.node_laws.specs.WorkedMessages.{gave, quiet, collects, restores, input, delivery, number, acknowledgement, covers, ask, told}
+use Rattle.node_laws.specs.WorkedMessages.{resume, restored, g1, g2, g3, g4, g5, g6, g7, g8, n0, n1, n2, n3, n4, n5, n6, n7, n8, n9, n10}
+use Rattle.node_laws.specs.WorkedMessages.{comes, replays, replays_more, begins, has_answer}
 use Rattle.process.specs.declared.lifecycle.Lifecycle.{Lifecycle}
 use Rattle.process.specs.declared.lifecycle.Lifecycle.TheVariants.{Up, Collecting, Replaying, Restoring}
 use Rattle.process.specs.Process.{TheProcess}
