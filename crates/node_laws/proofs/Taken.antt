@@ -8,7 +8,6 @@ use Rattle.theorems.proofs.PlanLemmas.{first_below-at}
 use Rattle.rsn.specs.Receipts.{Received, numbers_from, numbers_of}
 use Rattle.world.specs.declared.message.Message.{Message}
 use Rattle.world.specs.History.{Payload, nth, count_of}
-use Rattle.world.specs.World.{put}
 use Rattle.world.specs.Plan.{if_next, or_else}
 use Rattle.cluster.specs.Rules.{message}
 use Rattle.packets.specs.declared.packet.Body.{Body}
@@ -143,14 +142,6 @@ pub record HasTaken (D : ℕ → Bool) (In : ℕ → List Payload) (top p : ℕ)
 map-push : (xs : List Message) (m : Message) → map sender_of (xs ++ m ∷ []) ≡ map sender_of xs ++ m.sender ∷ []
 map-push [] m = refl
 map-push (x ∷ xs) m = ap (λ l. x.sender ∷ l) (map-push xs m)
-
-ordered-first : (c : ℕ → ℕ) (xs ys : List Message) → InOrderFrom c (xs ++ ys) → InOrderFrom c xs
-ordered-first c [] ys o = tt
-ordered-first c (x ∷ xs) ys o = (o.0, ordered-first (put c x.sender (suc (c x.sender))) xs ys o.1)
-
-each-first : {X : Type 0} (P : X → Type 0) (xs ys : List X) → Each P (xs ++ ys) → Each P xs
-each-first P [] ys a = tt
-each-first P (x ∷ xs) ys a = (a.0, each-first P xs ys a.1)
 
 module _ (D : ℕ → Bool) (In : ℕ → List Payload) (top p : ℕ) where
   abbrev Has : List Message → List Message → List ℕ → List ℕ → Type 0
