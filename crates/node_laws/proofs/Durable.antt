@@ -125,7 +125,7 @@ module _ (f : Answering) (states : ℕ → List ℕ) (top p : ℕ) (durable tell
         begins = begins-self h;
         still = λ e. refl;
         now = record { holds = goes-on h s q new now (λ e. (t e).1); stored = now.stored };
-        gives = λ ks late b a. by-if (Each (Gives-it late)) (q == p) (x ∷ given_by p ks) (given_by p ks)
+        gives = λ ks late b a. by-if (λ z. Each (Gives-it late) (z ++ given_by p ks)) (q == p) (x ∷ []) []
             (λ e. let same : q ≡ p = grind (arith, nat_tests) in (gave-later f states top p durable tells D In low h late x b (t same).0, a)) (λ e. a);
       }
   step h s (Handed q x new) now m v w fair =

@@ -14,7 +14,7 @@ use Rattle.node.specs.Runs.{Answering}
 use Rattle.node.specs.Stands.{Each, InOrderFrom}
 use Rattle.node.proofs.Lists.{all-more}
 use Rattle.node_laws.specs.Inside.System.{System, Call, after_call, Calls, after_calls, Living, start, Makes}
-use Rattle.node_laws.specs.Inside.Durable.{outputs_of}
+use Rattle.node_laws.specs.Inside.Durable.{shown_by, outputs_of}
 use Rattle.packets.specs.declared.packet.NodePacket.{NodePacket}
 use Rattle.node.specs.Node.{TheNode}
 use Rattle.node_laws.specs.Durable.{Keep}
@@ -23,7 +23,7 @@ use Rattle.node_laws.specs.Outputs.{IsOut, AllOut, LeavesNoGap, AreBehind, SayTh
 use Rattle.node_laws.proofs.Back.{after-append, calls-parts}
 use Rattle.node_laws.proofs.Preservation.{IsShown}
 use Rattle.node_laws.proofs.HeldGateway.{OfGateway}
-use Rattle.node_laws.proofs.Turns.{Between, InTurn, IsOfSome, Leads, Turns, UpTo, outputs-first, passed, passed-grows, past, past-grows, shown_by, turns}
+use Rattle.node_laws.proofs.Turns.{Between, InTurn, IsOfSome, Leads, Turns, UpTo, passed, passed-grows, past, past-grows, turns}
 
 -- ---- what was out before
 
@@ -152,16 +152,15 @@ ends f n least c d before s (k ∷ ks) a w v m =
     let moved : Within least (before ++ xs) one.from × Behind least before xs = leads-either least before xs c d one.from w v one.leads in
     let stays : Within least (before ++ xs) one.kept = kept-within least before xs d one.from one.kept v moved.0 one.kept_is in
     let rest : Ends least one.from (before ++ xs) (after_call s k) ks = ends f n least one.from one.kept (before ++ xs) (after_call s k) ks one.up moved.0 stays m.1 in
-    let first : xs ++ ys ≡ outputs_of s (k ∷ ks) = sym (outputs-first s k ks) in
-    let all : (before ++ xs) ++ ys ≡ before ++ outputs_of s (k ∷ ks) = append_assoc before xs ys ∙ ap (λ z. before ++ z) first in
+    let all : (before ++ xs) ++ ys ≡ before ++ outputs_of s (k ∷ ks) = append_assoc before xs ys in
     record {
       from = rest.from;
       kept = rest.kept;
       up = rest.up;
       from_within = subst (λ z. Within least z rest.from) all rest.from_within;
       kept_within = subst (λ z. Within least z rest.kept) all rest.kept_within;
-      behind = subst (Behind least before) first (behind-append least before xs ys moved.1 rest.behind);
-      in_life = λ l. subst (InLife c rest.from) first (life-joined c one.from rest.from xs ys (one.on l.0) (rest.in_life l.1));
+      behind = behind-append least before xs ys moved.1 rest.behind;
+      in_life = λ l. life-joined c one.from rest.from xs ys (one.on l.0) (rest.in_life l.1);
     }
 
 -- ---- the laws

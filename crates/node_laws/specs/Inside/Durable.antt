@@ -10,17 +10,25 @@ use Rattle.node_laws.specs.Inside.Process.{Process, IsUp, Replays, Replayed}
 use Rattle.node_laws.specs.Inside.System.{System, Call, Gave, Did, Resumed, Revived, DidOut, after_call, Living, start, after}
 use Rattle.node_laws.specs.Inside.System.{Makes, handlers}
 
--- the packets that p gave
+-- the packets that p gave by a call
+abbrev pub gave_by : ℕ → Call → List NodePacket
+gave_by p (Gave q x new) = if q == p then x ∷ [] else []
+gave_by p k = []
+
+-- by these calls
 abbrev pub given_by : ℕ → List Call → List NodePacket
 given_by p [] = []
-given_by p (Gave q x new ∷ ks) = if q == p then x ∷ given_by p ks else given_by p ks
-given_by p (k ∷ ks) = given_by p ks
+given_by p (k ∷ ks) = gave_by p k ++ given_by p ks
 
--- all outputs that the gateway gave
+-- the outputs that the gateway gave by a call
+abbrev pub shown_by : System → Call → List Output
+shown_by s (DidOut new) = handed_out s.gateway new
+shown_by s k = []
+
+-- by these calls
 abbrev pub outputs_of : System → List Call → List Output
 outputs_of s [] = []
-outputs_of s (DidOut new ∷ ks) = handed_out s.gateway new ++ outputs_of (after_call s (DidOut new)) ks
-outputs_of s (k ∷ ks) = outputs_of (after_call s k) ks
+outputs_of s (k ∷ ks) = shown_by s k ++ outputs_of (after_call s k) ks
 
 -- ---- premises
 
