@@ -11,8 +11,7 @@ use Rattle.process.specs.Process.{TheProcess}
 use Rattle.process.specs.Calls.{Calls, IsHanded}
 use Rattle.process.specs.Packets.{GivesBytes}
 use Rattle.process.specs.Work.{Works}
-use Rattle.node_laws.specs.Together.{IsFirst}
-use Rattle.node_laws.specs.HostProcess.{Checkpoint, Runs, Alive, goes_on}
+use Rattle.node_laws.specs.HostProcess.{IsFirst, Checkpoint, Runs, Alive, goes_on}
 use Rattle.node_laws.specs.HostSystem.{System, HostCall, GaveBytes, HandedBytes, Worked, DoesIt, after_call}
 use Rattle.node_laws.proofs.Sound.{raised-here}
 use Rattle.c_handles.specs.declared.bundle.BundleTally.{BundleTally}

@@ -3,16 +3,15 @@ use Rattle.std.proofs.Common.{◌≡◌, ◌≢◌, ℕ, List, [], ◌∷◌, �
 use Rattle.std.specs.Prelude.{◌==◌}
 use Rattle.std.proofs.lemmas.Bool.Decides.{nat_tests}
 use Rattle.node.specs.Runs.{Answering}
-use Rattle.node_laws.specs.Together.{IsFirst}
-use Rattle.node_laws.specs.Process.{Process, Acts, is_exact}
-use Rattle.node_laws.specs.System.{System as Lived, Call, Did, Calls, after_call, after_calls, AreExact, StayExact}
-use Rattle.node_laws.specs.Alone.{OneAtATime}
-use Rattle.node_laws.specs.Durable.{ReplaysAll, ReplayWhole, StaysDurable, given_by, outputs_of}
-use Rattle.node_laws.specs.Outputs.{OneLife}
+use Rattle.node_laws.specs.HostProcess.{IsFirst}
+use Rattle.node_laws.specs.Inside.Process.{Process, Acts, is_exact}
+use Rattle.node_laws.specs.Inside.System.{System as Lived, Call, Did, Calls, after_call, after_calls, AreExact, StayExact}
+use Rattle.node_laws.specs.Inside.Alone.{OneAtATime}
+use Rattle.node_laws.specs.Inside.Durable.{ReplaysAll, ReplayWhole, StaysDurable, given_by, outputs_of}
+use Rattle.node_laws.specs.Inside.Outputs.{OneLife}
 use Rattle.node_laws.proofs.Sound.{raised-here, raised-other}
-use Rattle.node_laws.specs.HostProcess.{as_process}
+use Rattle.node_laws.specs.Inside.Hosted.{as_process, IsAs}
 use Rattle.node_laws.specs.HostSystem.{System}
-use Rattle.node_laws.specs.HostLives.{IsAs}
 use Rattle.node_laws.proofs.Chains.{Chain}
 
 abbrev pub dids : ℕ → List Process → List Call

@@ -25,13 +25,13 @@ use Rattle.recovery.specs.Restoration.{TheRestoring, has_answered, above_of, las
 use Rattle.recovery.specs.RestorationStands.{StandsRestoring}
 use Rattle.recovery.proofs.Fits.{pages-fit}
 use Rattle.gateway.specs.Gateway.{TheGateway}
-use Rattle.node_laws.specs.Together.{IsFirst}
-use Rattle.node_laws.specs.Process.{Process, Up, Covered, Collects, Replays, Restores, Killed, StandsAs, IsKilled, IsStoredOf, ComesFrom, covered}
-use Rattle.node_laws.specs.System.{System, new_system, AreStoredOf, Call, Gave, Handed, Worked, Did, Stored, Saved, Resumed, Died, Revived, GaveOut, HandedOut, DidOut, RevivedOut, DoesIt, after_call, Calls, AreExact, StayExact}
-use Rattle.node_laws.specs.Alone.{is_up, FailsAlone, OneAtATime, LoneFailuresStayExact, LoneLivesRun, NothingIsLostAlone, RecoversExactlyAlone}
-use Rattle.node_laws.proofs.Lives.{WasPut, lives-run}
+use Rattle.node_laws.specs.HostProcess.{IsFirst}
+use Rattle.node_laws.specs.Inside.Process.{Process, Up, Covered, Collects, Restores, Killed, StandsAs, IsKilled, IsStoredOf, ComesFrom, covered}
+use Rattle.node_laws.specs.Inside.System.{System, AreStoredOf, Call, Gave, Handed, Worked, Did, Stored, Saved, Resumed, Died, Revived, GaveOut, HandedOut, DidOut, RevivedOut, DoesIt, after_call, Calls, AreExact, StayExact, Living, start}
+use Rattle.node_laws.specs.Inside.Alone.{is_up, FailsAlone, OneAtATime, LoneFailuresStayExact}
+use Rattle.node_laws.proofs.Lives.{WasPut}
 use Rattle.node_laws.proofs.Lives as runs
-use Rattle.node_laws.proofs.Back.{Reached, GoesOn, goes-on, nothing-is-lost, recovers-exactly}
+use Rattle.node_laws.proofs.Back.{Reached, GoesOn, goes-on}
 use Rattle.node_laws.proofs.Sound.{IsSound, AreSound, raised-here}
 use Rattle.node_laws.proofs.OwnSound.{IsAlone, of-other}
 use Rattle.node_laws.proofs.CollectingSound as collecting
@@ -179,20 +179,9 @@ stays-alone f states n s acts (k ∷ ks) r h m a =
     (exact, stays-alone f states n (after_call s k) (acts ++ on.more) ks on.reached after m.1 a.1)
 
 -- at the opening all are up
-begins-alone : (n page tick : ℕ) (limits : ℕ → Limits) (states bytes : ℕ → List ℕ) → IsLone n (new_system n limits states bytes page tick)
-begins-alone n page tick limits states bytes = record { outside = refl; alone = λ p q a b apart e. refl; good = λ p first. record { exact = refl; life = refl; knows = tt; out = tt }; given = tt; out = tt }
+begins-alone : (l : Living) → IsLone l.n (start l)
+begins-alone l = record { outside = refl; alone = λ p q a b apart e. refl; good = λ p first. record { exact = refl; life = refl; knows = tt; out = tt }; given = tt; out = tt }
 
 pub lone-failures-stay-exact : LoneFailuresStayExact
-lone-failures-stay-exact f n page tick limits states bytes calls few stored m a =
-    stays-alone f states n (new_system n limits states bytes page tick) [] calls (record { run = tt; holds = runs.begins f n page tick limits states bytes few stored }) (begins-alone n page tick limits states bytes) m a
-
-pub lone-lives-run : LoneLivesRun
-lone-lives-run f n page tick limits states bytes calls few stored m a = lives-run f n page tick limits states bytes calls few stored m (lone-failures-stay-exact f n page tick limits states bytes calls few stored m a)
-
-pub nothing-is-lost-alone : NothingIsLostAlone
-nothing-is-lost-alone f n page tick limits states bytes calls more p a b few stored first m alone =
-    nothing-is-lost f n page tick limits states bytes calls more p a b few stored first m (lone-failures-stay-exact f n page tick limits states bytes (calls ++ more) few stored m alone)
-
-pub recovers-exactly-alone : RecoversExactlyAlone
-recovers-exactly-alone f n page tick limits states bytes calls more p old new few stored m alone =
-    recovers-exactly f n page tick limits states bytes calls more p old new few stored m (lone-failures-stay-exact f n page tick limits states bytes (calls ++ Did p (Replays new) ∷ more) few stored m alone)
+lone-failures-stay-exact l calls few m a =
+    stays-alone l.f l.states l.n (start l) [] calls (record { run = tt; holds = runs.begins l few }) (begins-alone l) m a

@@ -1,5 +1,5 @@
 -- What acts leave of a process
-use Rattle.std.proofs.Common.{zero, ◌≡◌, ◌≢◌, ℕ, suc, ◌+◌, ◌≤◌, List, [], ◌∷◌, length, take, Bool, true, false, refl, sym, ap, ◌∙◌, subst, arith}
+use Rattle.std.proofs.Common.{zero, ◌≡◌, ◌≢◌, ℕ, suc, ◌+◌, ◌≤◌, List, [], ◌∷◌, length, take, false, refl, sym, ap, ◌∙◌, subst, arith}
 use Rattle.std.specs.Prelude.{Some, None, ◌==◌, nat_lt, if◌then◌else◌}
 use Rattle.std.proofs.lemmas.Bool.Decides.{nat_tests}
 use Rattle.theorems.proofs.Changes.{at-itself}
@@ -13,6 +13,7 @@ use Rattle.node.specs.Kept.{IsKeptOf}
 use Rattle.node.proofs.Beside.{Same, same}
 use Rattle.node.proofs.Lists.{all-more}
 use Rattle.node.proofs.Preservation.{kept-still, kept-stays}
+use Rattle.gateway.proofs.Steps.{by-if}
 
 -- what holds of a cluster, and of each that has the same of p, holds after the acts of another
 pub along : (P : Cluster → Type 0) (p q : ℕ) (acts : List Act) (c : Cluster) → ((a b : Cluster) → Same a b p → P a → P b) → q ≢ p → Each (λ (a : Act). actor a ≡ q) acts → P c → P (after_run c acts)
@@ -45,17 +46,12 @@ keeping-same k c d p e s =
     trims-are : (x : Cluster) (r : ℕ) → (does x (Keeps p)).world.saved_trims p r ≡ x.world.trims p r
     trims-are x r = at-itself p (λ b. (if b then x.world.trims p else x.world.saved_trims p) r ≡ x.world.trims p r) refl
 
--- what two clusters have alike the one has that is taken
-either : (b : Bool) (x y : Cluster) (f : Cluster → ℕ) (a : ℕ) → f x ≡ a → f y ≡ a → f (if b then x else y) ≡ a
-either true x y f a u v = u
-either false x y f a u v = v
-
 -- an act of its own that leaves what is stored durably leaves its incarnation
 stored-same : (c : Cluster) (p : ℕ) (a : Act) → own_act a ≡ Some p → (does c a).stored p ≡ c.stored p
 stored-same c p (Arrives q r (Restored i j n s (Some u) f)) e = refl
 stored-same c p (Arrives q zero (Delivery i ssn x)) e = refl
-stored-same c p (Replays q j) e = either (nat_lt (c.world.saved q + suc j) (length (c.world.history q))) _ _ (λ (x : Cluster). x.stored p) (c.stored p) refl refl
-stored-same c p (Recovers q k) e = either (nat_lt (c.world.saved q) k) _ _ (λ (x : Cluster). x.stored p) (c.stored p) refl refl
+stored-same c p (Replays q j) e = by-if (λ (x : Cluster). x.stored p ≡ c.stored p) (nat_lt (c.world.saved q + suc j) (length (c.world.history q))) _ _ (λ t. refl) (λ t. refl)
+stored-same c p (Recovers q k) e = by-if (λ (x : Cluster). x.stored p ≡ c.stored p) (nat_lt (c.world.saved q) k) _ _ (λ t. refl) (λ t. refl)
 stored-same c p (Arrives zero q (Restored i j n s None f)) e = refl
 stored-same c p (Opens q n) e = absurd (cc (e))
 stored-same c p act e = refl

@@ -26,10 +26,11 @@ use Rattle.recovery.specs.StandsAtReplay.{StandsReplaying}
 use Rattle.recovery.specs.Moment.{HadReceived}
 use Rattle.recovery.proofs.Had.{keeps-what-it-had}
 use Rattle.recovery.proofs.ReplayLemmas as replays
-use Rattle.node_laws.specs.Together.{IsFirst}
-use Rattle.node_laws.specs.Process.{Process, Up, Collects, Replays, StandsAs, Recovers, Acts}
-use Rattle.node_laws.specs.System.{System, new_system, Call, Did, Calls, after_call, after_calls, StayExact, AllStand}
-use Rattle.node_laws.specs.Back.{length_of, HasBack, NothingIsLost, kept_of, RecoversExactly}
+use Rattle.node_laws.specs.HostProcess.{IsFirst}
+use Rattle.node_laws.specs.Inside.Process.{Process, Up, Covered, IsUp, Collects, Replays, StandsAs, Recovers, Acts}
+use Rattle.node_laws.specs.Inside.System.{System, Call, Did, Calls, after_call, after_calls, StayExact, AllStand, start, handlers}
+use Rattle.node_laws.specs.Back.{length_of, HasBack}
+use Rattle.node_laws.specs.Inside.Back.{NothingIsLost, kept_of, RecoversExactly}
 use Rattle.node_laws.proofs.Lives.{Holds, Onward, calls-go, begins, all-stand}
 
 -- a run of the cluster leads to where all of a system stand
@@ -123,7 +124,7 @@ module _ (n : ℕ) (f : Handlers) (x y : System) (p : ℕ) (a b : TheNode) (acts
       let two : take (run_at a) (c.world.history p) ≡ c.world.history p = take_all (run_at a) (c.world.history p) (omega (arith, all, was-long)) in
       sym state-is ∙ ap (f.state p) (sym one ∙ k ∙ two) ∙ state-was
 
-  has-back : HasBack n f x y p a b
+  has-back : HasBack n f (AllStand n x) (AllStand n y) p a b
   has-back =
       record {
         acts = acts;
@@ -131,10 +132,6 @@ module _ (n : ℕ) (f : Handlers) (x y : System) (p : ℕ) (a b : TheNode) (acts
         run = run;
         before = before;
         after = after;
-        was = c.world.history p;
-        is = d.world.history p;
-        history_was = refl;
-        history_is = refl;
         many_was = was-long;
         many_is = is-long;
         state_was = state-was;
@@ -149,21 +146,27 @@ module _ (n : ℕ) (f : Handlers) (x y : System) (p : ℕ) (a b : TheNode) (acts
 stands-known : (f : Handlers) (n : ℕ) (s : System) (c : Cluster) (p : ℕ) (process : Process) → Holds f n s c → IsFirst n p → s.processes p ≡ process → StandsAs process c p
 stands-known f n s c p process h first e = subst (λ z. StandsAs z c p) e (h.processes p first)
 
+-- so one that is up, and its node
+stands-up : (m : TheNode) (process : Process) (c : Cluster) (p : ℕ) → IsUp m process → StandsAs process c p → Stands m c p
+stands-up m (Up n) c p e s = subst (λ z. Stands z c p) e s
+stands-up m (Covered n) c p e s = subst (λ z. Stands z c p) e s.1
+stands-up m other c p e s = absurd e
+
 pub nothing-is-lost : NothingIsLost
-nothing-is-lost f n page tick limits states bytes calls more p a b few stored first m exact is_a is_b =
-    let g : Handlers = handlers_of f states in
-    let o : System = new_system n limits states bytes page tick in
-    let parts = calls-parts f n o calls more m in
-    let sure = exact-parts n o calls more exact in
-    let one = goes-on f states n o [] calls (record { run = tt; holds = begins f n page tick limits states bytes few stored }) parts.0 sure.0 in
-    let two = goes-on f states n (after_calls o calls) one.more more one.reached parts.1.0 sure.1 in
-    let c : Cluster = after_run (opening n g) one.more in
-    let d : Cluster = after_run (opening n g) (one.more ++ two.more) in
-    let s : Stands a c p = stands-known g n (after_calls o calls) c p (Up a) one.reached.holds first is_a in
-    let t : Stands b d p = stands-known g n (after_calls (after_calls o calls) more) d p (Up b) two.reached.holds first (sym (ap (λ (z : System). z.processes p) parts.1.1) ∙ is_b) in
-    has-back n g (after_calls o calls) (after_calls o (calls ++ more)) p a b one.more two.more two.reached.run (all-stand g n (after_calls o calls) c one.reached.holds)
-    (subst (λ z. AllStand n z d) (sym parts.1.1) (all-stand g n (after_calls (after_calls o calls) more) d two.reached.holds)) s t one.reached.holds.handlers two.reached.holds.handlers
-    (acknowledged-stay n g one.more two.more p (run_at a) few (grows f states) two.reached.run (acknowledged-run a c p s))
+nothing-is-lost l calls more p a b few first m exact is_a is_b =
+    let g : Handlers = handlers l in
+    let o : System = start l in
+    let parts = calls-parts l.f l.n o calls more m in
+    let sure = exact-parts l.n o calls more exact in
+    let one = goes-on l.f l.states l.n o [] calls (record { run = tt; holds = begins l few }) parts.0 sure.0 in
+    let two = goes-on l.f l.states l.n (after_calls o calls) one.more more one.reached parts.1.0 sure.1 in
+    let c : Cluster = after_run (opening l.n g) one.more in
+    let d : Cluster = after_run (opening l.n g) (one.more ++ two.more) in
+    let s : Stands a c p = stands-up a ((after_calls o calls).processes p) c p is_a (one.reached.holds.processes p first) in
+    let t : Stands b d p = stands-up b ((after_calls (after_calls o calls) more).processes p) d p (subst (λ (z : System). IsUp b (z.processes p)) parts.1.1 is_b) (two.reached.holds.processes p first) in
+    has-back l.n g (after_calls o calls) (after_calls o (calls ++ more)) p a b one.more two.more two.reached.run (all-stand g l.n (after_calls o calls) c one.reached.holds)
+    (subst (λ z. AllStand l.n z d) (sym parts.1.1) (all-stand g l.n (after_calls (after_calls o calls) more) d two.reached.holds)) s t one.reached.holds.handlers two.reached.holds.handlers
+    (acknowledged-stay l.n g one.more two.more p (run_at a) few (grows l.f l.states) two.reached.run (acknowledged-run a c p s))
 
 -- ---- what recovers
 
@@ -219,42 +222,42 @@ recovery-is old new (inl g) = let e : Replays new ≡ Collects g.0 = g.1.0 in ab
 recovery-is old new (inr g) = let e : new ≡ g.0 = (let z : Replays new ≡ Replays g.0 = g.1.0 in cc (z)) in subst (Recovers old) (sym e) g.1.1
 
 pub recovers-exactly : RecoversExactly
-recovers-exactly f n page tick limits states bytes calls more p old new few stored m exact is_old =
-    let g : Handlers = handlers_of f states in
-    let o : System = new_system n limits states bytes page tick in
+recovers-exactly l calls more p old new few m exact is_old =
+    let g : Handlers = handlers l in
+    let o : System = start l in
     let k : Call = Did p (Replays new) in
     let s : System = after_calls o calls in
-    let parts = calls-parts f n o calls (k ∷ more) m in
-    let sure = exact-parts n o calls (k ∷ more) exact in
-    let first : IsFirst n p = parts.1.0.0.0 in
-    let one = goes-on f states n o [] calls (record { run = tt; holds = begins f n page tick limits states bytes few stored }) parts.0 sure.0 in
-    let two = goes-on f states n s one.more (k ∷ []) one.reached (parts.1.0.0, tt) (sure.1.0, tt) in
-    let three = goes-on f states n (after_call s k) (one.more ++ two.more) more two.reached parts.1.0.1 sure.1.1 in
-    let c : Cluster = after_run (opening n g) one.more in
-    let b : Cluster = after_run (opening n g) (one.more ++ two.more) in
-    let collects : StandsCollecting old c p = stands-known g n s c p (Collects old) one.reached.holds first is_old in
-    let replays_so : StandsReplaying new b p = stands-known g n (after_call s k) b p (Replays new) two.reached.holds first (at-itself p (λ t. (if t then Replays new else s.processes p) ≡ Replays new) refl) in
+    let parts = calls-parts l.f l.n o calls (k ∷ more) m in
+    let sure = exact-parts l.n o calls (k ∷ more) exact in
+    let first : IsFirst l.n p = parts.1.0.0.0 in
+    let one = goes-on l.f l.states l.n o [] calls (record { run = tt; holds = begins l few }) parts.0 sure.0 in
+    let two = goes-on l.f l.states l.n s one.more (k ∷ []) one.reached (parts.1.0.0, tt) (sure.1.0, tt) in
+    let three = goes-on l.f l.states l.n (after_call s k) (one.more ++ two.more) more two.reached parts.1.0.1 sure.1.1 in
+    let c : Cluster = after_run (opening l.n g) one.more in
+    let b : Cluster = after_run (opening l.n g) (one.more ++ two.more) in
+    let collects : StandsCollecting old c p = stands-known g l.n s c p (Collects old) one.reached.holds first is_old in
+    let replays_so : StandsReplaying new b p = stands-known g l.n (after_call s k) b p (Replays new) two.reached.holds first (at-itself p (λ t. (if t then Replays new else s.processes p) ≡ Replays new) refl) in
     let recovers : Recovers old new = recovery-is old new (subst (λ z. Acts z (Replays new)) is_old parts.1.0.0.1) in
     let P : ℕ → Type 0 = λ q. HadReceived c q old.own.base new.plan in
-    let had : HadReceived c p old.own.base new.plan = subst P collects.own.me (keeps-what-it-had n g one.more old new few (grows f states) one.reached.run (subst (StandsCollecting old c) (sym collects.own.me) collects) recovers.all recovers.is) in
-    let first_same : take old.own.base (b.world.history p) ≡ take old.own.base (c.world.history p) = acknowledged-stay n g one.more two.more p old.own.base few (grows f states) two.reached.run (acknowledged-covered g n s c p old one.reached.holds collects) in
-    let many : length (b.world.history p) ≡ kept_of old new = (let l = replays.long new b p replays_so in let e : new.own.base ≡ old.own.base = ap (λ z. z.base) recovers.is.own in omega (arith, l, e)) in
+    let had : HadReceived c p old.own.base new.plan = subst P collects.own.me (keeps-what-it-had l.n g one.more old new few (grows l.f l.states) one.reached.run (subst (StandsCollecting old c) (sym collects.own.me) collects) recovers.all recovers.is) in
+    let first_same : take old.own.base (b.world.history p) ≡ take old.own.base (c.world.history p) = acknowledged-stay l.n g one.more two.more p old.own.base few (grows l.f l.states) two.reached.run (acknowledged-covered g l.n s c p old one.reached.holds collects) in
+    let many : length (b.world.history p) ≡ kept_of old new = (let long = replays.long new b p replays_so in let e : new.own.base ≡ old.own.base = ap (λ z. z.base) recovers.is.own in omega (arith, long, e)) in
     let assoc : (one.more ++ two.more) ++ three.more ≡ one.more ++ (two.more ++ three.more) = append_assoc one.more two.more three.more in
-    let last : Reached g n (after_calls (after_call s k) more) (one.more ++ (two.more ++ three.more)) = subst (λ xs. Reached g n (after_calls (after_call s k) more) xs) assoc three.reached in
-    let d : Cluster = after_run (opening n g) (one.more ++ (two.more ++ three.more)) in
+    let last : Reached g l.n (after_calls (after_call s k) more) (one.more ++ (two.more ++ three.more)) = subst (λ xs. Reached g l.n (after_calls (after_call s k) more) xs) assoc three.reached in
+    let d : Cluster = after_run (opening l.n g) (one.more ++ (two.more ++ three.more)) in
     let all_same : take (kept_of old new) (d.world.history p) ≡ take (kept_of old new) (b.world.history p) =
-    subst (λ xs. take (kept_of old new) ((after_run (opening n g) xs).world.history p) ≡ take (kept_of old new) (b.world.history p)) assoc
-    (acknowledged-stay n g (one.more ++ two.more) three.more p (kept_of old new) few (grows f states) three.reached.run (acknowledged-kept new b p (kept_of old new) replays_so many)) in
+    subst (λ xs. take (kept_of old new) ((after_run (opening l.n g) xs).world.history p) ≡ take (kept_of old new) (b.world.history p)) assoc
+    (acknowledged-stay l.n g (one.more ++ two.more) three.more p (kept_of old new) few (grows l.f l.states) three.reached.run (acknowledged-kept new b p (kept_of old new) replays_so many)) in
     let end : after_calls o (calls ++ k ∷ more) ≡ after_calls (after_call s k) more = parts.1.1 in
     record {
       acts = one.more;
       more = two.more ++ three.more;
       run = last.run;
-      before = all-stand g n s c one.reached.holds;
-      after = subst (λ z. AllStand n z d) (sym end) (all-stand g n (after_calls (after_call s k) more) d last.holds);
+      before = all-stand g l.n s c one.reached.holds;
+      after = subst (λ z. AllStand l.n z d) (sym end) (all-stand g l.n (after_calls (after_call s k) more) d last.holds);
       had = had;
-      stays = stays-so n g p old new c b d had recovers.is.own replays_so first_same all_same;
+      stays = stays-so l.n g p old new c b d had recovers.is.own replays_so first_same all_same;
       back = λ x is_x as_many.
-          is-as-it-was n g p old new c b d had recovers.is.own replays_so first_same all_same x
-          (stands-known g n (after_calls (after_call s k) more) d p (Up x) last.holds first (sym (ap (λ (z : System). z.processes p) end) ∙ is_x)) last.holds.handlers as_many;
+          is-as-it-was l.n g p old new c b d had recovers.is.own replays_so first_same all_same x
+          (stands-up x ((after_calls (after_call s k) more).processes p) d p (subst (λ (z : System). IsUp x (z.processes p)) end is_x) (last.holds.processes p first)) last.holds.handlers as_many;
     }

@@ -25,9 +25,10 @@ use Rattle.process.specs.Process.{is_settled, state_of}
 use Rattle.process.specs.Calls.{IsHanded, Ticks, Takes, Freezes, FreezesAs, Thaws, is_storable}
 use Rattle.process.specs.Checkpoints.{IsSavable, Keeps}
 use Rattle.process.specs.Work.{job_as, job_at, answer_to, given_of, TakesIn}
-use Rattle.node_laws.specs.Process.{Process, AreOf, Gives, Hears, Works, IsTold}
-use Rattle.node_laws.specs.Process as lives
-use Rattle.node_laws.specs.HostProcess.{Checkpoint, Absent, Pending, Durable, stage_of, seen}
+use Rattle.node_laws.specs.Inside.Process.{Process, AreOf, Gives, Hears, Works, IsTold}
+use Rattle.node_laws.specs.Inside.Process as lives
+use Rattle.node_laws.specs.HostProcess.{Checkpoint, Absent, Pending, Durable}
+use Rattle.node_laws.specs.Inside.Hosted.{stage_of, seen}
 use Rattle.node_laws.specs.HostReplies.{who_of, answer_of, answering}
 use Rattle.node_laws.proofs.Chains.{Chain, ticked-exact, froze-exact, asked-exact, restores-exact}
 use Rattle.node_laws.proofs.Stages.{unsettled, Fits, GoesOn, on}

@@ -15,8 +15,8 @@ use Rattle.recovery.specs.Intake.{keeps}
 use Rattle.recovery.specs.Replayed.{TheReplayed}
 use Rattle.recovery.specs.Restoration.{TheRestoring, has_answered, begun}
 use Rattle.recovery.specs.Restoration as restores
-use Rattle.node_laws.specs.Process.{Process, Acts, is_exact}
-use Rattle.node_laws.specs.Durable.{ReplaysAll}
+use Rattle.node_laws.specs.Inside.Process.{Process, Acts, is_exact}
+use Rattle.node_laws.specs.Inside.Durable.{ReplaysAll}
 use Rattle.node_laws.proofs.NodeSound.{ticks, freezes}
 
 abbrev pub Chain : Process → List Process → Process → Type 0

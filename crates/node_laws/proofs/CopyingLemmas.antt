@@ -16,7 +16,7 @@ use Rattle.regtypes.specs.Exits.{exits}
 use Rattle.regtypes.specs.Typing.{Table, frame_at, broken, Enters, IsTyping}
 use Rattle.regtypes.proofs.Monotone.{Leq-refl}
 use Rattle.verifier.specs.declared.any_image.AnyImage.TheVariants.{Flat}
-use Rattle.node_laws.specs.HostWorked.{copies, CopyingLoads}
+use Rattle.node_laws.specs.Worked.{copies, CopyingLoads}
 
 abbrev pub r0 : Reg
 r0 = record { number = 0; in_range = omega arith }

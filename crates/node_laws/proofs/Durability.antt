@@ -30,8 +30,9 @@ use Rattle.recovery.specs.Collection.{TheCollecting, begins, revived, asks, asks
 use Rattle.recovery.specs.Replays.{TheReplaying, next_job, next_number, did_replay, is_over, receipts_of}
 use Rattle.recovery.specs.StandsAtReplay.{replayed_of}
 use Rattle.recovery.specs.Restoration.{TheRestoring}
-use Rattle.node_laws.specs.Process.{Process, Up, Covered, Collects, Replays, Replayed, Restores, Killed, Gives, Hears, Works, Acts, WaitsFor, covered, IsTold, Wakes, ComesFrom}
-use Rattle.node_laws.specs.Durable.{IsAfter, ReplaysAll}
+use Rattle.node_laws.specs.Inside.Process.{Process, Up, Covered, Collects, Replays, Replayed, Restores, Killed, Gives, Hears, Works, Acts, WaitsFor, covered, IsTold, Wakes, ComesFrom}
+use Rattle.node_laws.specs.Durable.{IsAfter}
+use Rattle.node_laws.specs.Inside.Durable.{ReplaysAll}
 use Rattle.recovery.specs.Plan.{IsCovered, Plans, told_under}
 use Rattle.node_laws.proofs.Taken.{IsFair, IsSent, IsIn, HasTaken, sender_of, taken-plan, told-good, taken-more}
 use Rattle.node_laws.proofs.HeldNode as nodes

@@ -1,5 +1,5 @@
 -- What is stored of a durable process only grows, and makes it send all that it gave
-use Rattle.std.proofs.Common.{◌≡◌, ◌≢◌, ℕ, zero, suc, ◌+◌, ◌≤◌, List, [], ◌∷◌, ◌++◌, length, Bool, true, false, refl, sym, ap, ◌∙◌, subst, arith}
+use Rattle.std.proofs.Common.{◌≡◌, ◌≢◌, ℕ, zero, suc, ◌+◌, ◌≤◌, List, [], ◌∷◌, ◌++◌, length, Bool, true, false, refl, sym, ap, ◌∙◌, subst, append-nil, arith}
 use Rattle.std.specs.Prelude.{slice_index_or, replicate, ◌==◌, if◌then◌else◌}
 use Rattle.std.proofs.lemmas.Bool.Decides.{nat_tests}
 use Rattle.std.proofs.lemmas.List.{length-replicate}
@@ -19,10 +19,11 @@ use Rattle.node.specs.Runs.{Answering, handlers_of}
 use Rattle.node.specs.Stands.{Each}
 use Rattle.node.proofs.Lists.{all-more}
 use Rattle.gateway.proofs.Steps.{by-if}
-use Rattle.node_laws.specs.Together.{IsFirst}
-use Rattle.node_laws.specs.Process.{Process, Up, Collects, Killed, Gives, Hears, Works, Acts, WaitsFor, covered, IsTold, Wakes, ComesFrom}
-use Rattle.node_laws.specs.System.{System, new_system, AreStored, Call, Gave, Handed, Worked, Did, Stored, Saved, Resumed, Died, Revived, DoesIt, after_call, Calls, after_calls}
-use Rattle.node_laws.specs.Durable.{AreAfter, IsSentBy, given_by, ReplaysAll, ReplaysWhole, ReplayWhole, KeepsDurable, StaysDurable, HasAfter, StoredStays, DurableLast}
+use Rattle.node_laws.specs.HostProcess.{IsFirst}
+use Rattle.node_laws.specs.Inside.Process.{Process, Up, Covered, IsUp, Collects, Killed, Gives, Hears, Works, Acts, WaitsFor, covered, IsTold, Wakes, ComesFrom}
+use Rattle.node_laws.specs.Inside.System.{System, new_system, AreStored, Call, Gave, Handed, Worked, Did, Stored, Saved, Resumed, Died, Revived, DoesIt, after_call, Calls, after_calls, start, after, handlers}
+use Rattle.node_laws.specs.Durable.{AreAfter, IsSentBy, HasAfter}
+use Rattle.node_laws.specs.Inside.Durable.{given_by, ReplaysAll, ReplaysWhole, ReplayWhole, KeepsDurable, StaysDurable, StoredStays, DurableLast}
 use Rattle.node_laws.proofs.Held.{Holds}
 use Rattle.node_laws.proofs.HeldNode.{keeping, counting-again}
 use Rattle.node_laws.proofs.HeldState.{IsGiven, OfNode}
@@ -124,7 +125,7 @@ module _ (f : Answering) (states : ℕ → List ℕ) (top p : ℕ) (durable tell
         begins = begins-self h;
         still = λ e. refl;
         now = record { holds = goes-on h s q new now (λ e. (t e).1); stored = now.stored };
-        gives = λ ks late b a. by-if (Each (Gives-it late)) (q == p) (x ∷ given_by p ks) (given_by p ks)
+        gives = λ ks late b a. by-if (λ z. Each (Gives-it late) (z ++ given_by p ks)) (q == p) (x ∷ []) []
             (λ e. let same : q ≡ p = grind (arith, nat_tests) in (gave-later f states top p durable tells D In low h late x b (t same).0, a)) (λ e. a);
       }
   step h s (Handed q x new) now m v w fair =
@@ -271,23 +272,24 @@ pub after-of : (n : ℕ) (f : Handlers) (p : ℕ) (D : ℕ → Bool) (In : ℕ �
 after-of n f p D In h bytes s = (s.0, (s.1.0, s.1.1.0))
 
 -- a node that is up has what is stored, and maybe more
-up-has : (f : Answering) (states : ℕ → List ℕ) (n p : ℕ) (low : p ≤ n) (h : List Message) (process : Process) (m : TheNode) → IsFor f states n p false false (λ q. false) nothing low h process → process ≡ Up m → HasAfter (handlers_of f states) p h m
-up-has f states n p low h process m s e =
-    let up : IsFor f states n p false false (λ q. false) nothing low h (Up m) = subst (IsFor f states n p false false (λ q. false) nothing low h) e s in
-    record { rest = up.1.more; many = ap length up.1.begins ∙ up.1.many; state = ap ((handlers_of f states).state p) up.1.begins ∙ up.1.state }
+up-has : (f : Answering) (states : ℕ → List ℕ) (n p : ℕ) (low : p ≤ n) (h : List Message) (process : Process) (m : TheNode) → IsFor f states n p false false (λ q. false) nothing low h process → IsUp m process → HasAfter (handlers_of f states) p h m
+up-has f states n p low h (Up k) m s e = subst (HasAfter (handlers_of f states) p h) e (record { rest = s.1.more; many = ap length s.1.begins ∙ s.1.many; state = ap ((handlers_of f states).state p) s.1.begins ∙ s.1.state })
+up-has f states n p low h (Covered k) m s e =
+    subst (HasAfter (handlers_of f states) p h) e (record { rest = []; many = ap length (append-nil h) ∙ s.1.0.many; state = ap ((handlers_of f states).state p) (append-nil h) ∙ s.1.0.state })
+up-has f states n p low h other m s e = absurd e
 
 pub stored-stays : StoredStays
-stored-stays f n page tick limits states bytes calls more p stored first m v =
-    let F : Handlers = handlers_of f states in
-    let now = begins-now f states n p page tick false false (λ q. false) nothing first.1 limits bytes stored first (λ t. absurd (cc (t))) in
-    let t = both-go f states n p false false (λ q. false) nothing first.1 [] (new_system n limits states bytes page tick) calls more now m v (λ t. absurd (cc (t))) (all-fair f states n p false first.1) in
-    let end : System = after_calls (new_system n limits states bytes page tick) (calls ++ more) in
+stored-stays l calls more p first m v =
+    let F : Handlers = handlers l in
+    let now = begins-now l.f l.states l.n p l.page l.tick false false (λ q. false) nothing first.1 l.limits l.bytes l.stored first (λ t. absurd (cc (t))) in
+    let t = both-go l.f l.states l.n p false false (λ q. false) nothing first.1 [] (start l) calls more now m v (λ t. absurd (cc (t))) (all-fair l.f l.states l.n p false first.1) in
+    let end : System = after l (calls ++ more) in
     record {
       was = t.mid;
       more = t.behind.0;
-      stored_was = after-of n F p (λ q. false) nothing t.mid ((after_calls (new_system n limits states bytes page tick) calls).stored p) t.early.stored;
-      stored_is = subst (λ z. AreAfter n F p z (end.stored p)) (sym t.behind.1) (after-of n F p (λ q. false) nothing t.to (end.stored p) t.late.stored);
-      up = λ node e. subst (λ z. HasAfter F p z node) (sym t.behind.1) (up-has f states n p first.1 t.to (end.processes p) node t.late.holds e);
+      stored_was = after-of l.n F p (λ q. false) nothing t.mid ((after l calls).stored p) t.early.stored;
+      stored_is = subst (λ z. AreAfter l.n F p z (end.stored p)) (sym t.behind.1) (after-of l.n F p (λ q. false) nothing t.to (end.stored p) t.late.stored);
+      up = λ node e. subst (λ z. HasAfter F p z node) (sym t.behind.1) (up-has l.f l.states l.n p first.1 t.to (end.processes p) node t.late.holds e);
     }
 
 -- what a durable process gave
@@ -295,16 +297,16 @@ sent-by : (f : Handlers) (p : ℕ) (h : List Message) (xs : List NodePacket) →
 sent-by f p h xs a = all-more (IsGiven f p true false (λ q. false) nothing h) (IsSentBy f p h) xs (λ x o. fair-of false (f.sends p h x.to) false [] x.body o.1) a
 
 pub durable-last : DurableLast
-durable-last f n page tick limits states bytes calls more p stored first lasting m v w =
-    let F : Handlers = handlers_of f states in
-    let now = begins-now f states n p page tick true false (λ q. false) nothing first.1 limits bytes stored first (λ t. lasting) in
-    let t = both-go f states n p true false (λ q. false) nothing first.1 [] (new_system n limits states bytes page tick) calls more now m v (λ t. w) (all-fair f states n p true first.1) in
-    let end : System = after_calls (new_system n limits states bytes page tick) (calls ++ more) in
+durable-last l calls more p first lasting m v w =
+    let F : Handlers = handlers l in
+    let now = begins-now l.f l.states l.n p l.page l.tick true false (λ q. false) nothing first.1 l.limits l.bytes l.stored first (λ t. lasting) in
+    let t = both-go l.f l.states l.n p true false (λ q. false) nothing first.1 [] (start l) calls more now m v (λ t. w) (all-fair l.f l.states l.n p true first.1) in
+    let end : System = after l (calls ++ more) in
     record {
       was = t.mid;
       more = t.behind.0;
-      stored_was = after-of n F p (λ q. false) nothing t.mid ((after_calls (new_system n limits states bytes page tick) calls).stored p) t.early.stored;
-      stored_is = subst (λ z. AreAfter n F p z (end.stored p)) (sym t.behind.1) (after-of n F p (λ q. false) nothing t.to (end.stored p) t.late.stored);
+      stored_was = after-of l.n F p (λ q. false) nothing t.mid ((after l calls).stored p) t.early.stored;
+      stored_is = subst (λ z. AreAfter l.n F p z (end.stored p)) (sym t.behind.1) (after-of l.n F p (λ q. false) nothing t.to (end.stored p) t.late.stored);
       given_was = sent-by F p t.mid (given_by p calls) t.given_early;
       given_is = subst (λ z. Each (IsSentBy F p z) (given_by p (calls ++ more))) (sym t.behind.1) (sent-by F p t.to (given_by p (calls ++ more)) t.given_late);
     }

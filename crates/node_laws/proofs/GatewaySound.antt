@@ -12,7 +12,7 @@ use Rattle.gateway.specs.Gateway.{TheGateway, peer_of, packet_of, posts, happens
 use Rattle.gateway.specs.Calls.{is_for, is_next, says_shown, arrived, recorded_by, dropped_by, told_all, told_of, asked, obeyed, restored_of, restores, resumed_by, told, handed}
 use Rattle.gateway.proofs.Steps.{by-if}
 use Rattle.node.proofs.Lists.{all-pushed}
-use Rattle.node_laws.specs.System.{Deals}
+use Rattle.node_laws.specs.HostSystem.{Deals}
 use Rattle.node_laws.proofs.Sound.{Says, IsSound, AreSound, exact-is}
 
 -- what waits to be sent is sound where it was

@@ -17,7 +17,7 @@ use Rattle.gateway.specs.Calls.{is_for, is_next, says_shown, arrived, recorded_b
 use Rattle.gateway.proofs.Steps.{by-if}
 use Rattle.node.specs.Stands.{Each}
 use Rattle.node.proofs.Lists.{all-pushed, all-push}
-use Rattle.node_laws.specs.System.{handed_out, PutIn, Deals}
+use Rattle.node_laws.specs.HostSystem.{handed_out, PutIn, Deals}
 
 -- it gives no numbers of its own
 abbrev pub IsQuiet : bodies.Body → Type 0

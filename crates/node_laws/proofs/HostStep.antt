@@ -1,22 +1,22 @@
 -- One call of a host, as calls in all lives
-use Rattle.std.proofs.Common.{◌≡◌, ℕ, List, [], true}
+use Rattle.std.proofs.Common.{◌≡◌, ℕ, List, true}
 use Rattle.verifier.specs.declared.any_image.AnyImage.{AnyImage}
 use Rattle.interp.specs.Image.{as_image}
 use Rattle.recovery.specs.Collection.{TheCollecting}
-use Rattle.node_laws.specs.Together.{IsFirst}
-use Rattle.node_laws.specs.Process as stages
-use Rattle.node_laws.specs.System.{System as Lived, Call, AreExact, StayExact}
-use Rattle.node_laws.specs.System as called
-use Rattle.node_laws.specs.Alone as lone
-use Rattle.node_laws.specs.Durable as durables
-use Rattle.node_laws.specs.Durable.{ReplayWhole}
-use Rattle.node_laws.specs.Outputs.{OneLife}
+use Rattle.node_laws.specs.HostProcess.{IsFirst, Checkpoint, Hosted, Runs, Sleeps, Killed}
+use Rattle.node_laws.specs.Inside.Process as stages
+use Rattle.node_laws.specs.Inside.System.{System as Lived, Call, AreExact, StayExact}
+use Rattle.node_laws.specs.Inside.System as called
+use Rattle.node_laws.specs.Inside.Alone as lone
+use Rattle.node_laws.specs.Inside.Durable as durables
+use Rattle.node_laws.specs.Inside.Durable.{ReplayWhole}
+use Rattle.node_laws.specs.Inside.Outputs.{OneLife}
 use Rattle.process.specs.Process.{TheProcess, is_settled}
 use Rattle.process.specs.Suspension.{Suspends}
-use Rattle.node_laws.specs.HostProcess.{Checkpoint, Hosted, Runs, Sleeps, Killed}
 use Rattle.node_laws.specs.HostReplies.{answering}
 use Rattle.node_laws.specs.HostSystem.{System, HostCall, after_call}
-use Rattle.node_laws.specs.HostLives.{IsAs, FailsAlone, KeepsDurable, LivesOn, gave_by, shown_by}
+use Rattle.node_laws.specs.Inside.Hosted.{IsAs}
+use Rattle.node_laws.specs.HostLaws.{FailsAlone, KeepsDurable, LivesOn, gave_by, shown_by}
 use Rattle.node_laws.specs.HostBack.{has_recovered}
 use Rattle.node_laws.proofs.Stages.{Fits}
 use Rattle.node_laws.proofs.Moments.{Moment}

@@ -16,16 +16,17 @@ use Rattle.gateway.specs.Gateway.{TheGateway}
 use Rattle.gateway.specs.Calls as outside
 use Rattle.gateway.specs.Stands as gateways
 use Rattle.gateway.specs.Since as since
-use Rattle.node_laws.specs.Together.{IsFirst}
-use Rattle.node_laws.specs.Process.{Process, Gives, Hears, Works, WaitsFor, covered, IsTold, Wakes, IsKilled, ComesFrom}
-use Rattle.node_laws.specs.Process as stages
-use Rattle.node_laws.specs.System.{System as Lived, Call, handed_out, untaken, Deals}
-use Rattle.node_laws.specs.System as called
-use Rattle.node_laws.specs.Alone as lone
-use Rattle.node_laws.specs.Alone.{is_up}
-use Rattle.node_laws.specs.Durable as durables
-use Rattle.node_laws.specs.Durable.{ReplaysWhole}
-use Rattle.node_laws.specs.Outputs as outs
+use Rattle.node_laws.specs.HostProcess.{IsFirst, Checkpoint, Absent, Pending, Durable, Hosted, Runs, Sleeps, Killed, Alive, Has, Asleep, goes_on, sleeps, keeps}
+use Rattle.node_laws.specs.Inside.Process.{Process, Gives, Hears, Works, WaitsFor, covered, IsTold, Wakes, IsKilled, ComesFrom}
+use Rattle.node_laws.specs.Inside.Process as stages
+use Rattle.node_laws.specs.Inside.System.{System as Lived, Call}
+use Rattle.node_laws.specs.HostSystem.{handed_out, untaken, Deals, System, HostCall, Gave, GaveBytes, Handed, HandedBytes, Worked, Answered, Ticked, Froze, Paused, Stored, Saved, Suspended, Resumed, Died, Revived, GaveOut, HandedOut, DidOut, StoredOut, StoredBut, RevivedOut, AnswersSo, RevivesAs, ResumesAs, DoesIt, after_call}
+use Rattle.node_laws.specs.Inside.System as called
+use Rattle.node_laws.specs.Inside.Alone as lone
+use Rattle.node_laws.specs.Inside.Alone.{is_up}
+use Rattle.node_laws.specs.Inside.Durable as durables
+use Rattle.node_laws.specs.Inside.Durable.{ReplaysWhole}
+use Rattle.node_laws.specs.Inside.Outputs as outs
 use Rattle.node_laws.proofs.Lives.{at-each}
 use Rattle.node_laws.proofs.Sound.{raised-here, raised-other}
 use Rattle.process.specs.Process.{TheProcess, is_settled}
@@ -36,10 +37,9 @@ use Rattle.process.specs.Job.{IsAnswered, WorksAs}
 use Rattle.process.specs.Checkpoints.{IsSavable, Keeps}
 use Rattle.process.specs.Suspension.{Suspends}
 use Rattle.process.specs.Work as working
-use Rattle.node_laws.specs.HostProcess.{Checkpoint, Absent, Pending, Durable, Hosted, Runs, Sleeps, Killed, Alive, Has, Asleep, goes_on, sleeps, keeps, stage_of, seen, as_process}
+use Rattle.node_laws.specs.Inside.Hosted.{stage_of, seen, as_process, IsAs}
 use Rattle.node_laws.specs.HostReplies.{answering}
-use Rattle.node_laws.specs.HostSystem.{System, HostCall, Gave, GaveBytes, Handed, HandedBytes, Worked, Answered, Ticked, Froze, Paused, Stored, Saved, Suspended, Resumed, Died, Revived, Outside, IsOutside, as_lives, AnswersSo, RevivesAs, ResumesAs, DoesIt, after_call}
-use Rattle.node_laws.specs.HostLives.{IsAs, FailsAlone, KeepsDurable, LivesOn, gave_by, shown_by}
+use Rattle.node_laws.specs.HostLaws.{FailsAlone, KeepsDurable, LivesOn, gave_by, shown_by}
 use Rattle.node_laws.specs.HostBack.{has_recovered}
 use Rattle.node_laws.proofs.Chains.{Chain, chain-append, revived-limits}
 use Rattle.node_laws.proofs.Stages.{GoesOn, passes-on}
@@ -48,6 +48,7 @@ use Rattle.node_laws.proofs.Acts.{dids, dids-give, Ran, ran, Beside, ends}
 use Rattle.node_laws.proofs.Wakings.{still-seen, wakes-up}
 use Rattle.node_laws.proofs.Moments.{Moment, of-acts, behind-one, dead-end, not-collecting}
 use Rattle.node_laws.proofs.HostStep.{IsGood, AreGood, Steps}
+use Rattle.node_laws.proofs.Views.{up-so}
 
 module _ (images : ℕ → AnyImage) (n : ℕ) (s : System) (t : Lived) (st : IsAs n s t) (goods : AreGood images n s) (heres : (p : ℕ) → IsFirst n p → IsHere n p (t.processes p)) where
   abbrev f : Answering
@@ -175,7 +176,7 @@ module _ (images : ℕ → AnyImage) (n : ℕ) (s : System) (t : Lived) (st : Is
         given = ap (λ z. x ∷ z) st.given;
       } in
       by-call k p (Runs new w) (called.Gave p x to) to [] l (l, subst (λ z. Gives x z to) (sym (here p old w l e)) a.1.1) tt (raised-here t.processes p to) refl (subst (λ z. Beside n p z (called.after_call t (called.Gave p x to))) (sym is) b)
-      (ap (λ (z : System). z.processes) is) (ap as_image g.image ∙ good.0, (a.0, a.1.0)) (λ z. tt) (λ q z. tt) refl o gave tt (λ from c. let it = subst (λ z. Gives x z to) (sym (here p old w l e) ∙ c) a.1.1 in inl (it.0, it.1.0))
+      (ap (λ (z : System). z.processes) is) (ap as_image g.image ∙ good.0, (a.0, a.1.0)) (λ z. tt) (λ q z. tt) refl o (λ q. append-nil (if p == q then x ∷ [] else []) ∙ gave q) tt (λ from c. let it = subst (λ z. Gives x z to) (sym (here p old w l e) ∙ c) a.1.1 in inl (it.0, it.1.0))
 
   heard : (k : HostCall) (p : ℕ) (x : NodePacket) (old new : TheProcess) (w : Checkpoint) → IsFirst n p → IsOne x s.given → s.processes p ≡ Runs old w → process.Calls (IsHanded x) old new
       → after_call s k ≡ record s { processes = put s.processes p (Runs new w) } → shown_by s k ≡ [] → ((q : ℕ) → gave_by q k ≡ []) → Steps images n s t k
@@ -274,7 +275,7 @@ module _ (images : ℕ → AnyImage) (n : ℕ) (s : System) (t : Lived) (st : Is
 
   dies : (p : ℕ) → IsFirst n p → Steps images n s t (Died p)
   dies p l =
-      by-call (Died p) p Killed (called.Died p) stages.Killed [] l l tt (raised-here t.processes p stages.Killed) refl (beside-one p Killed stages.Killed) refl tt (λ a q m o. ap is_up (st.processes q m) ∙ a q m o) (λ q z. tt) refl refl (λ q. refl) tt (λ from at. inr refl)
+      by-call (Died p) p Killed (called.Died p) stages.Killed [] l l tt (raised-here t.processes p stages.Killed) refl (beside-one p Killed stages.Killed) refl tt (λ a q m o. ap is_up (st.processes q m) ∙ up-so (a q m o).0 (s.processes q) (a q m o).1) (λ q z. tt) refl refl (λ q. refl) tt (λ from at. inr refl)
 
   revives : (p : ℕ) (limits : Limits) (life : ℕ) (new : TheProcess) → IsFirst n p → s.processes p ≡ Killed → s.lives p < life → RevivesAs (images p) limits (s.stored p) life new → Steps images n s t (Revived p limits life new)
   revives p limits life new l e above comes =
@@ -299,52 +300,28 @@ module _ (images : ℕ → AnyImage) (n : ℕ) (s : System) (t : Lived) (st : Is
 
   -- ---- the gateway
 
-  abbrev by-gateway : Call → Type 0
-  by-gateway k = Steps images n s t (Outside k)
-
   -- what is said of the gateway here is said of it there
   gateways-are : (P : TheGateway → TheGateway → List Output → Type 0) → P s.gateway s.durable s.taken → P t.gateway t.durable t.taken
   gateways-are P h = subst (λ z. P z t.durable t.taken) (sym st.gateway) (subst (λ z. P s.gateway z t.taken) (sym st.durable) (subst (P s.gateway s.durable) (sym st.taken) h))
 
   -- such a call is one in all lives, if that one stands for it and fails alone, and gives what this one does
-  out-by : (k : Call) → called.DoesIt f n t k → ReplaysWhole t k → IsAs n (after_call s (Outside k)) (called.after_call t k) → lone.FailsAlone n t k → ((q : ℕ) → durables.KeepsDurable q t k)
-      → durables.outputs_of t (k ∷ []) ≡ shown_by s (Outside k) → ((q : ℕ) → durables.given_by q (k ∷ []) ≡ []) → by-gateway k
-  out-by k does whole stand alone durable outputs gave =
+  out-by : (k : HostCall) (one : Call) → called.DoesIt f n t one → ReplaysWhole t one → IsAs n (after_call s k) (called.after_call t one) → (after_call s k).processes ≡ s.processes → lone.FailsAlone n t one → ((q : ℕ) → durables.KeepsDurable q t one)
+      → durables.outputs_of t (one ∷ []) ≡ shown_by s k → ((q : ℕ) → durables.given_by q (one ∷ []) ≡ gave_by q k) → (LivesOn k → outs.LivesOn one) → Steps images n s t k
+  out-by k one does whole stand same alone durable outputs gave on =
       record {
-        calls = k ∷ [];
+        calls = one ∷ [];
         are = (does, tt);
         whole = (whole, tt);
         stand = stand;
-        good = goods;
+        good = λ p l. subst (λ z. IsGood (images p) (z p)) (sym same) (goods p l);
         exact = λ e. (e, tt);
         alone = λ a. (alone, tt);
         durable = λ q d. (durable q, tt);
-        life = λ x. (x, tt);
+        life = λ x. (on x, tt);
         outputs = outputs;
         gave = gave;
-        moment = λ q l from at now w is rec. unmoved q l from at now w is rec;
+        moment = λ q l from at now w is rec. unmoved q l from at now w (sym (ap (λ z. z q) same) ∙ is) rec;
       }
-
-  outwards : (k : Call) → IsOutside k → called.DoesIt f n (as_lives s) k → by-gateway k
-  outwards (called.GaveOut x new) i g =
-      out-by (called.GaveOut x new) (gateways-are (λ z durable taken. (durable.store ≡ (untaken taken z).store) × gateways.Takes (Some x) z new) g) tt
-      (record { processes = st.processes; stored = st.stored; lives = st.lives; gateway = refl; durable = st.durable; taken = st.taken; given = ap (λ z. x ∷ z) st.given }) tt (λ q. tt) refl (λ q. refl)
-  outwards (called.HandedOut x new) i g =
-      out-by (called.HandedOut x new) (subst (IsOne x) (sym st.given) g.0, subst (λ z. (new ≡ outside.handed x z) × gateways.IsHanded x z new) (sym st.gateway) g.1) tt
-      (record { processes = st.processes; stored = st.stored; lives = st.lives; gateway = refl; durable = st.durable; taken = st.taken; given = st.given }) tt (λ q. tt) refl (λ q. refl)
-  outwards (called.DidOut new) i g =
-      let taken : t.taken ++ handed_out t.gateway new ≡ s.taken ++ handed_out s.gateway new = ap (λ z. z ++ handed_out t.gateway new) st.taken ∙ ap (λ z. s.taken ++ handed_out z new) st.gateway in
-      out-by (called.DidOut new) (subst (λ z. Deals z new × gateways.Acts z new) (sym st.gateway) g) tt
-      (record { processes = st.processes; stored = st.stored; lives = st.lives; gateway = refl; durable = st.durable; taken = taken; given = st.given }) tt (λ q. tt) (append-nil (handed_out t.gateway new) ∙ ap (λ z. handed_out z new) st.gateway) (λ q. refl)
-  outwards called.StoredOut i g =
-      out-by called.StoredOut tt tt (record { processes = st.processes; stored = st.stored; lives = st.lives; gateway = st.gateway; durable = st.gateway; taken = refl; given = st.given }) tt (λ q. tt) refl (λ q. refl)
-  outwards (called.StoredBut k) i g =
-      let durable : untaken (drop k t.taken) t.gateway ≡ untaken (drop k s.taken) s.gateway = ap (λ z. untaken (drop k z) t.gateway) st.taken ∙ ap (untaken (drop k s.taken)) st.gateway in
-      out-by (called.StoredBut k) tt tt (record { processes = st.processes; stored = st.stored; lives = st.lives; gateway = st.gateway; durable = durable; taken = ap (drop k) st.taken; given = st.given }) tt (λ q. tt) refl (λ q. refl)
-  outwards (called.RevivedOut new) i g =
-      out-by (called.RevivedOut new) (subst (λ z. (new ≡ since.revived new.page new.tick z.store) × since.StandsFor z.store new) (sym st.durable) g) tt
-      (record { processes = st.processes; stored = st.stored; lives = st.lives; gateway = refl; durable = refl; taken = refl; given = st.given }) tt (λ q. tt) refl (λ q. refl)
-  outwards other i g = absurd i
 
   -- ---- each call
 
@@ -390,4 +367,22 @@ module _ (images : ℕ → AnyImage) (n : ℕ) (s : System) (t : Lived) (st : Is
       resumes p limits h.0 new h.1 g.0 h.2 h.3
   steps (Died p) g = dies p g
   steps (Revived p limits life new) g = revives p limits life new g.0 g.1.0 g.1.1.0 g.1.1.1
-  steps (Outside k) g = outwards k g.0 g.1
+  steps (GaveOut x new) g =
+      out-by (GaveOut x new) (called.GaveOut x new) (gateways-are (λ z durable taken. (durable.store ≡ (untaken taken z).store) × gateways.Takes (Some x) z new) g) tt
+      (record { processes = st.processes; stored = st.stored; lives = st.lives; gateway = refl; durable = st.durable; taken = st.taken; given = ap (λ z. x ∷ z) st.given }) refl tt (λ q. tt) refl (λ q. refl) (λ l. tt)
+  steps (HandedOut x new) g =
+      out-by (HandedOut x new) (called.HandedOut x new) (subst (IsOne x) (sym st.given) g.0, subst (λ z. (new ≡ outside.handed x z) × gateways.IsHanded x z new) (sym st.gateway) g.1) tt
+      (record { processes = st.processes; stored = st.stored; lives = st.lives; gateway = refl; durable = st.durable; taken = st.taken; given = st.given }) refl tt (λ q. tt) refl (λ q. refl) (λ l. tt)
+  steps (DidOut new) g =
+      let taken : t.taken ++ handed_out t.gateway new ≡ s.taken ++ handed_out s.gateway new = ap (λ z. z ++ handed_out t.gateway new) st.taken ∙ ap (λ z. s.taken ++ handed_out z new) st.gateway in
+      out-by (DidOut new) (called.DidOut new) (subst (λ z. Deals z new × gateways.Acts z new) (sym st.gateway) g) tt
+      (record { processes = st.processes; stored = st.stored; lives = st.lives; gateway = refl; durable = st.durable; taken = taken; given = st.given }) refl tt (λ q. tt)
+      (append-nil (handed_out t.gateway new) ∙ ap (λ z. handed_out z new) st.gateway) (λ q. refl) (λ l. tt)
+  steps StoredOut g =
+      out-by StoredOut called.StoredOut tt tt (record { processes = st.processes; stored = st.stored; lives = st.lives; gateway = st.gateway; durable = st.gateway; taken = refl; given = st.given }) refl tt (λ q. tt) refl (λ q. refl) (λ l. tt)
+  steps (StoredBut k) g =
+      let durable : untaken (drop k t.taken) t.gateway ≡ untaken (drop k s.taken) s.gateway = ap (λ z. untaken (drop k z) t.gateway) st.taken ∙ ap (untaken (drop k s.taken)) st.gateway in
+      out-by (StoredBut k) (called.StoredBut k) tt tt (record { processes = st.processes; stored = st.stored; lives = st.lives; gateway = st.gateway; durable = durable; taken = ap (drop k) st.taken; given = st.given }) refl tt (λ q. tt) refl (λ q. refl) (λ l. tt)
+  steps (RevivedOut new) g =
+      out-by (RevivedOut new) (called.RevivedOut new) (subst (λ z. (new ≡ since.revived new.page new.tick z.store) × since.StandsFor z.store new) (sym st.durable) g) tt
+      (record { processes = st.processes; stored = st.stored; lives = st.lives; gateway = refl; durable = refl; taken = refl; given = st.given }) refl tt (λ q. tt) refl (λ q. refl) (λ l. l)

@@ -1,5 +1,4 @@
 pub mod JointGateways
-pub mod Together
 pub mod Along
 pub mod Moves
 pub mod Steps
@@ -8,8 +7,6 @@ pub mod Untaken
 pub mod Gateways
 pub mod Lives
 pub mod Back
-pub mod Worked
-pub mod Beside
 pub mod Losses
 pub mod Sound
 pub mod NodeSound
@@ -28,10 +25,9 @@ pub mod HeldOwn
 pub mod Durability
 pub mod Durable
 pub mod Preservation
-pub mod Overlap
 pub mod Turns
 pub mod Outputs
-pub mod Messages
+pub mod WorkedMessages
 pub mod Chains
 pub mod Stages
 pub mod Wakings
@@ -39,10 +35,13 @@ pub mod Calls
 pub mod Acts
 pub mod Moments
 pub mod HostStep
+pub mod Views
 pub mod HostSteps
 pub mod Lists
 pub mod Promised
 pub mod HostOutputs
 pub mod HostBack
 pub mod CopyingLemmas
-pub mod WorkedLemmas
+pub mod Worked
+pub mod WorkedBeside
+pub mod WorkedOverlap

@@ -1,26 +1,26 @@
 -- Calls of hosts, one after another
-use Rattle.std.proofs.Common.{◌≡◌, ℕ, ◌≤◌, List, [], ◌∷◌, ◌++◌, Bool, true, false, refl, sym, ap, ◌∙◌, subst, append_assoc}
-use Rattle.std.specs.Prelude.{◌==◌, if◌then◌else◌}
+use Rattle.std.proofs.Common.{◌≡◌, ℕ, ◌≤◌, List, [], ◌∷◌, ◌++◌, false, refl, sym, ap, ◌∙◌, subst, append_assoc}
 use Rattle.verifier.specs.declared.any_image.AnyImage.{AnyImage}
 use Rattle.world.specs.declared.message.Message.{Message}
 use Rattle.node.specs.Runs.{Answering}
-use Rattle.node_laws.specs.Together.{IsFirst}
-use Rattle.node_laws.specs.Process.{Process, Up, Covered, Replays, is_exact}
-use Rattle.node_laws.specs.System.{System as Lived, Call, Gave, Handed, Worked, Did, Stored, Saved, Resumed, Died, Revived, GaveOut, HandedOut, DidOut, StoredOut, StoredBut, RevivedOut, handed_out, Calls, after_call, after_calls, AreExact, StayExact}
-use Rattle.node_laws.specs.Alone.{OneAtATime}
-use Rattle.node_laws.specs.Durable.{ReplayWhole, StaysDurable, given_by, outputs_of}
-use Rattle.node_laws.specs.Outputs.{OneLife}
+use Rattle.node_laws.specs.HostProcess.{IsFirst}
+use Rattle.node_laws.specs.Inside.Process.{Process, Up, Covered, Replays, is_exact}
+use Rattle.node_laws.specs.Inside.System.{System as Lived, Call, Calls, after_call, after_calls, AreExact, StayExact}
+use Rattle.node_laws.specs.HostSystem.{System, HostCall, AreCalls, DoesIt}
+use Rattle.node_laws.specs.Inside.Alone.{OneAtATime}
+use Rattle.node_laws.specs.Inside.Durable.{ReplayWhole, StaysDurable, gave_by, given_by, shown_by, outputs_of}
+use Rattle.node_laws.specs.Inside.Outputs.{OneLife}
 pub use Rattle.node_laws.proofs.Back.{after-append}
 use Rattle.node_laws.proofs.Durability.{IsFor}
 use Rattle.node_laws.proofs.Durable.{Now, nothing, all-fair, step}
-use Rattle.node_laws.specs.HostSystem.{System, HostCall, as_lives, AreCalls, DoesIt}
 use Rattle.node_laws.specs.HostSystem as hosted
 use Rattle.node_laws.specs.HostReplies.{answering}
-use Rattle.node_laws.specs.HostLives.{IsAs}
-use Rattle.node_laws.specs.HostLives as laws
+use Rattle.node_laws.specs.Inside.Hosted.{IsAs}
+use Rattle.node_laws.specs.HostLaws as laws
 use Rattle.node_laws.proofs.Calls.{IsHere}
 use Rattle.node_laws.proofs.HostStep.{AreGood, Steps}
 use Rattle.node_laws.proofs.HostSteps.{steps}
+use Rattle.node_laws.proofs.Views.{exact-as}
 
 -- ---- calls in all lives behind others
 
@@ -58,46 +58,13 @@ life-append (x ∷ xs) ys g h = (g.0, life-append xs ys g.1 h)
 
 outputs-append : (t : Lived) (xs ys : List Call) → outputs_of t (xs ++ ys) ≡ outputs_of t xs ++ outputs_of (after_calls t xs) ys
 outputs-append t [] ys = refl
-outputs-append t (Gave p x new ∷ xs) ys = outputs-append (after_call t (Gave p x new)) xs ys
-outputs-append t (Handed p x new ∷ xs) ys = outputs-append (after_call t (Handed p x new)) xs ys
-outputs-append t (Worked p a new ∷ xs) ys = outputs-append (after_call t (Worked p a new)) xs ys
-outputs-append t (Did p new ∷ xs) ys = outputs-append (after_call t (Did p new)) xs ys
-outputs-append t (Stored p bytes ∷ xs) ys = outputs-append (after_call t (Stored p bytes)) xs ys
-outputs-append t (Saved p new ∷ xs) ys = outputs-append (after_call t (Saved p new)) xs ys
-outputs-append t (Resumed p limits new ∷ xs) ys = outputs-append (after_call t (Resumed p limits new)) xs ys
-outputs-append t (Died p ∷ xs) ys = outputs-append (after_call t (Died p)) xs ys
-outputs-append t (Revived p life new ∷ xs) ys = outputs-append (after_call t (Revived p life new)) xs ys
-outputs-append t (GaveOut x new ∷ xs) ys = outputs-append (after_call t (GaveOut x new)) xs ys
-outputs-append t (HandedOut x new ∷ xs) ys = outputs-append (after_call t (HandedOut x new)) xs ys
-outputs-append t (StoredOut ∷ xs) ys = outputs-append (after_call t StoredOut) xs ys
-outputs-append t (StoredBut k ∷ xs) ys = outputs-append (after_call t (StoredBut k)) xs ys
-outputs-append t (RevivedOut new ∷ xs) ys = outputs-append (after_call t (RevivedOut new)) xs ys
-outputs-append t (DidOut new ∷ xs) ys =
-    let u : Lived = after_call t (DidOut new) in
-    ap (λ z. handed_out t.gateway new ++ z) (outputs-append u xs ys) ∙ sym (append_assoc (handed_out t.gateway new) (outputs_of u xs) (outputs_of (after_calls u xs) ys))
+outputs-append t (x ∷ xs) ys =
+    let u : Lived = after_call t x in
+    ap (λ z. shown_by t x ++ z) (outputs-append u xs ys) ∙ sym (append_assoc (shown_by t x) (outputs_of u xs) (outputs_of (after_calls u xs) ys))
 
 pub given-append : (p : ℕ) (xs ys : List Call) → given_by p (xs ++ ys) ≡ given_by p xs ++ given_by p ys
 given-append p [] ys = refl
-given-append p (Gave q x new ∷ xs) ys = by-test (q == p) (given-append p xs ys)
-  where
-    by-test : (b : Bool) → given_by p (xs ++ ys) ≡ given_by p xs ++ given_by p ys
-        → (if b then x ∷ given_by p (xs ++ ys) else given_by p (xs ++ ys)) ≡ (if b then x ∷ given_by p xs else given_by p xs) ++ given_by p ys
-    by-test true rest = ap (λ z. x ∷ z) rest
-    by-test false rest = rest
-given-append p (Handed q x new ∷ xs) ys = given-append p xs ys
-given-append p (Worked q a new ∷ xs) ys = given-append p xs ys
-given-append p (Did q new ∷ xs) ys = given-append p xs ys
-given-append p (Stored q bytes ∷ xs) ys = given-append p xs ys
-given-append p (Saved q new ∷ xs) ys = given-append p xs ys
-given-append p (Resumed q limits new ∷ xs) ys = given-append p xs ys
-given-append p (Died q ∷ xs) ys = given-append p xs ys
-given-append p (Revived q life new ∷ xs) ys = given-append p xs ys
-given-append p (GaveOut x new ∷ xs) ys = given-append p xs ys
-given-append p (HandedOut x new ∷ xs) ys = given-append p xs ys
-given-append p (StoredOut ∷ xs) ys = given-append p xs ys
-given-append p (StoredBut k ∷ xs) ys = given-append p xs ys
-given-append p (RevivedOut new ∷ xs) ys = given-append p xs ys
-given-append p (DidOut new ∷ xs) ys = given-append p xs ys
+given-append p (x ∷ xs) ys = ap (λ z. gave_by p x ++ z) (given-append p xs ys) ∙ sym (append_assoc (gave_by p x) (given_by p xs) (given_by p ys))
 
 -- ---- what holds between two calls
 
@@ -121,11 +88,11 @@ here-of f states n p low h (Replays m) s = (s.me, s.count)
 here-of f states n p low h other s = tt
 
 -- one is as exact as the other
-exact-here : (n : ℕ) (s : System) (t : Lived) → IsAs n s t → AreExact n t → AreExact n (as_lives s)
-exact-here n s t st e p l = ap is_exact (sym (st.processes p l)) ∙ e p l
+exact-here : (n : ℕ) (s : System) (t : Lived) → IsAs n s t → AreExact n t → laws.AreExact n s
+exact-here n s t st e p l = sym (exact-as (s.processes p)) ∙ ap is_exact (sym (st.processes p l)) ∙ e p l
 
-pub exact-there : (n : ℕ) (s : System) (t : Lived) → IsAs n s t → AreExact n (as_lives s) → AreExact n t
-exact-there n s t st e p l = ap is_exact (st.processes p l) ∙ e p l
+pub exact-there : (n : ℕ) (s : System) (t : Lived) → IsAs n s t → laws.AreExact n s → AreExact n t
+exact-there n s t st e p l = ap is_exact (st.processes p l) ∙ exact-as (s.processes p) ∙ e p l
 
 -- ---- and behind them
 

@@ -13,7 +13,6 @@ use Rattle.cluster.specs.Rules.{Act, Run, does, after_run}
 use Rattle.cluster.proofs.Runs as worlds
 use Rattle.cluster.proofs.Promised.{nodes-keep}
 use Rattle.node.specs.Limit.{usual, AreAllowed}
-use Rattle.node.specs.declared.limit.Limits.{Limits}
 use Rattle.node.specs.Node.{new_node}
 use Rattle.node.specs.Kept.{kept_of}
 use Rattle.node.specs.Stands.{Each, PutOut, actor, BeginsWith}
@@ -35,10 +34,11 @@ use Rattle.gateway.specs.Stands as gateways
 use Rattle.gateway.proofs.Openings as gateway_opening
 use Rattle.gateway.proofs.Steps.{stays}
 use Rattle.gateway.proofs.Views.{takes-so}
-use Rattle.node_laws.specs.Together.{IsFirst}
+use Rattle.node_laws.specs.HostProcess.{IsFirst}
 use Rattle.node_laws.proofs.JointGateways.{gateway-stands, all-by-gateway}
-use Rattle.node_laws.specs.Process.{Process, Collects, Killed, StandsAs, is_exact, covered}
-use Rattle.node_laws.specs.System.{System, new_system, AreStored, Call, Gave, Handed, Worked, Did, Stored, Saved, Resumed, Died, Revived, GaveOut, HandedOut, DidOut, StoredOut, StoredBut, RevivedOut, handed_out, untaken, DoesIt, after_call, Calls, after_calls, AreStoredOf, AreExact, StayExact, AllStand, LivesRun}
+use Rattle.node_laws.specs.Inside.Process.{Process, Collects, Killed, StandsAs, is_exact, covered}
+use Rattle.node_laws.specs.Inside.System.{System, Call, Gave, Handed, Worked, Did, Stored, Saved, Resumed, Died, Revived, GaveOut, HandedOut, DidOut, StoredOut, StoredBut, RevivedOut, DoesIt, after_call, Calls, after_calls, AreStoredOf, AreExact, StayExact, AllStand, LivesRun, Living, start, after, handlers}
+use Rattle.node_laws.specs.HostSystem.{handed_out, untaken}
 use Rattle.node_laws.proofs.Moves.{Moves, stands-still, stored-still, lives-still}
 use Rattle.node_laws.proofs.Steps.{giving, hearing, working, acting, storing, telling, waking, dying, reviving}
 use Rattle.node_laws.proofs.Losses.{loss-is-dropped}
@@ -263,19 +263,19 @@ pub usual-allowed : AreAllowed usual
 usual-allowed = record { page = (omega arith, omega arith); tick = omega arith; numbers = (omega arith, omega arith); receipts = (omega arith, omega arith) }
 
 -- at the opening all stand
-pub begins : (f : Answering) (n page tick : ℕ) (limits : ℕ → Limits) (states bytes : ℕ → List ℕ) → n ≤ 15 → AreStored n states bytes → Holds (handlers_of f states) n (new_system n limits states bytes page tick) (opening n (handlers_of f states))
-begins f n page tick limits states bytes few stored =
-    let g : Handlers = handlers_of f states in
-    let begin : (p : ℕ) → BeginsWith g p (states p) = λ p. record { state_is = refl; sends_are = λ d. refl } in
+pub begins : (l : Living) → l.n ≤ 15 → Holds (handlers l) l.n (start l) (opening l.n (handlers l))
+begins l few =
+    let g : Handlers = handlers l in
+    let begin : (p : ℕ) → BeginsWith g p (l.states p) = λ p. record { state_is = refl; sends_are = λ d. refl } in
     record {
       count = refl;
       few = few;
-      believed = worlds.opens-holds n g (grows f states);
-      processes = λ p l. stands-opened (limits p) p n (states p) g l.0 l.1 (begin p);
-      stored = λ p l. (kept_of (new_node usual p n (states p)), (stored p l, kept-opened usual p n (states p) usual-allowed l.0 l.1 few g (begin p)));
-      lives = λ p l. (let e : 1 ≤ 1 = omega arith in e);
-      durable = gateway_opening.stands-opened n page tick g;
-      ahead = ahead-none (new_gateway n page tick) (opening n g);
+      believed = worlds.opens-holds l.n g (grows l.f l.states);
+      processes = λ p low. stands-opened (l.limits p) p l.n (l.states p) g low.0 low.1 (begin p);
+      stored = λ p low. (kept_of (new_node usual p l.n (l.states p)), (l.stored p low, kept-opened usual p l.n (l.states p) usual-allowed low.0 low.1 few g (begin p)));
+      lives = λ p low. (let e : 1 ≤ 1 = omega arith in e);
+      durable = gateway_opening.stands-opened l.n l.page l.tick g;
+      ahead = ahead-none (new_gateway l.n l.page l.tick) (opening l.n g);
       given = tt;
       handlers = refl;
     }
@@ -293,14 +293,14 @@ all-stand f n s c h =
     }
 
 pub lives-run : LivesRun
-lives-run f n page tick limits states bytes calls few stored m exact =
-    let g : Handlers = handlers_of f states in
-    let all = calls-go f states n (new_system n limits states bytes page tick) (opening n g) calls (begins f n page tick limits states bytes few stored) m exact in
-    let keeps = nodes-keep n g all.acts few (grows f states) all.run in
+lives-run l calls few m exact =
+    let g : Handlers = handlers l in
+    let all = calls-go l.f l.states l.n (start l) (opening l.n g) calls (begins l few) m exact in
+    let keeps = nodes-keep l.n g all.acts few (grows l.f l.states) all.run in
     record {
       acts = all.acts;
       run = all.run;
-      stand = all-stand g n (after_calls (new_system n limits states bytes page tick) calls) (after_run (opening n g) all.acts) all.holds;
+      stand = all-stand g l.n (after l calls) (after_run (opening l.n g) all.acts) all.holds;
       no_orphan = keeps.0;
       output_once = keeps.1;
       received_once = keeps.2;

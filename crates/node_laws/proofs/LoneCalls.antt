@@ -15,7 +15,7 @@ use Rattle.recovery.specs.Collection.{TheCollecting}
 use Rattle.recovery.specs.Replays.{TheReplaying, next_job, did_replay}
 use Rattle.recovery.specs.Replayed.{TheReplayed}
 use Rattle.recovery.specs.Restoration.{TheRestoring}
-use Rattle.node_laws.specs.Process.{Process, Up, Covered, Collects, Replays, Replayed, Restores, Killed, Gives, Hears, Works, Acts, WaitsFor, covered, IsTold, Wakes}
+use Rattle.node_laws.specs.Inside.Process.{Process, Up, Covered, Collects, Replays, Replayed, Restores, Killed, Gives, Hears, Works, Acts, WaitsFor, covered, IsTold, Wakes}
 use Rattle.node_laws.proofs.Sound.{IsSound, AreSound}
 use Rattle.node_laws.proofs.NodeSound as nodes
 use Rattle.node_laws.proofs.OwnSound.{IsAlone, HasHeard}

@@ -1,19 +1,14 @@
 -- A packet that says that all is lost is dropped
-use Rattle.std.proofs.Common.{◌≡◌, ℕ, Bool, true, false, refl}
-use Rattle.std.specs.Prelude.{if◌then◌else◌}
+use Rattle.std.proofs.Common.{◌≡◌, ℕ, true, false, refl}
 use Rattle.packets.specs.declared.packet.Body as bodies
 use Rattle.packets.specs.declared.packet.Body.TheVariants as packets
 use Rattle.node.specs.Node.{TheNode}
 use Rattle.node.specs.Calls as nodes
 use Rattle.gateway.specs.Gateway.{TheGateway}
 use Rattle.gateway.specs.Calls as outside
+use Rattle.gateway.proofs.Steps.{by-if}
 use Rattle.recovery.specs.Overlap.{is_loss}
-use Rattle.node_laws.specs.System.{LossIsDropped}
-
--- of two values that are the same either is
-either : {X : Type 0} (b : Bool) (x y : X) → x ≡ y → (if b then x else y) ≡ y
-either true x y e = e
-either false x y e = refl
+use Rattle.node_laws.specs.Losses.{LossIsDropped}
 
 told-node : (from : ℕ) (b : bodies.Body) (n : TheNode) → is_loss b ≡ true → nodes.told from b n ≡ n
 told-node from (packets.Told i j k flags entries) n e = refl
@@ -27,4 +22,4 @@ told-gateway from (packets.Acknowledgement i k) g e = refl
 told-gateway from other g e = absurd (let z : false ≡ true = e in cc)
 
 pub loss-is-dropped : LossIsDropped
-loss-is-dropped = (λ x n e. either (nodes.is_for n x) (nodes.told x.from x.body n) n (told-node x.from x.body n e), λ x g e. either (outside.is_for g x) (outside.told x.from x.body g) g (told-gateway x.from x.body g e))
+loss-is-dropped = (λ x n e. by-if (λ z. z ≡ n) (nodes.is_for n x) _ n (λ t. told-node x.from x.body n e) (λ t. refl), λ x g e. by-if (λ z. z ≡ g) (outside.is_for g x) _ g (λ t. told-gateway x.from x.body g e) (λ t. refl))

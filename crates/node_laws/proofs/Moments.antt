@@ -17,15 +17,16 @@ use Rattle.recovery.specs.Replays.{TheReplaying, is_over}
 use Rattle.recovery.specs.Replayed.{TheReplayed}
 use Rattle.recovery.specs.Restoration.{TheRestoring, has_answered}
 use Rattle.recovery.specs.Restoration as restores
-use Rattle.node_laws.specs.Together.{IsFirst}
-use Rattle.node_laws.specs.Process.{Process, Up, Covered, Collects, Replays, Replayed, Restores, Killed, covered, Acts}
-use Rattle.node_laws.specs.System.{System as Lived, Call, Did, after_call, after_calls}
-use Rattle.node_laws.specs.Back.{length_of, kept_of}
-use Rattle.node_laws.specs.Durable.{ReplaysAll}
+use Rattle.node_laws.specs.HostProcess.{IsFirst, Checkpoint, Durable}
+use Rattle.node_laws.specs.Inside.Process.{Process, Up, Covered, Collects, Replays, Replayed, Restores, Killed, covered, Acts}
+use Rattle.node_laws.specs.Inside.System.{System as Lived, Call, Did, after_call, after_calls}
+use Rattle.node_laws.specs.Back.{length_of}
+use Rattle.node_laws.specs.Inside.Back.{kept_of}
+use Rattle.node_laws.specs.Inside.Durable.{ReplaysAll}
 use Rattle.process.specs.declared.lifecycle.Lifecycle.{Lifecycle}
 use Rattle.process.specs.declared.lifecycle.Lifecycle.TheVariants as lifecycle
 use Rattle.process.proofs.Bounds.{ticked-stay}
-use Rattle.node_laws.specs.HostProcess.{Checkpoint, Durable, stage_of, seen}
+use Rattle.node_laws.specs.Inside.Hosted.{stage_of, seen}
 use Rattle.node_laws.specs.HostSystem.{System}
 use Rattle.node_laws.specs.HostBack.{has_recovered, plan_of, keeps}
 use Rattle.node_laws.proofs.Chains.{Chain}

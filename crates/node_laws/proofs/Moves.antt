@@ -11,8 +11,8 @@ use Rattle.node.proofs.Beside.{Same}
 use Rattle.node.proofs.Beside as beside
 use Rattle.recovery.proofs.Others as recovery
 use Rattle.recovery.proofs.RestorationOthers as restoring
-use Rattle.node_laws.specs.Process.{Process, Up, Covered, Collects, Replays, Replayed, Restores, Killed, StandsAs, IsStoredOf}
-use Rattle.node_laws.specs.System.{AreStoredOf}
+use Rattle.node_laws.specs.Inside.Process.{Process, Up, Covered, Collects, Replays, Replayed, Restores, Killed, StandsAs, IsStoredOf}
+use Rattle.node_laws.specs.Inside.System.{AreStoredOf}
 use Rattle.node_laws.proofs.Along.{along, kept-same, keeping-same, stored-along, kept-own}
 
 -- by acts of its own p goes to where this process stands; these bytes are what is stored of it, and no incarnation above this one was opened

@@ -10,17 +10,20 @@ use Rattle.stores.specs.declared.change.Output.{Output}
 use Rattle.stores.specs.Peer.{no_peer}
 use Rattle.gateway.specs.Gateway.{new_gateway}
 use Rattle.gateway.specs.Stands.{shown_as}
-use Rattle.node.specs.declared.limit.Limits.{Limits}
-use Rattle.node.specs.Runs.{Answering, handlers_of}
+use Rattle.node.specs.Runs.{Answering}
 use Rattle.node.specs.Stands.{Each, InOrderFrom}
 use Rattle.node.proofs.Lists.{all-more}
-use Rattle.node_laws.specs.System.{System, new_system, Call, after_call, Calls, after_calls}
-use Rattle.node_laws.specs.Durable.{outputs_of, Keep}
-use Rattle.node_laws.specs.Outputs.{OneLife, IsOut, AllOut, LeavesNoGap, AreBehind, SayTheSame, OutputsInOrder, OutputsWithoutGap, OutputsStayOut, OutputsAgree}
+use Rattle.node_laws.specs.Inside.System.{System, Call, after_call, Calls, after_calls, Living, start, Makes}
+use Rattle.node_laws.specs.Inside.Durable.{shown_by, outputs_of}
+use Rattle.packets.specs.declared.packet.NodePacket.{NodePacket}
+use Rattle.node.specs.Node.{TheNode}
+use Rattle.node_laws.specs.Durable.{Keep}
+use Rattle.node_laws.specs.Inside.Outputs.{OneLife, OutputsInOrder, OutputsWithoutGap, OutputsStayOut}
+use Rattle.node_laws.specs.Outputs.{IsOut, AllOut, LeavesNoGap, AreBehind, SayTheSame}
 use Rattle.node_laws.proofs.Back.{after-append, calls-parts}
-use Rattle.node_laws.proofs.Preservation.{IsShown, durable-keep}
+use Rattle.node_laws.proofs.Preservation.{IsShown}
 use Rattle.node_laws.proofs.HeldGateway.{OfGateway}
-use Rattle.node_laws.proofs.Turns.{Between, InTurn, IsOfSome, Leads, Turns, UpTo, outputs-first, passed, passed-grows, past, past-grows, shown_by, turns}
+use Rattle.node_laws.proofs.Turns.{Between, InTurn, IsOfSome, Leads, Turns, UpTo, passed, passed-grows, past, past-grows, turns}
 
 -- ---- what was out before
 
@@ -149,16 +152,15 @@ ends f n least c d before s (k ∷ ks) a w v m =
     let moved : Within least (before ++ xs) one.from × Behind least before xs = leads-either least before xs c d one.from w v one.leads in
     let stays : Within least (before ++ xs) one.kept = kept-within least before xs d one.from one.kept v moved.0 one.kept_is in
     let rest : Ends least one.from (before ++ xs) (after_call s k) ks = ends f n least one.from one.kept (before ++ xs) (after_call s k) ks one.up moved.0 stays m.1 in
-    let first : xs ++ ys ≡ outputs_of s (k ∷ ks) = sym (outputs-first s k ks) in
-    let all : (before ++ xs) ++ ys ≡ before ++ outputs_of s (k ∷ ks) = append_assoc before xs ys ∙ ap (λ z. before ++ z) first in
+    let all : (before ++ xs) ++ ys ≡ before ++ outputs_of s (k ∷ ks) = append_assoc before xs ys in
     record {
       from = rest.from;
       kept = rest.kept;
       up = rest.up;
       from_within = subst (λ z. Within least z rest.from) all rest.from_within;
       kept_within = subst (λ z. Within least z rest.kept) all rest.kept_within;
-      behind = subst (Behind least before) first (behind-append least before xs ys moved.1 rest.behind);
-      in_life = λ l. subst (InLife c rest.from) first (life-joined c one.from rest.from xs ys (one.on l.0) (rest.in_life l.1));
+      behind = behind-append least before xs ys moved.1 rest.behind;
+      in_life = λ l. life-joined c one.from rest.from xs ys (one.on l.0) (rest.in_life l.1);
     }
 
 -- ---- the laws
@@ -178,17 +180,17 @@ opened n page tick = record { out = tt; store = record { shown = λ p l. shown-n
 within-none : Within none [] none
 within-none p = (omega arith, λ ssn some low. absurd (omega arith))
 
-from-opening : (f : Answering) (n page tick : ℕ) (limits : ℕ → Limits) (states bytes : ℕ → List ℕ) (ks : List Call) → Calls f n (new_system n limits states bytes page tick) ks → Ends none none [] (new_system n limits states bytes page tick) ks
-from-opening f n page tick limits states bytes ks m =
-    let begins : UpTo none none (new_system n limits states bytes page tick) = record { gateway = opened n page tick; durable = opened n page tick; shadow = opened n page tick; leads = λ p. refl } in
-    ends f n none none none [] (new_system n limits states bytes page tick) ks begins within-none within-none m
+from-opening : (l : Living) (ks : List Call) → Makes l ks → Ends none none [] (start l) ks
+from-opening l ks m =
+    let begins : UpTo none none (start l) = record { gateway = opened l.n l.page l.tick; durable = opened l.n l.page l.tick; shadow = opened l.n l.page l.tick; leads = λ p. refl } in
+    ends l.f l.n none none none [] (start l) ks begins within-none within-none m
 
 pub outputs-in-order : OutputsInOrder
-outputs-in-order f n page tick limits states bytes calls life m one =
-    let s : System = new_system n limits states bytes page tick in
-    let parts = calls-parts f n s calls life m in
-    let a : Ends none none [] s calls = from-opening f n page tick limits states bytes calls parts.0 in
-    let b = ends f n none a.from a.kept (outputs_of s calls) (after_calls s calls) life a.up a.from_within a.kept_within parts.1.0 in
+outputs-in-order l calls life m one =
+    let s : System = start l in
+    let parts = calls-parts l.f l.n s calls life m in
+    let a : Ends none none [] s calls = from-opening l calls parts.0 in
+    let b = ends l.f l.n none a.from a.kept (outputs_of s calls) (after_calls s calls) life a.up a.from_within a.kept_within parts.1.0 in
     record { from = a.from; out = λ p. (a.from_within p).1; ordered = (b.in_life one).ordered }
 
 no-gap : (least : ℕ → ℕ) (first before after : List Output) (o : Output) → Behind least first (before ++ o ∷ after) → LeavesNoGap (first ++ before) o
@@ -196,9 +198,9 @@ no-gap least first [] after o h = subst (λ z. LeavesNoGap z o) (sym (append-nil
 no-gap least first (x ∷ before) after o h = subst (λ z. LeavesNoGap z o) (append_assoc first (x ∷ []) before) (no-gap least (first ++ x ∷ []) before after o h.1.1)
 
 pub outputs-without-gap : OutputsWithoutGap
-outputs-without-gap f n page tick limits states bytes calls m before after o e =
-    let s : System = new_system n limits states bytes page tick in
-    let a : Ends none none [] s calls = from-opening f n page tick limits states bytes calls m in
+outputs-without-gap l calls m before after o e =
+    let s : System = start l in
+    let a : Ends none none [] s calls = from-opening l calls m in
     no-gap none [] before after o (subst (Behind none []) (sym e) a.behind)
 
 -- those that are past the others
@@ -228,21 +230,21 @@ up-alike c d s a lasts p = split s.taken refl
         absurd (omega (arith, one, two, led, more, next))
 
 pub outputs-stay-out : OutputsStayOut
-outputs-stay-out f n page tick limits states bytes calls life more m one lasts =
-    let s : System = new_system n limits states bytes page tick in
+outputs-stay-out l calls life more m one lasts =
+    let s : System = start l in
     let u : System = after_calls s calls in
     let v : System = after_calls u life in
-    let parts = calls-parts f n s calls (life ++ more) m in
-    let later = calls-parts f n u life more parts.1.0 in
-    let a : Ends none none [] s calls = from-opening f n page tick limits states bytes calls parts.0 in
+    let parts = calls-parts l.f l.n s calls (life ++ more) m in
+    let later = calls-parts l.f l.n u life more parts.1.0 in
+    let a : Ends none none [] s calls = from-opening l calls parts.0 in
     let seen : List Output = outputs_of s calls ++ outputs_of u life in
-    let b : Ends none a.from (outputs_of s calls) u life = ends f n none a.from a.kept (outputs_of s calls) u life a.up a.from_within a.kept_within later.0 in
+    let b : Ends none a.from (outputs_of s calls) u life = ends l.f l.n none a.from a.kept (outputs_of s calls) u life a.up a.from_within a.kept_within later.0 in
     let is : after_calls s (calls ++ life) ≡ v = after-append s calls life in
     let same : v.durable.store ≡ v.gateway.store = subst (λ (z : System). z.durable.store ≡ z.gateway.store) is lasts in
     let alike : (p : ℕ) → b.from p ≡ b.kept p = up-alike b.from b.kept v b.up same in
     let here : Within b.from seen b.from = λ p. (omega arith, (b.from_within p).1) in
     let kept : Within b.from seen b.kept = λ p. ((let e : b.from p ≡ b.kept p = alike p in omega (arith, e)), (b.kept_within p).1) in
-    let t : Ends b.from b.from seen v more = ends f n b.from b.from b.kept seen v more b.up here kept later.1.0 in
+    let t : Ends b.from b.from seen v more = ends l.f l.n b.from b.from b.kept seen v more b.up here kept later.1.0 in
     subst (λ z. AreBehind (outputs_of u life) (outputs_of z more)) (sym is) (are-behind b.from seen (outputs_of u life) (outputs_of v more) (b.in_life one).low t.behind)
 
 -- by their SSN they are what is stored to be sent
@@ -255,13 +257,8 @@ said-same f durable h a b x y d p i =
     let same : Some a.payload ≡ Some b.payload = sym there ∙ other in
     cc
 
-pub keep-same : (n : ℕ) (f : Handlers) (durable : ℕ → Bool) (s : System) (outputs : List Output) → Keep n f durable s outputs → SayTheSame durable outputs
-keep-same n f durable s outputs k =
+pub keep-same : (n : ℕ) (f : Handlers) (durable : ℕ → Bool) (bytes : ℕ → List ℕ) (Up : ℕ → TheNode → Type 0) (given : List NodePacket) (outputs : List Output) → Keep n f durable bytes Up given outputs → SayTheSame durable outputs
+keep-same n f durable bytes Up given outputs k =
     let Same : Output → Output → Type 0 = λ a b. durable a.process ≡ true → a.process ≡ b.process → a.ssn ≡ b.ssn → a.payload ≡ b.payload in
     let Sent : Output → Type 0 = IsShown f durable k.messages in
     all-more Sent (λ a. Each (Same a) outputs) outputs (λ a x. all-more Sent (Same a) outputs (λ b y. said-same f durable k.messages a b x y) k.shown) k.shown
-
-pub outputs-agree : OutputsAgree
-outputs-agree f n page tick limits states bytes calls durable stored lasting m v w =
-    let s : System = new_system n limits states bytes page tick in
-    keep-same n (handlers_of f states) durable (after_calls s calls) (outputs_of s calls) (durable-keep f n page tick limits states bytes calls durable stored lasting m v w)

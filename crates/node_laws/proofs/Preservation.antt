@@ -1,5 +1,5 @@
 -- What anyone has of a durable process is what is stored of it to be sent
-use Rattle.std.proofs.Common.{◌≡◌, ◌≢◌, ℕ, ◌≤◌, List, [], ◌∷◌, ◌++◌, length, drop, Bool, true, false, refl, sym, ap, ◌∙◌, subst, arith}
+use Rattle.std.proofs.Common.{◌≡◌, ◌≢◌, ℕ, ◌≤◌, List, [], ◌∷◌, ◌++◌, length, drop, Bool, true, false, refl, sym, ap, ◌∙◌, subst, append-nil, arith}
 use Rattle.std.specs.Prelude.{Some, ◌==◌, if◌then◌else◌}
 use Rattle.std.proofs.lemmas.Bool.Decides.{nat_tests}
 use Rattle.theorems.specs.Growth.{Begins}
@@ -22,10 +22,12 @@ use Rattle.node.proofs.Lists.{all-more}
 use Rattle.node.proofs.Runs.{grows, one-was}
 use Rattle.recovery.proofs.Preservation.{each-drop}
 use Rattle.recovery.proofs.Lists.{each-append}
-use Rattle.node_laws.specs.Together.{IsFirst}
-use Rattle.node_laws.specs.Process.{Process, Up, Gives, WaitsFor, covered}
-use Rattle.node_laws.specs.System.{System, new_system, Call, Gave, Handed, Stored, GaveOut, HandedOut, DidOut, StoredOut, StoredBut, RevivedOut, handed_out, untaken, DoesIt, after_call, Calls, after_calls}
-use Rattle.node_laws.specs.Durable.{ReplaysWhole, ReplayWhole, KeepsDurable, StaysDurable, HasAfter, IsSentBy, outputs_of, Knows, DurableKeep}
+use Rattle.node_laws.specs.HostProcess.{IsFirst}
+use Rattle.node_laws.specs.Inside.Process.{Process, Up, Covered, IsUp, Gives, WaitsFor, covered}
+use Rattle.node_laws.specs.Inside.System.{System, Call, Gave, Handed, Stored, GaveOut, HandedOut, DidOut, StoredOut, StoredBut, RevivedOut, DoesIt, after_call, Calls, after_calls, start, handlers}
+use Rattle.node_laws.specs.HostSystem.{handed_out, untaken}
+use Rattle.node_laws.specs.Inside.Durable.{ReplaysWhole, ReplayWhole, KeepsDurable, StaysDurable, outputs_of, DurableKeep}
+use Rattle.node_laws.specs.Durable.{HasAfter, IsSentBy, Knows}
 use Rattle.node_laws.proofs.Taken.{IsFair, fair-more, fair-of}
 use Rattle.node_laws.proofs.HeldState.{grown}
 use Rattle.node_laws.proofs.HeldGateway.{IsQuiet, OfGateway, EachOutput, each-deals, each-hands}
@@ -250,33 +252,39 @@ module _ (f : Answering) (states : ℕ → List ℕ) (n : ℕ) (D : ℕ → Bool
       record { messages = rest.messages; later = λ q. begins-trans (H q) (one.messages q) (rest.messages q) (one.later q) (rest.later q); all = rest.all; shown = one.shows ks rest.messages rest.later rest.shown }
 
   -- what a node that is up received
-  up-knows : (H : ℕ → List Message) (p : ℕ) (l : IsFirst n p) (process : Process) (m : TheNode) → IsFor f states n p (D p) (D p) D (In H p) l.1 (H p) process → process ≡ Up m → (has : HasAfter F p (H p) m) × Knows F D H p (H p ++ has.rest)
-  up-knows H p l process m s e =
-      let up : IsFor f states n p (D p) (D p) D (In H p) l.1 (H p) (Up m) = subst (IsFor f states n p (D p) (D p) D (In H p) l.1 (H p)) e s in (
-        record { rest = up.1.more; many = ap length up.1.begins ∙ up.1.many; state = ap (F.state p) up.1.begins ∙ up.1.state },
-        subst (Knows F D H p) (sym up.1.begins) (record { ordered = up.1.taken.ordered; known = up.1.taken.known }),
+  up-knows : (H : ℕ → List Message) (p : ℕ) (l : IsFirst n p) (process : Process) (m : TheNode) → IsFor f states n p (D p) (D p) D (In H p) l.1 (H p) process → IsUp m process → (has : HasAfter F p (H p) m) × Knows F D H p (H p ++ has.rest)
+  up-knows H p l (Up k) m s e =
+      subst (λ z. (has : HasAfter F p (H p) z) × Knows F D H p (H p ++ has.rest)) e (
+        record { rest = s.1.more; many = ap length s.1.begins ∙ s.1.many; state = ap (F.state p) s.1.begins ∙ s.1.state },
+        subst (Knows F D H p) (sym s.1.begins) (record { ordered = s.1.taken.ordered; known = s.1.taken.known }),
       )
+  up-knows H p l (Covered k) m s e =
+      subst (λ z. (has : HasAfter F p (H p) z) × Knows F D H p (H p ++ has.rest)) e (
+        record { rest = []; many = ap length (append-nil (H p)) ∙ s.1.0.many; state = ap (F.state p) (append-nil (H p)) ∙ s.1.0.state },
+        subst (Knows F D H p) (sym (append-nil (H p))) (record { ordered = s.1.0.taken.ordered; known = s.1.0.taken.known }),
+      )
+  up-knows H p l other m s e = absurd e
 
 pub durable-keep : DurableKeep
-durable-keep f n page tick limits states bytes calls durable stored lasting m v w =
-    let s : System = new_system n limits states bytes page tick in
-    let proper : (p : ℕ) → durable p ≡ true → IsFirst n p = λ p d. (lasting p d).0 in
-    let none : OfGateway (AreShown (handlers_of f states) durable (λ q. [])) (new_gateway n page tick) = record { out = tt; store = tt } in
-    let all : All f states n durable (λ p. []) s = record {
-      each = λ p l. begins-now f states n p page tick (durable p) (durable p) durable (sent_to (handlers_of f states) (λ q. []) p) l.1 limits bytes stored l (λ d. (lasting p d).1);
+durable-keep l calls durable lasting m v w =
+    let s : System = start l in
+    let proper : (p : ℕ) → durable p ≡ true → IsFirst l.n p = λ p d. (lasting p d).0 in
+    let none : OfGateway (AreShown (handlers l) durable (λ q. [])) (new_gateway l.n l.page l.tick) = record { out = tt; store = tt } in
+    let all : All l.f l.states l.n durable (λ p. []) s = record {
+      each = λ p low. begins-now l.f l.states l.n p l.page l.tick (durable p) (durable p) durable (sent_to (handlers l) (λ q. []) p) low.1 l.limits l.bytes l.stored low (λ d. (lasting p d).1);
       given = tt;
       gateway = none;
       durable = none;
       taken = tt;
     } in
-    let t = goes-on f states n durable proper (λ p. []) s calls all m v w in
+    let t = goes-on l.f l.states l.n durable proper (λ p. []) s calls all m v w in
     let end : System = after_calls s calls in
     record {
       messages = t.messages;
-      stored = λ p l. after-of n (handlers_of f states) p durable (sent_to (handlers_of f states) t.messages p) (t.messages p) (end.stored p) (t.all.each p l).stored;
-      received = λ p l. record { ordered = (t.all.each p l).stored.1.1.1.ordered; known = (t.all.each p l).stored.1.1.1.known };
-      up = λ p l node e. up-knows f states n durable proper t.messages p l (end.processes p) node (t.all.each p l).holds e;
-      given = all-more (IsTrue (handlers_of f states) durable t.messages) (λ (x : NodePacket). durable x.from ≡ true → IsSentBy (handlers_of f states) x.from (t.messages x.from) x) end.given (λ x o d. said (durable x.from) d (handlers_of f states) x (durable x.to) t.messages o) t.all.given;
+      stored = λ p low. after-of l.n (handlers l) p durable (sent_to (handlers l) t.messages p) (t.messages p) (end.stored p) (t.all.each p low).stored;
+      received = λ p low. record { ordered = (t.all.each p low).stored.1.1.1.ordered; known = (t.all.each p low).stored.1.1.1.known };
+      up = λ p low node e. up-knows l.f l.states l.n durable proper t.messages p low (end.processes p) node (t.all.each p low).holds e;
+      given = all-more (IsTrue (handlers l) durable t.messages) (λ (x : NodePacket). durable x.from ≡ true → IsSentBy (handlers l) x.from (t.messages x.from) x) end.given (λ x o d. said (durable x.from) d (handlers l) x (durable x.to) t.messages o) t.all.given;
       shown = t.shown;
     }
   where

@@ -7,9 +7,10 @@ use Rattle.process.specs.declared.lifecycle.Lifecycle.{Lifecycle}
 use Rattle.process.specs.declared.lifecycle.Lifecycle.TheVariants.{Up, Collecting, Replaying, Replayed, Restoring, Passing}
 use Rattle.process.specs.Process.{is_settled}
 use Rattle.process.specs.Transitions.{Recovers, Finishes, Begun, Returns, Passes}
-use Rattle.node_laws.specs.Process.{Process, WaitsFor}
-use Rattle.node_laws.specs.Process as lives
-use Rattle.node_laws.specs.HostProcess.{Checkpoint, Absent, Pending, Durable, stage_of, seen}
+use Rattle.node_laws.specs.Inside.Process.{Process, WaitsFor}
+use Rattle.node_laws.specs.Inside.Process as lives
+use Rattle.node_laws.specs.HostProcess.{Checkpoint, Absent, Pending, Durable}
+use Rattle.node_laws.specs.Inside.Hosted.{stage_of, seen}
 use Rattle.node_laws.proofs.Chains.{Chain, chain-append, ticked-exact, begun-exact}
 
 -- by acts of its own it goes from one stage to another

@@ -38,8 +38,8 @@ use Rattle.recovery.specs.StandsAtReplay as replaying
 use Rattle.recovery.proofs.Acts.{goes-self, goes-one}
 use Rattle.recovery.proofs.Posts.{replayed-out}
 use Rattle.recovery.specs.RestorationStands.{StandsRestoring}
-use Rattle.node_laws.specs.Process.{Process, Up, Covered, Collects, Replays, Replayed, Restores, Killed, StandsAs, is_exact, Gives, Hears, Works, Acts, WaitsFor, covered, IsTold, Wakes, IsKilled, ComesFrom, IsAnswerAgain}
-use Rattle.node_laws.specs.System.{AreStoredOf}
+use Rattle.node_laws.specs.Inside.Process.{Process, Up, Covered, Collects, Replays, Replayed, Restores, Killed, StandsAs, is_exact, Gives, Hears, Works, Acts, WaitsFor, covered, IsTold, Wakes, IsKilled, ComesFrom, IsAnswerAgain}
+use Rattle.node_laws.specs.Inside.System.{AreStoredOf}
 use Rattle.node_laws.proofs.Moves.{Moves, IsPlain, moves-own, moves-none}
 use Rattle.node_laws.proofs.Losses.{loss-is-dropped}
 

@@ -8,7 +8,6 @@ use Rattle.theorems.proofs.PlanLemmas.{first_below-at}
 use Rattle.rsn.specs.Receipts.{Received, numbers_from, numbers_of}
 use Rattle.world.specs.declared.message.Message.{Message}
 use Rattle.world.specs.History.{Payload, nth, count_of}
-use Rattle.world.specs.World.{put}
 use Rattle.world.specs.Plan.{if_next, or_else}
 use Rattle.cluster.specs.Rules.{message}
 use Rattle.packets.specs.declared.packet.Body.{Body}
@@ -144,14 +143,6 @@ map-push : (xs : List Message) (m : Message) → map sender_of (xs ++ m ∷ []) 
 map-push [] m = refl
 map-push (x ∷ xs) m = ap (λ l. x.sender ∷ l) (map-push xs m)
 
-ordered-first : (c : ℕ → ℕ) (xs ys : List Message) → InOrderFrom c (xs ++ ys) → InOrderFrom c xs
-ordered-first c [] ys o = tt
-ordered-first c (x ∷ xs) ys o = (o.0, ordered-first (put c x.sender (suc (c x.sender))) xs ys o.1)
-
-each-first : {X : Type 0} (P : X → Type 0) (xs ys : List X) → Each P (xs ++ ys) → Each P xs
-each-first P [] ys a = tt
-each-first P (x ∷ xs) ys a = (a.0, each-first P xs ys a.1)
-
 module _ (D : ℕ → Bool) (In : ℕ → List Payload) (top p : ℕ) where
   abbrev Has : List Message → List Message → List ℕ → List ℕ → Type 0
   Has h g covered senders = HasTaken D In top p h g covered senders
@@ -205,22 +196,6 @@ module _ (D : ℕ → Bool) (In : ℕ → List Payload) (top p : ℕ) where
         none = t.none;
         known = t.known;
         few = t.few;
-      }
-
-  -- what its checkpoint covers
-  pub taken-first : (h g : List Message) (covered senders : List ℕ) → Has h g covered senders → Has h h covered []
-  taken-first h g covered senders t =
-      let whole : (q : ℕ) → count_of q g ≡ count_of q h + count_of q t.more = λ q. ap (count_of q) (sym t.begins) ∙ count-append q h t.more in
-      record {
-        wide = t.wide;
-        counts = t.counts;
-        more = [];
-        begins = append-nil h;
-        are = refl;
-        ordered = ordered-first (λ q. 0) h t.more (subst (InOrderFrom (λ q. 0)) (sym t.begins) t.ordered);
-        none = (let w = whole p in omega (arith, w, t.none));
-        known = each-first (IsIn D In) h t.more (subst (Each (IsIn D In)) (sym t.begins) t.known);
-        few = λ q d. (let w = whole q in let l = t.few q d in omega (arith, w, l));
       }
 
   -- ---- a plan

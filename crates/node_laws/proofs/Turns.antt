@@ -21,9 +21,10 @@ use Rattle.node.specs.Stands.{Each, InOrderFrom}
 use Rattle.node.proofs.Lists.{count-append}
 use Rattle.node.proofs.Numbers.{InOrderFrom-push}
 use Rattle.recovery.proofs.Lists.{each-append}
-use Rattle.node_laws.specs.System.{System, Call, Gave, GaveOut, HandedOut, DidOut, StoredOut, StoredBut, RevivedOut, handed_out, untaken, DoesIt, after_call}
-use Rattle.node_laws.specs.Durable.{outputs_of}
-use Rattle.node_laws.specs.Outputs.{LivesOn}
+use Rattle.node_laws.specs.Inside.System.{System, Call, GaveOut, HandedOut, DidOut, StoredOut, StoredBut, RevivedOut, DoesIt, after_call}
+use Rattle.node_laws.specs.HostSystem.{handed_out, untaken}
+use Rattle.node_laws.specs.Inside.Durable.{shown_by}
+use Rattle.node_laws.specs.Inside.Outputs.{LivesOn}
 use Rattle.node_laws.proofs.HeldGateway.{OfGateway, Steady, output, hands, puts, ticks, tells}
 use Rattle.node_laws.proofs.Untaken.{IsQuietDeal, DealsSo, deals-so, deals-alike, handed-alike, handing-so}
 
@@ -161,15 +162,6 @@ taken-all c (o ∷ xs) s rest t = taken-all (past c o.process) xs s rest (taken-
 -- these outputs lead from one to the other: none does, or the next of one process
 abbrev pub Leads : (ℕ → ℕ) → List Output → (ℕ → ℕ) → Type 0
 Leads c outputs d = ((outputs ≡ []) × (d ≡ c)) ⊎ ((o : Output) × ((outputs ≡ o ∷ []) × ((o.ssn ≡ suc (c o.process)) × (d ≡ past c o.process))))
-
--- the outputs that are handed out by a call
-abbrev pub shown_by : System → Call → List Output
-shown_by s (DidOut new) = handed_out s.gateway new
-shown_by s k = []
-
-pub outputs-first : (s : System) (k : Call) (ks : List Call) → outputs_of s (k ∷ ks) ≡ shown_by s k ++ outputs_of (after_call s k) ks
-outputs-first s (Gave p x new) ks = refl
-outputs-first s other ks = refl
 
 -- of each process no less than the one, and no more than the other
 abbrev pub Between : (ℕ → ℕ) → (ℕ → ℕ) → (ℕ → ℕ) → Type 0

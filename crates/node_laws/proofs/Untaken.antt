@@ -19,7 +19,7 @@ use Rattle.gateway.proofs.Changes.{goes-asked}
 use Rattle.gateway.proofs.Transmission.{putting-in, ticking}
 use Rattle.gateway.proofs.Steps.{stays, acts-self, stands-with, stands-waiting}
 use Rattle.gateway.proofs.Handover.{handed-so}
-use Rattle.node_laws.specs.System.{handed_out, untaken, PutIn, Deals}
+use Rattle.node_laws.specs.HostSystem.{handed_out, untaken, PutIn, Deals}
 use Rattle.node_laws.proofs.HeldGateway.{none-out, ticked-outputs}
 
 -- ---- it stands as the gateway does

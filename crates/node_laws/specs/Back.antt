@@ -1,84 +1,35 @@
 -- The process that comes back is the one that was lost
-use Rattle.std.specs.Prelude.{◌≡◌, ℕ, ◌+◌, ◌≤◌, List, ◌∷◌, ◌++◌, length, take}
+use Rattle.std.specs.Prelude.{◌≡◌, ℕ, ◌+◌, ◌≤◌, List, ◌++◌, length, take}
 use Rattle.world.specs.declared.message.Message.{Message}
 use Rattle.world.specs.Handlers.{Handlers}
-use Rattle.cluster.specs.Cluster.{opening}
+use Rattle.cluster.specs.Cluster.{Cluster, opening}
 use Rattle.cluster.specs.Rules.{Act, Run, after_run}
 use Rattle.cluster.specs.Promises.{AllAcknowledged}
-use Rattle.node.specs.declared.limit.Limits.{Limits}
 use Rattle.node.specs.Node.{TheNode}
 use Rattle.node.specs.Transmission.{run_at}
-use Rattle.node.specs.Runs.{Answering, handlers_of}
-use Rattle.recovery.specs.Collection.{TheCollecting}
-use Rattle.recovery.specs.Replays.{TheReplaying}
-use Rattle.recovery.specs.Moment.{HadReceived}
-use Rattle.node_laws.specs.Together.{IsFirst}
-use Rattle.node_laws.specs.Process.{Up, Collects, Replays}
-use Rattle.node_laws.specs.System.{System, new_system, AreStored, Call, Did, Calls, after_calls, StayExact, AllStand}
 
 -- how many messages a node received
 abbrev pub length_of : TheNode → ℕ
 length_of n = n.base + length n.receipts.senders
 
--- the process p is up as the node a in the system s, which goes on to t, where p is up as b. All agree with a cluster in s and in t, so
--- what p received is its history then, and its state is the one after that. Up to the RSN up to which all are acknowledged at a, the two
--- histories are the same. So if all are, and b has no more messages, it has the state of a
-pub record HasBack (n : ℕ) (f : Handlers) (s t : System) (p : ℕ) (a b : TheNode) : Type 0 where
+-- what p received in the cluster of n after these acts
+abbrev pub received : ℕ → Handlers → ℕ → List Act → List Message
+received n f p acts = (after_run (opening n f) acts).world.history p
+
+-- the process p is up as the node a, and later as b. At both moments a cluster agrees: what p received there is as much as its node has,
+-- and its state is the one after that. Up to the RSN up to which all are acknowledged at a, both received the same. So if all are, and b
+-- has no more messages, it has the state of a
+pub record HasBack (n : ℕ) (f : Handlers) (Before After : Cluster → Type 0) (p : ℕ) (a b : TheNode) : Type 0 where
   pub acts : List Act
   pub more : List Act
   pub run : Run (opening n f) (acts ++ more)
-  pub before : AllStand n s (after_run (opening n f) acts)
-  pub after : AllStand n t (after_run (opening n f) (acts ++ more))
-  pub was : List Message
-  pub is : List Message
-  pub history_was : was ≡ (after_run (opening n f) acts).world.history p
-  pub history_is : is ≡ (after_run (opening n f) (acts ++ more)).world.history p
-  pub many_was : length was ≡ length_of a
-  pub many_is : length is ≡ length_of b
-  pub state_was : f.state p was ≡ a.state
-  pub state_is : f.state p is ≡ b.state
+  pub before : Before (after_run (opening n f) acts)
+  pub after : After (after_run (opening n f) (acts ++ more))
+  pub many_was : length (received n f p acts) ≡ length_of a
+  pub many_is : length (received n f p (acts ++ more)) ≡ length_of b
+  pub state_was : f.state p (received n f p acts) ≡ a.state
+  pub state_is : f.state p (received n f p (acts ++ more)) ≡ b.state
   pub acknowledged : AllAcknowledged (after_run (opening n f) acts) p (run_at a)
   pub within : run_at a ≤ length_of b
-  pub same : take (run_at a) is ≡ take (run_at a) was
+  pub same : take (run_at a) (received n f p (acts ++ more)) ≡ take (run_at a) (received n f p acts)
   pub back : run_at a ≡ length_of a → length_of b ≡ length_of a → b.state ≡ a.state
-
--- whatever happens between the two moments, if each process that is alive stays exact
-abbrev pub NothingIsLost : Type 0
-NothingIsLost = (f : Answering) (n page tick : ℕ) (limits : ℕ → Limits) (states bytes : ℕ → List ℕ) (calls more : List Call) (p : ℕ)
-    (a b : TheNode) → n ≤ 15 → AreStored n states bytes → IsFirst n p
-    → Calls f n (new_system n limits states bytes page tick) (calls ++ more)
-    → StayExact n (new_system n limits states bytes page tick) (calls ++ more)
-    → (after_calls (new_system n limits states bytes page tick) calls).processes p ≡ Up a
-    → (after_calls (new_system n limits states bytes page tick) (calls ++ more)).processes p ≡ Up b
-    → HasBack n (handlers_of f states)
-    (after_calls (new_system n limits states bytes page tick) calls)
-    (after_calls (new_system n limits states bytes page tick) (calls ++ more)) p a b
-
--- how many messages a process keeps that recovers
-abbrev pub kept_of : TheCollecting → TheReplaying → ℕ
-kept_of old new = old.own.base + length new.plan
-
--- p recovers in the system s, which goes on to t: it had received what it keeps, and all that was acknowledged without a gap is among that;
--- these stay its first messages; and when it is up with just these, its state is the one that it had after them
-pub record IsBack (n : ℕ) (f : Handlers) (s t : System) (p : ℕ) (old : TheCollecting) (new : TheReplaying) : Type 0 where
-  pub acts : List Act
-  pub more : List Act
-  pub run : Run (opening n f) (acts ++ more)
-  pub before : AllStand n s (after_run (opening n f) acts)
-  pub after : AllStand n t (after_run (opening n f) (acts ++ more))
-  pub had : HadReceived (after_run (opening n f) acts) p old.own.base new.plan
-  pub stays : take (kept_of old new)
-      ((after_run (opening n f) (acts ++ more)).world.history p) ≡ take (kept_of old new) ((after_run (opening n f) acts).world.history p)
-  pub back : (m : TheNode) → t.processes p ≡ Up m → length_of m ≡ kept_of old new
-      → f.state p (take (kept_of old new) ((after_run (opening n f) acts).world.history p)) ≡ m.state
-
--- a process that recovers comes back with what it keeps, if all stay exact
-abbrev pub RecoversExactly : Type 0
-RecoversExactly = (f : Answering) (n page tick : ℕ) (limits : ℕ → Limits) (states bytes : ℕ → List ℕ) (calls more : List Call) (p : ℕ)
-    (old : TheCollecting) (new : TheReplaying) → n ≤ 15 → AreStored n states bytes
-    → Calls f n (new_system n limits states bytes page tick) (calls ++ Did p (Replays new) ∷ more)
-    → StayExact n (new_system n limits states bytes page tick) (calls ++ Did p (Replays new) ∷ more)
-    → (after_calls (new_system n limits states bytes page tick) calls).processes p ≡ Collects old
-    → IsBack n (handlers_of f states)
-    (after_calls (new_system n limits states bytes page tick) calls)
-    (after_calls (new_system n limits states bytes page tick) (calls ++ Did p (Replays new) ∷ more)) p old new

@@ -1,10 +1,13 @@
 -- A process and its host
-use Rattle.std.specs.Prelude.{ℕ, List}
-use Rattle.process.specs.declared.lifecycle.Lifecycle.{Lifecycle}
-use Rattle.process.specs.declared.lifecycle.Lifecycle.TheVariants as lifecycle
+use Rattle.std.specs.Prelude.{◌≡◌, ℕ, ◌<◌, ◌≤◌, List, Bool, true}
+use Rattle.node.specs.Node.{TheNode}
+use Rattle.process.specs.declared.lifecycle.Lifecycle.TheVariants.{Up}
+use Rattle.process.specs.Calls.{standing_at}
 use Rattle.process.specs.Process.{TheProcess}
-use Rattle.node_laws.specs.Process.{Process, covered}
-use Rattle.node_laws.specs.Process as lives
+
+-- one of the first n processes
+abbrev pub IsFirst : ℕ → ℕ → Type 0
+IsFirst n p = (0 < p) × (p ≤ n)
 
 -- the stage of a checkpoint
 pub data Checkpoint : Type 0 where
@@ -51,25 +54,16 @@ abbrev pub keeps : Hosted → Hosted
 keeps (Runs process checkpoint) = Runs process Durable
 keeps other = other
 
--- ---- which process in all lives it is
+-- ---- what its host sees of it
 
--- by its stage. It is between two stages only inside a call
-abbrev pub stage_of : Lifecycle → Process
-stage_of (lifecycle.Up n) = lives.Up n
-stage_of (lifecycle.Collecting n) = lives.Collects n
-stage_of (lifecycle.Replaying n) = lives.Replays n
-stage_of (lifecycle.Replayed n) = lives.Replayed n
-stage_of (lifecycle.Restoring n) = lives.Restores n
-stage_of lifecycle.Passing = lives.Killed
+-- it tells that it is exact; one that was killed tells nothing
+abbrev pub is_exact : Hosted → Bool
+is_exact (Runs process checkpoint) = (standing_at process.lifecycle).exact
+is_exact (Sleeps process bytes) = (standing_at process.lifecycle).exact
+is_exact Killed = true
 
--- and by its checkpoint
-abbrev pub seen : Checkpoint → Lifecycle → Process
-seen Absent c = stage_of c
-seen (Pending bytes) c = stage_of c
-seen Durable c = covered (stage_of c)
-
--- and by its host: one that was suspended is what it was, and one that was killed is that
-abbrev pub as_process : Hosted → Process
-as_process (Runs process checkpoint) = seen checkpoint process.lifecycle
-as_process (Sleeps process bytes) = stage_of process.lifecycle
-as_process Killed = lives.Killed
+-- it is up as this node, also while it is suspended
+abbrev pub IsUp : TheNode → Hosted → Type 0
+IsUp node (Runs process checkpoint) = process.lifecycle ≡ Up node
+IsUp node (Sleeps process bytes) = process.lifecycle ≡ Up node
+IsUp node Killed = ⊥

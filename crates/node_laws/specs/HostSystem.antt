@@ -1,6 +1,7 @@
 -- Calls of processes by their hosts, and of the gateway, one after another
-use Rattle.std.specs.Prelude.{◌≡◌, ℕ, ◌<◌, List, [], ◌∷◌, Some}
+use Rattle.std.specs.Prelude.{◌≡◌, ◌⊎◌, ℕ, ◌-◌, ◌<◌, List, [], ◌∷◌, ◌++◌, length, take, drop, Some}
 use Rattle.world.specs.World.{put}
+use Rattle.world.specs.Handlers.{Handlers}
 use Rattle.packets.specs.declared.packet.NodePacket.{NodePacket}
 use Rattle.packets.specs.Format.{IsPacket}
 use Rattle.helpers.specs.declared.effects.Who.{Who}
@@ -10,12 +11,13 @@ use Rattle.interp.specs.HandlerCall.{Handled}
 use Rattle.interp.specs.Image.{as_image}
 use Rattle.node.specs.declared.limit.Limits.{Limits}
 use Rattle.node.specs.declared.job.OpenJob.{OpenJob}
-use Rattle.node.specs.Runs.{IsOne}
+use Rattle.node.specs.Runs.{IsOne, handlers_of}
 use Rattle.stores.specs.declared.change.Output.{Output}
-use Rattle.gateway.specs.Gateway.{TheGateway, new_gateway}
-use Rattle.node_laws.specs.Together.{IsFirst}
-use Rattle.node_laws.specs.System as called
-use Rattle.node_laws.specs.System.{Call, GaveOut, HandedOut, DidOut, StoredOut, StoredBut, RevivedOut}
+use Rattle.stores.specs.Store.{IsOf}
+use Rattle.gateway.specs.Gateway.{TheGateway, new_gateway, puts_in, hands_out, ticked}
+use Rattle.gateway.specs.Calls as outside
+use Rattle.gateway.specs.Stands as gateways
+use Rattle.gateway.specs.Since.{revived, StandsFor}
 use Rattle.process.specs.declared.call.HandlerTicket.{HandlerTicket}
 use Rattle.process.specs.Process.{TheProcess, state_of}
 use Rattle.process.specs.Job.{IsAnswered, WorksAs}
@@ -25,8 +27,7 @@ use Rattle.process.specs.Revival.{IsOpened, IsRevived}
 use Rattle.process.specs.Checkpoints.{IsSavable, Keeps}
 use Rattle.process.specs.Suspension.{Suspends, IsResumed}
 use Rattle.process.specs.Work.{job_at, answer_to, Works}
-use Rattle.node_laws.specs.HostProcess.{Absent, Pending, Durable, Hosted, Runs, Killed, Alive, Has, Asleep, goes_on, sleeps, keeps}
-use Rattle.node_laws.specs.HostProcess.{as_process}
+use Rattle.node_laws.specs.HostProcess.{IsFirst, Absent, Pending, Durable, Hosted, Runs, Killed, Alive, Has, Asleep, goes_on, sleeps, keeps}
 use Rattle.node_laws.specs.HostReplies.{answering}
 
 -- the processes by number; for each the bytes that its host has stored, and the greatest incarnation; the gateway, and the gateway that its
@@ -59,7 +60,8 @@ new_system n processes bytes page tick =
       given = [];
     }
 
--- a call that isn't refused and changes a process, and the process after it; or something that its host does with it
+-- a call that isn't refused and changes a process, and the process after it; or something that its host does with it. Or a call of the
+-- gateway, and the gateway after it; or something that happens to it
 pub data HostCall : Type 0 where
   -- `take` gave this packet
   Gave : ℕ → NodePacket → TheProcess → HostCall
@@ -91,30 +93,34 @@ pub data HostCall : Type 0 where
   Died : ℕ → HostCall
   -- `revive`, with these limits in this incarnation
   Revived : ℕ → Limits → ℕ → TheProcess → HostCall
-  -- a call of the gateway, or something that happens to it
-  Outside : Call → HostCall
+  -- the gateway gave this packet
+  GaveOut : NodePacket → TheGateway → HostCall
+  -- it was handed this packet
+  HandedOut : NodePacket → TheGateway → HostCall
+  -- it took an input, gave an output, sent again what isn't answered, or told its changes
+  DidOut : TheGateway → HostCall
+  -- all its changes are stored
+  StoredOut : HostCall
+  -- all its changes are stored, except that of the outputs that it gave only the first ones count as taken
+  StoredBut : ℕ → HostCall
+  -- it was killed, and came back from its store
+  RevivedOut : TheGateway → HostCall
 
--- it is a call of the gateway
-abbrev pub IsOutside : Call → Type 0
-IsOutside (GaveOut x new) = Unit {0}
-IsOutside (HandedOut x new) = Unit {0}
-IsOutside (DidOut new) = Unit {0}
-IsOutside StoredOut = Unit {0}
-IsOutside (StoredBut k) = Unit {0}
-IsOutside (RevivedOut new) = Unit {0}
-IsOutside call = ⊥
+-- the outputs that the gateway gives in a call
+abbrev pub handed_out : TheGateway → TheGateway → List Output
+handed_out old new = take (length old.store.outputs - length new.store.outputs) old.store.outputs
 
--- the system in all lives that it is
-abbrev pub as_lives : System → called.System
-as_lives s = record {
-  processes = λ p. as_process (s.processes p);
-  stored = s.stored;
-  lives = s.lives;
-  gateway = s.gateway;
-  durable = s.durable;
-  taken = s.taken;
-  given = s.given;
-}
+-- the gateway as if these outputs, which it gave, were not taken
+abbrev pub untaken : List Output → TheGateway → TheGateway
+untaken outputs g = record g { store = record g.store { outputs = outputs ++ g.store.outputs } }
+
+-- an input for a process came
+abbrev pub PutIn : TheGateway → TheGateway → Type 0
+PutIn g new = (p : ℕ) × ((x : List ℕ) × ((new ≡ puts_in p x g) × IsOf p g.store))
+
+-- the gateway took an input, gave an output, sent again what isn't answered, or told its changes
+abbrev pub Deals : TheGateway → TheGateway → Type 0
+Deals g new = PutIn g new ⊎ ((new ≡ hands_out g) ⊎ ((new ≡ ticked g) ⊎ (new ≡ record g { changes = [] })))
 
 -- on the next message the handler leaves exactly this state and sends exactly this: the host knows it of machine code
 abbrev pub AnswersSo : List ℕ → Emitted → TheProcess → Type 0
@@ -133,7 +139,8 @@ ResumesAs image limits bytes new = (same : AnyImage) × ((as_image same ≡ as_i
 -- each call does what the contract of its function says. A packet that is handed over was given, at any time, and may be handed over again.
 -- A host stores the bytes of the checkpoint for which the process waits, and tells it once they are stored. A process comes back from its
 -- stored bytes, with the same handler, in an incarnation above all that were stored. One that was suspended isn't called until it is
--- resumed or killed. So it is resumed at most once, and not if it came back from its stored bytes
+-- resumed or killed. So it is resumed at most once, and not if it came back from its stored bytes. What the gateway gives is sent once all
+-- changes of its store are stored, except which outputs were taken
 abbrev pub DoesIt : (ℕ → AnyImage) → ℕ → System → HostCall → Type 0
 DoesIt images n s (Gave p x new) = IsFirst n p × Alive (λ old. Stays (Takes (Some x)) old new) (s.processes p)
 DoesIt images n s (GaveBytes p x bytes new) = IsFirst n p × (IsPacket x bytes × Alive (λ old. GivesBytes bytes old new) (s.processes p))
@@ -156,11 +163,12 @@ DoesIt images n s (Resumed p limits new) = IsFirst n p × Asleep (λ bytes. Resu
 DoesIt images n s (Died p) = IsFirst n p
 DoesIt images n s (Revived p limits life new) = IsFirst n p
     × ((s.processes p ≡ Killed) × ((s.lives p < life) × RevivesAs (images p) limits (s.stored p) life new))
-DoesIt images n s (Outside call) = IsOutside call × called.DoesIt (answering n images) n (as_lives s) call
-
--- the system after a call of the gateway
-abbrev pub after_outside : System → called.System → System
-after_outside s t = record s { gateway = t.gateway; durable = t.durable; taken = t.taken; given = t.given }
+DoesIt images n s (GaveOut x new) = (s.durable.store ≡ (untaken s.taken s.gateway).store) × gateways.Takes (Some x) s.gateway new
+DoesIt images n s (HandedOut x new) = IsOne x s.given × ((new ≡ outside.handed x s.gateway) × gateways.IsHanded x s.gateway new)
+DoesIt images n s (DidOut new) = Deals s.gateway new × gateways.Acts s.gateway new
+DoesIt images n s StoredOut = Unit {0}
+DoesIt images n s (StoredBut k) = Unit {0}
+DoesIt images n s (RevivedOut new) = (new ≡ revived new.page new.tick s.durable.store) × StandsFor s.durable.store new
 
 -- the system after a call
 abbrev pub after_call : System → HostCall → System
@@ -179,7 +187,12 @@ after_call s (Suspended p bytes) = record s { processes = put s.processes p (sle
 after_call s (Resumed p limits new) = record s { processes = put s.processes p (Runs new Absent) }
 after_call s (Died p) = record s { processes = put s.processes p Killed }
 after_call s (Revived p limits life new) = record s { processes = put s.processes p (Runs new Absent); lives = put s.lives p life }
-after_call s (Outside call) = after_outside s (called.after_call (as_lives s) call)
+after_call s (GaveOut x new) = record s { gateway = new; given = x ∷ s.given }
+after_call s (HandedOut x new) = record s { gateway = new }
+after_call s (DidOut new) = record s { gateway = new; taken = s.taken ++ handed_out s.gateway new }
+after_call s StoredOut = record s { durable = s.gateway; taken = [] }
+after_call s (StoredBut k) = record s { durable = untaken (drop k s.taken) s.gateway; taken = drop k s.taken }
+after_call s (RevivedOut new) = record s { gateway = new; durable = new; taken = [] }
 
 -- calls, one after another
 abbrev pub AreCalls : (ℕ → AnyImage) → ℕ → System → List HostCall → Type 0
@@ -190,3 +203,35 @@ AreCalls images n s (k ∷ ks) = DoesIt images n s k × AreCalls images n (after
 abbrev pub after_calls : System → List HostCall → System
 after_calls s [] = s
 after_calls s (k ∷ ks) = after_calls (after_call s k) ks
+
+-- ---- from the opening on
+
+-- so many processes with their images, limits and opening states, as they are opened, with the bytes that are stored of them; and the
+-- greatest size of a page of the gateway, and its messages by tick
+pub record Hosting : Type 0 where
+  pub n : ℕ
+  pub images : ℕ → AnyImage
+  pub limits : ℕ → Limits
+  pub states : ℕ → List ℕ
+  pub processes : ℕ → TheProcess
+  pub bytes : ℕ → List ℕ
+  pub page : ℕ
+  pub tick : ℕ
+  pub opens : Opens n images limits processes states bytes
+
+-- before the first call
+abbrev pub start : Hosting → System
+start h = new_system h.n h.processes h.bytes h.page h.tick
+
+-- after these calls
+abbrev pub after : Hosting → List HostCall → System
+after h calls = after_calls (start h) calls
+
+-- these are calls of its hosts and of the gateway, in any order: packets may come late, twice or never, and processes and the gateway may
+-- be killed and brought back at any moment
+abbrev pub Makes : Hosting → List HostCall → Type 0
+Makes h calls = AreCalls h.images h.n (start h) calls
+
+-- the handlers of its images, with its opening states
+abbrev pub handlers : Hosting → Handlers
+handlers h = handlers_of (answering h.n h.images) h.states

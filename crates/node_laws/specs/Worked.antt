@@ -1,133 +1,169 @@
--- A worked list of calls: the only process of a cluster is killed, comes back from the bytes that were stored before it opened, and is up
-use Rattle.std.specs.Prelude.{◌≡◌, ℕ, List, [], ◌∷◌, true, false}
-use Rattle.packets.specs.declared.packet.Body.{Body}
-use Rattle.packets.specs.declared.packet.Body.TheVariants.{Ask, Told, Resume, Restored}
-use Rattle.packets.specs.declared.packet.NodePacket.{NodePacket}
-use Rattle.packets.specs.Packet.{flags_of}
+-- A worked list of calls of hosts: the only process of a cluster receives three messages. After the first its checkpoint is stored, and it
+-- is suspended and resumed. It is killed when two are acknowledged; it is revived from its checkpoint, replays two, and is up with all
+-- three
+use Rattle.std.specs.Prelude.{◌≡◌, ℕ, List, [], ◌∷◌, ◌++◌, length, take, pos}
+use Rattle.decode.specs.declared.insn.Reg.{Reg}
+use Rattle.decode.specs.declared.insn.Size.TheVariants.{Byte}
+use Rattle.decode.specs.declared.insn.Insn.{Insn}
+use Rattle.decode.specs.declared.insn.Insn.TheVariants.{Load, StoreReg, Exit}
+use Rattle.verifier.specs.declared.any_image.AnyImage.{AnyImage}
+use Rattle.verifier.specs.declared.file_form.FileForm.TheVariants.{Sbi1}
+use Rattle.verifier.specs.AnyImage.{IsImageOf, code_of, state_of}
+use Rattle.verifier.specs.AnyFile.{IsTypable}
+use Rattle.packets.specs.Kept.{kept_bytes}
+use Rattle.node.specs.declared.limit.TheConstants.{PAGE, TICK}
 use Rattle.node.specs.Limit.{usual}
-use Rattle.node.specs.Node.{TheNode, new_node}
+use Rattle.node.specs.Node.{TheNode}
+use Rattle.node.specs.Transmission.{ticked, run_at}
 use Rattle.node.specs.Kept.{kept_of}
-use Rattle.node.specs.Runs.{Answering}
-use Rattle.recovery.specs.Collection.{TheCollecting, revived}
-use Rattle.recovery.specs.Collection as collecting
-use Rattle.recovery.specs.Replays.{TheReplaying}
-use Rattle.recovery.specs.StandsAtReplay.{replayed_of}
-use Rattle.recovery.specs.Restoration.{TheRestoring, begun, up}
-use Rattle.recovery.specs.Restoration as restoring
-use Rattle.gateway.specs.Gateway.{TheGateway, new_gateway}
-use Rattle.gateway.specs.Calls as gateways
-use Rattle.node_laws.specs.Process.{Up, Collects, Replays, Replayed, Restores}
-use Rattle.node_laws.specs.System.{new_system, AreStored, Call, Gave, Handed, Did, Died, Revived, GaveOut, HandedOut, StoredOut, Calls}
-use Rattle.node_laws.specs.System.{after_calls, StayExact}
-use Rattle.node_laws.specs.Alone.{OneAtATime}
-use Rattle.node_laws.specs.Durable.{ReplayWhole}
+use Rattle.node.specs.Suspension.{suspended_bytes}
+use Rattle.recovery.specs.Restoration.{up}
+use Rattle.node_laws.specs.Back.{length_of}
+use Rattle.node_laws.specs.WorkedMessages.{gave, quiet, collects, restores, input, delivery, number, acknowledgement, covers, ask, told}
+use Rattle.node_laws.specs.WorkedMessages.{resume, restored, g1, g2, g3, g4, g5, g6, g7, g8, n0, n1, n2, n3, n4, n5, n6, n7, n8, n9, n10}
+use Rattle.node_laws.specs.WorkedMessages.{comes, replays, replays_more, begins, has_answer}
+use Rattle.process.specs.declared.lifecycle.Lifecycle.{Lifecycle}
+use Rattle.process.specs.declared.lifecycle.Lifecycle.TheVariants.{Up, Collecting, Replaying, Restoring}
+use Rattle.process.specs.Process.{TheProcess}
+use Rattle.node_laws.specs.HostProcess.{Absent, Runs, Sleeps}
+use Rattle.node_laws.specs.HostSystem.{System, Opens, new_system, HostCall, Gave, Handed, Worked, Froze, Stored, Saved, Suspended, Resumed}
+use Rattle.node_laws.specs.HostSystem.{Died, Revived, GaveOut, HandedOut, DidOut, StoredOut, AreCalls, after_calls}
+use Rattle.node_laws.specs.HostLaws.{StayExact, OneAtATime}
 
--- ---- its packets
+-- ---- its handler
 
--- from the process to the gateway
-abbrev pub from_process : Body → NodePacket
-from_process b = record { count = 1; from = 1; to = 0; body = b }
+-- these registers are r0, r1 and r2; the first byte of the message becomes the state, and nothing is sent
+abbrev pub copies : Reg → Reg → Reg → List Insn
+copies r0 r1 r2 = Load Byte r0 r1 (pos 0) ∷ StoreReg Byte r2 r0 (pos 0) ∷ Exit ∷ []
 
--- from the gateway to the process
-abbrev pub from_gateway : Body → NodePacket
-from_gateway b = record { count = 1; from = 0; to = 1; body = b }
+-- the image is of form 1 and has just this code, with a state of one byte
+pub record IsCopying (image : AnyImage) : Type 0 where
+  pub r0 : Reg
+  pub r1 : Reg
+  pub r2 : Reg
+  pub numbers : (r0.number ≡ 0) × (r1.number ≡ 1) × (r2.number ≡ 2)
+  pub is_image : IsImageOf Sbi1 (copies r0 r1 r2) 1 image
 
--- it asks what is logged for it
-abbrev pub ask : NodePacket
-ask = from_process (Ask 2 0)
-
--- the gateway answers that nothing is
-abbrev pub told : NodePacket
-told = from_gateway (Told 2 1 0 (flags_of true false true) [])
-
--- it asks under which RSNs its messages were received
-abbrev pub resume : NodePacket
-resume = from_process (Resume 2 0 0)
-
--- the gateway answers that it received none
-abbrev pub restored : NodePacket
-restored = from_gateway (Restored 2 1 0 0 (flags_of true false true) [])
-
--- ---- the gateway, with this size of a page and of a tick
-
--- it gave its packets
-abbrev pub sent : TheGateway → TheGateway
-sent g = record g { out = [] }
-
--- it took the question
-abbrev pub asked : ℕ → ℕ → TheGateway
-asked page tick = gateways.handed ask (new_gateway 1 page tick)
-
--- and then the request for RSNs
-abbrev pub resumed : ℕ → ℕ → TheGateway
-resumed page tick = gateways.handed resume (sent (asked page tick))
-
--- ---- the process, with its opening state
-
--- it comes back, and its question is taken
-abbrev pub comes : List ℕ → TheCollecting
-comes initial = revived usual (kept_of (new_node usual 1 1 initial)) 2
-
--- its question is taken
-abbrev pub asks : List ℕ → TheCollecting
-asks initial = record (comes initial) { own = record (comes initial).own { out = [] } }
-
--- the gateway has told it that its log is empty
-abbrev pub has_all : List ℕ → TheCollecting
-has_all initial = collecting.handed told (asks initial)
-
--- it replays an empty plan
-abbrev pub replays : List ℕ → TheReplaying
-replays initial = record { own = (has_all initial).own; plan = []; done = 0 }
-
--- it begins to ask for RSNs
-abbrev pub begins : List ℕ → TheRestoring
-begins initial = begun (replayed_of (replays initial))
-
--- its request is taken
-abbrev pub resumes : List ℕ → TheRestoring
-resumes initial = record (begins initial) { own = record (begins initial).own { out = [] } }
-
--- the gateway has answered that it has nothing
-abbrev pub has_answer : List ℕ → TheRestoring
-has_answer initial = restoring.handed restored (resumes initial)
+-- there is such an image whose code is typable: its file loads
+abbrev pub CopyingLoads : Type 0
+CopyingLoads = (image : AnyImage) × (IsCopying image × IsTypable Sbi1 (code_of image) (state_of image))
 
 -- ---- the calls
 
--- from its death until it is up again
-abbrev pub worked : List ℕ → ℕ → ℕ → List Call
-worked initial page tick =
-    Died 1
-    ∷ Revived 1 2 (comes initial)
-    ∷ Gave 1 ask (Collects (asks initial))
-    ∷ HandedOut ask (asked page tick)
+-- the process with this image, in this stage
+abbrev pub process : AnyImage → Lifecycle → TheProcess
+process image lifecycle = record { image = image; lifecycle = lifecycle }
+
+-- up to its death, if its checkpoint has these bytes
+abbrev pub before : AnyImage → List ℕ → List HostCall
+before image bytes =
+    -- an input comes for the process, and the gateway sends it
+    DidOut g1
     ∷ StoredOut
-    ∷ GaveOut told (sent (asked page tick))
-    ∷ Handed 1 told (Collects (has_all initial))
-    ∷ Did 1 (Replays (replays initial))
-    ∷ Did 1 (Replayed (replayed_of (replays initial)))
-    ∷ Did 1 (Restores (begins initial))
-    ∷ Gave 1 resume (Restores (resumes initial))
-    ∷ HandedOut resume (resumed page tick)
+    ∷ GaveOut (delivery 1) (gave [] g1)
+    -- the process gets the message
+    ∷ Handed 1 (delivery 1) (process image (Up n1))
+    -- its handler runs on the message
+    ∷ Worked 1 (process image (Up n2))
+    -- it tells the gateway the RSN of the message, and the gateway acknowledges it
+    ∷ Gave 1 (number 1) (process image (Up (quiet n2)))
+    ∷ HandedOut (number 1) g2
     ∷ StoredOut
-    ∷ GaveOut restored (sent (resumed page tick))
-    ∷ Handed 1 restored (Restores (has_answer initial))
-    ∷ Did 1 (Up (up (has_answer initial)))
+    ∷ GaveOut (acknowledgement 1) (gave [] g2)
+    ∷ Handed 1 (acknowledgement 1) (process image (Up n3))
+    -- it makes a checkpoint, which is stored, and is told so
+    ∷ Froze 1 bytes (process image (Up n4))
+    ∷ Stored 1 bytes
+    ∷ Saved 1 (process image (Up n5))
+    -- it tells the gateway that one message is covered for good
+    ∷ Gave 1 covers (process image (Up (quiet n5)))
+    -- it is suspended, and resumed from these bytes
+    ∷ Suspended 1 (suspended_bytes (quiet n5))
+    ∷ Resumed 1 usual (process image (Up (quiet n5)))
+    -- two more inputs come, and the gateway sends them
+    ∷ DidOut g3
+    ∷ DidOut g4
+    ∷ StoredOut
+    ∷ GaveOut (delivery 2) (gave (delivery 3 ∷ []) g4)
+    ∷ GaveOut (delivery 3) (gave [] g4)
+    -- the process gets the second message, works on it and tells its RSN
+    ∷ Handed 1 (delivery 2) (process image (Up n6))
+    ∷ Worked 1 (process image (Up n7))
+    ∷ Gave 1 (number 2) (process image (Up (quiet n7)))
+    -- the same with the third
+    ∷ Handed 1 (delivery 3) (process image (Up n8))
+    ∷ Worked 1 (process image (Up n9))
+    ∷ Gave 1 (number 3) (process image (Up (quiet n9)))
+    -- the gateway acknowledges both RSNs
+    ∷ HandedOut (number 2) g5
+    ∷ HandedOut (number 3) g6
+    ∷ StoredOut
+    ∷ GaveOut (acknowledgement 2) (gave (acknowledgement 3 ∷ []) g6)
+    ∷ GaveOut (acknowledgement 3) (gave [] g6)
+    -- the process gets one of these acknowledgements
+    ∷ Handed 1 (acknowledgement 2) (process image (Up n10))
     ∷ []
 
--- they are such calls, in which it fails alone, goes on once all is replayed, and stays exact; in the end it is up in its second
--- incarnation, with its opening state
-pub record IsWorked (f : Answering) (initial : List ℕ) (page tick : ℕ) (bytes : ℕ → List ℕ) : Type 0 where
-  pub calls : Calls f 1 (new_system 1 (λ _. usual) (λ _. initial) bytes page tick) (worked initial page tick)
-  pub alone : OneAtATime 1 (new_system 1 (λ _. usual) (λ _. initial) bytes page tick) (worked initial page tick)
-  pub whole : ReplayWhole (new_system 1 (λ _. usual) (λ _. initial) bytes page tick) (worked initial page tick)
-  pub exact : StayExact 1 (new_system 1 (λ _. usual) (λ _. initial) bytes page tick) (worked initial page tick)
-  pub node : TheNode
-  pub is_up : (after_calls (new_system 1 (λ _. usual) (λ _. initial) bytes page tick) (worked initial page tick)).processes 1 ≡ Up node
-  pub life : node.life ≡ 2
-  pub state : node.state ≡ initial
+-- from its death on
+abbrev pub behind : AnyImage → List HostCall
+behind image =
+    -- it is killed
+    Died 1
+    -- it is revived from its checkpoint
+    ∷ Revived 1 usual 2 (process image (Collecting comes))
+    -- it asks the gateway what its log holds, and the gateway answers
+    ∷ Gave 1 ask (process image (Collecting (collects [] comes)))
+    ∷ HandedOut ask g7
+    ∷ StoredOut
+    ∷ GaveOut told (gave [] g7)
+    -- it gets the answer, and begins to replay two messages
+    ∷ Handed 1 told (process image (Replaying replays))
+    -- its handler runs on the second message again
+    ∷ Worked 1 (process image (Replaying replays_more))
+    -- and on the third; the replay is over, and it begins to restore its RSNs
+    ∷ Worked 1 (process image (Restoring begins))
+    -- it asks the gateway for these, and the gateway answers
+    ∷ Gave 1 resume (process image (Restoring (restores [] begins)))
+    ∷ HandedOut resume g8
+    ∷ StoredOut
+    ∷ GaveOut restored (gave [] g8)
+    -- it gets the answer, and is up
+    ∷ Handed 1 restored (process image (Up (ticked (up has_answer))))
+    ∷ []
 
--- so it goes for every handler, opening state and size of a page and of a tick
-abbrev pub ComesBackUp : Type 0
-ComesBackUp = (f : Answering) (initial : List ℕ) (page tick : ℕ) (bytes : ℕ → List ℕ) → AreStored 1 (λ _. initial) bytes
-    → IsWorked f initial page tick bytes
+-- the process is opened, and these bytes are stored of it
+abbrev pub opened : AnyImage → List ℕ → System
+opened image stored = new_system 1 (λ _. process image (Up n0)) (λ _. stored) PAGE TICK
+
+-- the system after the calls up to its death and k calls after that
+abbrev pub later : AnyImage → List ℕ → List ℕ → ℕ → System
+later image stored bytes k = after_calls (opened image stored) (before image bytes ++ take k (behind image))
+
+-- with these bytes of its opening and of its checkpoint they are such calls, from an opening on; the process is killed alone, and stays
+-- exact. After fifteen calls it is suspended, and after one more it runs again as it was. When it is killed it has three messages, of
+-- which two are acknowledged without a gap. It collects, until a call after which it has two to replay. Then it is up in its second
+-- incarnation, with all three and the state that it had
+pub record IsWorked (image : AnyImage) (stored bytes : List ℕ) : Type 0 where
+  pub opens : Opens 1 (λ _. image) (λ _. usual) (λ _. process image (Up n0)) (λ _. 0 ∷ []) (λ _. stored)
+  pub calls : AreCalls (λ _. image) 1 (opened image stored) (before image bytes ++ behind image)
+  pub alone : OneAtATime 1 (opened image stored) (before image bytes ++ behind image)
+  pub exact : StayExact 1 (opened image stored) (before image bytes ++ behind image)
+  pub sleeps : (after_calls (opened image stored) (take 15 (before image bytes))).processes 1
+      ≡ Sleeps (process image (Up (quiet n5))) (suspended_bytes (quiet n5))
+  pub wakes : (after_calls (opened image stored) (take 16 (before image bytes))).processes 1 ≡ Runs (process image (Up (quiet n5))) Absent
+  pub was_up : (after_calls (opened image stored) (before image bytes)).processes 1 ≡ Runs (process image (Up n10)) Absent
+  pub had : length_of n10 ≡ 3
+  pub acknowledged : run_at n10 ≡ 2
+  pub was : n10.state ≡ input 3
+  pub collects : (later image stored bytes 6).processes 1 ≡ Runs (process image (Collecting (collects [] comes))) Absent
+  pub recovers : (later image stored bytes 7).processes 1 ≡ Runs (process image (Replaying replays)) Absent
+  pub replays_two : length replays.plan ≡ 2
+  pub node : TheNode
+  pub is_up : (after_calls (opened image stored) (before image bytes ++ behind image)).processes 1 ≡ Runs (process image (Up node)) Absent
+  pub has : length_of node ≡ 3
+  pub life : node.life ≡ 2
+  pub state : node.state ≡ input 3
+
+-- there is such an image, and this holds for each
+abbrev pub HostsCanCall : Type 0
+HostsCanCall = CopyingLoads × ((image : AnyImage) → IsCopying image → IsWorked image (kept_bytes (kept_of n0)) (kept_bytes (kept_of n4)))

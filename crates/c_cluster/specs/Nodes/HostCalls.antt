@@ -7,11 +7,10 @@ use Rattle.verifier.specs.declared.any_image.AnyImage.{AnyImage}
 use Rattle.packets.specs.declared.packet.NodePacket.{NodePacket}
 use Rattle.packets.specs.Format.{IsPacket}
 use Rattle.node.specs.Runs.{IsOne}
-use Rattle.node_laws.specs.Together.{IsFirst}
 use Rattle.process.specs.declared.call.HandlerTicket.{HandlerTicket}
 use Rattle.process.specs.Process.{TheProcess}
 use Rattle.process.specs.Revival.{IsOpened}
-use Rattle.node_laws.specs.HostProcess.{Checkpoint, Durable, Runs, Sleeps, Killed}
+use Rattle.node_laws.specs.HostProcess.{IsFirst, Checkpoint, Durable, Runs, Sleeps, Killed}
 use Rattle.node_laws.specs.HostSystem.{System, HostCall, GaveBytes, HandedBytes, Worked, Answered, Ticked, Froze, Saved, Suspended}
 use Rattle.node_laws.specs.HostSystem.{Resumed, Revived, AnswersSo, DoesIt, AreCalls, after_calls}
 use Rattle.c_cluster.specs.declared.nodes.lifetime.NodeLimits.{NodeLimits}

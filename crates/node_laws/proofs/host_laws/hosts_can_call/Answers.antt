@@ -1,4 +1,4 @@
-use Rattle.node_laws.proofs.WorkedLemmas.{hosts-can-call}
+use Rattle.node_laws.proofs.Worked.{hosts-can-call}
 use Rattle.node_laws.proofs.host_laws.hosts_can_call.Goals as goal
 
 pub returns : goal.returns

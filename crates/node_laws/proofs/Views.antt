@@ -1,0 +1,103 @@
+-- What a host sees of a process holds of the process in all lives
+use Rattle.std.proofs.Common.{◌≡◌, ℕ, List, true, refl, sym, ap, ◌∙◌, subst}
+use Rattle.cluster.specs.Cluster.{Cluster}
+use Rattle.verifier.specs.declared.any_image.AnyImage.{AnyImage}
+use Rattle.packets.specs.declared.kept.Kept.{Kept}
+use Rattle.node.specs.Node.{TheNode}
+use Rattle.node.specs.Kept.{IsKeptOf}
+use Rattle.recovery.specs.Collection.{TheCollecting}
+use Rattle.process.specs.declared.lifecycle.Lifecycle.{Lifecycle}
+use Rattle.process.specs.declared.lifecycle.Lifecycle.TheVariants.{Up, Collecting, Passing}
+use Rattle.process.specs.Process.{TheProcess, is_settled}
+use Rattle.process.specs.Calls.{standing_at, is_frozen}
+use Rattle.process.specs.Suspension.{Suspends}
+use Rattle.node_laws.specs.HostProcess.{Checkpoint, Durable, Hosted, Runs, Sleeps, Killed, Alive, is_exact, IsUp}
+use Rattle.node_laws.specs.HostBack.{Collects}
+use Rattle.node_laws.specs.Agreement.{Stands, StandsAs, IsStoredOf, AreStoredOf}
+use Rattle.node_laws.specs.Inside.Process as lives
+use Rattle.node_laws.specs.Inside.System as called
+use Rattle.node_laws.specs.Inside.Process.{covered}
+use Rattle.node_laws.specs.Inside.Alone as lone
+use Rattle.node_laws.specs.Inside.Hosted.{stage_of, seen, as_process}
+use Rattle.node_laws.proofs.Stages.{Fits, unsettled}
+use Rattle.node_laws.proofs.HostStep.{IsGood}
+
+-- ---- whether it is exact
+
+exact-stage : (c : Lifecycle) → lives.is_exact (stage_of c) ≡ (standing_at c).exact
+exact-stage Passing = refl
+exact-stage other = refl
+
+exact-durable : (c : Lifecycle) → lives.is_exact (covered (stage_of c)) ≡ (standing_at c).exact
+exact-durable Passing = refl
+exact-durable other = refl
+
+pub exact-as : (h : Hosted) → lives.is_exact (as_process h) ≡ is_exact h
+exact-as (Runs process Durable) = exact-durable process.lifecycle
+exact-as (Runs process checkpoint) = exact-stage process.lifecycle
+exact-as (Sleeps process bytes) = exact-stage process.lifecycle
+exact-as Killed = refl
+
+-- ---- its stage
+
+up-seen : (m : TheNode) (w : Checkpoint) → lives.IsUp m (seen w (Up m))
+up-seen m Durable = refl
+up-seen m other = refl
+
+pub is-up : (m : TheNode) (h : Hosted) → IsUp m h → lives.IsUp m (as_process h)
+is-up m (Runs process w) u = subst (λ c. lives.IsUp m (seen w c)) (sym u) (up-seen m w)
+is-up m (Sleeps process bytes) u = subst (λ c. lives.IsUp m (stage_of c)) (sym u) refl
+is-up m Killed u = absurd u
+
+up-holds : (m : TheNode) (process : lives.Process) → lives.IsUp m process → lone.is_up process ≡ true
+up-holds m (lives.Up n) u = refl
+up-holds m (lives.Covered n) u = refl
+up-holds m other u = absurd u
+
+pub up-so : (m : TheNode) (h : Hosted) → IsUp m h → lone.is_up (as_process h) ≡ true
+up-so m h u = up-holds m (as_process h) (is-up m h u)
+
+pub collects : (h : Hosted) → Alive Collects h → (m : TheCollecting) × (as_process h ≡ lives.Collects m)
+collects (Runs process checkpoint) u = (u.0, ap (seen checkpoint) u.1 ∙ seen-so checkpoint u.0)
+  where
+    seen-so : (w : Checkpoint) (m : TheCollecting) → seen w (Collecting m) ≡ lives.Collects m
+    seen-so Durable m = refl
+    seen-so other m = refl
+collects other u = absurd u
+
+-- ---- how it agrees with a cluster
+
+stands-stage : (c : Lifecycle) (d : Cluster) (p : ℕ) → is_settled c ≡ true → lives.StandsAs (stage_of c) d p → Stands c d p
+stands-stage Passing d p s g = unsettled s
+stands-stage other d p s g = g
+
+stands-durable : (c : Lifecycle) (d : Cluster) (p : ℕ) → Fits Durable c → lives.StandsAs (covered (stage_of c)) d p → (is_frozen c ≡ true) × Stands c d p
+stands-durable (Up n) d p f g = (f, g.1)
+stands-durable other d p f g = absurd f
+
+stands-asleep : (c : Lifecycle) (bytes : List ℕ) (d : Cluster) (p : ℕ) → Suspends c bytes → lives.StandsAs (stage_of c) d p → Stands c d p
+stands-asleep (Up n) bytes d p s g = g
+stands-asleep other bytes d p s g = absurd s
+
+pub stands-as : (image : AnyImage) (h : Hosted) (d : Cluster) (p : ℕ) → IsGood image h → lives.StandsAs (as_process h) d p → StandsAs h d p
+stands-as image (Runs process Durable) d p good g = stands-durable process.lifecycle d p good.1.1 g
+stands-as image (Runs process checkpoint) d p good g = stands-stage process.lifecycle d p good.1.0 g
+stands-as image (Sleeps process bytes) d p good g = stands-asleep process.lifecycle bytes d p good g
+stands-as image Killed d p good g = g
+
+stored-stage : (k : Kept) (c : Lifecycle) (d : Cluster) (p : ℕ) → lives.IsStoredOf k (stage_of c) d p → IsKeptOf k d p
+stored-stage k Passing d p g = g
+stored-stage k other d p g = g
+
+stored-durable : (k : Kept) (process : TheProcess) (c : Lifecycle) (d : Cluster) (p : ℕ) → Fits Durable c → lives.IsStoredOf k (covered (stage_of c)) d p → IsStoredOf k (Runs process Durable) d p
+stored-durable k process (Up n) d p f g = g
+stored-durable k process other d p f g = absurd f
+
+kept-as : (k : Kept) (image : AnyImage) (h : Hosted) (d : Cluster) (p : ℕ) → IsGood image h → lives.IsStoredOf k (as_process h) d p → IsStoredOf k h d p
+kept-as k image (Runs process Durable) d p good g = stored-durable k process process.lifecycle d p good.1.1 g
+kept-as k image (Runs process checkpoint) d p good g = stored-stage k process.lifecycle d p g
+kept-as k image (Sleeps process bytes) d p good g = stored-stage k process.lifecycle d p g
+kept-as k image Killed d p good g = g
+
+pub stored-as : (bytes : List ℕ) (image : AnyImage) (h : Hosted) (d : Cluster) (p : ℕ) → IsGood image h → called.AreStoredOf bytes (as_process h) d p → AreStoredOf bytes h d p
+stored-as bytes image h d p good g = (g.0, (g.1.0, kept-as g.0 image h d p good g.1.1))
