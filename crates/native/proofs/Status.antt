@@ -16,7 +16,7 @@ use Rattle.regtypes.specs.declared.image_form.ImageForm.{ImageForm}
 use Rattle.regtypes.specs.Typing.{Table}
 use Rattle.verifier.specs.Least.{IsLeastTyping}
 use Rattle.interp.specs.Flat.{IsHandledIn}
-use Rattle.interp.proofs.FlatCalls.{Going, Ready, in_ops, in_slots, op_within, going_next, later, ended_in}
+use Rattle.interp.proofs.FlatCalls.{Going, Ready, ended_in, going_next, in_ops, in_slots, later, op_within, there}
 use Rattle.native.specs.declared.task.SlotTask.{SlotTask}
 use Rattle.native.specs.declared.task.SlotTask.TheVariants as task
 use Rattle.native.specs.Tasks.{task_act, TaskWithin, TaskReaches}
@@ -70,17 +70,17 @@ module _ {form : ImageForm} {slots : List (Option Insn)} {table : Table} {m len 
       let x : slice_get ops slot ≡ Some o = slice_get-get_or ops slot op.Dead w in
       let y : slice_get ops slot ≡ Some (get_or ops slot o) = slice_get-get_or ops slot o w in
       let q : o ≡ get_or ops slot o = cc in
-      let (t, is_task, eligible) = has_code form slots len table ops pool slot g.stands.shown.frame o least r.dense g.stands.shown.there x in
+      let (t, is_task, eligible) = has_code form slots len table ops pool slot g.begins.fits.frame o least r.dense (there r g) x in
       let v = in_slots r g in
-      let z = told slot v g.stands.shown.frame o t g.stands.shown.there x is_task in
+      let z = told slot v g.begins.fits.frame o t (there r g) x is_task in
       let found : slice_get tasks slot ≡ Some t = slice_get-get_or tasks slot task.Dead (omega (arith, v, many)) ∙ ap Some z.0 in
       let acts : act_of who pool slot words mem e o ≡ task_act who slot words mem e t = z.1.acts who slot words mem e in
       let as_performed : (to : Next) (words' mem' : List ℕ) (e' : Emitted) → Does slot words mem e (task_act who slot words mem e t) to words' mem' e' → IsPerformed who pool slot words mem e o (λ a. Does slot words mem e a to words' mem' e') = λ to words' mem' e' d.
       performed who pool slot words mem e o (λ a. Does slot words mem e a to words' mem' e') (subst (λ (a : Act). Does slot words mem e a to words' mem' e') (sym acts) d) in
       record {
         before = v;
-        left = let s = g.stands.few in omega (arith, v, s);
-        array = g.whole;
+        left = let s = g.few in omega (arith, v, s);
+        array = g.begins.whole;
         this = t;
         there = found;
         eligible = eligible;
