@@ -62,7 +62,7 @@ module _ {slots : List (Option Insn)} {n long : ℕ} {who : Who} {table : Table}
   -- ---- one step of both
 
   module _ {ws mem : List ℕ} {s steps : ℕ} {e : Emitted} (g : Stands r.begun ws mem s steps e) (ten : g.c.cells 10 ≡ Some (At Stack (pos 512))) where
-    a : IsAllowed n count (insn_at slots) table s g.f
+    abbrev a : IsAllowed n count (insn_at slots) table s g.f
     a = allowed r.begun g
 
     abbrev i : Insn

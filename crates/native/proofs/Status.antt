@@ -16,7 +16,7 @@ use Rattle.regtypes.specs.declared.image_form.ImageForm.{ImageForm}
 use Rattle.regtypes.specs.Typing.{Table}
 use Rattle.verifier.specs.Least.{IsLeastTyping}
 use Rattle.interp.specs.Flat.{IsHandledIn}
-use Rattle.interp.proofs.FlatCalls.{Going, Ready, in_ops, in_slots, op_within, going_next, later, ended_in, there}
+use Rattle.interp.proofs.FlatCalls.{Going, Ready, ended_in, going_next, in_ops, in_slots, later, op_within, there}
 use Rattle.native.specs.declared.task.SlotTask.{SlotTask}
 use Rattle.native.specs.declared.task.SlotTask.TheVariants as task
 use Rattle.native.specs.Tasks.{task_act, TaskWithin, TaskReaches}
