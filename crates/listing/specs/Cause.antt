@@ -25,6 +25,7 @@ use Rattle.listing.specs.declared.cause.Cause.{Cause}
 use Rattle.listing.specs.declared.cause.Cause.TheVariants.{Nothing, Jump, NothingFollows, FramePointer, NoAnswer, OfRegister, OfWord}
 use Rattle.listing.specs.declared.cause.Cause.TheVariants.{SumOfPlaces, Outside, MovedBy, ShiftedBy, NoHelper, NoCount, NoPayload, NoSized}
 use Rattle.listing.specs.declared.cause.RegisterFault.TheVariants as register
+use Rattle.listing.specs.declared.cause.WordFault.{WordFault}
 use Rattle.listing.specs.declared.cause.WordFault.TheVariants as word
 use Rattle.listing.specs.declared.flaw.Flaw.TheVariants.{Missing, Pointing, NotNumber}
 use Rattle.listing.specs.declared.view.View.{View}
@@ -38,11 +39,15 @@ jump_of (Leaps d) = Jump d
 jump_of (Forks d) = Jump d
 jump_of other = Nothing
 
+-- what is wrong with a word of the stack, if there is one
+abbrev pub word_cause : WordFault → Option ℕ → Cause
+word_cause fault None = Nothing
+word_cause fault (Some c) = OfWord c fault
+
 -- V3: a register that is read but not set, or else a word of the stack
 abbrev pub by_missing : Option Reg → Option ℕ → Cause
 by_missing (Some r) w = OfRegister r register.Unset
-by_missing None (Some c) = OfWord c word.Unset
-by_missing None None = Nothing
+by_missing None w = word_cause word.Unset w
 
 -- V3: the first word that is read but not set. Forms 1 and 2 know nothing of words
 abbrev pub missing_word : View → Option Access → Option ℕ
@@ -65,17 +70,14 @@ flat_mixed x (Some r) = OfRegister r register.PlaceAsNumber
 flat_mixed (Some x) None = OfRegister x.base register.NumberAsBase
 flat_mixed None None = Nothing
 
--- V5: a word of the stack that holds a place, of which this many bytes are read or written
-abbrev pub part_cause : Access → Option ℕ → Cause
-part_cause x None = Nothing
-part_cause x (Some c) = OfWord c (if x.stores then word.Written x.bytes else word.Read x.bytes)
-
--- V5: an access through a base of this kind. stored is the register whose place it stores, if there is one
+-- V5: an access through a base of this kind. stored is the register whose place it stores, if there is one; or else a word of the
+-- stack may hold a place, of which bytes are read or written
 abbrev pub access_cause : Frame → Access → Option Reg → SpanKind → Cause
 access_cause f x stored Unset = Nothing
 access_cause f x stored (Num s) = OfRegister x.base register.NumberAsBase
 access_cause f x (Some r) (Place q s) = OfRegister r register.PlaceStored
-access_cause f x None (Place q s) = part_cause x (flawed_word Pointing f (Place q s) x.offset x.bytes)
+access_cause f x None (Place q s) =
+    word_cause (if x.stores then word.Written x.bytes else word.Read x.bytes) (flawed_word Pointing f (Place q s) x.offset x.bytes)
 
 -- V5: the first register that is read as a number but holds a place, or else what is wrong with the access
 abbrev pub mixed_by : Frame → Option Access → Option Reg → Cause
@@ -125,15 +127,10 @@ abbrev pub helper_cause : Insn → Cause
 helper_cause (Call helper) = NoHelper helper
 helper_cause i = Nothing
 
--- V9: a word of the payload that isn't known to be a number
-abbrev pub payload_word : Option ℕ → Cause
-payload_word None = Nothing
-payload_word (Some c) = OfWord c word.NoNumber
-
--- V9: the register r, of this kind, which has to be a place with n bytes
+-- V9: the register r, of this kind, which has to be a place with n bytes, each of them known to be of a number
 abbrev pub payload_by : Frame → ℕ → ℕ → SpanKind → Cause
 payload_by f r n (Place Stack s) =
-    if is_inside 512 s (pos 0) n then payload_word (flawed_word NotNumber f (Place Stack s) (pos 0) n) else NoPayload r n
+    if is_inside 512 s (pos 0) n then word_cause word.NoNumber (flawed_word NotNumber f (Place Stack s) (pos 0) n) else NoPayload r n
 payload_by f r n k = NoPayload r n
 
 -- V9: the same with as many bytes as the register r', of this kind, says

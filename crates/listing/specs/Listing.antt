@@ -54,7 +54,7 @@ register_text s whys i v r =
 -- reaches it
 abbrev pub known_text : Study → List UnsetCause → Insn → Option View → List ℕ
 known_text s whys i None = codes "    no way leads here\n"
-known_text s whys i (Some v) = texts_below (register_text s whys i v) REGISTERS ++ stack_text s.state_len i v
+known_text s whys i (Some v) = texts_below (register_text s whys i v) REGISTERS ++ stack_text s.state_len v i
 
 -- ---- slots
 
@@ -72,9 +72,9 @@ refusal_text s rule slot i (Some v) = broken_text s rule slot v (cause_of s.form
 
 -- the lines under an instruction. Slots after the one that is refused have none
 abbrev pub notes_text : Study → List UnsetCause → ℕ → Insn → Option View → Option (Rule × ℕ) → List ℕ
-notes_text s whys slot i v None = known_text s [] i v ++ dead_text i v
+notes_text s whys slot i v None = known_text s [] i v ++ dead_text v i
 notes_text s whys slot i v (Some (rule, at)) =
-    if nat_lt slot at then known_text s [] i v ++ dead_text i v
+    if nat_lt slot at then known_text s [] i v ++ dead_text v i
     else if slot == at then known_text s whys i v ++ refusal_text s rule slot i v else []
 
 -- the number of a slot, its instruction, and the lines under it. The second slot of an instruction of two slots has none
@@ -104,13 +104,8 @@ head_text s = codes "form " ++ decimal (file_form_number (form_of s.form s.table
 abbrev pub listing : Study → List UnsetCause → List ℕ
 listing s whys = head_text s ++ texts_below (slot_text s whys) (length s.slots.items) ++ verdict_text s.count s.refusal
 
--- the reasons hold at the slot that is refused. In form 3 there are none
-abbrev pub AreReasons : Study → List UnsetCause → Option (Rule × ℕ) → Type 0
-AreReasons s whys None = Unit {0}
-AreReasons s whys (Some (rule, slot)) = AreWhys s whys slot
-
--- the text is the listing, with reasons that hold
+-- the text is the listing, with reasons that hold at the slot that is refused. In form 3 there are none
 pub record IsListing (s : Study) (text : List ℕ) : Type 0 where
   pub whys : List UnsetCause
-  pub reasons : AreReasons s whys s.refusal
+  pub reasons : (rule : Rule) (slot : ℕ) → s.refusal ≡ Some (rule, slot) → AreWhys s whys slot
   pub text_is : text ≡ listing s whys

@@ -36,16 +36,14 @@ abbrev pub kept_text : ℕ → Option ℕ → SpanKind → List ℕ
 kept_text state (Some c) (Place r s) = word_line state c (Place r s)
 kept_text state c k = []
 
--- the word of the stack that a load reads, or in which a store keeps a place
-abbrev pub access_text : ℕ → Insn → Frame → List ℕ
-access_text state (Load size dst src offset) f = read_text state f (word_at (f src.number) offset (bytes_in size))
-access_text state (StoreReg size dst src offset) f = kept_text state (word_at (f dst.number) offset (bytes_in size)) (f src.number)
-access_text state i f = []
-
--- the same in form 3. Forms 1 and 2 know nothing of words
-abbrev pub stack_text : ℕ → Insn → View → List ℕ
-stack_text state i (Flat f) = []
-stack_text state i (Spans c) = access_text state i (kind_at c.kinds)
+-- the word of the stack that a load reads, or in which a store keeps a place. Forms 1 and 2 know nothing of words
+abbrev pub stack_text : ℕ → View → Insn → List ℕ
+stack_text state (Flat f) i = []
+stack_text state (Spans c) (Load size dst src offset) =
+    read_text state (kind_at c.kinds) (word_at (kind_at c.kinds src.number) offset (bytes_in size))
+stack_text state (Spans c) (StoreReg size dst src offset) =
+    kept_text state (word_at (kind_at c.kinds dst.number) offset (bytes_in size)) (kind_at c.kinds src.number)
+stack_text state (Spans c) i = []
 
 -- which branch of a jump no number takes, by what the verifier knows on the branch after it and on the branch that it takes
 abbrev pub ways_text : Option SpanPair → Option SpanPair → List ℕ
@@ -59,12 +57,8 @@ dead_by condition width (Num a) (Num b) =
     ways_text (shown (opposite condition) (bits_of width) a b) (shown (Some condition) (bits_of width) a b)
 dead_by condition width a b = []
 
--- the line of a conditional jump with a way that nothing goes
-abbrev pub jump_text : Insn → Frame → List ℕ
-jump_text (JumpIf condition width dst o offset) f = dead_by condition width (f dst.number) (operand_kind width o f)
-jump_text i f = []
-
--- the same in form 3, if a path reaches the slot
-abbrev pub dead_text : Insn → Option View → List ℕ
-dead_text i (Some (Spans c)) = jump_text i (kind_at c.kinds)
-dead_text i v = []
+-- the line of a conditional jump with a way that nothing goes, if a path reaches it. Forms 1 and 2 know no numbers
+abbrev pub dead_text : Option View → Insn → List ℕ
+dead_text (Some (Spans c)) (JumpIf condition width dst o offset) =
+    dead_by condition width (kind_at c.kinds dst.number) (operand_kind width o (kind_at c.kinds))
+dead_text v i = []

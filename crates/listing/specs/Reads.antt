@@ -1,5 +1,5 @@
 -- Which registers an instruction reads.
-use Rattle.std.specs.Prelude.{ℕ, ◌==◌, ◌||◌, Bool, false, List, [], ◌∷◌, Option, Some, None}
+use Rattle.std.specs.Prelude.{ℕ, ◌==◌, ◌||◌, Bool, false, List, [], ◌∷◌, Option, None, Some, unwrap_or}
 use Rattle.decode.specs.declared.insn.Reg.{Reg}
 use Rattle.decode.specs.declared.insn.Insn.{Insn}
 use Rattle.decode.specs.declared.insn.Insn.TheVariants.{Call, Exit}
@@ -26,13 +26,8 @@ is_argument r (Number n ∷ xs) = n == r || is_argument r xs
 is_argument r (Payload n ∷ xs) = n == r || is_argument r xs
 is_argument r (Sized n m ∷ xs) = n == r || (m == r || is_argument r xs)
 
--- whether a helper takes the register. None is a number without a helper
-abbrev pub is_given : ℕ → Option (List Argument) → Bool
-is_given r None = false
-is_given r (Some xs) = is_argument r xs
-
 -- whether the instruction reads the register. A call reads its arguments, and an exit reads r0
 abbrev pub is_read : ImageForm → Insn → ℕ → Bool
-is_read form (Call helper) r = is_given r (arguments_of form helper)
+is_read form (Call helper) r = is_argument r (unwrap_or (arguments_of form helper) [])
 is_read form Exit r = r == 0
 is_read form i r = is_named r (attributes_of i)

@@ -59,13 +59,11 @@ cause_text form slots s (NoSized r n) =
 
 -- what to do about a register
 abbrev pub register_advice : RegisterFault → List ℕ
-register_advice register.Unset =
-    codes "set it on each way that leads here, alike: a function that gives a pointer or NULL gives an index in its place, "
-    ++ codes "and one more for none; what a helper must not lose belongs in r6 to r9"
+register_advice register.Unset = codes "set it on each way that leads here, alike: a function that gives a pointer or NULL gives an index "
+    ++ codes "in its place, and one more for none; what a helper must not lose belongs in r6 to r9"
 register_advice register.PlaceAsNumber = codes "compare and compute with indices in place of pointers"
-register_advice register.NumberAsBase =
-    codes "load and store at an index of the message, the state or a local array: "
-    ++ codes "a pointer that was kept in the state comes back as a number"
+register_advice register.NumberAsBase = codes "load and store at an index of the message, the state or a local array: a pointer that was "
+    ++ codes "kept in the state comes back as a number"
 register_advice register.PlaceStored = codes "keep an index in its place; a pointer is kept by a local variable alone"
 register_advice register.Message =
     codes "copy it to a local array, and change the copy; where the state is meant, the message is the first argument, the state the second"
@@ -74,50 +72,36 @@ register_advice register.Message =
 abbrev pub word_advice : WordFault → List ℕ
 word_advice word.Unset = codes "set the local variable on each way that leads here, alike: a pointer on all, or a number on all"
 word_advice word.NoNumber = codes "send or output a local array of numbers, each of which is set on each way that leads here"
-word_advice other =
-    codes "compare the index of the local array with a number, or mask it, so that no pointer lies within its reach"
+word_advice other = codes "compare the index of the local array with a number, or mask it, so that no pointer lies within its reach"
 
 -- what to do about an index
 abbrev pub index_advice : List ℕ
-index_advice =
-    codes "compare the index with a number (if (i >= N) return 1;), or mask it (i & (N - 1), N a power of two), "
-    ++ codes "on each way that leads here, before it is added; "
-    ++ codes "% bounds nothing where its divisor may be 0, or where clang makes div, mul and sub of it; "
-    ++ codes "where the C does so already, within(index, most); right above the access does so anew"
-
--- what to do about an index that can be any number
-abbrev pub any_index_advice : List ℕ
-any_index_advice = index_advice ++ codes "; one of a signed type, as int, may be negative: make it a u64, and compare that"
+index_advice = codes "compare the index with a number (if (i >= N) return 1;), or mask it (i & (N - 1), N a power of two), on each way "
+    ++ codes "that leads here, before it is added; % bounds nothing where its divisor may be 0, or where clang makes div, mul and sub of "
+    ++ codes "it; where the C does so already, within(index, most); right above the access does so anew"
 
 -- what to do about an access outside a region, if no index moves its place
 abbrev pub region_advice : List ℕ
-region_advice =
-    codes "stay inside the region: the message has 512 bytes with the zeros behind it, the local variables have 512, "
-    ++ codes "the state has as many as --state says"
-
--- what to do about an access outside the state, with an index and without
-abbrev pub state_index_advice : List ℕ
-state_index_advice = index_advice ++ codes "; or --state is too small"
-
--- what to do about an access that leaves the state
-abbrev pub state_advice : List ℕ
-state_advice = codes "stay inside the state, which has as many bytes as --state says, or pack it with a greater one"
+region_advice = codes "stay inside the region: the message has 512 bytes with the zeros behind it, the local variables have 512, the state "
+    ++ codes "has as many as --state says"
 
 -- what to do about an access that reaches out of its region, at distances from lo to hi
 abbrev pub outside_advice : Region → ℤ → ℤ → List ℕ
-outside_advice State lo hi = if int_le hi lo then state_advice else state_index_advice
+outside_advice State lo hi =
+    if int_le hi lo then codes "stay inside the state, which has as many bytes as --state says, or pack it with a greater one"
+    else index_advice ++ codes "; or --state is too small"
 outside_advice r lo hi = if int_le hi lo then region_advice else index_advice
 
 -- what to do about an index that moves a place too far
 abbrev pub moved_advice : Span → List ℕ
-moved_advice t = if t.hi == 2 ^ 64 - 1 then any_index_advice else index_advice
+moved_advice t = if t.hi == 2 ^ 64 - 1 then
+    index_advice ++ codes "; one of a signed type, as int, may be negative: make it a u64, and compare that" else index_advice
 
 -- what to do about a cause in form 3
 abbrev pub cause_advice : Cause → List ℕ
 cause_advice Nothing = codes "read the listing from here upward"
-cause_advice (Jump d) =
-    codes "jump forward, to where an instruction begins: write unrolled above a loop of known length, "
-    ++ codes "and turn() first in it where clang leaves it as one"
+cause_advice (Jump d) = codes "jump forward, to where an instruction begins: write unrolled above a loop of known length, and turn() first "
+    ++ codes "in it where clang leaves it as one"
 cause_advice NothingFollows = codes "end each way with exit"
 cause_advice FramePointer = codes "copy it by mov, and change the copy"
 cause_advice NoAnswer = codes "return a number on each way"
@@ -129,24 +113,20 @@ cause_advice (MovedBy r t) = moved_advice t
 cause_advice (ShiftedBy r z) = region_advice
 cause_advice (NoHelper z) = codes "call helper 1 to 6"
 cause_advice (NoCount r) = codes "give the helper a number, set on each way that leads here"
-cause_advice other =
-    codes "compare the length with a number that fits before the call, or give a fixed one, and begin where so many bytes are left; "
-    ++ codes "where the C compares it already, within(length, most); right above the call does so anew; or --state is too small"
+cause_advice other = codes "compare the length with a number that fits before the call, or give a fixed one, and begin where so many bytes "
+    ++ codes "are left; where the C compares it already, within(length, most); right above the call does so anew; or --state is too small"
 
 -- what to do about a broken rule in forms 1 and 2
 abbrev pub rule_advice : Rule → List ℕ
 rule_advice V1 = codes "jump forward, to where an instruction begins; unroll a loop"
 rule_advice V2 = codes "end each way with exit"
-rule_advice V3 =
-    codes "set it on each way that leads here, alike; what a helper must not lose belongs in r6 to r9; "
-    ++ codes "r3 is the length in forms 2 and 3 alone, and a handler in C wants --form 3"
+rule_advice V3 = codes "set it on each way that leads here, alike; what a helper must not lose belongs in r6 to r9; r3 is the length in "
+    ++ codes "forms 2 and 3 alone, and a handler in C wants --form 3"
 rule_advice V4 = codes "copy it by mov, and change the copy"
-rule_advice V5 =
-    codes "compute with numbers alone; load and store through places, and move them by add and sub of a constant; "
-    ++ codes "a handler in C wants --form 3"
-rule_advice V6 =
-    codes "stay inside the region (the state has as many bytes as --state says, the message 64 in form 1); "
-    ++ codes "in form 2 compare the length before the message is read; a handler in C wants --form 3"
+rule_advice V5 = codes "compute with numbers alone; load and store through places, and move them by add and sub of a constant; a handler "
+    ++ codes "in C wants --form 3"
+rule_advice V6 = codes "stay inside the region (the state has as many bytes as --state says, the message 64 in form 1); in form 2 compare "
+    ++ codes "the length before the message is read; a handler in C wants --form 3"
 rule_advice V7 = codes "write to the state or the stack; in C the message is the first argument, the state the second"
 rule_advice V8 = codes "call helper 1, 2, 3 or 4, or in forms 2 and 3 also 5 or 6"
 rule_advice V9 = codes "set the arguments right before the call, and let the bytes lie inside one region"

@@ -3,9 +3,9 @@
 ghost use Rattle.std.specs.Prelude.{◌≡◌, ◌<◌};
 ghost use Rattle.spans.specs.Frame.{is_num, kind_at};
 ghost use Rattle.listing.specs.View.{known};
-ghost use Rattle.listing.specs.Cause.{call_cause, payload_by, payload_cause, payload_word, sized_by, sized_cause};
+ghost use Rattle.listing.specs.Cause.{call_cause, payload_by, payload_cause, sized_by, sized_cause};
 
-use crate::cause::{Cause, WordFault};
+use crate::cause::{Cause, WordFault, word_cause};
 use crate::flaw::{Flaw, flawed_word};
 use crate::view::View;
 use decode::{Insn, Reg};
@@ -13,23 +13,14 @@ use regtypes::{ImageForm, Region};
 use spans::{Cells, SpanKind};
 use verifier::is_inside;
 
-/// The cause at a payload's word that isn't known to be a number.
-fn payload_word(word: Option<usize>) -> Cause
-    ensures { result ≡ payload_word word }
-{
-    match word {
-        None => Cause::Nothing,
-        Some(cell) => Cause::OfWord(cell, WordFault::NoNumber),
-    }
-}
-
 /// The cause at a register that is to be a place with this many bytes.
 fn payload_by(frame: &Cells, reg: u8, bytes: u16, kind: SpanKind) -> Cause
     ensures { result ≡ payload_by (kind_at frame.now.kinds) reg bytes kind }
 {
     match kind {
         SpanKind::Place(Region::Stack, reach) if is_inside(512, reach, 0, bytes) => {
-            payload_word(flawed_word(Flaw::NotNumber, frame, kind, 0, bytes))
+            let word = flawed_word(Flaw::NotNumber, frame, kind, 0, bytes);
+            word_cause(WordFault::NoNumber, word)
         }
         _ => Cause::NoPayload(reg, bytes),
     }

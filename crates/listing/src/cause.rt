@@ -1,12 +1,13 @@
 //! What breaks a rule at a slot.
 
-ghost use Rattle.std.specs.Prelude.{◌≡◌, ◌∷◌, []};
+ghost use Rattle.std.specs.Prelude.{◌≡◌, ◌∷◌, [], if◌then◌else◌};
 ghost use Rattle.decode.specs.Flow.{flow_of};
 ghost use Rattle.regtypes.specs.Rules.{base_of, moved_of};
 ghost use Rattle.spans.specs.Frame.{kind_at};
 ghost use Rattle.listing.specs.View.{known};
-ghost use Rattle.listing.specs.Cause.{access_cause, by_missing, cause_of, first_place, flat_mixed, helper_cause, jump_of, message_cause, missing_word, mixed_by, mixed_cause, moved_cause, moved_or, out_by, part_cause, reach_cause, sum_or, unset_cause};
+ghost use Rattle.listing.specs.Cause.{access_cause, by_missing, cause_of, first_place, flat_mixed, helper_cause, jump_of, message_cause, missing_word, mixed_by, mixed_cause, moved_cause, moved_or, out_by, reach_cause, sum_or, unset_cause, word_cause};
 ghost use Rattle.listing.specs.Flaw.{first_flawed};
+ghost use Rattle.listing.specs.declared.cause.WordFault.TheVariants as word;
 ghost use Rattle.listing.specs.declared.flaw.Flaw.TheVariants.{Missing};
 
 use crate::argument::call_cause;
@@ -115,13 +116,22 @@ fn first_unset(view: &View, what: &Attributes) -> Option<Reg>
     None
 }
 
+/// What is wrong with a word of the stack, if there is one.
+pub fn word_cause(fault: WordFault, word: Option<usize>) -> Cause
+    ensures { result ≡ word_cause fault word }
+{
+    match word {
+        None => Cause::Nothing,
+        Some(cell) => Cause::OfWord(cell, fault),
+    }
+}
+
 fn by_missing(reg: Option<Reg>, word: Option<usize>) -> Cause
     ensures { result ≡ by_missing reg word }
 {
-    match (reg, word) {
-        (Some(reg), _) => Cause::OfRegister(reg, RegisterFault::Unset),
-        (None, Some(cell)) => Cause::OfWord(cell, WordFault::Unset),
-        (None, None) => Cause::Nothing,
+    match reg {
+        Some(reg) => Cause::OfRegister(reg, RegisterFault::Unset),
+        None => word_cause(WordFault::Unset, word),
     }
 }
 
@@ -165,18 +175,13 @@ fn flat_mixed(access: Option<Access>, reg: Option<Reg>) -> Cause
     }
 }
 
-fn part_cause(access: Access, word: Option<usize>) -> Cause
-    ensures { result ≡ part_cause access word }
+fn part_fault(access: Access) -> WordFault
+    ensures { result ≡ (if access.stores then word.Written access.bytes else word.Read access.bytes) }
 {
-    match word {
-        None => Cause::Nothing,
-        Some(cell) => {
-            if access.stores {
-                Cause::OfWord(cell, WordFault::Written(access.bytes))
-            } else {
-                Cause::OfWord(cell, WordFault::Read(access.bytes))
-            }
-        }
+    if access.stores {
+        WordFault::Written(access.bytes)
+    } else {
+        WordFault::Read(access.bytes)
     }
 }
 
@@ -190,7 +195,7 @@ fn access_cause(frame: &Cells, access: Access, stored: Option<Reg>, kind: SpanKi
         (SpanKind::Place(_, _), None) => {
             let bytes = access.bytes.into();
             let word = flawed_word(Flaw::Pointing, frame, kind, access.offset, bytes);
-            part_cause(access, word)
+            word_cause(part_fault(access), word)
         }
     }
 }

@@ -1,6 +1,6 @@
 //! The listing of an image file.
 
-ghost use Rattle.std.specs.Prelude.{◌≡◌, ◌≢◌, ◌<◌, ◌≤◌, ◌++◌, IfErr, IfOk, OnOk, length, string_bytes, take};
+ghost use Rattle.std.specs.Prelude.{◌≡◌, ◌≢◌, ◌<◌, ◌≤◌, ◌++◌, IfErr, IfOk, OnOk, Some, ℕ, length, string_bytes, take};
 ghost use Rattle.std.specs.List.{AllByRecursion};
 ghost use Rattle.decode.specs.Encoding.{Fits};
 ghost use Rattle.decode.specs.Slots.{slots_of};
@@ -8,8 +8,10 @@ ghost use Rattle.verifier.specs.AnyFile as any;
 ghost use Rattle.verifier.specs.declared.fault.ImageError.TheVariants.{Memory};
 ghost use Rattle.verifier.specs.ImageFile.{IsUnread};
 ghost use Rattle.verifier.specs.Span.File.{magic_3};
+ghost use Rattle.regtypes.specs.declared.rule.Rule.{Rule};
+ghost use Rattle.listing.specs.Why.{AreWhys};
 ghost use Rattle.listing.specs.FileListing.{IsFileExplained, IsListed};
-ghost use Rattle.listing.specs.Listing.{AreReasons, IsListing, broken_text, head_text, known_text, notes_text, reason_text, refusal_text, register_text, slot_text, texts_below, verdict_text};
+ghost use Rattle.listing.specs.Listing.{IsListing, broken_text, head_text, known_text, notes_text, reason_text, refusal_text, register_text, slot_text, texts_below, verdict_text};
 
 use crate::cause::{Cause, cause_of};
 use crate::kinds::push_register_kind;
@@ -198,7 +200,7 @@ fn push_head(out: &mut String, study: &Study) -> Result<(), AllocError>
 
 /// Why registers are unset at the slot that is refused.
 fn reasons_of(study: &Study) -> [UnsetCause; REGISTERS]
-    ensures { AreReasons study.now result study.now.refusal }
+    ensures { (rule : Rule) (slot : ℕ) → study.now.refusal ≡ Some (rule, slot) → AreWhys study.now result slot }
 {
     match study.refusal {
         Some((_, slot)) => whys_at(study, slot),

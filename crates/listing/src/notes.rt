@@ -1,8 +1,9 @@
 //! What the listing says in form 3 alone: of a word of the stack, and of a branch that no number takes.
 
-ghost use Rattle.std.specs.Prelude.{◌≡◌, ◌++◌, OnOk, string_bytes};
+ghost use Rattle.std.specs.Prelude.{◌≡◌, ◌++◌, OnOk, Some, string_bytes};
+ghost use Rattle.listing.specs.declared.view.View.TheVariants.{Spans};
 ghost use Rattle.spans.specs.Frame.{kind_at};
-ghost use Rattle.listing.specs.Notes.{access_text, dead_text, jump_text, kept_text, read_text, stack_text, ways_text, word_at, word_line};
+ghost use Rattle.listing.specs.Notes.{dead_text, kept_text, read_text, stack_text, ways_text, word_at, word_line};
 
 use crate::kinds::{distance_of, push_kind};
 use crate::view::View;
@@ -87,7 +88,7 @@ fn push_access(
     insn: &Insn,
     frame: &Cells,
 ) -> Result<(), AllocError>
-    ensures { OnOk result (string_bytes out.new ≡ string_bytes out.old ++ access_text state_len insn.now (kind_at frame.now.kinds)) }
+    ensures { OnOk result (string_bytes out.new ≡ string_bytes out.old ++ stack_text state_len (Spans frame.now) insn.now) }
 {
     match *insn {
         Insn::Load {
@@ -119,7 +120,7 @@ pub fn push_stack(
     insn: &Insn,
     view: &View,
 ) -> Result<(), AllocError>
-    ensures { OnOk result (string_bytes out.new ≡ string_bytes out.old ++ stack_text state_len insn.now view.now) }
+    ensures { OnOk result (string_bytes out.new ≡ string_bytes out.old ++ stack_text state_len view.now insn.now) }
 {
     match view {
         View::Flat(_) => Ok(()),
@@ -144,7 +145,7 @@ fn push_ways(
 
 /// Writes whether all numbers take a conditional jump, or none.
 fn push_jump(out: &mut String, insn: &Insn, frame: &Cells) -> Result<(), AllocError>
-    ensures { OnOk result (string_bytes out.new ≡ string_bytes out.old ++ jump_text insn.now (kind_at frame.now.kinds)) }
+    ensures { OnOk result (string_bytes out.new ≡ string_bytes out.old ++ dead_text (Some (Spans frame.now)) insn.now) }
 {
     let Insn::JumpIf {
         condition,
@@ -167,7 +168,7 @@ fn push_jump(out: &mut String, insn: &Insn, frame: &Cells) -> Result<(), AllocEr
 
 /// Writes the same in form 3, if a path reaches the slot.
 pub fn push_dead(out: &mut String, insn: &Insn, view: &Option<View>) -> Result<(), AllocError>
-    ensures { OnOk result (string_bytes out.new ≡ string_bytes out.old ++ dead_text insn.now view.now) }
+    ensures { OnOk result (string_bytes out.new ≡ string_bytes out.old ++ dead_text view.now insn.now) }
 {
     match view {
         Some(View::Spans(frame)) => push_jump(out, insn, frame),
