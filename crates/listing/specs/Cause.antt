@@ -56,8 +56,7 @@ missing_word (Spans c) x = reached_word Missing (kind_at c.kinds) x
 
 -- V3: the first register or word that is read and isn't set
 abbrev pub unset_cause : View → Attributes → Cause
-unset_cause v a =
-    by_missing (first_flawed Missing (known v) (a.number ∷ a.operand ∷ a.copied ∷ base_of a.access ∷ moved_of a.moved ∷ []))
+unset_cause v a = by_missing (first_flawed Missing (known v) (a.number ∷ a.operand ∷ a.copied ∷ base_of a.access ∷ moved_of a.moved ∷ []))
     (missing_word v a.access)
 
 -- V5: the first register that is read as a number but holds a place
@@ -81,8 +80,7 @@ access_cause f x None (Place q s) =
 
 -- V5: the first register that is read as a number but holds a place, or else what is wrong with the access
 abbrev pub mixed_by : Frame → Option Access → Option Reg → Cause
-mixed_by f None None = Nothing
-mixed_by f None (Some r) = OfRegister r register.PlaceAsNumber
+mixed_by f None stored = flat_mixed None stored
 mixed_by f (Some x) stored = access_cause f x stored (f x.base.number)
 
 -- V5: a sum of two registers, or else another cause

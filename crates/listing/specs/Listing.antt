@@ -46,8 +46,7 @@ reason_text k why = []
 
 -- a register with what is known of it, if the instruction reads it
 abbrev pub register_text : Study → List UnsetCause → Insn → View → ℕ → List ℕ
-register_text s whys i v r =
-    if is_read s.form i r then codes "    r" ++ decimal r ++ codes " " ++ register_kind s.state_len v r
+register_text s whys i v r = if is_read s.form i r then codes "    r" ++ decimal r ++ codes " " ++ register_kind s.state_len v r
     ++ reason_text (known v r) (slice_index_or whys r Unknown) ++ codes "\n" else []
 
 -- what is known of what an instruction reads, first its registers in ascending order and then a word of the stack; or that no path
@@ -60,8 +59,7 @@ known_text s whys i (Some v) = texts_below (register_text s whys i v) REGISTERS 
 
 -- the broken rule, what breaks it, and what to do about that
 abbrev pub broken_text : Study → Rule → ℕ → View → Cause → List ℕ
-broken_text s rule slot v cause =
-    codes "    refused by V" ++ decimal (rule_number rule)
+broken_text s rule slot v cause = codes "    refused by V" ++ decimal (rule_number rule)
     ++ (codes ": " ++ cause_text (file_form_number (form_of s.form s.table)) (length s.slots.items) slot cause
     ++ (codes "\n    to do: " ++ advice v rule cause ++ codes "\n"))
 
@@ -73,15 +71,13 @@ refusal_text s rule slot i (Some v) = broken_text s rule slot v (cause_of s.form
 -- the lines under an instruction. Slots after the one that is refused have none
 abbrev pub notes_text : Study → List UnsetCause → ℕ → Insn → Option View → Option (Rule × ℕ) → List ℕ
 notes_text s whys slot i v None = known_text s [] i v ++ dead_text v i
-notes_text s whys slot i v (Some (rule, at)) =
-    if nat_lt slot at then known_text s [] i v ++ dead_text v i
+notes_text s whys slot i v (Some (rule, at)) = if nat_lt slot at then known_text s [] i v ++ dead_text v i
     else if slot == at then known_text s whys i v ++ refusal_text s rule slot i v else []
 
 -- the number of a slot, its instruction, and the lines under it. The second slot of an instruction of two slots has none
 abbrev pub insn_text : Study → List UnsetCause → ℕ → Option Insn → List ℕ
 insn_text s whys slot None = []
-insn_text s whys slot (Some i) =
-    decimal slot ++ codes ": " ++ text_of (i ∷ []) ++ notes_text s whys slot i (view_at s.table slot) s.refusal
+insn_text s whys slot (Some i) = decimal slot ++ codes ": " ++ text_of (i ∷ []) ++ notes_text s whys slot i (view_at s.table slot) s.refusal
 
 -- the lines of a slot
 abbrev pub slot_text : Study → List UnsetCause → ℕ → List ℕ

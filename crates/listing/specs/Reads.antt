@@ -15,8 +15,7 @@ is_numbered r (Some x) = x.number == r
 
 -- whether the instruction reads the register, by its attributes
 abbrev pub is_named : ℕ → Attributes → Bool
-is_named r a =
-    is_numbered r a.number || (is_numbered r a.operand || (is_numbered r a.copied
+is_named r a = is_numbered r a.number || (is_numbered r a.operand || (is_numbered r a.copied
     || (is_numbered r (base_of a.access) || is_numbered r (moved_of a.moved))))
 
 -- whether a helper with these arguments takes the register

@@ -203,10 +203,9 @@ fn access_cause(frame: &Cells, access: Access, stored: Option<Reg>, kind: SpanKi
 fn mixed_by(frame: &Cells, access: Option<Access>, reg: Option<Reg>) -> Cause
     ensures { result ≡ mixed_by (kind_at frame.now.kinds) access reg }
 {
-    match (access, reg) {
-        (None, None) => Cause::Nothing,
-        (None, Some(reg)) => Cause::OfRegister(reg, RegisterFault::PlaceAsNumber),
-        (Some(access), stored) => access_cause(frame, access, stored, frame.kind(access.base)),
+    match access {
+        None => flat_mixed(None, reg),
+        Some(access) => access_cause(frame, access, reg, frame.kind(access.base)),
     }
 }
 
