@@ -5,8 +5,6 @@ use Rattle.decode.specs.declared.insn.Insn.{Insn}
 use Rattle.decode.specs.Encoding.{encoding}
 use Rattle.decode.specs.First.{IsFirst}
 use Rattle.decode.proofs.SlotLemmas.{length_encoding}
-use Rattle.listing.specs.Listing as flat
-use Rattle.listing.specs.SpanListing as listed
 use Rattle.listing.specs.FileListing.{IsFileExplained}
 use Rattle.regtypes.specs.declared.image_form.ImageForm.{ImageForm}
 use Rattle.regtypes.specs.declared.image_form.ImageForm.TheVariants.{Sbi1, Sbi2}
@@ -62,31 +60,15 @@ any_file form.Sbi1 is len bytes f = head_file Sbi1 is len bytes f
 any_file form.Sbi2 is len bytes f = head_file Sbi2 is len bytes f
 any_file form.Sbi3 is len bytes f = kept (span.IsFile is len) (span_length is len) bytes f
 
--- a listing of its first bytes is one of the file, of form 1 or 2, of form 3, and of any
-head_explained : (bytes text : List ℕ) → flat.IsExplained (take IMAGE_LIMIT bytes) text → flat.IsExplained bytes text
-head_explained bytes text e = record {
-  study = e.study;
-  found = record {
-    code = e.found.code;
-    file = head_file e.study.form e.found.code e.study.state_len bytes e.found.file;
-    slots = e.found.slots;
-    judged = e.found.judged;
-    counted = e.found.counted;
-  };
-  listed = e.listed;
-}
-
-head_listed : (bytes text : List ℕ) → listed.IsExplained (take IMAGE_LIMIT bytes) text → listed.IsExplained bytes text
-head_listed bytes text e = record {
+-- a listing of its first bytes is one of the file
+pub any_explained : (bytes text : List ℕ) → IsFileExplained (take IMAGE_LIMIT bytes) text → IsFileExplained bytes text
+any_explained bytes text e = record {
+  form = e.form;
   code = e.code;
   state = e.state;
-  file = kept (span.IsFile e.code e.state) (span_length e.code e.state) bytes e.file;
+  file = any_file e.form e.code e.state bytes e.file;
   listed = e.listed;
 }
-
-pub any_explained : (bytes text : List ℕ) → IsFileExplained (take IMAGE_LIMIT bytes) text → IsFileExplained bytes text
-any_explained bytes text (inl e) = inl (head_explained bytes text e)
-any_explained bytes text (inr e) = inr (head_listed bytes text e)
 
 -- eight bytes keep their fields when more follows
 same_fields : (xs more : List ℕ) → 8 ≤ length xs

@@ -1,9 +1,7 @@
 mod Reasons
-mod Studies
 pub mod Texts
 mod Together
 mod Ways
 mod Words
-mod Frames
 mod Written
-mod Forms
+mod Files

@@ -1,5 +1,5 @@
 -- Reasons for registers, one register more at a time.
-use Rattle.std.proofs.Common.{◌≡◌, ◌≢◌, ◌∙◌, ℕ, zero, suc, ◌+◌, ◌<◌, ◌≤◌, List, [], ◌∷◌, length, get_or, refl, sym, ap, subst, ⊎_elim, arith}
+use Rattle.std.proofs.Common.{◌≡◌, ◌≢◌, ◌∙◌, ℕ, zero, suc, ◌+◌, ◌<◌, List, [], ◌∷◌, length, get_or, refl, sym, ap, subst, ⊎_elim, arith}
 use Rattle.std.specs.Prelude.{Some, None, slice_set}
 use Rattle.std.specs.List.{AllByRecursion}
 use Rattle.std.proofs.lemmas.Bool.{cases_order}
@@ -7,11 +7,11 @@ use Rattle.std.proofs.lemmas.List.{get_or-set_same, get_or-set_other}
 use Rattle.regtypes.specs.declared.frame.Frame.{Frame}
 use Rattle.regtypes.specs.declared.frame.Kind.TheVariants.{Unset}
 use Rattle.regtypes.specs.Frame.{kind_at}
-use Rattle.regtypes.specs.Typing.{frame_at}
+use Rattle.listing.specs.Study.{flat_at}
 use Rattle.listing.specs.declared.study.Study.{Study}
 use Rattle.listing.specs.declared.why.UnsetCause.{UnsetCause}
 use Rattle.listing.specs.declared.why.UnsetCause.TheVariants.{Unknown}
-use Rattle.listing.specs.Why.{Explains, IsUnsetAt, IsWhy}
+use Rattle.listing.specs.Why.{Explains, IsWhy}
 
 -- no reason was found yet
 abbrev pub eleven : List UnsetCause
@@ -26,17 +26,17 @@ pub none_yet : (r : ℕ) → get_or eleven r Unknown ≡ Unknown
 none_yet r = unknown_at eleven r (refl, (refl, (refl, (refl, (refl, (refl, (refl, (refl, (refl, (refl, (refl, tt)))))))))))
 
 -- a register that isn't set, one that is, and a slot that no way reaches
-pub of_unset : (s : Study) (r here : ℕ) (f : Frame) (why : UnsetCause) → frame_at s.table.items here ≡ Some f → kind_at f.kinds r ≡ Unset → IsWhy s r why here → Explains s r why here
+pub of_unset : (s : Study) (r here : ℕ) (f : Frame) (why : UnsetCause) → flat_at s.table here ≡ Some f → kind_at f.kinds r ≡ Unset → IsWhy s r why here → Explains s r why here
 of_unset s r here f why there unset is = record { unset = λ _. is; set = λ other. absurd (other (record { frame = f; there = there; unset = unset })) }
 
-pub of_set : (s : Study) (r here : ℕ) (f : Frame) (why : UnsetCause) → frame_at s.table.items here ≡ Some f → kind_at f.kinds r ≢ Unset → why ≡ Unknown → Explains s r why here
+pub of_set : (s : Study) (r here : ℕ) (f : Frame) (why : UnsetCause) → flat_at s.table here ≡ Some f → kind_at f.kinds r ≢ Unset → why ≡ Unknown → Explains s r why here
 of_set s r here f why there set none = record {
   unset = λ is. let same : is.frame ≡ f = let both : Some is.frame ≡ Some f = sym is.there ∙ there in cc in
       absurd (set (subst (λ (g : Frame). kind_at g.kinds r ≡ Unset) same is.unset));
   set = λ _. none;
 }
 
-pub of_nowhere : (s : Study) (r here : ℕ) (why : UnsetCause) → frame_at s.table.items here ≡ None → why ≡ Unknown → Explains s r why here
+pub of_nowhere : (s : Study) (r here : ℕ) (why : UnsetCause) → flat_at s.table here ≡ None → why ≡ Unknown → Explains s r why here
 of_nowhere s r here why nowhere none = record {
   unset = λ is. let both : None ≡ Some is.frame = sym nowhere ∙ is.there in cc;
   set = λ _. none;

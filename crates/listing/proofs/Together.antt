@@ -1,5 +1,5 @@
 -- What the slots before one pass on to it, one slot more at a time.
-use Rattle.std.proofs.Common.{◌≡◌, ◌≢◌, ◌∙◌, ℕ, ◌+◌, ◌<◌, Option, Some, None, refl, sym, ap, subst, ⊎_elim, arith}
+use Rattle.std.proofs.Common.{◌≡◌, ◌≢◌, ◌∙◌, ℕ, ◌+◌, ◌<◌, Option, Some, None, refl, sym, subst, ⊎_elim, arith}
 use Rattle.std.proofs.lemmas.Bool.{cases_order}
 use Rattle.regtypes.specs.declared.frame.Kind.{Kind}
 use Rattle.regtypes.specs.declared.frame.Kind.TheVariants as kind
@@ -7,7 +7,7 @@ use Rattle.listing.specs.declared.study.Study.{Study}
 use Rattle.listing.specs.declared.why.UnsetCause.{UnsetCause}
 use Rattle.listing.specs.declared.why.UnsetCause.TheVariants.{Unknown, Never, Lost, Differs}
 use Rattle.listing.specs.Inside.Arrives.{GoesWith, GoTogether}
-use Rattle.listing.specs.Why.{Agree, Clash, IsReason, Passes}
+use Rattle.listing.specs.Why.{Agree, IsReason, Passes}
 
 pub together_more : (s : Study) (r at n : ℕ) (set set' new : Option (ℕ × Kind)) (why why' told : UnsetCause) → new ≡ set' → told ≡ why' → GoTogether s r at n set why
     → ((k : Kind) → GoesWith set why k → GoesWith set' why' k) → ((k : Kind) → Passes s r n at k → GoesWith set' why' k) → GoTogether s r at (n + 1) new told

@@ -1,6 +1,6 @@
 -- Where an instruction leads.
-use Rattle.std.proofs.Common.{◌≡◌, ◌∙◌, ℕ, zero, suc, ◌+◌, ◌<◌, ◌≤◌, ℤ, pos, List, ◌∷◌, [], length, refl, sym, ap, subst, inl, inr, arith}
-use Rattle.std.specs.Prelude.{◌⊎◌, ◌+ℤ◌, Some, None, slice_index_or}
+use Rattle.std.proofs.Common.{◌≡◌, ◌∙◌, ℕ, zero, suc, ◌+◌, ◌<◌, ℤ, pos, List, length, refl, sym, ap, subst, inl, inr, arith}
+use Rattle.std.specs.Prelude.{Some, slice_index_or}
 use Rattle.std.specs.List.{Contains}
 use Rattle.decode.specs.declared.insn.Insn.{Insn}
 use Rattle.decode.specs.Slots.{insn_at}
@@ -9,10 +9,10 @@ use Rattle.decode.specs.declared.flow.Flow.TheVariants.{Ends, Leaps, Forks, Fall
 use Rattle.regtypes.specs.declared.frame.Frame.{Frame}
 use Rattle.regtypes.specs.declared.frame.Kind.{Kind}
 use Rattle.decode.specs.Flow.{flow_of}
-use Rattle.regtypes.specs.Exits.{exits, exits_by}
+use Rattle.regtypes.specs.Exits.{exits_by}
 use Rattle.regtypes.specs.Frame.{kind_at}
 use Rattle.regtypes.specs.Ways.{after, next, taken}
-use Rattle.regtypes.specs.Typing.{frame_at}
+use Rattle.listing.specs.Study.{flat_at}
 use Rattle.listing.specs.declared.study.Study.{Study}
 use Rattle.listing.specs.Inside.Arrives.{LeadsTo}
 use Rattle.listing.specs.Why.{Leaves, Passes}
@@ -41,14 +41,14 @@ exit_at p t (Falls n) nx tk g same zero within is = (sym (at_slot (p + n) t (ap 
 exit_at p t (Falls n) nx tk g same (suc k) within is = absurd (omega (arith, within))
 
 -- what an instruction leaves at the slot to which it leads
-pub leaves : (s : Study) (r p t : ℕ) (i : Insn) (f : Frame) → insn_at s.slots.items p ≡ Some i → frame_at s.table.items p ≡ Some f → LeadsTo (flow_of i) p t
+pub leaves : (s : Study) (r p t : ℕ) (i : Insn) (f : Frame) → insn_at s.slots.items p ≡ Some i → flat_at s.table p ≡ Some f → LeadsTo (flow_of i) p t
     → Leaves s r p t (kind_at (after i f.kinds) r)
 leaves s r p t i f begins there to =
     let exit = is_exit p t (flow_of i) (next i f) (taken i f) refl to in
     record { insn = i; begins = begins; frame = f; there = there; left = exit.0; leads = exit.1; kind = ap (λ (ks : List Kind). kind_at ks r) (sym exit.2) }
 
 -- and that it leads to wherever something passes on
-pub passes : (s : Study) (r p t : ℕ) (k : Kind) (i : Insn) (f : Frame) → insn_at s.slots.items p ≡ Some i → frame_at s.table.items p ≡ Some f → Passes s r p t k
+pub passes : (s : Study) (r p t : ℕ) (k : Kind) (i : Insn) (f : Frame) → insn_at s.slots.items p ≡ Some i → flat_at s.table p ≡ Some f → Passes s r p t k
     → LeadsTo (flow_of i) p t × (k ≡ kind_at (after i f.kinds) r)
 passes s r p t k i f begins there passed =
     let one = passed.leaves in

@@ -1,152 +1,172 @@
--- What breaks a rule at a slot, as a sentence, and what to do about it.
-use Rattle.std.specs.Prelude.{ℕ, ◌+◌, ◌++◌, ◌∷◌, [], Bool, List, Option, Some, None, ℤ, pos, ◌+ℤ◌, codes, decimal, if◌then◌else◌}
-use Rattle.std.specs.Fmt.{signed_decimal}
+-- What breaks a rule at a slot.
+use Rattle.std.specs.Prelude.{ℕ, [], ◌∷◌, List, Option, Some, None, ℤ, pos, ◌+ℤ◌, min, unwrap_or, if◌then◌else◌}
 use Rattle.decode.specs.declared.insn.Reg.{Reg}
+use Rattle.decode.specs.declared.insn.AluOp.TheVariants as alu
+use Rattle.decode.specs.declared.insn.Width.TheVariants.{W64}
+use Rattle.decode.specs.declared.insn.Operand.TheVariants as operand
 use Rattle.decode.specs.declared.insn.Insn.{Insn}
-use Rattle.decode.specs.declared.insn.Insn.TheVariants.{Call}
+use Rattle.decode.specs.declared.insn.Insn.TheVariants.{Alu, Call}
 use Rattle.decode.specs.declared.attributes.Access.{Access}
 use Rattle.decode.specs.declared.attributes.Attributes.{Attributes}
 use Rattle.decode.specs.declared.flow.Flow.{Flow}
-use Rattle.decode.specs.declared.flow.Flow.TheVariants.{Ends, Leaps, Forks, Falls}
-use Rattle.regtypes.specs.declared.frame.Frame.{Frame}
-use Rattle.regtypes.specs.declared.frame.Kind.{Kind}
-use Rattle.regtypes.specs.declared.frame.Kind.TheVariants.{Place}
+use Rattle.decode.specs.declared.flow.Flow.TheVariants.{Leaps, Forks}
+use Rattle.regtypes.specs.declared.frame.Region.TheVariants.{Stack}
 use Rattle.regtypes.specs.declared.image_form.ImageForm.{ImageForm}
 use Rattle.regtypes.specs.declared.rule.Rule.{Rule}
 use Rattle.regtypes.specs.declared.rule.Rule.TheVariants.{V1, V2, V3, V4, V5, V6, V7, V8, V9, V10}
 use Rattle.decode.specs.Attributes.{attributes_of}
 use Rattle.decode.specs.Flow.{flow_of}
-use Rattle.regtypes.specs.Frame.{form_number, is_num, kind_at}
-use Rattle.regtypes.specs.Rules.{Argument, Number, Payload, Sized, arguments_of, base_of, has, is_place, is_unset, moved_of}
-use Rattle.listing.specs.Kinds.{place_text, reg_text}
-
--- the first of these registers whose kind passes the test
-abbrev pub first_with : (Kind → Bool) → List Kind → List (Option Reg) → Option Reg
-first_with p f [] = None
-first_with p f (r ∷ rs) = if has p f r then r else first_with p f rs
-
--- a register, if there is one, and what is wrong with it
-abbrev pub about : Option Reg → List ℕ → List ℕ
-about None text = []
-about (Some r) text = reg_text r ++ text
-
--- V1: the slot to which a jump leads
-abbrev pub jump_cause : ℕ → ℕ → ℤ → List ℕ
-jump_cause slots s d =
-    codes "the jump leads to slot " ++ signed_decimal (pos (s + 1) +ℤ d) ++ codes " of " ++ decimal slots
-    ++ codes ", and has to lead to a later one at which an instruction begins"
+use Rattle.regtypes.specs.Rules.{Argument, Number, Payload, Sized, arguments_of, base_of, moved_of, region_len}
+use Rattle.spans.specs.declared.kind.SpanKind.{SpanKind}
+use Rattle.spans.specs.declared.kind.SpanKind.TheVariants.{Unset, Num, Place}
+use Rattle.spans.specs.Access.{is_inside}
+use Rattle.spans.specs.Frame.{Frame, is_num, kind_at}
+use Rattle.listing.specs.declared.cause.Cause.{Cause}
+use Rattle.listing.specs.declared.cause.Cause.TheVariants.{Nothing, Jump, NothingFollows, FramePointer, NoAnswer, OfRegister, OfWord}
+use Rattle.listing.specs.declared.cause.Cause.TheVariants.{SumOfPlaces, Outside, MovedBy, ShiftedBy, NoHelper, NoCount, NoPayload, NoSized}
+use Rattle.listing.specs.declared.cause.RegisterFault.TheVariants as register
+use Rattle.listing.specs.declared.cause.WordFault.{WordFault}
+use Rattle.listing.specs.declared.cause.WordFault.TheVariants as word
+use Rattle.listing.specs.declared.flaw.Flaw.TheVariants.{Missing, Pointing, NotNumber}
+use Rattle.listing.specs.declared.view.View.{View}
+use Rattle.listing.specs.declared.view.View.TheVariants.{Flat, Spans}
+use Rattle.listing.specs.Flaw.{first_flawed, flawed_word, reached_word}
+use Rattle.listing.specs.View.{known, low_of}
 
 -- V1: the jump of an instruction. An instruction that doesn't jump breaks another rule
-abbrev pub flow_cause : ℕ → ℕ → Flow → List ℕ
-flow_cause slots s Ends = []
-flow_cause slots s (Leaps d) = jump_cause slots s d
-flow_cause slots s (Forks d) = jump_cause slots s d
-flow_cause slots s (Falls n) = []
+abbrev pub jump_of : Flow → Cause
+jump_of (Leaps d) = Jump d
+jump_of (Forks d) = Jump d
+jump_of other = Nothing
 
--- V3: the first register that is read but not set
-abbrev pub unset_cause : List Kind → Attributes → List ℕ
-unset_cause f a =
-    about (first_with is_unset f (a.number ∷ a.operand ∷ a.copied ∷ base_of a.access ∷ moved_of a.moved ∷ []))
-    (codes " is read and isn't set")
+-- what is wrong with a word of the stack, if there is one
+abbrev pub word_cause : WordFault → Option ℕ → Cause
+word_cause fault None = Nothing
+word_cause fault (Some c) = OfWord c fault
 
--- V5: the first register that is read as a number but holds a place, or the base of the access, which holds a number
-abbrev pub mixed_cause : Option Reg → Option Access → List ℕ
-mixed_cause (Some r) a = about (Some r) (codes " is read as a number and holds a place")
-mixed_cause None a = about (base_of a) (codes " is the base of a load or store and holds a number")
+-- V3: a register that is read but not set, or else a word of the stack
+abbrev pub by_missing : Option Reg → Option ℕ → Cause
+by_missing (Some r) w = OfRegister r register.Unset
+by_missing None w = word_cause word.Unset w
 
--- V6: which bytes an access reaches at a place
-abbrev pub bytes_cause : ℕ → List ℕ → List ℕ
-bytes_cause n place = codes "not all of the " ++ decimal n ++ codes " bytes at " ++ place ++ codes " lie there"
+-- V3: the first word that is read but not set. Forms 1 and 2 know nothing of words
+abbrev pub missing_word : View → Option Access → Option ℕ
+missing_word (Flat f) x = None
+missing_word (Spans c) x = reached_word Missing (kind_at c.kinds) x
 
--- V6: which bytes an access reaches from the place in its base
-abbrev pub reach_cause : Frame → ℕ → ℕ → ℤ → Kind → List ℕ
-reach_cause f len n o (Place r z) = bytes_cause n (place_text f.low len r (z +ℤ o))
-reach_cause f len n o k = []
+-- V3: the first register or word that is read and isn't set
+abbrev pub unset_cause : View → Attributes → Cause
+unset_cause v a = by_missing (first_flawed Missing (known v) (a.number ∷ a.operand ∷ a.copied ∷ base_of a.access ∷ moved_of a.moved ∷ []))
+    (missing_word v a.access)
 
--- V6: the register that is moved, and by how much
-abbrev pub distance_cause : Reg → ℤ → List ℕ
-distance_cause r z = reg_text r ++ codes " is moved by " ++ signed_decimal z ++ codes ", out of the places from -32768 to 32767"
+-- V5: the first register that is read as a number but holds a place
+abbrev pub first_place : View → Attributes → Option Reg
+first_place v a = first_flawed Pointing (known v) (a.number ∷ a.operand ∷ [])
 
--- V6: the place that is moved, if one is
-abbrev pub move_cause : Option (Reg × ℤ) → List ℕ
-move_cause None = []
-move_cause (Some m) = distance_cause m.0 m.1
+-- V5 in forms 1 and 2: that register, or else the base of the access, which holds a number
+abbrev pub flat_mixed : Option Access → Option Reg → Cause
+flat_mixed x (Some r) = OfRegister r register.PlaceAsNumber
+flat_mixed (Some x) None = OfRegister x.base register.NumberAsBase
+flat_mixed None None = Nothing
 
--- V6: which bytes a load or store reaches, or for any other instruction which place is moved
-abbrev pub out_cause : Frame → ℕ → Attributes → Option Access → List ℕ
-out_cause f len a None = move_cause a.moved
-out_cause f len a (Some x) = reach_cause f len x.bytes x.offset (kind_at f.kinds x.base.number)
+-- V5: an access through a base of this kind. stored is the register whose place it stores, if there is one; or else a word of the
+-- stack may hold a place, of which bytes are read or written
+abbrev pub access_cause : Frame → Access → Option Reg → SpanKind → Cause
+access_cause f x stored Unset = Nothing
+access_cause f x stored (Num s) = OfRegister x.base register.NumberAsBase
+access_cause f x (Some r) (Place q s) = OfRegister r register.PlaceStored
+access_cause f x None (Place q s) =
+    word_cause (if x.stores then word.Written x.bytes else word.Read x.bytes) (flawed_word Pointing f (Place q s) x.offset x.bytes)
 
--- V8: the number of a helper
-abbrev pub number_cause : ImageForm → ℤ → List ℕ
-number_cause form helper = codes "form " ++ decimal (form_number form) ++ codes " has no helper " ++ signed_decimal helper
+-- V5: the first register that is read as a number but holds a place, or else what is wrong with the access
+abbrev pub mixed_by : Frame → Option Access → Option Reg → Cause
+mixed_by f None stored = flat_mixed None stored
+mixed_by f (Some x) stored = access_cause f x stored (f x.base.number)
 
--- V8: the helper that is called
-abbrev pub helper_cause : ImageForm → Insn → List ℕ
-helper_cause form (Call helper) = number_cause form helper
-helper_cause form i = []
+-- V5: a sum of two registers, or else another cause
+abbrev pub sum_or : Insn → Cause → Cause
+sum_or (Alu alu.Add W64 dst (operand.Reg src)) other = SumOfPlaces dst src
+sum_or i other = other
 
--- V9: an argument that has to be a number
-abbrev pub count_cause : ℕ → List ℕ
-count_cause r = codes "r" ++ decimal r ++ codes " is to be a number"
+-- V5: a sum of places in form 3, or else a cause by the registers and the access
+abbrev pub mixed_cause : Insn → Attributes → View → Cause
+mixed_cause i a (Flat f) = flat_mixed a.access (first_place (Flat f) a)
+mixed_cause i a (Spans c) = sum_or i (mixed_by (kind_at c.kinds) a.access (first_place (Spans c) a))
 
--- V9: an argument that has to be a place with 64 bytes
-abbrev pub payload_cause : ℕ → List ℕ
-payload_cause r = codes "r" ++ decimal r ++ codes " is to be a place, with 64 bytes from there on in its region"
+-- V6: a register that holds places, and the numbers by which another moves it
+abbrev pub moved_cause : Reg → Reg → SpanKind → SpanKind → Cause
+moved_cause dst src (Place r s) (Num t) = MovedBy dst t
+moved_cause dst src (Num s) (Place r t) = MovedBy src s
+moved_cause dst src a b = Nothing
 
--- V9: arguments that have to be a place and a length
-abbrev pub sized_cause : ℕ → ℕ → List ℕ
-sized_cause r n =
-    codes "r" ++ decimal r ++ codes " is to be a place with 256 bytes from there on in its region, and r" ++ decimal n
-    ++ codes " a number; or they the message and its length"
+-- V6: which bytes an access reaches through a base of this kind
+abbrev pub reach_cause : ℕ → View → Access → SpanKind → Cause
+reach_cause state v x (Place r s) = Outside x.bytes r (s.lo +ℤ x.offset) (s.hi +ℤ x.offset) (region_len (low_of v) state r)
+reach_cause state v x k = Nothing
 
--- V9: the first argument of a helper that has to be a number and isn't; or else its place
-abbrev pub argument_cause : Frame → List Argument → List ℕ
-argument_cause f [] = []
-argument_cause f (Number r ∷ xs) =
-    if is_num (kind_at f.kinds r) then argument_cause f xs else count_cause r
-argument_cause f (Payload r ∷ xs) = payload_cause r
-argument_cause f (Sized r n ∷ xs) = sized_cause r n
+-- V6: which bytes an access reaches, or else the register that an immediate moves
+abbrev pub out_by : ℕ → View → Option Access → Option (Reg × ℤ) → Cause
+out_by state v (Some x) moved = reach_cause state v x (known v x.base.number)
+out_by state v None (Some m) = ShiftedBy m.0 m.1
+out_by state v None None = Nothing
 
--- V9: the argument that is wrong, if the helper's arguments are known
-abbrev pub given_cause : Frame → Option (List Argument) → List ℕ
-given_cause f None = []
-given_cause f (Some xs) = argument_cause f xs
+-- V6: a register that moves another to which it is added, or else another cause
+abbrev pub moved_or : Insn → View → Cause → Cause
+moved_or (Alu alu.Add W64 dst (operand.Reg src)) v other = moved_cause dst src (known v dst.number) (known v src.number)
+moved_or i v other = other
 
--- V9: the argument of the helper that is called, if there is such a helper
-abbrev pub call_cause : ImageForm → Frame → Insn → List ℕ
-call_cause form f (Call helper) = given_cause f (arguments_of form helper)
-call_cause form f i = []
+-- V7: the base of the access
+abbrev pub message_cause : Option Access → Cause
+message_cause None = Nothing
+message_cause (Some x) = OfRegister x.base register.Message
 
--- what breaks a rule at a slot, under its frame, in code of this many slots
-abbrev pub cause : ImageForm → ℕ → ℕ → ℕ → Insn → Frame → Rule → List ℕ
-cause form len slots s i f V1 = flow_cause slots s (flow_of i)
-cause form len slots s i f V2 = codes "nothing follows this instruction"
-cause form len slots s i f V3 = unset_cause f.kinds (attributes_of i)
-cause form len slots s i f V4 = codes "r10 is written, and is for reading"
-cause form len slots s i f V5 =
-    mixed_cause (first_with is_place f.kinds ((attributes_of i).number ∷ (attributes_of i).operand ∷ [])) (attributes_of i).access
-cause form len slots s i f V6 = out_cause f len (attributes_of i) (attributes_of i).access
-cause form len slots s i f V7 = about (base_of (attributes_of i).access) (codes " is a place of the message, which is for reading")
-cause form len slots s i f V8 = helper_cause form i
-cause form len slots s i f V9 = call_cause form f i
-cause form len slots s i f V10 = codes "r0 is to be a number at the end"
+-- V8: the number of the helper
+abbrev pub helper_cause : Insn → Cause
+helper_cause (Call helper) = NoHelper helper
+helper_cause i = Nothing
 
--- what to do about a broken rule
-abbrev pub advice : Rule → List ℕ
-advice V1 = codes "jump forward, to where an instruction begins; unroll a loop"
-advice V2 = codes "end each way with exit"
-advice V3 =
-    codes "set it on each way that leads here, alike; what a helper must not lose belongs in r6 to r9; "
-    ++ codes "r3 is the length in forms 2 and 3 alone, and a handler in C wants --form 3"
-advice V4 = codes "copy it by mov, and change the copy"
-advice V5 =
-    codes "compute with numbers alone; load and store through places, and move them by add and sub of a constant; "
-    ++ codes "a handler in C wants --form 3"
-advice V6 =
-    codes "stay inside the region (the state has as many bytes as --state says, the message 64 in form 1); "
-    ++ codes "in form 2 compare the length before the message is read; a handler in C wants --form 3"
-advice V7 = codes "write to the state or the stack; in C the message is the first argument, the state the second"
-advice V8 = codes "call helper 1, 2, 3 or 4, or in forms 2 and 3 also 5 or 6"
-advice V9 = codes "set the arguments right before the call, and let the bytes lie inside one region"
-advice V10 = codes "put a number in r0 before exit, as by mov r0, 0"
+-- V9: the register r, of this kind, which has to be a place with n bytes, each of them known to be of a number
+abbrev pub payload_by : Frame → ℕ → ℕ → SpanKind → Cause
+payload_by f r n (Place Stack s) =
+    if is_inside 512 s (pos 0) n then word_cause word.NoNumber (flawed_word NotNumber f (Place Stack s) (pos 0) n) else NoPayload r n
+payload_by f r n k = NoPayload r n
+
+-- V9: the same with as many bytes as the register r', of this kind, says
+abbrev pub sized_by : Frame → ℕ → ℕ → SpanKind → Cause
+sized_by f r r' (Num s) = payload_by f r (min s.hi 256) (f r)
+sized_by f r r' k = NoCount r'
+
+-- V9: a register that has to be a place with 64 bytes
+abbrev pub payload_cause : View → ℕ → Cause
+payload_cause (Flat f) r = NoPayload r 64
+payload_cause (Spans c) r = payload_by (kind_at c.kinds) r 64 (kind_at c.kinds r)
+
+-- V9: registers that have to be a place and a length
+abbrev pub sized_cause : View → ℕ → ℕ → Cause
+sized_cause (Flat f) r r' = NoSized r r'
+sized_cause (Spans c) r r' = sized_by (kind_at c.kinds) r r' (kind_at c.kinds r')
+
+-- V9: the first argument that has to be a number and isn't, or else the place
+abbrev pub argument_cause : View → List Argument → Cause
+argument_cause v [] = Nothing
+argument_cause v (Number r ∷ xs) = if is_num (known v r) then argument_cause v xs else NoCount r
+argument_cause v (Payload r ∷ xs) = payload_cause v r
+argument_cause v (Sized r r' ∷ xs) = sized_cause v r r'
+
+-- V9: the argument that isn't what a helper takes. Form 3 has the helpers of form 2
+abbrev pub call_cause : ImageForm → View → Insn → Cause
+call_cause form v (Call helper) = argument_cause v (unwrap_or (arguments_of form helper) [])
+call_cause form v i = Nothing
+
+-- what breaks a rule at a slot where this is known
+abbrev pub cause_of : ImageForm → ℕ → Insn → View → Rule → Cause
+cause_of form state i v V1 = jump_of (flow_of i)
+cause_of form state i v V2 = NothingFollows
+cause_of form state i v V3 = unset_cause v (attributes_of i)
+cause_of form state i v V4 = FramePointer
+cause_of form state i v V5 = mixed_cause i (attributes_of i) v
+cause_of form state i v V6 = moved_or i v (out_by state v (attributes_of i).access (attributes_of i).moved)
+cause_of form state i v V7 = message_cause (attributes_of i).access
+cause_of form state i v V8 = helper_cause i
+cause_of form state i v V9 = call_cause form v i
+cause_of form state i v V10 = NoAnswer

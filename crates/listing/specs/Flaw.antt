@@ -3,7 +3,7 @@ use Rattle.std.specs.Prelude.{ℕ, zero, suc, ◌+◌, ◌&&◌, Bool, true, fal
 use Rattle.std.specs.Option.{option_or}
 use Rattle.decode.specs.declared.insn.Reg.{Reg}
 use Rattle.decode.specs.declared.attributes.Access.{Access}
-use Rattle.regtypes.specs.declared.frame.Region.TheVariants.{Message, State, Stack}
+use Rattle.regtypes.specs.declared.frame.Region.TheVariants.{Stack}
 use Rattle.spans.specs.declared.kind.Reach.{Reach}
 use Rattle.spans.specs.declared.kind.SpanKind.{SpanKind}
 use Rattle.spans.specs.declared.kind.SpanKind.TheVariants.{Unset, Num, Place}
@@ -15,14 +15,11 @@ use Rattle.listing.specs.declared.flaw.Flaw.TheVariants.{Missing, Pointing, NotN
 -- whether a kind has the flaw: nothing is known, it is a place, or it is no number
 abbrev pub has_flaw : Flaw → SpanKind → Bool
 has_flaw Missing Unset = true
-has_flaw Missing (Num s) = false
-has_flaw Missing (Place r s) = false
-has_flaw Pointing Unset = false
-has_flaw Pointing (Num s) = false
+has_flaw Missing k = false
 has_flaw Pointing (Place r s) = true
-has_flaw NotNumber Unset = true
+has_flaw Pointing k = false
 has_flaw NotNumber (Num s) = false
-has_flaw NotNumber (Place r s) = true
+has_flaw NotNumber k = true
 
 -- whether a register has the flaw; if there is none, it hasn't
 abbrev pub is_flawed : Flaw → Frame → Option Reg → Bool
@@ -45,11 +42,8 @@ first_word (suc k) w f s o n = option_or (first_word k w f s o n) (flawed_cell w
 
 -- the first such cell among all words, for an access through a base of this kind
 abbrev pub flawed_word : Flaw → Frame → SpanKind → ℤ → ℕ → Option ℕ
-flawed_word w f Unset o n = None
-flawed_word w f (Num s) o n = None
-flawed_word w f (Place Message s) o n = None
-flawed_word w f (Place State s) o n = None
 flawed_word w f (Place Stack s) o n = first_word 64 w f s o n
+flawed_word w f k o n = None
 
 -- the first such cell for the access of an instruction, if it makes one
 abbrev pub reached_word : Flaw → Frame → Option Access → Option ℕ

@@ -1,5 +1,5 @@
 -- Which registers an instruction reads.
-use Rattle.std.specs.Prelude.{ℕ, ◌==◌, ◌||◌, Bool, false, List, [], ◌∷◌, Option, Some, None}
+use Rattle.std.specs.Prelude.{ℕ, ◌==◌, ◌||◌, Bool, false, List, [], ◌∷◌, Option, None, Some, unwrap_or}
 use Rattle.decode.specs.declared.insn.Reg.{Reg}
 use Rattle.decode.specs.declared.insn.Insn.{Insn}
 use Rattle.decode.specs.declared.insn.Insn.TheVariants.{Call, Exit}
@@ -15,8 +15,7 @@ is_numbered r (Some x) = x.number == r
 
 -- whether the instruction reads the register, by its attributes
 abbrev pub is_named : ℕ → Attributes → Bool
-is_named r a =
-    is_numbered r a.number || (is_numbered r a.operand || (is_numbered r a.copied
+is_named r a = is_numbered r a.number || (is_numbered r a.operand || (is_numbered r a.copied
     || (is_numbered r (base_of a.access) || is_numbered r (moved_of a.moved))))
 
 -- whether a helper with these arguments takes the register
@@ -26,13 +25,8 @@ is_argument r (Number n ∷ xs) = n == r || is_argument r xs
 is_argument r (Payload n ∷ xs) = n == r || is_argument r xs
 is_argument r (Sized n m ∷ xs) = n == r || (m == r || is_argument r xs)
 
--- whether a helper takes the register. None is a number without a helper
-abbrev pub is_given : ℕ → Option (List Argument) → Bool
-is_given r None = false
-is_given r (Some xs) = is_argument r xs
-
 -- whether the instruction reads the register. A call reads its arguments, and an exit reads r0
 abbrev pub is_read : ImageForm → Insn → ℕ → Bool
-is_read form (Call helper) r = is_given r (arguments_of form helper)
+is_read form (Call helper) r = is_argument r (unwrap_or (arguments_of form helper) [])
 is_read form Exit r = r == 0
 is_read form i r = is_named r (attributes_of i)

@@ -11,8 +11,8 @@ use Rattle.regtypes.specs.declared.frame.Kind.TheVariants.{Unset}
 use Rattle.regtypes.specs.Exits.{exits}
 use Rattle.regtypes.specs.Frame.{entry_frame, is_num, kind_at}
 use Rattle.regtypes.specs.Rules.{first_broken, tests_of}
-use Rattle.regtypes.specs.Typing.{frame_at}
 use Rattle.listing.specs.declared.study.Study.{Study}
+use Rattle.listing.specs.Study.{flat_at}
 use Rattle.listing.specs.declared.why.UnsetCause.{UnsetCause}
 use Rattle.listing.specs.declared.why.UnsetCause.TheVariants.{Unknown, Never, Lost, Differs}
 
@@ -21,7 +21,7 @@ pub record Leaves (s : Study) (r p t : ℕ) (k : Kind) : Type 0 where
   pub insn : Insn
   pub begins : insn_at s.slots.items p ≡ Some insn
   pub frame : Frame
-  pub there : frame_at s.table.items p ≡ Some frame
+  pub there : flat_at s.table p ≡ Some frame
   pub left : Frame
   pub leads : Contains (exits p insn frame) (pos t, left)
   pub kind : k ≡ kind_at left.kinds r
@@ -31,7 +31,7 @@ pub record Calls (s : Study) (r p : ℕ) : Type 0 where
   pub helper : ℤ
   pub calls : insn_at s.slots.items p ≡ Some (Call helper)
   pub frame : Frame
-  pub there : frame_at s.table.items p ≡ Some frame
+  pub there : flat_at s.table p ≡ Some frame
   pub held : kind_at frame.kinds r ≢ Unset
 
 -- a path from slot p over these slots, the last of which is t. The register is unset all along, and no call on the path found it
@@ -82,7 +82,7 @@ IsWhy s r why here = (t : ℕ) × (way : List ℕ) × IsReason s r why t × Stay
 -- a slot is reached, and the register isn't set there
 pub record IsUnsetAt (s : Study) (r here : ℕ) : Type 0 where
   pub frame : Frame
-  pub there : frame_at s.table.items here ≡ Some frame
+  pub there : flat_at s.table here ≡ Some frame
   pub unset : kind_at frame.kinds r ≡ Unset
 
 -- there is a reason if the register isn't set at a slot, and none if it is or no path reaches the slot

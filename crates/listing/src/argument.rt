@@ -1,81 +1,88 @@
 //! What is wrong with the arguments of a helper.
 
 ghost use Rattle.std.specs.Prelude.{◌≡◌, ◌<◌};
-ghost use Rattle.spans.specs.Frame.{kind_at};
-ghost use Rattle.listing.specs.SpanCause.{argument_cause, given_cause, payload_cause, payload_word, send_cause, sized_cause};
+ghost use Rattle.spans.specs.Frame.{is_num, kind_at};
+ghost use Rattle.listing.specs.View.{known};
+ghost use Rattle.listing.specs.Cause.{call_cause, payload_by, payload_cause, sized_by, sized_cause};
 
+use crate::cause::{Cause, WordFault, word_cause};
 use crate::flaw::{Flaw, flawed_word};
-use crate::span_cause::{SpanCause, WordFault};
-use decode::Insn;
-use regtypes::Region;
+use crate::view::View;
+use decode::{Insn, Reg};
+use regtypes::{ImageForm, Region};
 use spans::{Cells, SpanKind};
 use verifier::is_inside;
 
-/// The cause at a payload's word that isn't known to be a number.
-fn payload_word(word: Option<usize>) -> SpanCause
-    ensures { result ≡ payload_word word }
-{
-    match word {
-        None => SpanCause::Nothing,
-        Some(cell) => SpanCause::OfWord(cell, WordFault::NoNumber),
-    }
-}
-
 /// The cause at a register that is to be a place with this many bytes.
-fn payload_cause(frame: &Cells, reg: u8, bytes: u16, kind: SpanKind) -> SpanCause
-    ensures { result ≡ payload_cause (kind_at frame.now.kinds) reg bytes kind }
+fn payload_by(frame: &Cells, reg: u8, bytes: u16, kind: SpanKind) -> Cause
+    ensures { result ≡ payload_by (kind_at frame.now.kinds) reg bytes kind }
 {
     match kind {
         SpanKind::Place(Region::Stack, reach) if is_inside(512, reach, 0, bytes) => {
-            payload_word(flawed_word(Flaw::NotNumber, frame, kind, 0, bytes))
+            let word = flawed_word(Flaw::NotNumber, frame, kind, 0, bytes);
+            word_cause(WordFault::NoNumber, word)
         }
-        _ => SpanCause::NoPayload(reg, bytes),
+        _ => Cause::NoPayload(reg, bytes),
     }
 }
 
 /// The cause at a register that is to be a place with as many bytes as another register says.
-fn sized_cause(frame: &Cells, reg: u8, count_reg: u8, count: SpanKind) -> SpanCause
+fn sized_by(frame: &Cells, reg: u8, count_reg: u8, count: SpanKind) -> Cause
     requires { reg < 11 }
-    ensures { result ≡ sized_cause (kind_at frame.now.kinds) reg count_reg count }
+    ensures { result ≡ sized_by (kind_at frame.now.kinds) reg count_reg count }
 {
     match count {
         SpanKind::Num(span) => {
             let bytes = span.hi.min(256) as u16;
-            payload_cause(frame, reg, bytes, frame.kinds[reg as usize])
+            payload_by(frame, reg, bytes, frame.kinds[reg as usize])
         }
-        SpanKind::Unset | SpanKind::Place(_, _) => SpanCause::NoCount(count_reg),
+        SpanKind::Unset | SpanKind::Place(_, _) => Cause::NoCount(count_reg),
     }
 }
 
-/// The cause at the receiver of a send, or else the payload's.
-fn send_cause(frame: &Cells, other: SpanCause) -> SpanCause
-    ensures { result ≡ send_cause (kind_at frame.now.kinds) other }
+fn payload_cause(view: &View, reg: u8) -> Cause
+    requires { reg < 11 }
+    ensures { result ≡ payload_cause view.now reg }
 {
-    match frame.kinds[1] {
-        SpanKind::Num(_) => other,
-        SpanKind::Unset | SpanKind::Place(_, _) => SpanCause::NoCount(1),
+    match view {
+        View::Flat(_) => Cause::NoPayload(reg, 64),
+        View::Spans(cells) => payload_by(cells, reg, 64, cells.kinds[reg as usize]),
     }
 }
 
-fn given_cause(frame: &Cells, helper: i32) -> SpanCause
-    ensures { result ≡ given_cause (kind_at frame.now.kinds) helper }
+fn sized_cause(view: &View, reg: u8, count: u8) -> Cause
+    requires place { reg < 11 }
+    requires number { count < 11 }
+    ensures { result ≡ sized_cause view.now reg count }
 {
-    let kinds = &frame.kinds;
-    match helper {
-        1 => send_cause(frame, payload_cause(frame, 2, 64, kinds[2])),
-        2 => payload_cause(frame, 1, 64, kinds[1]),
-        5 => send_cause(frame, sized_cause(frame, 2, 3, kinds[3])),
-        6 => sized_cause(frame, 1, 2, kinds[2]),
-        _ => SpanCause::Nothing,
+    match view {
+        View::Flat(_) => Cause::NoSized(reg, count),
+        View::Spans(cells) => sized_by(cells, reg, count, cells.kinds[count as usize]),
     }
+}
+
+/// Whether the first argument is known to be a number.
+fn is_first_number(view: &View) -> bool
+    ensures { result ≡ is_num (known view.now 1) }
+{
+    matches!(view.kind(Reg { number: 1 }), SpanKind::Num(_))
 }
 
 /// V9: the argument that isn't what a helper takes.
-pub fn argument_cause(insn: &Insn, frame: &Cells) -> SpanCause
-    ensures { result ≡ argument_cause insn.now (kind_at frame.now.kinds) }
+pub fn call_cause(form: ImageForm, view: &View, insn: &Insn) -> Cause
+    ensures { result ≡ call_cause form view.now insn.now }
 {
-    match *insn {
-        Insn::Call { helper } => given_cause(frame, helper),
-        _ => SpanCause::Nothing,
+    let Insn::Call { helper } = *insn else {
+        return Cause::Nothing;
+    };
+    let first = is_first_number(view);
+    match (form, helper) {
+        (_, 1) if first => payload_cause(view, 2),
+        (_, 1) => Cause::NoCount(1),
+        (_, 2) => payload_cause(view, 1),
+        (ImageForm::Sbi2, 5) if first => sized_cause(view, 2, 3),
+        (ImageForm::Sbi2, 5) => Cause::NoCount(1),
+        (ImageForm::Sbi2, 6) => sized_cause(view, 1, 2),
+        _ => Cause::Nothing,
     }
 }

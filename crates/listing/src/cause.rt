@@ -1,324 +1,325 @@
-//! What breaks a rule at a slot, as a sentence, and what to do about it.
+//! What breaks a rule at a slot.
 
-ghost use Rattle.std.specs.Prelude.{◌≡◌, ◌<◌, ◌≤◌, ◌+◌, ◌+ℤ◌, pos, ◌++◌, ◌∷◌, [], OnOk, length, string_bytes};
+ghost use Rattle.std.specs.Prelude.{◌≡◌, ◌∷◌, [], if◌then◌else◌};
 ghost use Rattle.decode.specs.Flow.{flow_of};
-ghost use Rattle.regtypes.specs.Rules.{base_of, has, is_place, is_unset, moved_of};
-ghost use Rattle.listing.specs.Kinds.{place_text};
-ghost use Rattle.listing.specs.Cause.{about, advice, bytes_cause, call_cause, count_cause, distance_cause, number_cause, cause, first_with, flow_cause, helper_cause, jump_cause, mixed_cause, move_cause, out_cause, payload_cause, sized_cause};
+ghost use Rattle.regtypes.specs.Rules.{base_of, moved_of};
+ghost use Rattle.spans.specs.Frame.{kind_at};
+ghost use Rattle.listing.specs.View.{known};
+ghost use Rattle.listing.specs.Cause.{access_cause, by_missing, cause_of, first_place, flat_mixed, helper_cause, jump_of, message_cause, missing_word, mixed_by, mixed_cause, moved_cause, moved_or, out_by, reach_cause, sum_or, unset_cause, word_cause};
+ghost use Rattle.listing.specs.Flaw.{first_flawed};
+ghost use Rattle.listing.specs.declared.cause.WordFault.TheVariants as word;
+ghost use Rattle.listing.specs.declared.flaw.Flaw.TheVariants.{Missing};
 
-use crate::kinds::{push_place, push_reg, push_with, push_with_signed};
+use crate::argument::call_cause;
+use crate::flaw::{Flaw, distance_at, flawed_word, is_flawed, reached_word};
 use crate::reads::{base, shifted};
-use crate::study::Study;
-use decode::{Attributes, Flow, Insn, Reg, attributes_from, flow_from};
-use limits::SLOTS;
-use regtypes::{Frame, ImageForm, Kind, Region, Rule};
-use std::alloc::AllocError;
+use crate::view::{View, region_len};
+use decode::{
+    Access, AluOp, Attributes, Flow, Insn, Operand, Reg, Width, attributes_from, flow_from,
+};
+use regtypes::{ImageForm, Region, Rule};
+use spans::{Cells, Span, SpanKind};
 
-fn is_unset(frame: &Frame, reg: Option<Reg>) -> bool
-    ensures { result ≡ has is_unset frame.now.kinds reg }
-{
-    match reg {
-        None => false,
-        Some(reg) => matches!(frame.kind(reg), Kind::Unset),
-    }
+/// What is wrong with a register.
+#[derive(Clone, Copy)]
+pub enum RegisterFault {
+    /// It is read but not set.
+    Unset,
+    /// It is read as a number but holds a place.
+    PlaceAsNumber,
+    /// It is the base of a load or store but holds a number.
+    NumberAsBase,
+    /// It holds a place, and is stored where no place can be kept.
+    PlaceStored,
+    /// It is a place in the message, and is stored to.
+    Message,
 }
 
-fn is_place(frame: &Frame, reg: Option<Reg>) -> bool
-    ensures { result ≡ has is_place frame.now.kinds reg }
+/// What is wrong with a word of the stack.
+#[derive(Clone, Copy)]
+pub enum WordFault {
+    /// It is read but not set.
+    Unset,
+    /// A helper takes it as a number, and it isn't known to be one.
+    NoNumber,
+    /// It holds a place, and this many of its bytes are read.
+    Read(u8),
+    /// It holds a place, and this many of its bytes are written.
+    Written(u8),
+}
+
+/// What breaks a rule.
+#[derive(Clone, Copy)]
+pub enum Cause {
+    /// No cause is known.
+    Nothing,
+    /// A jump by this many slots.
+    Jump(i32),
+    /// No instruction follows.
+    NothingFollows,
+    /// r10 is written.
+    FramePointer,
+    /// r0 is no number at the exit.
+    NoAnswer,
+    OfRegister(Reg, RegisterFault),
+    /// A word of the stack, by its cell.
+    OfWord(usize, WordFault),
+    /// Two registers are added, and both hold places.
+    SumOfPlaces(Reg, Reg),
+    /// An access of this many bytes to a region, at distances from the first to the second number. The last one is the
+    /// region's size.
+    Outside(u8, Region, i64, i64, u16),
+    /// A place is moved too far by this number.
+    MovedBy(Reg, Span),
+    /// A place is moved too far by an immediate.
+    ShiftedBy(Reg, i64),
+    /// There is no helper with this number.
+    NoHelper(i32),
+    /// The argument of a helper in this register has to be a number.
+    NoCount(u8),
+    /// The argument in this register has to be a place with this many bytes.
+    NoPayload(u8, u16),
+    /// The arguments in these registers have to be a place and its length.
+    NoSized(u8, u8),
+}
+
+/// V1: the jump of an instruction.
+fn jump_of(flow: Flow) -> Cause
+    ensures { result ≡ jump_of flow }
 {
-    match reg {
-        None => false,
-        Some(reg) => matches!(frame.kind(reg), Kind::Place(_, _)),
+    match flow {
+        Flow::Leaps(distance) => Cause::Jump(distance),
+        Flow::Forks(distance) => Cause::Jump(distance),
+        Flow::Ends | Flow::Falls(_) => Cause::Nothing,
     }
 }
 
 /// The first register that is read but not set.
-fn first_unset(frame: &Frame, what: &Attributes) -> Option<Reg>
-    ensures { result ≡ first_with is_unset frame.now.kinds (what.now.number ∷ what.now.operand ∷ what.now.copied ∷ base_of what.now.access ∷ moved_of what.now.moved ∷ []) }
+fn first_unset(view: &View, what: &Attributes) -> Option<Reg>
+    ensures { result ≡ first_flawed Missing (known view.now) (what.now.number ∷ what.now.operand ∷ what.now.copied ∷ base_of what.now.access ∷ moved_of what.now.moved ∷ []) }
 {
-    if is_unset(frame, what.number) {
+    if is_flawed(Flaw::Missing, view, what.number) {
         return what.number;
     }
-    if is_unset(frame, what.operand) {
+    if is_flawed(Flaw::Missing, view, what.operand) {
         return what.operand;
     }
-    if is_unset(frame, what.copied) {
+    if is_flawed(Flaw::Missing, view, what.copied) {
         return what.copied;
     }
-    if is_unset(frame, base(what.access)) {
+    if is_flawed(Flaw::Missing, view, base(what.access)) {
         return base(what.access);
     }
-    if is_unset(frame, shifted(what.moved)) {
+    if is_flawed(Flaw::Missing, view, shifted(what.moved)) {
         return shifted(what.moved);
     }
     None
 }
 
-/// The first register that is read as a number but holds a place.
-fn first_place(frame: &Frame, what: &Attributes) -> Option<Reg>
-    ensures { result ≡ first_with is_place frame.now.kinds (what.now.number ∷ what.now.operand ∷ []) }
+/// What is wrong with a word of the stack, if there is one.
+pub fn word_cause(fault: WordFault, word: Option<usize>) -> Cause
+    ensures { result ≡ word_cause fault word }
 {
-    if is_place(frame, what.number) {
+    match word {
+        None => Cause::Nothing,
+        Some(cell) => Cause::OfWord(cell, fault),
+    }
+}
+
+fn by_missing(reg: Option<Reg>, word: Option<usize>) -> Cause
+    ensures { result ≡ by_missing reg word }
+{
+    match reg {
+        Some(reg) => Cause::OfRegister(reg, RegisterFault::Unset),
+        None => word_cause(WordFault::Unset, word),
+    }
+}
+
+/// The first word of the stack that is read but not set.
+fn missing_word(view: &View, access: Option<Access>) -> Option<usize>
+    ensures { result ≡ missing_word view.now access }
+{
+    match view {
+        View::Flat(_) => None,
+        View::Spans(cells) => reached_word(Flaw::Missing, cells, access),
+    }
+}
+
+/// V3: the register or word that is read but not set.
+fn unset_cause(view: &View, what: &Attributes) -> Cause
+    ensures { result ≡ unset_cause view.now what.now }
+{
+    by_missing(first_unset(view, what), missing_word(view, what.access))
+}
+
+/// The first register that is read as a number but holds a place.
+fn first_place(view: &View, what: &Attributes) -> Option<Reg>
+    ensures { result ≡ first_place view.now what.now }
+{
+    if is_flawed(Flaw::Pointing, view, what.number) {
         return what.number;
     }
-    if is_place(frame, what.operand) {
+    if is_flawed(Flaw::Pointing, view, what.operand) {
         return what.operand;
     }
     None
 }
 
-/// Writes a register, if there is one, and what is wrong with it.
-fn push_about(out: &mut String, reg: Option<Reg>, text: &str) -> Result<(), AllocError>
-    ensures { OnOk result (string_bytes out.new ≡ string_bytes out.old ++ about reg text.now) }
+fn flat_mixed(access: Option<Access>, reg: Option<Reg>) -> Cause
+    ensures { result ≡ flat_mixed access reg }
 {
-    match reg {
-        None => Ok(()),
-        Some(reg) => {
-            push_reg(out, reg)?;
-            out.push_str(text)
+    match (access, reg) {
+        (_, Some(reg)) => Cause::OfRegister(reg, RegisterFault::PlaceAsNumber),
+        (Some(access), None) => Cause::OfRegister(access.base, RegisterFault::NumberAsBase),
+        (None, None) => Cause::Nothing,
+    }
+}
+
+fn part_fault(access: Access) -> WordFault
+    ensures { result ≡ (if access.stores then word.Written access.bytes else word.Read access.bytes) }
+{
+    if access.stores {
+        WordFault::Written(access.bytes)
+    } else {
+        WordFault::Read(access.bytes)
+    }
+}
+
+fn access_cause(frame: &Cells, access: Access, stored: Option<Reg>, kind: SpanKind) -> Cause
+    ensures { result ≡ access_cause (kind_at frame.now.kinds) access stored kind }
+{
+    match (kind, stored) {
+        (SpanKind::Unset, _) => Cause::Nothing,
+        (SpanKind::Num(_), _) => Cause::OfRegister(access.base, RegisterFault::NumberAsBase),
+        (SpanKind::Place(_, _), Some(reg)) => Cause::OfRegister(reg, RegisterFault::PlaceStored),
+        (SpanKind::Place(_, _), None) => {
+            let bytes = access.bytes.into();
+            let word = flawed_word(Flaw::Pointing, frame, kind, access.offset, bytes);
+            word_cause(part_fault(access), word)
         }
     }
 }
 
-/// The slot to which a jump leads. It may not be there.
-fn target_of(slot: usize, distance: i32) -> i64
-    requires { slot < SLOTS }
-    ensures { result ≡ pos (slot + 1) +ℤ distance }
+fn mixed_by(frame: &Cells, access: Option<Access>, reg: Option<Reg>) -> Cause
+    ensures { result ≡ mixed_by (kind_at frame.now.kinds) access reg }
 {
-    slot as i64 + 1 + i64::from(distance)
-}
-
-/// Writes to which slot a jump leads.
-pub fn push_jump_cause(
-    out: &mut String,
-    slots: usize,
-    slot: usize,
-    distance: i32,
-) -> Result<(), AllocError>
-    requires within { slot < slots }
-    requires short { slots ≤ SLOTS }
-    ensures { OnOk result (string_bytes out.new ≡ string_bytes out.old ++ jump_cause slots slot distance) }
-{
-    let target = target_of(slot, distance);
-    push_with_signed(out, "the jump leads to slot ", target, " of ")?;
-    write!(
-        out,
-        "{slots}, and has to lead to a later one at which an instruction begins"
-    )
-}
-
-fn push_flow_cause(
-    out: &mut String,
-    slots: usize,
-    slot: usize,
-    insn: &Insn,
-) -> Result<(), AllocError>
-    requires within { slot < slots }
-    requires short { slots ≤ SLOTS }
-    ensures { OnOk result (string_bytes out.new ≡ string_bytes out.old ++ flow_cause slots slot (flow_of insn.now)) }
-{
-    match flow_from(insn) {
-        Flow::Leaps(distance) => push_jump_cause(out, slots, slot, distance),
-        Flow::Forks(distance) => push_jump_cause(out, slots, slot, distance),
-        Flow::Ends | Flow::Falls(_) => Ok(()),
+    match access {
+        None => flat_mixed(None, reg),
+        Some(access) => access_cause(frame, access, reg, frame.kind(access.base)),
     }
 }
 
-/// Writes which register is a place where a number is needed, or the other way round.
-fn push_mixed_cause(out: &mut String, frame: &Frame, what: &Attributes) -> Result<(), AllocError>
-    ensures { OnOk result (string_bytes out.new ≡ string_bytes out.old ++ mixed_cause (first_with is_place frame.now.kinds (what.now.number ∷ what.now.operand ∷ [])) what.now.access) }
-{
-    match first_place(frame, what) {
-        Some(reg) => push_about(out, Some(reg), " is read as a number and holds a place"),
-        None => push_about(
-            out,
-            base(what.access),
-            " is the base of a load or store and holds a number",
-        ),
-    }
-}
-
-/// Writes by how much a register is moved.
-pub fn push_distance_cause(out: &mut String, reg: Reg, by: i64) -> Result<(), AllocError>
-    ensures { OnOk result (string_bytes out.new ≡ string_bytes out.old ++ distance_cause reg by) }
-{
-    push_reg(out, reg)?;
-    let (before, after) = (" is moved by ", ", out of the places from -32768 to 32767");
-    push_with_signed(out, before, by, after)
-}
-
-fn push_move_cause(out: &mut String, moved: Option<(Reg, i64)>) -> Result<(), AllocError>
-    ensures { OnOk result (string_bytes out.new ≡ string_bytes out.old ++ move_cause moved) }
-{
-    match moved {
-        None => Ok(()),
-        Some((reg, by)) => push_distance_cause(out, reg, by),
-    }
-}
-
-/// Writes how many bytes at a place an access reaches.
-fn push_bytes_cause(
-    out: &mut String,
-    bytes: u8,
-    region: Region,
-    at: i64,
-    low: u16,
-    state_len: u16,
-) -> Result<(), AllocError>
-    ensures { OnOk result (string_bytes out.new ≡ string_bytes out.old ++ bytes_cause bytes (place_text low state_len region at)) }
-{
-    push_with(out, "not all of the ", bytes.into(), " bytes at ")?;
-    push_place(out, region, at, low, state_len)?;
-    out.push_str(" lie there")
-}
-
-/// Writes which bytes an access reaches, or which place is moved.
-fn push_out_cause(
-    out: &mut String,
-    frame: &Frame,
-    state_len: u16,
-    what: &Attributes,
-) -> Result<(), AllocError>
-    ensures { OnOk result (string_bytes out.new ≡ string_bytes out.old ++ out_cause frame.now state_len what.now what.now.access) }
-{
-    let Some(access) = what.access else {
-        return push_move_cause(out, what.moved);
-    };
-    match frame.kind(access.base) {
-        Kind::Place(region, at) => {
-            let from = i64::from(at) + i64::from(access.offset);
-            push_bytes_cause(out, access.bytes, region, from, frame.low, state_len)
-        }
-        _ => Ok(()),
-    }
-}
-
-fn push_number_cause(out: &mut String, form: ImageForm, helper: i32) -> Result<(), AllocError>
-    ensures { OnOk result (string_bytes out.new ≡ string_bytes out.old ++ number_cause form helper) }
-{
-    push_with(out, "form ", form.number().into(), " has no helper ")?;
-    write!(out, "{helper}")
-}
-
-fn push_helper_cause(out: &mut String, form: ImageForm, insn: &Insn) -> Result<(), AllocError>
-    ensures { OnOk result (string_bytes out.new ≡ string_bytes out.old ++ helper_cause form insn.now) }
+/// A sum of two registers, or else another cause.
+fn sum_or(insn: &Insn, other: Cause) -> Cause
+    ensures { result ≡ sum_or insn.now other }
 {
     match *insn {
-        Insn::Call { helper } => push_number_cause(out, form, helper),
-        _ => Ok(()),
+        Insn::Alu {
+            op: AluOp::Add,
+            width: Width::W64,
+            dst,
+            operand: Operand::Reg(src),
+        } => Cause::SumOfPlaces(dst, src),
+        _ => other,
     }
 }
 
-/// Writes that an argument has to be a number.
-pub fn push_count_cause(out: &mut String, number: usize) -> Result<(), AllocError>
-    ensures { OnOk result (string_bytes out.new ≡ string_bytes out.old ++ count_cause number) }
+/// V5: a number where a place is needed, or a place where a number is needed.
+fn mixed_cause(insn: &Insn, what: &Attributes, view: &View) -> Cause
+    ensures { result ≡ mixed_cause insn.now what.now view.now }
 {
-    push_with(out, "r", number, " is to be a number")
-}
-
-fn push_payload_cause(out: &mut String, number: usize) -> Result<(), AllocError>
-    ensures { OnOk result (string_bytes out.new ≡ string_bytes out.old ++ payload_cause number) }
-{
-    push_with(
-        out,
-        "r",
-        number,
-        " is to be a place, with 64 bytes from there on in its region",
-    )
-}
-
-fn push_sized_cause(out: &mut String, place: usize, count: usize) -> Result<(), AllocError>
-    ensures { OnOk result (string_bytes out.new ≡ string_bytes out.old ++ sized_cause place count) }
-{
-    push_with(
-        out,
-        "r",
-        place,
-        " is to be a place with 256 bytes from there on in its region, and r",
-    )?;
-    push_with(
-        out,
-        "",
-        count,
-        " a number; or they the message and its length",
-    )
-}
-
-/// Writes which argument isn't what a helper takes.
-fn push_call_cause(
-    out: &mut String,
-    form: ImageForm,
-    frame: &Frame,
-    insn: &Insn,
-) -> Result<(), AllocError>
-    ensures { OnOk result (string_bytes out.new ≡ string_bytes out.old ++ call_cause form frame.now insn.now) }
-{
-    let Insn::Call { helper } = *insn else {
-        return Ok(());
-    };
-    let first = matches!(frame.kinds[1], Kind::Num | Kind::Len);
-    match (form, helper) {
-        (_, 1) if first => push_payload_cause(out, 2),
-        (_, 1) => push_count_cause(out, 1),
-        (_, 2) => push_payload_cause(out, 1),
-        (ImageForm::Sbi2, 5) if first => push_sized_cause(out, 2, 3),
-        (ImageForm::Sbi2, 5) => push_count_cause(out, 1),
-        (ImageForm::Sbi2, 6) => push_sized_cause(out, 1, 2),
-        _ => Ok(()),
+    let place = first_place(view, what);
+    match view {
+        View::Flat(_) => flat_mixed(what.access, place),
+        View::Spans(cells) => sum_or(insn, mixed_by(cells, what.access, place)),
     }
 }
 
-/// Writes what breaks a rule at a slot, under its frame.
-pub fn push_cause(
-    out: &mut String,
-    study: &Study,
-    slot: usize,
-    insn: &Insn,
-    frame: &Frame,
-    rule: Rule,
-) -> Result<(), AllocError>
-    requires within { slot < length study.now.slots.items }
-    requires short { length study.now.slots.items ≤ SLOTS }
-    ensures { OnOk result (string_bytes out.new ≡ string_bytes out.old ++ cause study.now.form study.now.state_len (length study.now.slots.items) slot insn.now frame.now rule) }
+fn moved_cause(dst: Reg, src: Reg, a: SpanKind, b: SpanKind) -> Cause
+    ensures { result ≡ moved_cause dst src a b }
+{
+    match (a, b) {
+        (SpanKind::Place(_, _), SpanKind::Num(span)) => Cause::MovedBy(dst, span),
+        (SpanKind::Num(span), SpanKind::Place(_, _)) => Cause::MovedBy(src, span),
+        _ => Cause::Nothing,
+    }
+}
+
+fn reach_cause(state_len: u16, view: &View, access: Access, kind: SpanKind) -> Cause
+    ensures { result ≡ reach_cause state_len view.now access kind }
+{
+    match kind {
+        SpanKind::Place(region, reach) => {
+            let lo = distance_at(reach.lo, access.offset);
+            let hi = distance_at(reach.hi, access.offset);
+            let size = region_len(region, view.low(), state_len);
+            Cause::Outside(access.bytes, region, lo, hi, size)
+        }
+        SpanKind::Unset | SpanKind::Num(_) => Cause::Nothing,
+    }
+}
+
+/// V6: an access outside a region, or a place that an immediate moves too far.
+fn out_by(state_len: u16, view: &View, access: Option<Access>, moved: Option<(Reg, i64)>) -> Cause
+    ensures { result ≡ out_by state_len view.now access moved }
+{
+    match (access, moved) {
+        (Some(access), _) => reach_cause(state_len, view, access, view.kind(access.base)),
+        (None, Some((reg, by))) => Cause::ShiftedBy(reg, by),
+        (None, None) => Cause::Nothing,
+    }
+}
+
+/// V6: a register that moves another to which it is added, or else another cause.
+fn moved_or(insn: &Insn, view: &View, other: Cause) -> Cause
+    ensures { result ≡ moved_or insn.now view.now other }
+{
+    match *insn {
+        Insn::Alu {
+            op: AluOp::Add,
+            width: Width::W64,
+            dst,
+            operand: Operand::Reg(src),
+        } => moved_cause(dst, src, view.kind(dst), view.kind(src)),
+        _ => other,
+    }
+}
+
+/// V7: the base of an access.
+fn message_cause(access: Option<Access>) -> Cause
+    ensures { result ≡ message_cause access }
+{
+    match access {
+        None => Cause::Nothing,
+        Some(access) => Cause::OfRegister(access.base, RegisterFault::Message),
+    }
+}
+
+/// V8: the number of a helper.
+fn helper_cause(insn: &Insn) -> Cause
+    ensures { result ≡ helper_cause insn.now }
+{
+    match *insn {
+        Insn::Call { helper } => Cause::NoHelper(helper),
+        _ => Cause::Nothing,
+    }
+}
+
+/// What breaks a rule at a slot where this is known. The form tells the helpers: form 3 has those of form 2.
+pub fn cause_of(form: ImageForm, state_len: u16, insn: &Insn, view: &View, rule: Rule) -> Cause
+    ensures { result ≡ cause_of form state_len insn.now view.now rule }
 {
     let what = attributes_from(insn);
     match rule {
-        Rule::V1 => push_flow_cause(out, study.slots.len(), slot, insn),
-        Rule::V2 => out.push_str("nothing follows this instruction"),
-        Rule::V3 => push_about(out, first_unset(frame, &what), " is read and isn't set"),
-        Rule::V4 => out.push_str("r10 is written, and is for reading"),
-        Rule::V5 => push_mixed_cause(out, frame, &what),
-        Rule::V6 => push_out_cause(out, frame, study.state_len, &what),
-        Rule::V7 => push_about(
-            out,
-            base(what.access),
-            " is a place of the message, which is for reading",
-        ),
-        Rule::V8 => push_helper_cause(out, study.form, insn),
-        Rule::V9 => push_call_cause(out, study.form, frame, insn),
-        Rule::V10 => out.push_str("r0 is to be a number at the end"),
-    }
-}
-
-/// What to do about a broken rule.
-pub fn advice(rule: Rule) -> &'static str
-    ensures { result.now ≡ advice rule }
-{
-    match rule {
-        Rule::V1 => "jump forward, to where an instruction begins; unroll a loop",
-        Rule::V2 => "end each way with exit",
-        Rule::V3 =>
-            "set it on each way that leads here, alike; what a helper must not lose belongs in r6 to r9; r3 is the length in forms 2 and 3 alone, and a handler in C wants --form 3",
-        Rule::V4 => "copy it by mov, and change the copy",
-        Rule::V5 =>
-            "compute with numbers alone; load and store through places, and move them by add and sub of a constant; a handler in C wants --form 3",
-        Rule::V6 =>
-            "stay inside the region (the state has as many bytes as --state says, the message 64 in form 1); in form 2 compare the length before the message is read; a handler in C wants --form 3",
-        Rule::V7 =>
-            "write to the state or the stack; in C the message is the first argument, the state the second",
-        Rule::V8 => "call helper 1, 2, 3 or 4, or in forms 2 and 3 also 5 or 6",
-        Rule::V9 =>
-            "set the arguments right before the call, and let the bytes lie inside one region",
-        Rule::V10 => "put a number in r0 before exit, as by mov r0, 0",
+        Rule::V1 => jump_of(flow_from(insn)),
+        Rule::V2 => Cause::NothingFollows,
+        Rule::V3 => unset_cause(view, &what),
+        Rule::V4 => Cause::FramePointer,
+        Rule::V5 => mixed_cause(insn, &what, view),
+        Rule::V6 => moved_or(insn, view, out_by(state_len, view, what.access, what.moved)),
+        Rule::V7 => message_cause(what.access),
+        Rule::V8 => helper_cause(insn),
+        Rule::V9 => call_cause(form, view, insn),
+        Rule::V10 => Cause::NoAnswer,
     }
 }

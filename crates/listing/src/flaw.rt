@@ -4,7 +4,9 @@ ghost use Rattle.std.specs.Prelude.{◌≡◌, ◌<◌, ◌+ℤ◌, pos};
 ghost use Rattle.spans.specs.Access.{is_reached};
 ghost use Rattle.spans.specs.Frame.{kind_at};
 ghost use Rattle.listing.specs.Flaw.{first_word, flawed_cell, flawed_word, has_flaw, is_flawed, reached_word};
+ghost use Rattle.listing.specs.View.{known};
 
+use crate::view::View;
 use decode::{Access, Reg};
 use regtypes::Region;
 use spans::{Cells, Reach, SpanKind};
@@ -34,12 +36,12 @@ fn has_flaw(flaw: Flaw, kind: SpanKind) -> bool
 }
 
 /// Whether a register has a flaw. `None` has none.
-pub fn is_flawed(flaw: Flaw, frame: &Cells, reg: Option<Reg>) -> bool
-    ensures { result ≡ is_flawed flaw (kind_at frame.now.kinds) reg }
+pub fn is_flawed(flaw: Flaw, view: &View, reg: Option<Reg>) -> bool
+    ensures { result ≡ is_flawed flaw (known view.now) reg }
 {
     match reg {
         None => false,
-        Some(reg) => has_flaw(flaw, frame.kind(reg)),
+        Some(reg) => has_flaw(flaw, view.kind(reg)),
     }
 }
 

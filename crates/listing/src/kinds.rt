@@ -1,28 +1,16 @@
-//! What is known of a register, as text.
+//! What is known of a register or of a word of the stack, as text.
 
-ghost use Rattle.std.specs.Prelude.{◌≡◌, ◌++◌, OnOk, decimal, string_bytes};
-ghost use Rattle.std.specs.Fmt.{signed_decimal};
-ghost use Rattle.regtypes.specs.Rules.{region_len};
-ghost use Rattle.listing.specs.Kinds.{kind_text, place_text, reg_text, region_text, signed_text};
+ghost use Rattle.std.specs.Prelude.{◌≡◌, ◌++◌, ◌-◌, ◌*◌, OnOk, string_bytes};
+ghost use Rattle.listing.specs.Kinds.{distances_text, is_whole, kind_text, places_text, range_text, region_text, register_kind, signed_text, span_text};
 
+use crate::view::{View, region_len};
 use decode::Reg;
-use limits::STACK_BYTES;
-use regtypes::{Kind, Region};
+use regtypes::Region;
+use spans::{Span, SpanKind};
 use std::alloc::AllocError;
 
-/// The least size of a region in bytes: of the message `low`, of the state `state_len`.
-fn region_len(region: Region, low: u16, state_len: u16) -> u16
-    ensures { result ≡ region_len low state_len region }
-{
-    match region {
-        Region::Message => low,
-        Region::State => state_len,
-        Region::Stack => STACK_BYTES as u16,
-    }
-}
-
 /// The word of a region.
-pub fn region_word(region: Region) -> &'static str
+fn region_word(region: Region) -> &'static str
     ensures { result.now ≡ region_text region }
 {
     match region {
@@ -33,7 +21,7 @@ pub fn region_word(region: Region) -> &'static str
 }
 
 /// Writes a number with its sign before it.
-pub fn push_signed(out: &mut String, number: i64) -> Result<(), AllocError>
+fn push_signed(out: &mut String, number: i64) -> Result<(), AllocError>
     ensures { OnOk result (string_bytes out.new ≡ string_bytes out.old ++ signed_text number) }
 {
     if number >= 0 {
@@ -42,66 +30,101 @@ pub fn push_signed(out: &mut String, number: i64) -> Result<(), AllocError>
     write!(out, "{number}")
 }
 
-/// Writes a number between two texts.
-pub fn push_with(
-    out: &mut String,
-    before: &str,
-    number: usize,
-    after: &str,
-) -> Result<(), AllocError>
-    ensures { OnOk result (string_bytes out.new ≡ string_bytes out.old ++ (before.now ++ (decimal number ++ after.now))) }
+/// Whether a span has all numbers of 64 bits.
+fn is_whole(span: Span) -> bool
+    ensures { result ≡ is_whole span }
 {
-    out.push_str(before)?;
-    write!(out, "{number}")?;
-    out.push_str(after)
+    span.lo == 0 && span.hi == u64::MAX
 }
 
-/// Writes a number, which may be negative, between two texts.
-pub fn push_with_signed(
-    out: &mut String,
-    before: &str,
-    number: i64,
-    after: &str,
-) -> Result<(), AllocError>
-    ensures { OnOk result (string_bytes out.new ≡ string_bytes out.old ++ (before.now ++ (signed_decimal number ++ after.now))) }
+/// Writes one number, or the first and last of several.
+pub fn push_range(out: &mut String, span: Span) -> Result<(), AllocError>
+    ensures { OnOk result (string_bytes out.new ≡ string_bytes out.old ++ range_text span) }
 {
-    out.push_str(before)?;
-    write!(out, "{number}")?;
-    out.push_str(after)
+    let (lo, hi) = (span.lo, span.hi);
+    if lo == hi {
+        return write!(out, "{lo}");
+    }
+    write!(out, "{lo} to {hi}")
 }
 
-/// Writes a place.
-pub fn push_place(
+/// Writes a space and what is known of a number.
+fn push_span(out: &mut String, span: Span) -> Result<(), AllocError>
+    ensures { OnOk result (string_bytes out.new ≡ string_bytes out.old ++ span_text span) }
+{
+    if is_whole(span) {
+        return Ok(());
+    }
+    out.push(' ')?;
+    push_range(out, span)
+}
+
+/// Writes one distance, or the first and last of several.
+fn push_distances(out: &mut String, lo: i64, hi: i64) -> Result<(), AllocError>
+    ensures { OnOk result (string_bytes out.new ≡ string_bytes out.old ++ distances_text lo hi) }
+{
+    push_signed(out, lo)?;
+    if hi <= lo {
+        return Ok(());
+    }
+    write!(out, " to {hi}")
+}
+
+/// Writes places of a region of this size.
+pub fn push_places(
     out: &mut String,
     region: Region,
-    at: i64,
-    low: u16,
-    state_len: u16,
+    lo: i64,
+    hi: i64,
+    size: u16,
 ) -> Result<(), AllocError>
-    ensures { OnOk result (string_bytes out.new ≡ string_bytes out.old ++ place_text low state_len region at) }
+    ensures { OnOk result (string_bytes out.new ≡ string_bytes out.old ++ places_text size region lo hi) }
 {
     out.push_str(region_word(region))?;
-    push_signed(out, at)?;
-    let size = region_len(region, low, state_len);
+    push_distances(out, lo, hi)?;
     write!(out, " of {size}")
 }
 
-/// Writes what is known of a register.
-pub fn push_kind(out: &mut String, kind: Kind, low: u16, state_len: u16) -> Result<(), AllocError>
+/// Writes what is known of a register or of a word of the stack. The message has `low` bytes.
+pub fn push_kind(
+    out: &mut String,
+    kind: SpanKind,
+    low: u16,
+    state_len: u16,
+) -> Result<(), AllocError>
     ensures { OnOk result (string_bytes out.new ≡ string_bytes out.old ++ kind_text low state_len kind) }
 {
     match kind {
-        Kind::Unset => out.push_str("unset"),
-        Kind::Num => out.push_str("number"),
-        Kind::Len => out.push_str("length of the message"),
-        Kind::Place(region, at) => push_place(out, region, at.into(), low, state_len),
+        SpanKind::Unset => out.push_str("unset"),
+        SpanKind::Num(span) => {
+            out.push_str("number")?;
+            push_span(out, span)
+        }
+        SpanKind::Place(region, reach) => {
+            let size = region_len(region, low, state_len);
+            push_places(out, region, reach.lo.into(), reach.hi.into(), size)
+        }
     }
 }
 
-/// Writes a register.
-pub fn push_reg(out: &mut String, reg: Reg) -> Result<(), AllocError>
-    ensures { OnOk result (string_bytes out.new ≡ string_bytes out.old ++ reg_text reg) }
+/// Writes what is known of a register.
+pub fn push_register_kind(
+    out: &mut String,
+    reg: Reg,
+    view: &View,
+    state_len: u16,
+) -> Result<(), AllocError>
+    ensures { OnOk result (string_bytes out.new ≡ string_bytes out.old ++ register_kind state_len view.now reg.number) }
 {
-    let number = reg.number;
-    write!(out, "r{number}")
+    if view.is_length(reg) {
+        return out.push_str("length of the message");
+    }
+    push_kind(out, view.kind(reg), view.low(), state_len)
+}
+
+/// How far before the end of the stack the word of a cell begins, in bytes.
+pub fn distance_of(cell: usize) -> usize
+    ensures { result ≡ 600 - 8 * cell }
+{
+    if cell < 75 { 600 - 8 * cell } else { 0 }
 }

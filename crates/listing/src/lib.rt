@@ -29,7 +29,6 @@
 
 mod argument;
 mod cause;
-mod file_listing;
 mod flaw;
 mod kinds;
 mod listing;
@@ -38,13 +37,9 @@ mod reads;
 mod rule_page;
 mod rule_text;
 mod sentence;
-mod span_cause;
-mod span_kinds;
-mod span_listing;
-mod span_study;
 mod study;
+mod view;
 mod why;
 
-pub use file_listing::explain_file;
-pub use listing::explain;
+pub use listing::{explain, explain_file};
 pub use rule_page::page_of;

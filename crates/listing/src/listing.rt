@@ -1,26 +1,39 @@
 //! The listing of an image file.
 
-ghost use Rattle.std.specs.Prelude.{◌≡◌, ◌<◌, ◌≤◌, ◌++◌, IfErr, IfOk, OnOk, length, string_bytes};
+ghost use Rattle.std.specs.Prelude.{◌≡◌, ◌≢◌, ◌<◌, ◌≤◌, ◌++◌, IfErr, IfOk, OnOk, Some, ℕ, length, string_bytes, take};
+ghost use Rattle.std.specs.List.{AllByRecursion};
+ghost use Rattle.decode.specs.Encoding.{Fits};
+ghost use Rattle.decode.specs.Slots.{slots_of};
+ghost use Rattle.verifier.specs.AnyFile as any;
+ghost use Rattle.verifier.specs.declared.fault.ImageError.TheVariants.{Memory};
 ghost use Rattle.verifier.specs.ImageFile.{IsUnread};
-ghost use Rattle.listing.specs.Listing.{AreReasons, IsExplained, IsListing, advice_text, broken_text, head_text, known_text, notes_text, reason_text, refusal_text, refused_text, register_text, slot_text, texts_below, verdict_text};
+ghost use Rattle.verifier.specs.Span.File.{magic_3};
+ghost use Rattle.regtypes.specs.declared.rule.Rule.{Rule};
+ghost use Rattle.listing.specs.Why.{AreWhys};
+ghost use Rattle.listing.specs.FileListing.{IsFileExplained, IsListed};
+ghost use Rattle.listing.specs.Listing.{IsListing, broken_text, head_text, known_text, notes_text, reason_text, refusal_text, register_text, slot_text, texts_below, verdict_text};
 
-use crate::cause::{advice, push_cause};
-use crate::kinds::{push_kind, push_with};
+use crate::cause::{Cause, cause_of};
+use crate::kinds::push_register_kind;
+use crate::notes::{push_dead, push_stack};
 use crate::reads::is_read;
+use crate::sentence::{advice, push_cause};
 use crate::study::{Study, study_of};
+use crate::view::View;
 use crate::why::{UnsetCause, whys_at};
 use assemble::disassemble;
 use decode::{Insn, Reg};
 use limits::{REGISTERS, SLOTS};
-use regtypes::{Frame, Kind, Rule};
+use regtypes::Rule;
+use spans::SpanKind;
 use std::alloc::{AllocError, Global};
-use verifier::ImageError;
+use verifier::{FileForm, ImageError, any_parts, parts};
 
 /// Writes why a register is unset, if it is.
-fn push_reason(out: &mut String, kind: Kind, why: UnsetCause) -> Result<(), AllocError>
+fn push_reason(out: &mut String, kind: SpanKind, why: UnsetCause) -> Result<(), AllocError>
     ensures { OnOk result (string_bytes out.new ≡ string_bytes out.old ++ reason_text kind why) }
 {
-    if kind != Kind::Unset {
+    if kind != SpanKind::Unset {
         return Ok(());
     }
     match why {
@@ -43,89 +56,79 @@ fn push_register(
     study: &Study,
     whys: &[UnsetCause],
     insn: &Insn,
-    frame: &Frame,
+    view: &View,
     number: u8,
 ) -> Result<(), AllocError>
     requires { number < REGISTERS }
-    ensures { OnOk result (string_bytes out.new ≡ string_bytes out.old ++ register_text study.now whys.now insn.now frame.now number) }
+    ensures { OnOk result (string_bytes out.new ≡ string_bytes out.old ++ register_text study.now whys.now insn.now view.now number) }
 {
     if !is_read(study.form, insn, number) {
         return Ok(());
     }
-    let kind = frame.kinds[number as usize];
+    let reg = Reg { number };
     let why = match whys.get(number as usize) {
         Some(why) => *why,
         None => UnsetCause::Unknown,
     };
     write!(out, "    r{number} ")?;
-    push_kind(out, kind, frame.low, study.state_len)?;
-    push_reason(out, kind, why)?;
+    push_register_kind(out, reg, view, study.state_len)?;
+    push_reason(out, view.kind(reg), why)?;
     out.push('\n')
 }
 
-/// Writes what is known of the registers that an instruction reads.
+/// Writes what is known of what an instruction reads.
 fn push_known(
     out: &mut String,
     study: &Study,
     whys: &[UnsetCause],
     insn: &Insn,
-    frame: Option<Frame>,
+    view: &Option<View>,
 ) -> Result<(), AllocError>
-    ensures { OnOk result (string_bytes out.new ≡ string_bytes out.old ++ known_text study.now whys.now insn.now frame) }
+    ensures { OnOk result (string_bytes out.new ≡ string_bytes out.old ++ known_text study.now whys.now insn.now view.now) }
 {
-    let Some(frame) = frame else {
+    let Some(view) = view else {
         return out.push_str("    no way leads here\n");
     };
     for number in 0..REGISTERS as u8 {
-        push_register(out, study, whys, insn, &frame, number)?;
+        push_register(out, study, whys, insn, view, number)?;
     }
-    Ok(())
+    push_stack(out, study.state_len, insn, view)
 }
 
-/// Writes which rule is broken at a slot, and what breaks it.
+/// Writes which rule is broken at a slot, what breaks it, and what to do about that.
 fn push_broken(
     out: &mut String,
     study: &Study,
     rule: Rule,
     slot: usize,
-    insn: &Insn,
-    frame: &Frame,
+    view: &View,
+    cause: Cause,
 ) -> Result<(), AllocError>
-    requires within { slot < length study.now.slots.items }
-    requires short { length study.now.slots.items ≤ SLOTS }
-    ensures { OnOk result (string_bytes out.new ≡ string_bytes out.old ++ broken_text study.now rule slot insn.now frame.now) }
+    ensures { OnOk result (string_bytes out.new ≡ string_bytes out.old ++ broken_text study.now rule slot view.now cause) }
 {
-    push_with(out, "    refused by V", rule.number().into(), ": ")?;
-    push_cause(out, study, slot, insn, frame, rule)
+    let number = rule.number();
+    write!(out, "    refused by V{number}: ")?;
+    push_cause(out, study.form_number(), study.slots.len(), slot, cause)?;
+    let advice = advice(view, rule, cause);
+    write!(out, "\n    to do: {advice}\n")
 }
 
-/// Writes what to do about a broken rule.
-fn push_advice(out: &mut String, rule: Rule) -> Result<(), AllocError>
-    ensures { OnOk result (string_bytes out.new ≡ string_bytes out.old ++ advice_text rule) }
-{
-    out.push_str("\n    to do: ")?;
-    out.push_str(advice(rule))?;
-    out.push('\n')
-}
-
-/// Writes what breaks the rule at a slot, and what to do about it.
+/// Writes what is wrong at the slot that is refused.
 fn push_refusal(
     out: &mut String,
     study: &Study,
     rule: Rule,
     slot: usize,
     insn: &Insn,
-    frame: Option<Frame>,
+    view: &Option<View>,
 ) -> Result<(), AllocError>
-    requires within { slot < length study.now.slots.items }
-    requires short { length study.now.slots.items ≤ SLOTS }
-    ensures { OnOk result (string_bytes out.new ≡ string_bytes out.old ++ refusal_text study.now rule slot insn.now frame) }
+    ensures { OnOk result (string_bytes out.new ≡ string_bytes out.old ++ refusal_text study.now rule slot insn.now view.now) }
 {
-    let Some(frame) = frame else {
+    let Some(view) = view else {
         return Ok(());
     };
-    push_broken(out, study, rule, slot, insn, &frame)?;
-    push_advice(out, rule)
+    let cause = cause_of(study.form, study.state_len, insn, view, rule);
+    push_broken(out, study, rule, slot, view, cause)
 }
 
 /// Writes the lines under an instruction.
@@ -135,19 +138,20 @@ fn push_notes(
     whys: &[UnsetCause],
     slot: usize,
     insn: &Insn,
-    frame: Option<Frame>,
+    view: &Option<View>,
 ) -> Result<(), AllocError>
-    requires within { slot < length study.now.slots.items }
-    requires short { length study.now.slots.items ≤ SLOTS }
-    ensures { OnOk result (string_bytes out.new ≡ string_bytes out.old ++ notes_text study.now whys.now slot insn.now frame study.now.refusal) }
+    ensures { OnOk result (string_bytes out.new ≡ string_bytes out.old ++ notes_text study.now whys.now slot insn.now view.now study.now.refusal) }
 {
     match study.refusal {
         Some((rule, at)) if slot == at => {
-            push_known(out, study, whys, insn, frame)?;
-            push_refusal(out, study, rule, slot, insn, frame)
+            push_known(out, study, whys, insn, view)?;
+            push_refusal(out, study, rule, slot, insn, view)
         }
         Some((_, at)) if slot > at => Ok(()),
-        _ => push_known(out, study, &[], insn, frame),
+        _ => {
+            push_known(out, study, &[], insn, view)?;
+            push_dead(out, insn, view)
+        }
     }
 }
 
@@ -159,8 +163,6 @@ fn push_slot(
     whys: &[UnsetCause],
     slot: usize,
 ) -> Result<(), AllocError>
-    requires within { slot < length study.now.slots.items }
-    requires short { length study.now.slots.items ≤ SLOTS }
     ensures { OnOk result (string_bytes out.new ≡ string_bytes out.old ++ slot_text study.now whys.now slot) }
 {
     let Some(insn) = study.insn_at(slot) else {
@@ -168,18 +170,11 @@ fn push_slot(
     };
     let line = disassemble(alloc, &[insn])?;
     write!(out, "{slot}: {line}")?;
-    push_notes(out, study, whys, slot, &insn, study.frame_at(slot))
-}
-
-fn push_refused(out: &mut String, rule: Rule, slot: usize) -> Result<(), AllocError>
-    ensures { OnOk result (string_bytes out.new ≡ string_bytes out.old ++ refused_text rule slot) }
-{
-    push_with(out, "verify refused V", rule.number().into(), " at slot ")?;
-    writeln!(out, "{slot}")
+    push_notes(out, study, whys, slot, &insn, &study.view_at(slot))
 }
 
 /// Writes the verdict as `check` prints it.
-pub fn push_verdict(
+fn push_verdict(
     out: &mut String,
     count: usize,
     refusal: Option<(Rule, usize)>,
@@ -188,7 +183,10 @@ pub fn push_verdict(
 {
     match refusal {
         None => writeln!(out, "accepted {count} instructions"),
-        Some((rule, slot)) => push_refused(out, rule, slot),
+        Some((rule, slot)) => {
+            let number = rule.number();
+            writeln!(out, "verify refused V{number} at slot {slot}")
+        }
     }
 }
 
@@ -196,14 +194,13 @@ pub fn push_verdict(
 fn push_head(out: &mut String, study: &Study) -> Result<(), AllocError>
     ensures { OnOk result (string_bytes out.new ≡ string_bytes out.old ++ head_text study.now) }
 {
-    push_with(out, "form ", study.form.number().into(), ", ")?;
-    let state_len = study.state_len;
-    writeln!(out, "{state_len} bytes of state")
+    let (form, state_len) = (study.form_number(), study.state_len);
+    writeln!(out, "form {form}, {state_len} bytes of state")
 }
 
 /// Why registers are unset at the slot that is refused.
 fn reasons_of(study: &Study) -> [UnsetCause; REGISTERS]
-    ensures { AreReasons study.now result study.now.refusal }
+    ensures { (rule : Rule) (slot : ℕ) → study.now.refusal ≡ Some (rule, slot) → AreWhys study.now result slot }
 {
     match study.refusal {
         Some((_, slot)) => whys_at(study, slot),
@@ -212,8 +209,7 @@ fn reasons_of(study: &Study) -> [UnsetCause; REGISTERS]
 }
 
 /// The listing of a study (docs/FORMATS.md, "Listing"). The only error is lack of memory.
-pub fn listing_of(alloc: Global, study: &Study) -> Result<String, AllocError>
-    requires { length study.now.slots.items ≤ SLOTS }
+fn listing_of(alloc: Global, study: &Study) -> Result<String, AllocError>
     ensures { IfOk result (λ text. IsListing study.now (string_bytes text)) }
 {
     let whys = reasons_of(study);
@@ -226,15 +222,45 @@ pub fn listing_of(alloc: Global, study: &Study) -> Result<String, AllocError>
     Ok(out)
 }
 
-/// The listing of an image file, whether the verifier accepts its code or refuses it. A file that
-/// can't be read is refused with its first fault, of the header or then of the code.
-pub fn explain(alloc: Global, bytes: &[u8]) -> Result<String, ImageError>
-    ensures listing { IfOk result (λ text. IsExplained bytes.now (string_bytes text)) }
-    ensures refused { IfErr result (IsUnread bytes.now) }
+/// The listing of code of this form, 1 to 1,024 slots, with a state of `state_len` bytes. The only error is lack of
+/// memory.
+fn code_listing(
+    alloc: Global,
+    code: &[Insn],
+    state_len: u16,
+    form: FileForm,
+) -> Result<String, ImageError>
+    requires some { 0 < length code.now }
+    requires slots { length (slots_of code.now) ≤ SLOTS }
+    requires fits { AllByRecursion Fits code.now }
+    ensures listing { IfOk result (λ text. IsListed form code.now state_len (string_bytes text)) }
+    ensures memory { IfErr result (λ e. e ≡ Memory) }
 {
-    let study = study_of(alloc, bytes)?;
+    let Ok(study) = study_of(alloc, code, state_len, form) else {
+        return Err(ImageError::Memory);
+    };
     match listing_of(alloc, &study) {
         Ok(text) => Ok(text),
         Err(_) => Err(ImageError::Memory),
     }
+}
+
+/// The listing of an image file of any form, by the rules of its form, whether the verifier accepts its code or
+/// refuses it. A file that can't be read is refused with its first fault, of the header or then of the code.
+pub fn explain_file(alloc: Global, bytes: &[u8]) -> Result<String, ImageError>
+    ensures listing { IfOk result (λ text. IsFileExplained bytes.now (string_bytes text)) }
+    ensures refused { IfErr result (any.IsUnread bytes.now) }
+{
+    let (code, state_len, form) = any_parts(alloc, bytes)?;
+    code_listing(alloc, &code, state_len, form)
+}
+
+/// The listing of an image file of form 1 or 2. A file of form 3 is refused like one of no form.
+pub fn explain(alloc: Global, bytes: &[u8]) -> Result<String, ImageError>
+    ensures listing { IfOk result (λ text. IsFileExplained bytes.now (string_bytes text)) }
+    ensures flat { IfOk result (λ text. take 4 bytes.now ≢ magic_3) }
+    ensures refused { IfErr result (IsUnread bytes.now) }
+{
+    let (code, state_len, form) = parts(alloc, bytes)?;
+    code_listing(alloc, &code, state_len, FileForm::from(form))
 }

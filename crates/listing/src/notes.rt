@@ -1,40 +1,17 @@
-//! The lines under an instruction: what is known of what it reads, and which branch no number
-//! takes.
+//! What the listing says in form 3 alone: of a word of the stack, and of a branch that no number takes.
 
-ghost use Rattle.std.specs.Prelude.{◌≡◌, ◌<◌, ◌≤◌, ◌++◌, Some, OnOk, string_bytes};
-ghost use Rattle.std.specs.Option.{option_map};
-ghost use Rattle.verifier.specs.Span.Transfer.{frame_of};
+ghost use Rattle.std.specs.Prelude.{◌≡◌, ◌++◌, OnOk, Some, string_bytes};
+ghost use Rattle.listing.specs.declared.view.View.TheVariants.{Spans};
 ghost use Rattle.spans.specs.Frame.{kind_at};
-ghost use Rattle.listing.specs.SpanListing.{dead_text, kept_text, known_text, read_text, register_text, stack_text, ways_known, ways_text, word_at, word_line};
+ghost use Rattle.listing.specs.Notes.{dead_text, kept_text, read_text, stack_text, ways_text, word_at, word_line};
 
-use crate::kinds::push_with;
-use crate::reads::is_read;
-use crate::span_kinds::{distance_of, push_kind};
-use decode::{Insn, Reg, bytes_in};
-use limits::REGISTERS;
-use regtypes::{ImageForm, Region};
+use crate::kinds::{distance_of, push_kind};
+use crate::view::View;
+use decode::{Insn, bytes_in};
+use regtypes::Region;
 use spans::{Cells, Span, SpanKind};
 use std::alloc::AllocError;
 use verifier::{is_inside, operand_kind, opposite, shown, whole_word};
-
-/// Writes a register and what is known of it, if the instruction reads it.
-fn push_register(
-    out: &mut String,
-    state_len: u16,
-    insn: &Insn,
-    frame: &Cells,
-    number: u8,
-) -> Result<(), AllocError>
-    requires { number < REGISTERS }
-    ensures { OnOk result (string_bytes out.new ≡ string_bytes out.old ++ register_text state_len insn.now (kind_at frame.now.kinds) number) }
-{
-    if !is_read(ImageForm::Sbi2, insn, number) {
-        return Ok(());
-    }
-    push_with(out, "    r", number.into(), " ")?;
-    push_kind(out, frame.kinds[number as usize], state_len)?;
-    out.push_str("\n")
-}
 
 /// What is known of a cell. Of cells after the last nothing is known.
 fn kind_in(frame: &Cells, cell: usize) -> SpanKind
@@ -68,9 +45,10 @@ fn push_word_line(
 ) -> Result<(), AllocError>
     ensures { OnOk result (string_bytes out.new ≡ string_bytes out.old ++ word_line state_len cell kind) }
 {
-    push_with(out, "    stack-", distance_of(cell), " ")?;
-    push_kind(out, kind, state_len)?;
-    out.push_str("\n")
+    let from = distance_of(cell);
+    write!(out, "    stack-{from} ")?;
+    push_kind(out, kind, 512, state_len)?;
+    out.push('\n')
 }
 
 /// Writes the word that is read.
@@ -104,13 +82,13 @@ fn push_kept(
 }
 
 /// Writes the word of the stack that a load reads, or in which a store keeps a place.
-fn push_stack(
+fn push_access(
     out: &mut String,
     state_len: u16,
     insn: &Insn,
     frame: &Cells,
 ) -> Result<(), AllocError>
-    ensures { OnOk result (string_bytes out.new ≡ string_bytes out.old ++ stack_text state_len insn.now (kind_at frame.now.kinds)) }
+    ensures { OnOk result (string_bytes out.new ≡ string_bytes out.old ++ stack_text state_len (Spans frame.now) insn.now) }
 {
     match *insn {
         Insn::Load {
@@ -135,26 +113,23 @@ fn push_stack(
     }
 }
 
-/// Writes what is known of what an instruction reads.
-pub fn push_known(
+/// Writes the same in form 3. Forms 1 and 2 know nothing of words.
+pub fn push_stack(
     out: &mut String,
     state_len: u16,
     insn: &Insn,
-    frame: &Option<Cells>,
+    view: &View,
 ) -> Result<(), AllocError>
-    ensures { OnOk result (string_bytes out.new ≡ string_bytes out.old ++ known_text state_len insn.now (option_map frame_of frame.now)) }
+    ensures { OnOk result (string_bytes out.new ≡ string_bytes out.old ++ stack_text state_len view.now insn.now) }
 {
-    let Some(frame) = frame else {
-        return out.push_str("    no way leads here\n");
-    };
-    for number in 0..REGISTERS as u8 {
-        push_register(out, state_len, insn, frame, number)?;
+    match view {
+        View::Flat(_) => Ok(()),
+        View::Spans(frame) => push_access(out, state_len, insn, frame),
     }
-    push_stack(out, state_len, insn, frame)
 }
 
 /// Writes which branch of a jump no number takes.
-fn push_dead(
+fn push_ways(
     out: &mut String,
     next: Option<(Span, Span)>,
     taken: Option<(Span, Span)>,
@@ -170,7 +145,7 @@ fn push_dead(
 
 /// Writes whether all numbers take a conditional jump, or none.
 fn push_jump(out: &mut String, insn: &Insn, frame: &Cells) -> Result<(), AllocError>
-    ensures { OnOk result (string_bytes out.new ≡ string_bytes out.old ++ dead_text insn.now (kind_at frame.now.kinds)) }
+    ensures { OnOk result (string_bytes out.new ≡ string_bytes out.old ++ dead_text (Some (Spans frame.now)) insn.now) }
 {
     let Insn::JumpIf {
         condition,
@@ -185,19 +160,18 @@ fn push_jump(out: &mut String, insn: &Insn, frame: &Cells) -> Result<(), AllocEr
     match (frame.kind(dst), operand_kind(width, operand, frame)) {
         (SpanKind::Num(a), SpanKind::Num(b)) => {
             let next = shown(opposite(condition), width, a, b);
-            push_dead(out, next, shown(Some(condition), width, a, b))
+            push_ways(out, next, shown(Some(condition), width, a, b))
         }
         _ => Ok(()),
     }
 }
 
-/// Writes whether all numbers take the conditional jump at a slot, or none, if a path reaches the
-/// slot.
-pub fn push_ways(out: &mut String, insn: &Insn, frame: &Option<Cells>) -> Result<(), AllocError>
-    ensures { OnOk result (string_bytes out.new ≡ string_bytes out.old ++ ways_known insn.now (option_map frame_of frame.now)) }
+/// Writes the same in form 3, if a path reaches the slot.
+pub fn push_dead(out: &mut String, insn: &Insn, view: &Option<View>) -> Result<(), AllocError>
+    ensures { OnOk result (string_bytes out.new ≡ string_bytes out.old ++ dead_text view.now insn.now) }
 {
-    match frame {
-        None => Ok(()),
-        Some(frame) => push_jump(out, insn, frame),
+    match view {
+        Some(View::Spans(frame)) => push_jump(out, insn, frame),
+        _ => Ok(()),
     }
 }

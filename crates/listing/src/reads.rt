@@ -1,9 +1,9 @@
 //! Which registers an instruction reads.
 
-ghost use Rattle.std.specs.Prelude.{◌≡◌};
+ghost use Rattle.std.specs.Prelude.{◌≡◌, [], unwrap_or};
 ghost use Rattle.decode.specs.Attributes.{attributes_of};
 ghost use Rattle.regtypes.specs.Rules.{arguments_of, base_of, moved_of};
-ghost use Rattle.listing.specs.Reads.{is_given, is_named, is_numbered, is_read};
+ghost use Rattle.listing.specs.Reads.{is_argument, is_named, is_numbered, is_read};
 
 use decode::{Access, Attributes, Insn, Reg, attributes_from};
 use regtypes::ImageForm;
@@ -50,7 +50,7 @@ fn is_named(what: &Attributes, number: u8) -> bool
 
 /// Whether a helper takes this register as an argument.
 fn is_given(form: ImageForm, helper: i32, number: u8) -> bool
-    ensures { result ≡ is_given number (arguments_of form helper) }
+    ensures { result ≡ is_argument number (unwrap_or (arguments_of form helper) []) }
 {
     match (form, helper) {
         (_, 1) => number == 1 || number == 2,

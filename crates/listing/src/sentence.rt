@@ -1,17 +1,14 @@
 //! A cause as a sentence, and what to do about it.
 
-ghost use Rattle.std.specs.Prelude.{◌≡◌, ◌<◌, ◌≤◌, ◌++◌, OnOk, codes, decimal, string_bytes};
-ghost use Rattle.listing.specs.Kinds.{reg_text};
-ghost use Rattle.listing.specs.SpanKinds.{places_text, range_text, word_text};
-ghost use Rattle.listing.specs.Sentence.{cause_advice, cause_text, moved_advice, outside_advice, register_advice, register_words, word_advice, word_words};
+ghost use Rattle.std.specs.Prelude.{◌≡◌, ◌++◌, OnOk, codes, decimal, string_bytes};
+ghost use Rattle.listing.specs.Kinds.{places_text, range_text, reg_text, word_text};
+ghost use Rattle.listing.specs.Sentence.{advice, cause_advice, cause_text, moved_advice, outside_advice, register_advice, register_words, rule_advice, word_advice, word_words};
 
-use crate::cause::{push_count_cause, push_distance_cause, push_jump_cause};
-use crate::kinds::{push_with, push_with_signed};
-use crate::span_cause::{RegisterFault, SpanCause, WordFault};
-use crate::span_kinds::{distance_of, push_places, push_range};
+use crate::cause::{Cause, RegisterFault, WordFault};
+use crate::kinds::{distance_of, push_places, push_range};
+use crate::view::View;
 use decode::Reg;
-use limits::SLOTS;
-use regtypes::Region;
+use regtypes::{Region, Rule};
 use spans::Span;
 use std::alloc::AllocError;
 
@@ -28,43 +25,23 @@ fn register_words(fault: RegisterFault) -> &'static str
     }
 }
 
-/// Writes what is wrong with a word of the stack.
-fn push_word_words(out: &mut String, fault: WordFault) -> Result<(), AllocError>
-    ensures { OnOk result (string_bytes out.new ≡ string_bytes out.old ++ word_words fault) }
+/// Writes a word of the stack and what is wrong with it.
+fn push_word(out: &mut String, cell: usize, fault: WordFault) -> Result<(), AllocError>
+    ensures { OnOk result (string_bytes out.new ≡ string_bytes out.old ++ (codes "the word at " ++ word_text cell ++ word_words fault)) }
 {
+    let from = distance_of(cell);
     match fault {
-        WordFault::Unset => out.push_str(" is read and isn't set"),
-        WordFault::NoNumber => out.push_str(" is to be a number"),
-        WordFault::Read(bytes) => {
-            push_with(
-                out,
-                " holds a place, of which ",
-                bytes.into(),
-                " bytes are read",
-            )
-        }
-        WordFault::Written(bytes) => {
-            push_with(
-                out,
-                " holds a place, of which ",
-                bytes.into(),
-                " bytes are written",
-            )
-        }
+        WordFault::Unset => write!(out, "the word at stack-{from} is read and isn't set"),
+        WordFault::NoNumber => write!(out, "the word at stack-{from} is to be a number"),
+        WordFault::Read(bytes) => write!(
+            out,
+            "the word at stack-{from} holds a place, of which {bytes} bytes are read"
+        ),
+        WordFault::Written(bytes) => write!(
+            out,
+            "the word at stack-{from} holds a place, of which {bytes} bytes are written"
+        ),
     }
-}
-
-/// Writes which two registers are added.
-fn push_sum(out: &mut String, first: Reg, second: Reg) -> Result<(), AllocError>
-    ensures { OnOk result (string_bytes out.new ≡ string_bytes out.old ++ (reg_text first ++ codes " and " ++ reg_text second ++ codes " are added, and both hold places")) }
-{
-    push_with(out, "r", first.number.into(), " and r")?;
-    push_with(
-        out,
-        "",
-        second.number.into(),
-        " are added, and both hold places",
-    )
 }
 
 /// Writes which bytes an access reaches.
@@ -74,73 +51,74 @@ fn push_outside(
     region: Region,
     lo: i64,
     hi: i64,
-    state_len: u16,
+    size: u16,
 ) -> Result<(), AllocError>
-    ensures { OnOk result (string_bytes out.new ≡ string_bytes out.old ++ (codes "not all of the " ++ decimal bytes ++ codes " bytes at " ++ places_text state_len region lo hi ++ codes " lie there")) }
+    ensures { OnOk result (string_bytes out.new ≡ string_bytes out.old ++ (codes "not all of the " ++ decimal bytes ++ (codes " bytes at " ++ places_text size region lo hi ++ codes " lie there"))) }
 {
-    push_with(out, "not all of the ", bytes.into(), " bytes at ")?;
-    push_places(out, region, lo, hi, state_len)?;
+    write!(out, "not all of the {bytes} bytes at ")?;
+    push_places(out, region, lo, hi, size)?;
     out.push_str(" lie there")
 }
 
 /// Writes by how much a place is moved.
 fn push_moved(out: &mut String, reg: Reg, span: Span) -> Result<(), AllocError>
-    ensures { OnOk result (string_bytes out.new ≡ string_bytes out.old ++ (reg_text reg ++ codes " is moved by " ++ range_text span ++ codes ", out of the places from -32768 to 32767")) }
+    ensures { OnOk result (string_bytes out.new ≡ string_bytes out.old ++ (reg_text reg ++ (codes " is moved by " ++ range_text span ++ codes ", out of the places from -32768 to 32767"))) }
 {
-    push_with(out, "r", reg.number.into(), " is moved by ")?;
+    let number = reg.number;
+    write!(out, "r{number} is moved by ")?;
     push_range(out, span)?;
     out.push_str(", out of the places from -32768 to 32767")
 }
 
-/// Writes what an argument has to be.
-fn push_payload(out: &mut String, reg: u8, bytes: u16) -> Result<(), AllocError>
-    ensures { OnOk result (string_bytes out.new ≡ string_bytes out.old ++ (codes "r" ++ decimal reg ++ codes " is to be a place, with " ++ decimal bytes ++ codes " bytes from there on in its region")) }
-{
-    push_with(out, "r", reg.into(), " is to be a place, with ")?;
-    push_with(out, "", bytes.into(), " bytes from there on in its region")
-}
-
-/// Writes a word of the stack and what is wrong with it.
-fn push_word_cause(out: &mut String, cell: usize, fault: WordFault) -> Result<(), AllocError>
-    ensures { OnOk result (string_bytes out.new ≡ string_bytes out.old ++ (codes "the word at " ++ word_text cell ++ word_words fault)) }
-{
-    push_with(out, "the word at stack-", distance_of(cell), "")?;
-    push_word_words(out, fault)
-}
-
-/// Writes what breaks a rule at a slot.
+/// Writes what breaks a rule at a slot, in code of this many slots and of this form.
 pub fn push_cause(
     out: &mut String,
-    state_len: u16,
+    form: u8,
     slots: usize,
     slot: usize,
-    cause: SpanCause,
+    cause: Cause,
 ) -> Result<(), AllocError>
-    requires within { slot < slots }
-    requires short { slots ≤ SLOTS }
-    ensures { OnOk result (string_bytes out.new ≡ string_bytes out.old ++ cause_text state_len slots slot cause) }
+    ensures { OnOk result (string_bytes out.new ≡ string_bytes out.old ++ cause_text form slots slot cause) }
 {
     match cause {
-        SpanCause::Nothing => Ok(()),
-        SpanCause::Jump(distance) => push_jump_cause(out, slots, slot, distance),
-        SpanCause::NothingFollows => out.push_str("nothing follows this instruction"),
-        SpanCause::FramePointer => out.push_str("r10 is written, and is for reading"),
-        SpanCause::NoAnswer => out.push_str("r0 is to be a number at the end"),
-        SpanCause::OfRegister(reg, fault) => {
-            push_with(out, "r", reg.number.into(), register_words(fault))
+        Cause::Nothing => Ok(()),
+        Cause::Jump(distance) => {
+            let target = slot as i128 + 1 + i128::from(distance);
+            write!(
+                out,
+                "the jump leads to slot {target} of {slots}, and has to lead to a later one at which an instruction begins"
+            )
         }
-        SpanCause::OfWord(cell, fault) => push_word_cause(out, cell, fault),
-        SpanCause::SumOfPlaces(first, second) => push_sum(out, first, second),
-        SpanCause::Outside(bytes, region, lo, hi) => {
-            push_outside(out, bytes, region, lo, hi, state_len)
+        Cause::NothingFollows => out.push_str("nothing follows this instruction"),
+        Cause::FramePointer => out.push_str("r10 is written, and is for reading"),
+        Cause::NoAnswer => out.push_str("r0 is to be a number at the end"),
+        Cause::OfRegister(Reg { number }, fault) => {
+            let words = register_words(fault);
+            write!(out, "r{number}{words}")
         }
-        SpanCause::MovedBy(reg, span) => push_moved(out, reg, span),
-        SpanCause::ShiftedBy(reg, by) => push_distance_cause(out, reg, by),
-        SpanCause::NoHelper(helper) => {
-            push_with_signed(out, "form 3 has no helper ", helper.into(), "")
+        Cause::OfWord(cell, fault) => push_word(out, cell, fault),
+        Cause::SumOfPlaces(Reg { number: first }, Reg { number: second }) => write!(
+            out,
+            "r{first} and r{second} are added, and both hold places"
+        ),
+        Cause::Outside(bytes, region, lo, hi, size) => {
+            push_outside(out, bytes, region, lo, hi, size)
         }
-        SpanCause::NoCount(reg) => push_count_cause(out, reg.into()),
-        SpanCause::NoPayload(reg, bytes) => push_payload(out, reg, bytes),
+        Cause::MovedBy(reg, span) => push_moved(out, reg, span),
+        Cause::ShiftedBy(Reg { number }, by) => write!(
+            out,
+            "r{number} is moved by {by}, out of the places from -32768 to 32767"
+        ),
+        Cause::NoHelper(helper) => write!(out, "form {form} has no helper {helper}"),
+        Cause::NoCount(reg) => write!(out, "r{reg} is to be a number"),
+        Cause::NoPayload(reg, bytes) => write!(
+            out,
+            "r{reg} is to be a place, with {bytes} bytes from there on in its region"
+        ),
+        Cause::NoSized(place, count) => write!(
+            out,
+            "r{place} is to be a place with 256 bytes from there on in its region, and r{count} a number; or they the message and its length"
+        ),
     }
 }
 
@@ -214,26 +192,59 @@ fn moved_advice(span: Span) -> &'static str
     }
 }
 
-/// What to do about a cause.
-pub fn cause_advice(cause: SpanCause) -> &'static str
+/// What to do about a cause in form 3.
+fn cause_advice(cause: Cause) -> &'static str
     ensures { result.now ≡ cause_advice cause }
 {
     match cause {
-        SpanCause::Nothing => "read the listing from here upward",
-        SpanCause::Jump(_) =>
+        Cause::Nothing => "read the listing from here upward",
+        Cause::Jump(_) =>
             "jump forward, to where an instruction begins: write unrolled above a loop of known length, and turn() first in it where clang leaves it as one",
-        SpanCause::NothingFollows => "end each way with exit",
-        SpanCause::FramePointer => "copy it by mov, and change the copy",
-        SpanCause::NoAnswer => "return a number on each way",
-        SpanCause::OfRegister(_, fault) => register_advice(fault),
-        SpanCause::OfWord(_, fault) => word_advice(fault),
-        SpanCause::SumOfPlaces(_, _) => "compare and compute with indices in place of pointers",
-        SpanCause::Outside(_, region, lo, hi) => outside_advice(region, lo, hi),
-        SpanCause::MovedBy(_, span) => moved_advice(span),
-        SpanCause::ShiftedBy(_, _) => REGION,
-        SpanCause::NoHelper(_) => "call helper 1 to 6",
-        SpanCause::NoCount(_) => "give the helper a number, set on each way that leads here",
-        SpanCause::NoPayload(_, _) =>
+        Cause::NothingFollows => "end each way with exit",
+        Cause::FramePointer => "copy it by mov, and change the copy",
+        Cause::NoAnswer => "return a number on each way",
+        Cause::OfRegister(_, fault) => register_advice(fault),
+        Cause::OfWord(_, fault) => word_advice(fault),
+        Cause::SumOfPlaces(_, _) => "compare and compute with indices in place of pointers",
+        Cause::Outside(_, region, lo, hi, _) => outside_advice(region, lo, hi),
+        Cause::MovedBy(_, span) => moved_advice(span),
+        Cause::ShiftedBy(_, _) => REGION,
+        Cause::NoHelper(_) => "call helper 1 to 6",
+        Cause::NoCount(_) => "give the helper a number, set on each way that leads here",
+        Cause::NoPayload(_, _) | Cause::NoSized(_, _) =>
             "compare the length with a number that fits before the call, or give a fixed one, and begin where so many bytes are left; where the C compares it already, within(length, most); right above the call does so anew; or --state is too small",
+    }
+}
+
+/// What to do about a broken rule in forms 1 and 2.
+fn rule_advice(rule: Rule) -> &'static str
+    ensures { result.now ≡ rule_advice rule }
+{
+    match rule {
+        Rule::V1 => "jump forward, to where an instruction begins; unroll a loop",
+        Rule::V2 => "end each way with exit",
+        Rule::V3 =>
+            "set it on each way that leads here, alike; what a helper must not lose belongs in r6 to r9; r3 is the length in forms 2 and 3 alone, and a handler in C wants --form 3",
+        Rule::V4 => "copy it by mov, and change the copy",
+        Rule::V5 =>
+            "compute with numbers alone; load and store through places, and move them by add and sub of a constant; a handler in C wants --form 3",
+        Rule::V6 =>
+            "stay inside the region (the state has as many bytes as --state says, the message 64 in form 1); in form 2 compare the length before the message is read; a handler in C wants --form 3",
+        Rule::V7 =>
+            "write to the state or the stack; in C the message is the first argument, the state the second",
+        Rule::V8 => "call helper 1, 2, 3 or 4, or in forms 2 and 3 also 5 or 6",
+        Rule::V9 =>
+            "set the arguments right before the call, and let the bytes lie inside one region",
+        Rule::V10 => "put a number in r0 before exit, as by mov r0, 0",
+    }
+}
+
+/// What to do: in forms 1 and 2 about the rule, in form 3 about the cause.
+pub fn advice(view: &View, rule: Rule, cause: Cause) -> &'static str
+    ensures { result.now ≡ advice view.now rule cause }
+{
+    match view {
+        View::Flat(_) => rule_advice(rule),
+        View::Spans(_) => cause_advice(cause),
     }
 }

@@ -1,5 +1,12 @@
-use Rattle.listing.proofs.Studies.{short_study}
+use Rattle.std.proofs.Common.{◌≤◌, length, sym, subst}
+use Rattle.limits.specs.declared.TheConstants.{SLOTS}
+use Rattle.decode.specs.Slots.{slots_of}
+use Rattle.verifier.specs.FileForm.{file_form_of}
+use Rattle.listing.proofs.Files.{flat_file, short_file}
 use Rattle.listing.proofs.listing.explain.Goals as goal
 
-pub listing_of-requires : goal.listing_of-requires
-listing_of-requires c = short_study c.args.bytes.now c.in_ok-study.study c.in_ok-study.ensures.found
+pub code_listing-requires-clause-slots : goal.code_listing-requires-clause-slots
+code_listing-requires-clause-slots c =
+    let read = c.in_ok-code in
+    let file = flat_file read.form read.code.items read.state_len c.args.bytes.now read.ensures.found in
+    subst (λ is. length (slots_of is) ≤ SLOTS) (sym c.deref.ensures.value) (short_file (file_form_of read.form) read.code.items read.state_len c.args.bytes.now file)

@@ -4,4 +4,4 @@ use Rattle.listing.proofs.listing.push_known.Given as goal
 
 abbrev pub invariant-loop-number : goal.invariant-loop-number
 invariant-loop-number l =
-    string_bytes l.out ≡ string_bytes l.fn.out ++ texts_below (register_text l.study l.whys l.insn l.frame) l.number
+    string_bytes l.out ≡ string_bytes l.fn.out ++ texts_below (register_text l.study l.whys l.insn l.view) l.number

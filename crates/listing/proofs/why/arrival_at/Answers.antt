@@ -1,4 +1,4 @@
-use Rattle.std.proofs.Common.{rules, ◌≡◌, ◌≢◌, ◌∙◌, ℕ, Option, Some, None, true, false, refl, sym, ap, subst, arith}
+use Rattle.std.proofs.Common.{rules, ◌≡◌, ◌≢◌, ◌∙◌, ℕ, Option, Some, None, true, false, refl, sym, subst, arith}
 use Rattle.std.specs.Prelude.{IfSome}
 use Rattle.regtypes.specs.declared.frame.Kind.{Kind}
 use Rattle.regtypes.specs.declared.frame.Kind.TheVariants.{Unset}

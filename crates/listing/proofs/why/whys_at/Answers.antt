@@ -3,7 +3,7 @@ use Rattle.std.proofs.lemmas.List.{length-set}
 use Rattle.std.specs.Prelude.{Some}
 use Rattle.regtypes.specs.declared.frame.Kind.TheVariants.{Unset}
 use Rattle.regtypes.specs.Frame.{kind_at}
-use Rattle.regtypes.specs.Typing.{frame_at}
+use Rattle.listing.specs.Study.{flat_at}
 use Rattle.listing.specs.declared.why.UnsetCause.{UnsetCause}
 use Rattle.listing.specs.declared.why.UnsetCause.TheVariants.{Unknown}
 use Rattle.listing.specs.Why.{Explains}
@@ -24,7 +24,7 @@ loop-number-preserved c =
     let old = c.loop-number.whys in
     let was = c.loop-number.invariant in
     let frame = c.in-Some.frame in
-    let there : frame_at s.table.items c.args.slot ≡ Some frame = sym c.frame_at.ensures ∙ c.in-Some.is in
+    let there : flat_at s.table c.args.slot ≡ Some frame = sym c.frame_at.ensures ∙ c.in-Some.is in
     let within : n < length old = let k = was.size in omega arith in
     let at_least : n ≤ n = omega arith in
     elim c.if-eq.branch [
