@@ -1,5 +1,6 @@
 -- What is known of a register or of a word of the stack, as text.
-use Rattle.std.specs.Prelude.{ℕ, suc, ◌-◌, ◌*◌, ◌^◌, ◌==◌, ◌&&◌, ◌++◌, int_le, Bool, List, [], ℤ, pos, negsuc, codes, decimal, if◌then◌else◌}
+use Rattle.std.specs.Prelude.{ℕ, suc, ◌-◌, ◌*◌, ◌^◌, ◌==◌, ◌&&◌, ◌++◌, int_le, Bool, List, [], ℤ, pos, negsuc, codes, decimal}
+use Rattle.std.specs.Prelude.{if◌then◌else◌}
 use Rattle.std.specs.Fmt.{signed_decimal}
 use Rattle.decode.specs.declared.insn.Reg.{Reg}
 use Rattle.regtypes.specs.declared.frame.Region.{Region}
