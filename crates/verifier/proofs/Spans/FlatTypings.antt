@@ -1,5 +1,5 @@
 -- A typing of forms 1 and 2 is one of form 3.
-use Rattle.std.proofs.Common.{◌≡◌, ℕ, ◌+◌, List, length, Option, Some, None, ℤ, pos, refl, sym, ap, ◌∙◌, subst}
+use Rattle.std.proofs.Common.{◌≡◌, ℕ, ◌+◌, List, Option, Some, None, ℤ, pos, refl, sym, ap, ◌∙◌, subst}
 use Rattle.std.specs.Prelude.{unsigned_abs}
 use Rattle.std.specs.List.{AllByRecursion}
 use Rattle.std.specs.Option.{option_map}
@@ -12,20 +12,21 @@ use Rattle.decode.specs.Flow.{flow_of}
 use Rattle.regtypes.specs.Exits.{exits}
 use Rattle.regtypes.specs.Frame.{entry_frame as flat_entry}
 use Rattle.regtypes.specs.Ways.{next, taken}
-use Rattle.regtypes.specs.Rules.{first_broken, tests_of}
+use Rattle.regtypes.specs.Rules.{tests_of}
 use Rattle.regtypes.specs.Typing.{Table as FlatTable, IsTyping, Enters as FlatEnters, flow_tests, frame_at}
 use Rattle.regtypes.proofs.Monotone.{both_pass}
-use Rattle.regtypes.proofs.Typings.{typing_keeps, typing_leads, within}
+use Rattle.regtypes.proofs.Typings.{typing_keeps, typing_leads}
 use Rattle.spans.specs.Frame.{Frame, entry_frame}
 use Rattle.spans.specs.Ways.{LeqWay}
 use Rattle.spans.proofs.Order.{Leq-trans}
 use Rattle.verifier.specs.Span.Ways.{ways}
 use Rattle.verifier.specs.Span.Rules.{frame_pointer_rule, frame_rule}
-use Rattle.verifier.proofs.Spans.Exact.{exact, neither}
-use Rattle.spans.specs.Typing.{Enters, IsAllowed, target}
+use Rattle.verifier.proofs.Spans.Exact.{neither}
+use Rattle.spans.specs.Typing.{Enters, target}
 use Rattle.verifier.specs.Inside.SpanPass.{AreFitting}
-use Rattle.verifier.specs.Span.Typing.{IsPlaced, IsTyped}
-use Rattle.verifier.proofs.Spans.Slots.{are_fitting, later}
+use Rattle.verifier.specs.Span.Typing.{IsAllowed, IsTyped}
+use Rattle.verifier.proofs.Spans.Forms.{none_broken}
+use Rattle.verifier.proofs.Spans.Slots.{are_fitting}
 use Rattle.verifier.specs.Span.FlatLaws.{AreTypingsSubsumed}
 use Rattle.verifier.specs.Span.FlatFrames.{read_frame, read_table}
 use Rattle.verifier.proofs.Spans.FlatFrames.{entered, order_kept, read_frame-is}
@@ -72,36 +73,28 @@ leaps table s i g a l = tt
 
 -- ---- slots
 
-same_insn : (i j : Insn) (o : Option Insn) → o ≡ Some i → o ≡ Some j → i ≡ j
-same_insn i j o a b = cc
-
 module _ (form : ImageForm) (slots : List (Option Insn)) (state : ℕ) (table : FlatTable) (fits : AreFitting slots) (t : IsTyping form slots state table) where
-  allowed_at : (s : ℕ) (g : FlatFrame) (i : Insn) → frame_at table s ≡ Some g → insn_at slots s ≡ Some i → IsAllowed state (length slots) (insn_at slots) (read_table table) s (read_frame g) × IsPlaced slots s
+  allowed_at : (s : ℕ) (g : FlatFrame) (i : Insn) → frame_at table s ≡ Some g → insn_at slots s ≡ Some i → IsAllowed state slots (read_table table) s (read_frame g)
   allowed_at s g i e b =
       let k = both_pass (flow_tests slots s (flow_of i)) (tests_of form state i g) (typing_keeps form slots state table s g i t e b) in
       let r = rules_subsumed form state i g (fits s i b) (t.whole s g e) (t.short s g e) k.1 in
       let n = neither (frame_pointer_rule i) (frame_rule state i (read_frame g)) r.0 in
-      let a = typing_leads form slots state table s g i t e b in (
-        record {
-          insn = i;
-          ways = ways i (read_frame g);
-          there = b;
-          before = within slots s i b;
-          later = later slots s i k.0;
-          fits = fits s i b;
-          frame = read_frame-is g.kinds;
-          leaves = (exact state i (read_frame g)).0 n.1;
-          goes = goes table s i g a r.1;
-          leaps = leaps table s i g a r.2;
-        },
-        λ j c. subst (λ x. (first_broken (flow_tests slots s (flow_of x)) ≡ None) × (frame_pointer_rule x ≡ None)) (same_insn i j (insn_at slots s) b c) (k.0, n.0),
-      )
+      let a = typing_leads form slots state table s g i t e b in
+      record {
+        insn = i;
+        there = b;
+        fits = fits s i b;
+        frame = read_frame-is g.kinds;
+        kept = none_broken state slots s i (read_frame g) (k.0, n.0) n.1;
+        goes = goes table s i g a r.1;
+        leaps = leaps table s i g a r.2;
+      }
 
-  allowed : (s : ℕ) (f : Frame) → read_table table s ≡ Some f → (IsAllowed state (length slots) (insn_at slots) (read_table table) s f × IsPlaced slots s)
+  allowed : (s : ℕ) (f : Frame) → read_table table s ≡ Some f → IsAllowed state slots (read_table table) s f
   allowed s f e =
       let g = there table s f e in
       let b = t.begins s g.0 g.1 in
-      subst (λ (x : Frame). IsAllowed state (length slots) (insn_at slots) (read_table table) s x × IsPlaced slots s) g.2 (allowed_at s g.0 b.0 g.1 b.1)
+      subst (λ (x : Frame). IsAllowed state slots (read_table table) s x) g.2 (allowed_at s g.0 b.0 g.1 b.1)
 
   start : Enters (read_table table) 0 (Some entry_frame)
   start = enters table (pos 0, flat_entry form) 0 (Some entry_frame) refl t.start (entered form)
@@ -109,7 +102,7 @@ module _ (form : ImageForm) (slots : List (Option Insn)) (state : ℕ) (table : 
   pub typed : IsTyped state slots (read_table table)
   typed = record {
     start = start;
-    stands = λ s f e. let a = (allowed s f e).0 in (a.frame, (a.insn, a.there));
+    stands = λ s f e. let a = allowed s f e in (a.frame, (a.insn, a.there));
     allowed = λ s f lt e. allowed s f e;
   }
 

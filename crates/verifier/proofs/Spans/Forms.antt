@@ -9,23 +9,26 @@ use Rattle.decode.specs.Flow.{flow_of}
 use Rattle.regtypes.specs.Rules.{first_broken}
 use Rattle.regtypes.specs.Typing.{flow_tests}
 use Rattle.regtypes.proofs.Typings.{within}
+use Rattle.regtypes.proofs.Monotone.{both_none}
 use Rattle.spans.specs.declared.span.Span.{Span}
 use Rattle.spans.specs.declared.kind.Reach.{Reach}
 use Rattle.spans.specs.declared.kind.SpanKind.{SpanKind}
 use Rattle.spans.specs.declared.kind.SpanKind.TheVariants.{Unset, Num, Place}
 use Rattle.spans.specs.Frame.{Frame, IsFrame, Leq, LeqKind}
-use Rattle.spans.specs.Ways.{LeqWay}
+use Rattle.spans.specs.Ways.{LeqWay, Ways}
 use Rattle.spans.proofs.Order.{Leq-refl, Leq-trans}
 use Rattle.spans.proofs.Monotone.{monotone}
 use Rattle.verifier.specs.Span.Rules.{broken_rule, frame_pointer_rule, frame_rule}
-use Rattle.verifier.proofs.Spans.Exact.{both, exact}
-use Rattle.spans.specs.Typing.{Table, IsAllowed, IsTyping, target}
+use Rattle.verifier.specs.Span.Ways.{ways}
+use Rattle.verifier.proofs.Spans.Exact.{both, exact, neither}
+use Rattle.spans.specs.Typing.{Table, IsTyping, target}
 use Rattle.spans.specs.Typing as calls
 use Rattle.spans.proofs.CallEntry.{calls-shown}
 use Rattle.verifier.specs.Form.{Below, IsForm}
-use Rattle.verifier.specs.Span.Typing.{IsPlaced, broken_at, span_form, IsTyped}
-use Rattle.verifier.specs.Span.Laws.{AreTypedCallsShown, AreTypings, IsOneRefusal}
+use Rattle.verifier.specs.Span.Typing.{IsAllowed, broken_at, span_form, IsTyped}
+use Rattle.verifier.specs.Span.Laws.{AreTypedCallsShown, AreTypings, IsOneRefusal, IsPlaced}
 use Rattle.verifier.proofs.Passes.{one_refusal}
+use Rattle.verifier.proofs.Spans.Slots.{later}
 
 -- ---- order
 
@@ -70,18 +73,15 @@ module _ (state : ℕ) (slots : List (Option Insn)) where
   way_above a b le t None h = tt
   way_above a b le t (Some g) h = let k = le t h.0 h.1 in (k.0, k.1, Leq-trans g h.0 k.0 h.2 k.2)
 
-  allowed_above : (a b : Table) (s : ℕ) (f : Frame) → Below (span_form state slots) a b → IsAllowed state (length slots) (insn_at slots) a s f → IsAllowed state (length slots) (insn_at slots) b s f
+  allowed_above : (a b : Table) (s : ℕ) (f : Frame) → Below (span_form state slots) a b → IsAllowed state slots a s f → IsAllowed state slots b s f
   allowed_above a b s f le h = record {
     insn = h.insn;
-    ways = h.ways;
     there = h.there;
-    before = h.before;
-    later = h.later;
     fits = h.fits;
     frame = h.frame;
-    leaves = h.leaves;
-    goes = way_above a b le (s + size_of h.insn) h.ways.0 h.goes;
-    leaps = way_above a b le (target s h.insn) h.ways.1 h.leaps;
+    kept = h.kept;
+    goes = way_above a b le (s + size_of h.insn) (ways h.insn f).0 h.goes;
+    leaps = way_above a b le (target s h.insn) (ways h.insn f).1 h.leaps;
   }
 
 -- a way that leaves more fits wherever one that leaves less does
@@ -91,30 +91,41 @@ way_weaker table t (Some f) None l h = absurd l
 way_weaker table t (Some f) (Some g) l h = (h.0, h.1, Leq-trans f g h.0 l h.2)
 
 module _ (state : ℕ) (slots : List (Option Insn)) where
-  allowed_weaker : (t : Table) (s : ℕ) (f g : Frame) → IsFrame f → IsFrame g → Leq f g → IsAllowed state (length slots) (insn_at slots) t s g → IsAllowed state (length slots) (insn_at slots) t s f
-  allowed_weaker t s f g ff fg le h =
-      let k = monotone state h.insn f g h.ways ff fg le h.leaves in
-      record {
-        insn = h.insn;
-        ways = k.0;
-        there = h.there;
-        before = h.before;
-        later = h.later;
-        fits = h.fits;
-        frame = ff;
-        leaves = k.1.0;
-        goes = way_weaker t (s + size_of h.insn) k.0.0 h.ways.0 k.1.1.0 h.goes;
-        leaps = way_weaker t (target s h.insn) k.0.1 h.ways.1 k.1.1.1 h.leaps;
-      }
+  -- what an instruction keeps that breaks no rule
+  pub unbroken_parts : (s : ℕ) (i : Insn) (f : Frame) → broken_at state slots s (Some i) f ≡ None → (first_broken (flow_tests slots s (flow_of i)) ≡ None) × (frame_pointer_rule i ≡ None) × (frame_rule state i f ≡ None)
+  unbroken_parts s i f h =
+      let k = both_none (first_broken (flow_tests slots s (flow_of i))) (broken_rule state i f) h in
+      let m = neither (frame_pointer_rule i) (frame_rule state i f) k.1 in
+      (k.0, m.0, m.1)
 
   -- an instruction that keeps V1, V2 and V4 and breaks no rule that asks a frame breaks none
   pub none_broken : (s : ℕ) (i : Insn) (f : Frame) → (first_broken (flow_tests slots s (flow_of i)) ≡ None) × (frame_pointer_rule i ≡ None) → frame_rule state i f ≡ None → broken_at state slots s (Some i) f ≡ None
   none_broken s i f p r = ap (λ o. option_or o (broken_rule state i f)) p.0 ∙ both (frame_pointer_rule i) (frame_rule state i f) p.1 r
 
-  not_allowed : (t : Table) (s : ℕ) (f : Frame) (rule : Rule) → broken_at state slots s (insn_at slots s) f ≡ Some rule → IsAllowed state (length slots) (insn_at slots) t s f → IsPlaced slots s → ⊥
-  not_allowed t s f rule e a p =
-      let r = ((exact state a.insn f).1 a.ways a.leaves).0 in
-      let none = none_broken s a.insn f (p a.insn a.there) r in
+  -- a frame that says more breaks no more, and on each way one leaves that says more
+  weaker : (s : ℕ) (i : Insn) (f g : Frame) → IsFrame f → IsFrame g → Leq f g → broken_at state slots s (Some i) g ≡ None → (broken_at state slots s (Some i) f ≡ None) × (LeqWay (ways i f).0 (ways i g).0 × LeqWay (ways i f).1 (ways i g).1)
+  weaker s i f g ff fg le h =
+      let p = unbroken_parts s i g h in
+      let k = monotone state i f g (ways i g) ff fg le ((exact state i g).0 p.2) in
+      let e = (exact state i f).1 k.0 k.1.0 in
+      (none_broken s i f (p.0, p.1) e.0, subst (λ (v : Ways). LeqWay v.0 (ways i g).0 × LeqWay v.1 (ways i g).1) e.1 k.1.1)
+
+  allowed_weaker : (t : Table) (s : ℕ) (f g : Frame) → IsFrame f → Leq f g → IsAllowed state slots t s g → IsAllowed state slots t s f
+  allowed_weaker t s f g ff le h =
+      let k = weaker s h.insn f g ff h.frame le h.kept in
+      record {
+        insn = h.insn;
+        there = h.there;
+        fits = h.fits;
+        frame = ff;
+        kept = k.0;
+        goes = way_weaker t (s + size_of h.insn) (ways h.insn f).0 (ways h.insn g).0 k.1.0 h.goes;
+        leaps = way_weaker t (target s h.insn) (ways h.insn f).1 (ways h.insn g).1 k.1.1 h.leaps;
+      }
+
+  not_allowed : (t : Table) (s : ℕ) (f : Frame) (rule : Rule) → broken_at state slots s (insn_at slots s) f ≡ Some rule → IsAllowed state slots t s f → ⊥
+  not_allowed t s f rule e a =
+      let none = a.kept in
       let some : broken_at state slots s (Some a.insn) f ≡ Some rule = subst (λ o. broken_at state slots s o f ≡ Some rule) a.there e in
       cc
 
@@ -124,27 +135,63 @@ module _ (state : ℕ) (slots : List (Option Insn)) where
     transitive = Leq-trans;
     antisymmetric = λ s f g a b. Leq-antisym f g;
     within = λ s f a. within slots s a.1.0 a.1.1;
-    above = λ a b s f le h. (allowed_above state slots a b s f le h.0, h.1);
-    monotone = λ t s f g a b le h. (allowed_weaker t s f g a.0 b.0 le h.0, h.1);
-    refused = λ t s f rule e h. not_allowed t s f rule e h.0 h.1;
+    above = allowed_above state slots;
+    monotone = λ t s f g a b le h. allowed_weaker t s f g a.0 le h;
+    refused = not_allowed;
   }
 
 -- ---- laws
 
+module _ (state : ℕ) (slots : List (Option Insn)) (table : Table) where
+  same_insn : (i j : Insn) (o : Option Insn) → o ≡ Some i → o ≡ Some j → i ≡ j
+  same_insn i j o a b = cc
+
+  -- what is allowed is so in a typing of `spans`, and keeps V1, V2 and V4
+  to_calls : (s : ℕ) (f : Frame) → IsAllowed state slots table s f → calls.IsAllowed state (length slots) (insn_at slots) table s f × IsPlaced slots s
+  to_calls s f h =
+      let p = unbroken_parts state slots s h.insn f h.kept in (
+        record {
+          insn = h.insn;
+          ways = ways h.insn f;
+          there = h.there;
+          before = within slots s h.insn h.there;
+          later = later slots s h.insn p.0;
+          fits = h.fits;
+          frame = h.frame;
+          leaves = (exact state h.insn f).0 p.2;
+          goes = h.goes;
+          leaps = h.leaps;
+        },
+        λ j e. subst (λ x. (first_broken (flow_tests slots s (flow_of x)) ≡ None) × (frame_pointer_rule x ≡ None)) (same_insn h.insn j (insn_at slots s) h.there e) (p.0, p.1),
+      )
+
+  of_calls : (s : ℕ) (f : Frame) → calls.IsAllowed state (length slots) (insn_at slots) table s f → IsPlaced slots s → IsAllowed state slots table s f
+  of_calls s f a p =
+      let e = (exact state a.insn f).1 a.ways a.leaves in
+      record {
+        insn = a.insn;
+        there = a.there;
+        fits = a.fits;
+        frame = a.frame;
+        kept = none_broken state slots s a.insn f (p a.insn a.there) e.0;
+        goes = subst (λ (v : Ways). calls.Enters table (s + size_of a.insn) v.0) e.1 a.goes;
+        leaps = subst (λ (v : Ways). calls.Enters table (target s a.insn) v.1) e.1 a.leaps;
+      }
+
+  all_to_calls : IsTyped state slots table → (s : ℕ) (f : Frame) → table s ≡ Some f → calls.IsAllowed state (length slots) (insn_at slots) table s f × IsPlaced slots s
+  all_to_calls h s f e = let b = (h.stands s f e).1 in to_calls s f (h.allowed s f (within slots s b.0 b.1) e)
+
 -- a typing of form 3 is one of calls
 pub typing_of : (state : ℕ) (slots : List (Option Insn)) (table : Table) → IsTyped state slots table → IsTyping state (length slots) (insn_at slots) table
-typing_of state slots table h = record {
-  start = h.start;
-  each = λ s f e. let b = (h.stands s f e).1 in (h.allowed s f (within slots s b.0 b.1) e).0;
-}
+typing_of state slots table h = record { start = h.start; each = λ s f e. (all_to_calls state slots table h s f e).0 }
 
 pub are_typings : AreTypings
 are_typings state slots table = (
-  (λ h. (typing_of state slots table h, (λ s f e. let b = (h.stands s f e).1 in (h.allowed s f (within slots s b.0 b.1) e).1))),
+  (λ h. (typing_of state slots table h, (λ s f e. (all_to_calls state slots table h s f e).1))),
   (λ h. record {
     start = h.0.start;
     stands = λ s f e. let a = h.0.each s f e in (a.frame, (a.insn, a.there));
-    allowed = λ s f lt e. (h.0.each s f e, h.1 s f e);
+    allowed = λ s f lt e. of_calls state slots table s f (h.0.each s f e) (h.1 s f e);
   }),
 )
 

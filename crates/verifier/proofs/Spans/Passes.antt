@@ -1,5 +1,5 @@
 -- What a slot and its ways do to the least typing of form 3.
-use Rattle.std.proofs.Common.{◌≡◌, ℕ, ◌+◌, ◌<◌, List, length, Option, Some, None, refl, sym, subst, arith}
+use Rattle.std.proofs.Common.{◌≡◌, ℕ, ◌+◌, ◌<◌, List, Option, Some, None, refl, sym, subst, arith}
 use Rattle.decode.specs.declared.insn.Insn.{Insn}
 use Rattle.decode.specs.Encoding.{Fits}
 use Rattle.decode.specs.Slots.{insn_at, size_of}
@@ -7,28 +7,26 @@ use Rattle.regtypes.specs.declared.rule.Rule.{Rule}
 use Rattle.decode.specs.Flow.{flow_of}
 use Rattle.regtypes.specs.Rules.{first_broken}
 use Rattle.regtypes.specs.Typing.{flow_tests}
-use Rattle.regtypes.proofs.Typings.{within}
-use Rattle.regtypes.proofs.Monotone.{both_none}
 use Rattle.spans.specs.Frame.{Frame, IsFrame, Leq, entry_frame, joined}
 use Rattle.spans.specs.Laws.{IsWay}
-use Rattle.spans.specs.Ways.{Leaves, Ways}
+use Rattle.spans.specs.Ways.{Leaves}
 use Rattle.spans.proofs.Order.{Leq-refl, is-least-join}
 use Rattle.spans.proofs.Entry.{entered}
 use Rattle.spans.proofs.Closed.{closed}
-use Rattle.verifier.specs.Span.Rules.{broken_rule, frame_pointer_rule, frame_rule}
+use Rattle.verifier.specs.Span.Rules.{frame_pointer_rule, frame_rule}
 use Rattle.verifier.specs.Span.Ways.{ways}
-use Rattle.verifier.proofs.Spans.Exact.{exact, neither}
-use Rattle.spans.specs.Typing.{Table, IsAllowed, target}
+use Rattle.verifier.proofs.Spans.Exact.{exact}
+use Rattle.spans.specs.Typing.{Table, target}
 use Rattle.spans.specs.Typing as calls
 use Rattle.verifier.specs.Form.{Below}
 use Rattle.decode.specs.Slots.{Follows}
 use Rattle.verifier.specs.Fixpoint.{IsLeast, StopsAt}
 use Rattle.verifier.specs.Inside.Pass.{IsOpening}
 use Rattle.verifier.specs.Inside.SpanPass.{IsMerged, IsSpread, IsWayMerged, merged}
-use Rattle.verifier.specs.Span.Typing.{IsPlaced, broken_at, span_form}
+use Rattle.verifier.specs.Span.Typing.{IsAllowed, broken_at, span_form}
 use Rattle.verifier.proofs.Passes.{Led, Merged, led_more, led_none, least_opening, least_step}
-use Rattle.verifier.proofs.Spans.Forms.{form_3, way_above}
-use Rattle.verifier.proofs.Spans.Slots.{later, next_begins, size_positive, taken_begins, target_past}
+use Rattle.verifier.proofs.Spans.Forms.{form_3, unbroken_parts, way_above}
+use Rattle.verifier.proofs.Spans.Slots.{next_begins, size_positive, taken_begins, target_past}
 
 -- ---- joins
 
@@ -72,13 +70,6 @@ module _ (state : ℕ) (slots : List (Option Insn)) where
 
 -- ---- a slot
 
--- what an instruction keeps that breaks no rule
-pub unbroken_parts : (state : ℕ) (slots : List (Option Insn)) (s : ℕ) (i : Insn) (f : Frame) → broken_at state slots s (Some i) f ≡ None → (first_broken (flow_tests slots s (flow_of i)) ≡ None) × (frame_pointer_rule i ≡ None) × (frame_rule state i f ≡ None)
-unbroken_parts state slots s i f h =
-    let k = both_none (first_broken (flow_tests slots s (flow_of i))) (broken_rule state i f) h in
-    let m = neither (frame_pointer_rule i) (frame_rule state i f) k.1 in
-    (k.0, m.0, m.1)
-
 module _ (state : ℕ) (slots : List (Option Insn)) (n : ℕ) (old : Table) (f : Frame) (i : Insn) (follows : Follows slots) (l : IsLeast (span_form state slots) n old) (there : old n ≡ Some f) (begin : insn_at slots n ≡ Some i) where
   -- where the instruction of a frame breaks a rule, the pass stops at its slot
   pub stops : (rule : Rule) → broken_at state slots n (Some i) f ≡ Some rule → StopsAt (span_form state slots) rule n
@@ -103,34 +94,21 @@ module _ (state : ℕ) (slots : List (Option Insn)) (n : ℕ) (old : Table) (f :
     abbrev Fit : Table → Type 0
     Fit t = (Unit {0} × calls.Enters t (n + size_of i) (ways i f).0) × calls.Enters t (target n i) (ways i f).1
 
-    placed : IsPlaced slots n
-    placed j e = subst (λ x. (first_broken (flow_tests slots n (flow_of x)) ≡ None) × (frame_pointer_rule x ≡ None)) (same_insn i j (insn_at slots n) begin e) (kept.0, kept.1)
+    allow : (t : Table) → Fit t → IsAllowed state slots t n f
+    allow t h = record {
+      insn = i;
+      there = begin;
+      fits = fits;
+      frame = frame;
+      kept = unbroken;
+      goes = h.0.1;
+      leaps = h.1;
+    }
 
-    allow : (t : Table) → Fit t → IsAllowed state (length slots) (insn_at slots) t n f × IsPlaced slots n
-    allow t h = (
-      record {
-        insn = i;
-        ways = ways i f;
-        there = begin;
-        before = within slots n i begin;
-        later = later slots n i kept.0;
-        fits = fits;
-        frame = frame;
-        leaves = leaves;
-        goes = h.0.1;
-        leaps = h.1;
-      },
-      placed,
-    )
-
-    fit : (t : Table) → IsAllowed state (length slots) (insn_at slots) t n f × IsPlaced slots n → Fit t
-    fit t h =
-        let a = h.0 in
-        let w : a.ways ≡ ways a.insn f = ((exact state a.insn f).1 a.ways a.leaves).1 in
+    fit : (t : Table) → IsAllowed state slots t n f → Fit t
+    fit t a =
         let e : a.insn ≡ i = same_insn a.insn i (insn_at slots n) a.there begin in
-        let goes = subst (λ (v : Ways). calls.Enters t (n + size_of a.insn) v.0) w a.goes in
-        let leaps = subst (λ (v : Ways). calls.Enters t (target n a.insn) v.1) w a.leaps in
-        ((tt, subst (λ j. calls.Enters t (n + size_of j) (ways j f).0) e goes), subst (λ j. calls.Enters t (target n j) (ways j f).1) e leaps)
+        ((tt, subst (λ j. calls.Enters t (n + size_of j) (ways j f).0) e a.goes), subst (λ j. calls.Enters t (target n j) (ways j f).1) e a.leaps)
 
     -- where none is broken and what leaves is joined into the slots behind, the table is least for one slot more
     pub stepped : (new : Table) → IsSpread old n i (ways i f) new → IsLeast (span_form state slots) (n + 1) new

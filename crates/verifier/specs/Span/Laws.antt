@@ -1,8 +1,11 @@
 -- Laws of typings of form 3 and of refusals.
-use Rattle.std.specs.Prelude.{◌≡◌, ◌↔◌, ℕ, ◌^◌, ◌<◌, ◌≤◌, List, [], Option, Some, length}
+use Rattle.std.specs.Prelude.{◌≡◌, ◌↔◌, ℕ, ◌^◌, ◌<◌, ◌≤◌, List, [], Option, Some, None, length}
 use Rattle.limits.specs.declared.TheConstants.{PAYLOAD_BYTES, PROCESSES}
 use Rattle.decode.specs.declared.insn.Insn.{Insn}
+use Rattle.decode.specs.Flow.{flow_of}
 use Rattle.decode.specs.Slots.{insn_at}
+use Rattle.regtypes.specs.Rules.{first_broken}
+use Rattle.regtypes.specs.Typing.{flow_tests}
 use Rattle.spans.specs.Frame.{Frame}
 use Rattle.spans.specs.Configuration.{entry}
 use Rattle.spans.specs.Concrete.{array_size, concrete_entry}
@@ -10,11 +13,17 @@ use Rattle.spans.specs.Typing.{Table, IsTyping}
 use Rattle.spans.specs.Calls.{Request, Replies, call_from, concrete_call_from, ShowsLast}
 use Rattle.verifier.specs.Form.{IsForm}
 use Rattle.verifier.specs.Fixpoint as one
-use Rattle.verifier.specs.Span.Typing.{IsPlaced, IsTyped, span_form}
+use Rattle.verifier.specs.Span.Rules.{frame_pointer_rule}
+use Rattle.verifier.specs.Span.Typing.{IsTyped, span_form}
 
 -- form 3 keeps the laws that let one pass decide
 abbrev pub KeepsLaws : Type 0
 KeepsLaws = (state : ℕ) (slots : List (Option Insn)) → IsForm (span_form state slots)
+
+-- V1 and V2, as in forms 1 and 2, for both ways, whether a step takes them or not; and V4
+abbrev pub IsPlaced : List (Option Insn) → ℕ → Type 0
+IsPlaced slots s =
+    (i : Insn) → insn_at slots s ≡ Some i → (first_broken (flow_tests slots s (flow_of i)) ≡ None) × (frame_pointer_rule i ≡ None)
 
 -- a typing of form 3 is one that `spans` requires, and under its frames V1, V2 and V4 are kept
 abbrev pub AreTypings : Type 0

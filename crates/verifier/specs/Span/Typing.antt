@@ -1,10 +1,11 @@
 -- When code is typable in form 3.
-use Rattle.std.specs.Prelude.{◌≡◌, ℕ, List, Option, Some, None, unwrap_or, length}
+use Rattle.std.specs.Prelude.{◌≡◌, ℕ, ◌+◌, List, Option, Some, None, unwrap_or, length}
 use Rattle.std.specs.List.{slice_get}
 use Rattle.std.specs.Option.{option_map, option_or}
 use Rattle.std.specs.Global.{Box}
 use Rattle.decode.specs.declared.insn.Insn.{Insn}
-use Rattle.decode.specs.Slots.{insn_at}
+use Rattle.decode.specs.Encoding.{Fits}
+use Rattle.decode.specs.Slots.{insn_at, size_of}
 use Rattle.regtypes.specs.declared.rule.Rule.{Rule}
 use Rattle.decode.specs.Flow.{flow_of}
 use Rattle.regtypes.specs.Rules.{first_broken}
@@ -12,8 +13,9 @@ use Rattle.regtypes.specs.Typing.{flow_tests}
 use Rattle.spans.specs.declared.cells.Cells.{Cells}
 use Rattle.spans.specs.Frame.{Frame, IsFrame, Leq, entry_frame}
 use Rattle.verifier.specs.Span.Transfer.{frame_of}
-use Rattle.verifier.specs.Span.Rules.{frame_pointer_rule, broken_rule}
-use Rattle.spans.specs.Typing.{Table, IsAllowed}
+use Rattle.verifier.specs.Span.Rules.{broken_rule}
+use Rattle.verifier.specs.Span.Ways.{ways}
+use Rattle.spans.specs.Typing.{Table, Enters, target}
 use Rattle.verifier.specs.Form.{Form}
 use Rattle.verifier.specs.Fixpoint as one
 
@@ -21,19 +23,24 @@ use Rattle.verifier.specs.Fixpoint as one
 abbrev pub table_of : List (Option (Box Cells)) → Table
 table_of items s = option_map (λ (b : Box Cells). frame_of b.value) (unwrap_or (slice_get items s) None)
 
--- V1 and V2, as in forms 1 and 2, for both ways, whether a step takes them or not; and V4
-abbrev pub IsPlaced : List (Option Insn) → ℕ → Type 0
-IsPlaced slots s =
-    (i : Insn) → insn_at slots s ≡ Some i → (first_broken (flow_tests slots s (flow_of i)) ≡ None) × (frame_pointer_rule i ≡ None)
-
 -- the least rule that an instruction breaks at a slot under a frame; V1 and V2 need no frame. If no instruction begins
 -- there, none is broken
 abbrev pub broken_at : ℕ → List (Option Insn) → ℕ → Option Insn → Frame → Option Rule
 broken_at state slots s None f = None
 broken_at state slots s (Some i) f = option_or (first_broken (flow_tests slots s (flow_of i))) (broken_rule state i f)
 
--- form 3, for code slot by slot with a state of `state` bytes: a frame is allowed if it is so in a typing of
--- `spans`, and V1, V2 and V4 are kept
+-- at slot s an instruction begins that breaks no rule under the frame f, and the frames that leave it fit; `fits` repeats
+-- what the type of instructions says
+pub record IsAllowed (state : ℕ) (slots : List (Option Insn)) (table : Table) (s : ℕ) (f : Frame) : Type 0 where
+  pub insn : Insn
+  pub there : insn_at slots s ≡ Some insn
+  pub fits : Fits insn
+  pub frame : IsFrame f
+  pub kept : broken_at state slots s (Some insn) f ≡ None
+  pub goes : Enters table (s + size_of insn) (ways insn f).0
+  pub leaps : Enters table (target s insn) (ways insn f).1
+
+-- form 3, for code slot by slot with a state of `state` bytes
 abbrev pub span_form : ℕ → List (Option Insn) → Form
 span_form state slots = record {
   Frame = Frame;
@@ -41,7 +48,7 @@ span_form state slots = record {
   entry = entry_frame;
   count = length slots;
   MayStand = λ s f. IsFrame f × ((i : Insn) × (insn_at slots s ≡ Some i));
-  IsAllowed = λ table s f. IsAllowed state (length slots) (insn_at slots) table s f × IsPlaced slots s;
+  IsAllowed = λ table s f. IsAllowed state slots table s f;
   broken = λ s f. broken_at state slots s (insn_at slots s) f;
 }
 

@@ -6,8 +6,8 @@ use Rattle.spans.specs.Ways.{Ways}
 use Rattle.verifier.specs.Inside.SpanPass.{IsSpread}
 use Rattle.verifier.specs.Span.Typing.{span_form, table_of}
 use Rattle.verifier.proofs.Passes.{least_skip}
-use Rattle.verifier.proofs.Spans.Forms.{form_3}
-use Rattle.verifier.proofs.Spans.Passes.{stepped, stops, unbroken_parts}
+use Rattle.verifier.proofs.Spans.Forms.{form_3, unbroken_parts}
+use Rattle.verifier.proofs.Spans.Passes.{stepped, stops}
 use Rattle.verifier.proofs.Spans.Slots.{forward, insn_is, next_way_within, taken_within, there_none, there_some}
 use Rattle.verifier.proofs.span.judgement.judge.Goals as goal
 use Rattle.verifier.proofs.span.judgement.judge.Goals.{After-deref}
