@@ -6,4 +6,3 @@ mod Ways
 mod Words
 mod Frames
 mod Written
-mod Forms

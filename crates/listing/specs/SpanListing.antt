@@ -19,7 +19,8 @@ use Rattle.spans.specs.Ways.{operand_kind}
 use Rattle.spans.specs.Narrowing.{SpanPair, opposite, shown}
 use Rattle.listing.specs.Listing.{texts_below, verdict_text}
 use Rattle.listing.specs.Reads.{is_read}
-use Rattle.verifier.specs.Span.File.{IsFile}
+use Rattle.verifier.specs.ImageFile.{IsFile}
+use Rattle.verifier.specs.declared.file_form.FileForm.TheVariants.{Sbi3}
 use Rattle.listing.specs.declared.span_cause.SpanCause.{SpanCause}
 use Rattle.listing.specs.declared.span_study.SpanStudy.{SpanStudy}
 use Rattle.listing.specs.SpanCause.{cause_of}
@@ -144,5 +145,5 @@ pub record IsListed (code : List Insn) (state : ℕ) (text : List ℕ) : Type 0 
 pub record IsExplained (bytes text : List ℕ) : Type 0 where
   pub code : List Insn
   pub state : ℕ
-  pub file : IsFile code state bytes
+  pub file : IsFile Sbi3 code state bytes
   pub listed : IsListed code state text

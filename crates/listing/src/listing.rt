@@ -1,6 +1,7 @@
 //! The listing of an image file.
 
 ghost use Rattle.std.specs.Prelude.{◌≡◌, ◌<◌, ◌≤◌, ◌++◌, IfErr, IfOk, OnOk, length, string_bytes};
+ghost use Rattle.verifier.specs.declared.header.Forms.TheVariants.{Flat};
 ghost use Rattle.verifier.specs.ImageFile.{IsUnread};
 ghost use Rattle.listing.specs.Listing.{AreReasons, IsExplained, IsListing, advice_text, broken_text, head_text, known_text, notes_text, reason_text, refusal_text, refused_text, register_text, slot_text, texts_below, verdict_text};
 
@@ -230,7 +231,7 @@ pub fn listing_of(alloc: Global, study: &Study) -> Result<String, AllocError>
 /// can't be read is refused with its first fault, of the header or then of the code.
 pub fn explain(alloc: Global, bytes: &[u8]) -> Result<String, ImageError>
     ensures listing { IfOk result (λ text. IsExplained bytes.now (string_bytes text)) }
-    ensures refused { IfErr result (IsUnread bytes.now) }
+    ensures refused { IfErr result (IsUnread Flat bytes.now) }
 {
     let study = study_of(alloc, bytes)?;
     match listing_of(alloc, &study) {

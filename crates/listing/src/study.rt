@@ -1,6 +1,7 @@
 //! Image files of forms 1 and 2, with what is known of the registers at each slot.
 
 ghost use Rattle.std.specs.Prelude.{IfErr, IfOk};
+ghost use Rattle.verifier.specs.declared.header.Forms.TheVariants.{Flat};
 ghost use Rattle.verifier.specs.ImageFile.{IsUnread};
 ghost use Rattle.listing.specs.Study.{IsStudy};
 
@@ -56,7 +57,7 @@ impl Study {
 /// header or then of the code. No rule of the verifier is a reason for that.
 pub fn study_of(alloc: Global, bytes: &[u8]) -> Result<Study, ImageError>
     ensures found { IfOk result (IsStudy bytes.now) }
-    ensures refused { IfErr result (IsUnread bytes.now) }
+    ensures refused { IfErr result (IsUnread Flat bytes.now) }
 {
     let (code, state_len, form) = parts(alloc, bytes)?;
     let Ok(frames) = frames_of(alloc, &code, state_len, form) else {
