@@ -6,22 +6,19 @@ use Rattle.decode.specs.Encoding.{encoding}
 use Rattle.decode.specs.First.{IsFirst}
 use Rattle.decode.proofs.SlotLemmas.{length_encoding}
 use Rattle.listing.specs.FileListing.{IsFileExplained}
-use Rattle.regtypes.specs.declared.image_form.ImageForm.{ImageForm}
-use Rattle.regtypes.specs.declared.image_form.ImageForm.TheVariants.{Sbi1, Sbi2}
-use Rattle.verifier.specs.ImageFile.{HasFaultIn, IsFile, IsHeaderFaultIn, field_at}
+use Rattle.verifier.specs.ImageFile.{HasFault, IsFile, IsHeaderFault, IsOther, field_at}
 use Rattle.verifier.specs.declared.fault.HeaderFault.{HeaderFault}
 use Rattle.verifier.specs.declared.fault.HeaderFault.TheVariants.{TooShort, Magic, StateLength, SlotCount, FileLength}
 use Rattle.verifier.specs.declared.fault.ImageError.{ImageError}
 use Rattle.verifier.specs.declared.fault.ImageError.TheVariants.{Memory, Header, Decode, Verify}
 use Rattle.verifier.proofs.Files.{file_has, file_header, fields_of}
-use Rattle.verifier.specs.Span.File as span
-use Rattle.verifier.proofs.Spans.Files as spans
 use Rattle.verifier.specs.AnyFile as any
 use Rattle.verifier.specs.declared.file_form.FileForm.{FileForm}
-use Rattle.verifier.specs.declared.file_form.FileForm.TheVariants as form
+use Rattle.verifier.specs.declared.header.Forms.{Forms}
+use Rattle.verifier.specs.declared.header.Forms.TheVariants.{Any}
 use Rattle.image_commands.specs.declared.check.TheConstants.{IMAGE_LIMIT}
 
-file_length : (form : ImageForm) (is : List Insn) (len : ℕ) (bytes : List ℕ) → IsFile form is len bytes → length bytes ≤ 8200
+file_length : (form : FileForm) (is : List Insn) (len : ℕ) (bytes : List ℕ) → IsFile form is len bytes → length bytes ≤ 8200
 file_length form is len bytes f =
     let k = fields_of (file_header form is len) (encoding is) bytes (file_has form is len bytes f) in
     omega (arith, k.size, length_encoding is, f.short)
@@ -46,19 +43,8 @@ kept P short bytes p = go (heads bytes)
     go (inr long) = absurd (omega (arith, short (take IMAGE_LIMIT bytes) p, cut bytes long))
 
 -- a file whose first bytes are an image is that image
-pub head_file : (form : ImageForm) (is : List Insn) (len : ℕ) (bytes : List ℕ) → IsFile form is len (take IMAGE_LIMIT bytes) → IsFile form is len bytes
-head_file form is len bytes f = kept (IsFile form is len) (file_length form is len) bytes f
-
-span_length : (is : List Insn) (len : ℕ) (bytes : List ℕ) → span.IsFile is len bytes → length bytes ≤ 8200
-span_length is len bytes f =
-    let k = fields_of (spans.file_fields is len) (encoding is) bytes (spans.file_has is len bytes f) in
-    omega (arith, k.size, length_encoding is, f.short)
-
--- the same of an image of any form
-pub any_file : (form : FileForm) (is : List Insn) (len : ℕ) (bytes : List ℕ) → any.IsFile form is len (take IMAGE_LIMIT bytes) → any.IsFile form is len bytes
-any_file form.Sbi1 is len bytes f = head_file Sbi1 is len bytes f
-any_file form.Sbi2 is len bytes f = head_file Sbi2 is len bytes f
-any_file form.Sbi3 is len bytes f = kept (span.IsFile is len) (span_length is len) bytes f
+pub any_file : (form : FileForm) (is : List Insn) (len : ℕ) (bytes : List ℕ) → IsFile form is len (take IMAGE_LIMIT bytes) → IsFile form is len bytes
+any_file form is len bytes f = kept (IsFile form is len) (file_length form is len) bytes f
 
 -- a listing of its first bytes is one of the file
 pub any_explained : (bytes text : List ℕ) → IsFileExplained (take IMAGE_LIMIT bytes) text → IsFileExplained bytes text
@@ -88,47 +74,47 @@ abbrev all_faults : List HeaderFault
 all_faults = TooShort ∷ Magic ∷ StateLength ∷ SlotCount ∷ FileLength ∷ []
 
 -- a header's fault stays when more follows
-still_broken : (NoMagic : List ℕ → Type 0) (fault : HeaderFault) (xs more : List ℕ) → length xs ≡ IMAGE_LIMIT
-    → IsFirst (HasFaultIn NoMagic xs) all_faults fault → IsFirst (HasFaultIn NoMagic (xs ++ more)) all_faults fault
+still_broken : (forms : Forms) (fault : HeaderFault) (xs more : List ℕ) → length xs ≡ IMAGE_LIMIT
+    → IsFirst (HasFault forms xs) all_faults fault → IsFirst (HasFault forms (xs ++ more)) all_faults fault
 unfolding IsFirst
-still_broken NoMagic fault xs more long (inl short) = absurd (omega (arith, short.1, long))
-still_broken NoMagic fault xs more long (inr (a, later)) = inr ((λ s. omega (arith, s, long, length-append xs more)), go later)
+still_broken forms fault xs more long (inl short) = absurd (omega (arith, short.1, long))
+still_broken forms fault xs more long (inr (a, later)) = inr ((λ s. omega (arith, s, long, length-append xs more)), go later)
   where
     same : (take 4 (xs ++ more) ≡ take 4 xs) × (field_at 4 (xs ++ more) ≡ field_at 4 xs) × (field_at 6 (xs ++ more) ≡ field_at 6 xs)
     same = same_fields xs more (omega (arith, long))
 
-    no_magic : NoMagic (take 4 xs) → NoMagic (take 4 (xs ++ more))
-    no_magic m = subst NoMagic (sym same.0) m
+    no_magic : IsOther forms (take 4 xs) → IsOther forms (take 4 (xs ++ more))
+    no_magic m = subst (IsOther forms) (sym same.0) m
 
-    magic_left : NoMagic (take 4 (xs ++ more)) → NoMagic (take 4 xs)
-    magic_left m = subst NoMagic same.0 m
+    magic_left : IsOther forms (take 4 (xs ++ more)) → IsOther forms (take 4 xs)
+    magic_left m = subst (IsOther forms) same.0 m
 
-    count_more : HasFaultIn NoMagic xs SlotCount → HasFaultIn NoMagic (xs ++ more) SlotCount
+    count_more : HasFault forms xs SlotCount → HasFault forms (xs ++ more) SlotCount
     count_more (inl n) = inl (same.2 ∙ n)
     count_more (inr n) = inr (omega (arith, n, same.2))
 
-    count_left : HasFaultIn NoMagic (xs ++ more) SlotCount → HasFaultIn NoMagic xs SlotCount
+    count_left : HasFault forms (xs ++ more) SlotCount → HasFault forms xs SlotCount
     count_left (inl n) = inl (sym same.2 ∙ n)
     count_left (inr n) = inr (omega (arith, n, same.2))
 
-    go : IsFirst (HasFaultIn NoMagic xs) (Magic ∷ StateLength ∷ SlotCount ∷ FileLength ∷ []) fault → IsFirst (HasFaultIn NoMagic (xs ++ more)) (Magic ∷ StateLength ∷ SlotCount ∷ FileLength ∷ []) fault
+    go : IsFirst (HasFault forms xs) (Magic ∷ StateLength ∷ SlotCount ∷ FileLength ∷ []) fault → IsFirst (HasFault forms (xs ++ more)) (Magic ∷ StateLength ∷ SlotCount ∷ FileLength ∷ []) fault
     go (inl magic) = inl (magic.0, no_magic magic.1)
     go (inr (b, inl state)) = inr ((λ m. b (magic_left m)), inl (state.0, omega (arith, state.1, same.1)))
     go (inr (b, inr (c, inl count))) = inr ((λ m. b (magic_left m)), inr ((λ s. c (omega (arith, s, same.1))), inl (count.0, count_more count.1)))
     go (inr (b, inr (c, inr (d, inl size)))) =
-        let length_more : HasFaultIn NoMagic (xs ++ more) FileLength = λ e. d (inr (omega (arith, e, long, length-append xs more, same.2))) in
+        let length_more : HasFault forms (xs ++ more) FileLength = λ e. d (inr (omega (arith, e, long, length-append xs more, same.2))) in
         inr ((λ m. b (magic_left m)), inr ((λ s. c (omega (arith, s, same.1))), inr ((λ n. d (count_left n)), inl (size.0, length_more))))
     go (inr (b, inr (c, inr (d, inr e)))) = absurd e.1
 
-head_first : (NoMagic : List ℕ → Type 0) (bytes : List ℕ) (fault : HeaderFault) → IMAGE_LIMIT < length bytes
-    → IsFirst (HasFaultIn NoMagic (take IMAGE_LIMIT bytes)) all_faults fault → IsFirst (HasFaultIn NoMagic bytes) all_faults fault
-head_first NoMagic bytes fault long broken =
-    subst (λ (b : List ℕ). IsFirst (HasFaultIn NoMagic b) all_faults fault) (take-append-drop IMAGE_LIMIT bytes)
-    (still_broken NoMagic fault (take IMAGE_LIMIT bytes) (drop IMAGE_LIMIT bytes) (cut bytes long) broken)
+head_first : (forms : Forms) (bytes : List ℕ) (fault : HeaderFault) → IMAGE_LIMIT < length bytes
+    → IsFirst (HasFault forms (take IMAGE_LIMIT bytes)) all_faults fault → IsFirst (HasFault forms bytes) all_faults fault
+head_first forms bytes fault long broken =
+    subst (λ (b : List ℕ). IsFirst (HasFault forms b) all_faults fault) (take-append-drop IMAGE_LIMIT bytes)
+    (still_broken forms fault (take IMAGE_LIMIT bytes) (drop IMAGE_LIMIT bytes) (cut bytes long) broken)
 
-any_header : (bytes : List ℕ) (fault : HeaderFault) → IMAGE_LIMIT < length bytes → IsHeaderFaultIn any.IsOther (take IMAGE_LIMIT bytes) fault → IsHeaderFaultIn any.IsOther bytes fault
+any_header : (bytes : List ℕ) (fault : HeaderFault) → IMAGE_LIMIT < length bytes → IsHeaderFault Any (take IMAGE_LIMIT bytes) fault → IsHeaderFault Any bytes fault
 unfolding IsFirst
-any_header bytes fault long broken = head_first any.IsOther bytes fault long broken
+any_header bytes fault long broken = head_first Any bytes fault long broken
 
 any_unread_of : (bytes : List ℕ) (e : ImageError) → IMAGE_LIMIT < length bytes → any.IsUnread (take IMAGE_LIMIT bytes) e → any.IsUnread bytes e
 any_unread_of bytes Memory long why = tt
@@ -150,4 +136,4 @@ pub any_refusal : (bytes : List ℕ) (e : ImageError) → any.IsRefusal (take IM
 any_refusal bytes Memory why = tt
 any_refusal bytes (Header fault) why = any_unread bytes (Header fault) why
 any_refusal bytes (Decode rule slot) why = any_unread bytes (Decode rule slot) why
-any_refusal bytes (Verify rule slot) why = (why.0, why.1, why.2, any_file why.0 why.1 why.2 bytes why.3, why.4)
+any_refusal bytes (Verify rule slot) why = (why.0, why.1, why.2, any_file why.0 why.1 why.2 bytes why.3, why.4, why.5)

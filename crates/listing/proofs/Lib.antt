@@ -4,4 +4,3 @@ mod Together
 mod Ways
 mod Words
 mod Written
-mod Files

@@ -4,10 +4,10 @@ ghost use Rattle.std.specs.Prelude.{◌≡◌, ◌≢◌, ◌<◌, ◌≤◌, �
 ghost use Rattle.std.specs.List.{AllByRecursion};
 ghost use Rattle.decode.specs.Encoding.{Fits};
 ghost use Rattle.decode.specs.Slots.{slots_of};
-ghost use Rattle.verifier.specs.AnyFile as any;
+ghost use Rattle.verifier.specs.declared.file_form.FileForm.TheVariants.{Sbi3};
+ghost use Rattle.verifier.specs.declared.header.Forms.TheVariants.{Any, Flat};
 ghost use Rattle.verifier.specs.declared.fault.ImageError.TheVariants.{Memory};
-ghost use Rattle.verifier.specs.ImageFile.{IsUnread};
-ghost use Rattle.verifier.specs.Span.File.{magic_3};
+ghost use Rattle.verifier.specs.ImageFile.{IsUnread, magic};
 ghost use Rattle.regtypes.specs.declared.rule.Rule.{Rule};
 ghost use Rattle.listing.specs.Why.{AreWhys};
 ghost use Rattle.listing.specs.FileListing.{IsFileExplained, IsListed};
@@ -249,7 +249,7 @@ fn code_listing(
 /// refuses it. A file that can't be read is refused with its first fault, of the header or then of the code.
 pub fn explain_file(alloc: Global, bytes: &[u8]) -> Result<String, ImageError>
     ensures listing { IfOk result (λ text. IsFileExplained bytes.now (string_bytes text)) }
-    ensures refused { IfErr result (any.IsUnread bytes.now) }
+    ensures refused { IfErr result (IsUnread Any bytes.now) }
 {
     let (code, state_len, form) = any_parts(alloc, bytes)?;
     code_listing(alloc, &code, state_len, form)
@@ -258,8 +258,8 @@ pub fn explain_file(alloc: Global, bytes: &[u8]) -> Result<String, ImageError>
 /// The listing of an image file of form 1 or 2. A file of form 3 is refused like one of no form.
 pub fn explain(alloc: Global, bytes: &[u8]) -> Result<String, ImageError>
     ensures listing { IfOk result (λ text. IsFileExplained bytes.now (string_bytes text)) }
-    ensures flat { IfOk result (λ text. take 4 bytes.now ≢ magic_3) }
-    ensures refused { IfErr result (IsUnread bytes.now) }
+    ensures flat { IfOk result (λ text. take 4 bytes.now ≢ magic Sbi3) }
+    ensures refused { IfErr result (IsUnread Flat bytes.now) }
 {
     let (code, state_len, form) = parts(alloc, bytes)?;
     code_listing(alloc, &code, state_len, FileForm::from(form))

@@ -6,5 +6,4 @@ pub mod OpsWithin
 pub mod Translated
 pub mod Spares
 pub mod Passes
-pub mod AnyFiles
 pub mod Spans

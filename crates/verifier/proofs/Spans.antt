@@ -12,5 +12,4 @@ pub mod FlatFrames
 pub mod FlatMemory
 pub mod FlatRules
 pub mod FlatTypings
-pub mod Files
 pub mod FlatFiles

@@ -5,4 +5,3 @@ pub mod Places
 pub mod Dense
 pub mod Image
 pub mod SpanPass
-pub mod SpanHeader

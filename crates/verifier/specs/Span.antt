@@ -8,5 +8,4 @@ pub mod Laws
 pub mod FlatFrames
 pub mod FlatLaws
 pub mod Typed
-pub mod File
 pub mod FlatFiles

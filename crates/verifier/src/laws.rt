@@ -1,5 +1,6 @@
 //! Laws of all verdicts.
 
+ghost use Rattle.verifier.specs.declared.header.Forms.TheVariants.{Flat};
 ghost use Rattle.verifier.specs.ImageFile.{IsOneFileRefusal};
 ghost use Rattle.verifier.specs.Least.{AreTypings};
 ghost use Rattle.verifier.specs.Verdict.{IsOneRefusal};
@@ -16,5 +17,5 @@ pub fn refusals_are_one()
 
 /// A refused file has one cause that can be named, if memory doesn't run out.
 pub fn file_refusals_are_one()
-    ensures { IsOneFileRefusal }
+    ensures { IsOneFileRefusal Flat }
 {}

@@ -57,8 +57,6 @@
 #![tactic(auto)]
 
 mod any_image;
-mod any_loader;
-mod any_writer;
 mod compilation;
 mod fault;
 mod file_form;
@@ -74,14 +72,12 @@ mod verification;
 mod writer;
 
 pub use any_image::AnyImage;
-pub use any_loader::{any_parts, load_any};
-pub use any_writer::any_file;
 pub use fault::{HeaderFault, ImageError, VerifyError};
 pub use file_form::FileForm;
 pub use header::{FileHeader, header_at};
 pub use image::Image;
 pub use laws::{file_refusals_are_one, flat_typings_are_typings, refusals_are_one};
-pub use loader::{load, parts};
+pub use loader::{any_parts, load, load_any, load_span, parts, span_parts};
 pub use pass::{Frames, frames_of};
 pub use span::access::{is_inside, whole_word, wiped, words_rule};
 pub use span::alu::{alu_kind, alu_rule, any_number, extended, operand_kind};
@@ -97,7 +93,6 @@ pub use span::laws::{
     form_3_keeps_laws, span_file_refusals_are_one, span_refusals_are_one, typed_calls_are_shown,
     typings_are_typings,
 };
-pub use span::loader::{load_span, span_parts};
 pub use span::memory::{load_rule, loaded, store_rule, stored};
 pub use span::narrowing::{opposite, shown};
 pub use span::pass::{SpanFrames, span_frames_of};
@@ -105,6 +100,5 @@ pub use span::results::{result, whole};
 pub use span::rules::{argument_rule, exit_rule, lesser, number_rule, value_rule};
 pub use span::verification::span_verify;
 pub use span::ways::{SpanLeaving, transfer};
-pub use span::writer::span_file;
 pub use verification::{verify, verify_form};
-pub use writer::file;
+pub use writer::{any_file, file, span_file};

@@ -1,9 +1,12 @@
 //! Instructions to image files.
 
 ghost use Rattle.std.specs.Prelude.{◌≤◌, IfOk, IfErr};
+ghost use Rattle.verifier.specs.declared.file_form.FileForm.TheVariants.{Sbi3};
+ghost use Rattle.verifier.specs.FileForm.{file_form_of};
 ghost use Rattle.verifier.specs.ImageFile.{IsFile, IsUnwritten};
 
 use crate::fault::{HeaderFault, ImageError};
+use crate::file_form::FileForm;
 use crate::header::write_header;
 use decode::{Insn, encode, slots};
 use limits::{SLOTS, STATE_BYTES};
@@ -11,10 +14,10 @@ use regtypes::ImageForm;
 use std::alloc::Global;
 
 /// The image file with this form, these instructions and this length of the state, at most 1,024 bytes. The
-/// instructions are not verified; `parts` gives them back.
-pub fn file(
+/// instructions are not verified; `any_parts` gives them back.
+pub fn any_file(
     alloc: Global,
-    form: ImageForm,
+    form: FileForm,
     code: &[Insn],
     state_len: u16,
 ) -> Result<Vec<u8>, ImageError>
@@ -39,4 +42,27 @@ pub fn file(
         Ok(()) => Ok(bytes),
         Err(_) => Err(ImageError::Memory),
     }
+}
+
+/// The same of form 1 or 2; `parts` gives the instructions back.
+pub fn file(
+    alloc: Global,
+    form: ImageForm,
+    code: &[Insn],
+    state_len: u16,
+) -> Result<Vec<u8>, ImageError>
+    requires { state_len ≤ STATE_BYTES }
+    ensures written { IfOk result (λ v. IsFile (file_form_of form) code.now state_len v.items) }
+    ensures refused { IfErr result (IsUnwritten code.now) }
+{
+    any_file(alloc, FileForm::from(form), code, state_len)
+}
+
+/// The same of form 3; `span_parts` gives the instructions back.
+pub fn span_file(alloc: Global, code: &[Insn], state_len: u16) -> Result<Vec<u8>, ImageError>
+    requires { state_len ≤ STATE_BYTES }
+    ensures written { IfOk result (λ v. IsFile Sbi3 code.now state_len v.items) }
+    ensures refused { IfErr result (IsUnwritten code.now) }
+{
+    any_file(alloc, FileForm::Sbi3, code, state_len)
 }

@@ -2,7 +2,7 @@
 use Rattle.std.specs.Prelude.{◌≡◌, ◌<◌, ◌≤◌, ℕ, ◌*◌, ◌^◌, ◌++◌, length, List}
 use Rattle.std.specs.Int.{w16, to_le_bytes}
 use Rattle.limits.specs.declared.TheConstants.{SLOTS, STATE_BYTES}
-use Rattle.regtypes.specs.declared.image_form.ImageForm.{ImageForm}
+use Rattle.verifier.specs.declared.file_form.FileForm.{FileForm}
 use Rattle.verifier.specs.declared.header.FileHeader.{FileHeader}
 use Rattle.verifier.specs.ImageFile.{magic}
 
@@ -18,7 +18,7 @@ pub record HasHeader (h : FileHeader) (rest bytes : List ℕ) : Type 0 where
   pub fields : bytes ≡ header_bytes h ++ rest
 
 -- a header without a fault
-pub record IsSound (form : ImageForm) (h : FileHeader) (rest : List ℕ) : Type 0 where
+pub record IsSound (form : FileForm) (h : FileHeader) (rest : List ℕ) : Type 0 where
   pub magic_is : h.magic ≡ magic form
   pub state : h.state_len ≤ STATE_BYTES
   pub some : 0 < h.slots

@@ -3,7 +3,7 @@ use Rattle.std.specs.Prelude.{ℕ, List, slice_set}
 use Rattle.decode.specs.declared.insn.Insn.{Insn}
 use Rattle.verifier.specs.declared.file_form.FileForm.{FileForm}
 use Rattle.verifier.specs.declared.file_form.FileForm.TheVariants.{Sbi3}
-use Rattle.verifier.specs.AnyFile.{IsFile, IsTypable}
+use Rattle.verifier.specs.ImageFile.{IsFile, IsTypable}
 
 -- the bytes with "SBI3" as their first four; an image file of form 1 or 2 changes only in the fourth
 abbrev pub as_form_3 : List ℕ → List ℕ

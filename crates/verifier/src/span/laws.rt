@@ -1,6 +1,7 @@
 //! Laws of typings of form 3 and of each verdict.
 
-ghost use Rattle.verifier.specs.Span.File.{IsOneFileRefusal};
+ghost use Rattle.verifier.specs.declared.header.Forms.TheVariants.{Span};
+ghost use Rattle.verifier.specs.ImageFile.{IsOneFileRefusal};
 ghost use Rattle.verifier.specs.Span.Laws.{AreTypedCallsShown, AreTypings, IsOneRefusal, KeepsLaws};
 
 /// Form 3 keeps the laws that let one pass decide: frames are ordered, and a frame that says more is allowed wherever
@@ -27,5 +28,5 @@ pub fn span_refusals_are_one()
 
 /// A refused file of form 3 has one cause that can be named, if memory doesn't run out.
 pub fn span_file_refusals_are_one()
-    ensures { IsOneFileRefusal }
+    ensures { IsOneFileRefusal Span }
 {}

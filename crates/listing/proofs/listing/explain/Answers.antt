@@ -2,11 +2,10 @@ use Rattle.std.proofs.Common.{◌≤◌, length, sym, subst}
 use Rattle.limits.specs.declared.TheConstants.{SLOTS}
 use Rattle.decode.specs.Slots.{slots_of}
 use Rattle.verifier.specs.FileForm.{file_form_of}
-use Rattle.listing.proofs.Files.{flat_file, short_file}
+use Rattle.verifier.proofs.Files.{short_code}
 use Rattle.listing.proofs.listing.explain.Goals as goal
 
 pub code_listing-requires-clause-slots : goal.code_listing-requires-clause-slots
 code_listing-requires-clause-slots c =
     let read = c.in_ok-code in
-    let file = flat_file read.form read.code.items read.state_len c.args.bytes.now read.ensures.found in
-    subst (λ is. length (slots_of is) ≤ SLOTS) (sym c.deref.ensures.value) (short_file (file_form_of read.form) read.code.items read.state_len c.args.bytes.now file)
+    subst (λ is. length (slots_of is) ≤ SLOTS) (sym c.deref.ensures.value) (short_code (file_form_of read.form) read.code.items read.state_len c.args.bytes.now read.ensures.found)
