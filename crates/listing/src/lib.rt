@@ -4,7 +4,8 @@
 //! instruction that a path reaches, it says what is known of the registers that the instruction
 //! reads. In form 3 it also says so of the stack's word that the instruction loads, or in which it
 //! keeps a place. If the verifier refuses the code, the slot that it names has the broken rule,
-//! what breaks it, and what to do about that. A register that is not set there has the reason.
+//! what breaks it, and what to do about that. In forms 1 and 2 a register that is not set there has
+//! the reason.
 //! [`explain`] does the same for forms 1 and 2 only.
 //!
 //! The text is the listing of the verifier's frames and verdict for the file's code: those of

@@ -32,7 +32,7 @@ pub enum Table {
 /// The slots of code, with the verifier's results for it.
 #[derive(Drop)]
 pub struct Study {
-    /// The form, or in form 3 form 2, which has the same helpers.
+    /// The form; form 2 for code of form 3, which has the same helpers.
     pub form: ImageForm,
     /// How many bytes the state has.
     pub state_len: u16,
