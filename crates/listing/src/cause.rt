@@ -1,7 +1,6 @@
 //! What breaks a rule at a slot.
 
 ghost use Rattle.std.specs.Prelude.{◌≡◌, ◌∷◌, [], if◌then◌else◌};
-ghost use Rattle.decode.specs.Flow.{flow_of};
 ghost use Rattle.regtypes.specs.Rules.{base_of, moved_of};
 ghost use Rattle.spans.specs.Frame.{kind_at};
 ghost use Rattle.listing.specs.View.{known};

@@ -11,7 +11,7 @@ ghost use Rattle.verifier.specs.ImageFile.{IsUnread, magic};
 ghost use Rattle.regtypes.specs.declared.rule.Rule.{Rule};
 ghost use Rattle.listing.specs.Why.{AreWhys};
 ghost use Rattle.listing.specs.FileListing.{IsFileExplained, IsListed};
-ghost use Rattle.listing.specs.Listing.{IsListing, broken_text, head_text, known_text, notes_text, reason_text, refusal_text, register_text, slot_text, texts_below, verdict_text};
+ghost use Rattle.listing.specs.Listing.{IsListing, broken_text, head_text, known_text, notes_text, reason_text, refusal_text, register_text, slot_text, verdict_text};
 
 use crate::cause::{Cause, cause_of};
 use crate::kinds::push_register_kind;

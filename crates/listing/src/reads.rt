@@ -1,7 +1,6 @@
 //! Which registers an instruction reads.
 
 ghost use Rattle.std.specs.Prelude.{◌≡◌, [], unwrap_or};
-ghost use Rattle.decode.specs.Attributes.{attributes_of};
 ghost use Rattle.regtypes.specs.Rules.{arguments_of, base_of, moved_of};
 ghost use Rattle.listing.specs.Reads.{is_argument, is_named, is_numbered, is_read};
 
