@@ -24,7 +24,7 @@ pub enum HeaderFault {
     /// 1: fewer than eight bytes.
     #[error("shorter than a header")]
     TooShort,
-    /// 2: it begins with neither `SBI1` nor `SBI2`.
+    /// 2: it begins as files of no form that the reader takes.
     #[error("no image file")]
     Magic,
     /// 3: the state has more than 1,024 bytes.
