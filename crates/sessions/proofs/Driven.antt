@@ -20,7 +20,7 @@ use Rattle.machine.specs.Arrival.{Told}
 use Rattle.machine.specs.Choice.{IsPick, IsMove}
 use Rattle.machine.specs.Dispatch.{TakesNoResult, job_of}
 use Rattle.sessions.specs.Seats.{TheSeat}
-use Rattle.sessions.specs.Journal.{TheSession, world_at, room_at, entry, Adds}
+use Rattle.sessions.specs.Journal.{TheSession, world_at, room_at, answered_more, entry, Adds}
 use Rattle.sessions.specs.Driver.{Drives, Advances}
 
 -- any seat may make a call that is picked
@@ -136,6 +136,21 @@ advance-one old new by by' call answer k adds =
       entries = adds.1;
       seat = adds.2;
       run = (omega arith, refl, k, refl);
+    }
+
+-- and where it starts a job, that is finished after it
+pub advance-two : (old mid new : TheSession) (by mine by' : TheSeat) (call : Call) (answer last : Answer) (p : ℕ) → IsPick (world_at old) (room_at old) call
+    → Adds old mid by mine call (Ok answer) → job_of (world_at old) call answer ≡ Some p → Adds mid new mine by' (Finish p) (Ok last) → Advances 1 old new by by' 2 None
+advance-two old mid new by mine by' call answer last p k first job second =
+    let e : Entry = entry by.worker call answer in
+    let f : Entry = entry mine.worker (Finish p) last in
+    let sum : by.answered + 1 + 1 ≡ by.answered + 2 = omega arith in
+    record {
+      added = e ∷ f ∷ [];
+      as_many = refl;
+      entries = second.1 ∙ ap (λ (s : TheSession). with_entries s (s.entries ++ f ∷ [])) first.1 ∙ ap (with_entries old) (append_assoc old.entries (e ∷ []) (f ∷ []));
+      seat = second.2 ∙ ap (answered_more 1) first.2 ∙ ap (λ n. record by { answered = n }) sum;
+      run = (omega arith, refl, k, subst (λ o. Drives by.worker 0 (room_at old - 1) o (after (world_at old) call answer) (f ∷ []) None) (sym job) (ap (λ (s : TheSeat). s.worker) first.2, refl, refl));
     }
 
 -- a call of one run after another

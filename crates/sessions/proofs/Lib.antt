@@ -6,5 +6,6 @@ mod JobLemmas
 mod SeatLemmas
 mod Own
 mod Together
+mod Numbers
 pub mod Driven
 mod LoggedLemmas

@@ -181,7 +181,7 @@ room-finish w room p a accepted may =
     finished-phase w p (w.phase p) a both.0 both.1 may
 
 -- a process that comes back is told how many messages it keeps
-kept : (w : World) (p : ℕ) (a : Answer) → Keeps w p a → (k : ℕ) × (a ≡ Kept k)
+pub kept : (w : World) (p : ℕ) (a : Answer) → Keeps w p a → (k : ℕ) × (a ≡ Kept k)
 kept w p (Kept k) h = (k, refl)
 kept w p (answers.Logged n) h = absurd h
 kept w p (answers.Placed n) h = absurd h

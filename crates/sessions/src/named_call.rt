@@ -4,6 +4,7 @@
 ghost use Rattle.std.specs.Prelude.{◌≡◌, IfOk};
 ghost use Rattle.machine.specs.Simulation.{answering};
 ghost use Rattle.machine.specs.Dispatch.{TakesNoResult};
+ghost use Rattle.sessions.specs.Fields.{HasNumber, number_in, numbered};
 ghost use Rattle.sessions.specs.Job.{IsJobAt, arrival_of};
 ghost use Rattle.sessions.specs.Journal.{HandsOut, IsOpenAt, ReturnsTo, world_at};
 ghost use Rattle.sessions.specs.Service.{Owes, Returns};
@@ -12,6 +13,21 @@ use crate::job::Job;
 use crate::service::Service;
 use machine::Arrival;
 use world::{Answer, Call, Feed, Refusal};
+
+// The number in an answer, 0 if it has none.
+pub(crate) fn number_in(answer: &Answer) -> u32
+    ensures { result ≡ number_in answer.now }
+{
+    match *answer {
+        Answer::Logged(count)
+        | Answer::Saved(count)
+        | Answer::Trimmed(count)
+        | Answer::Crashed(count)
+        | Answer::Kept(count)
+        | Answer::Restored(count) => count,
+        _ => 0,
+    }
+}
 
 impl Service {
     // Makes a call, and answers what the journal keeps of it. A job that the call starts is given up.
@@ -24,6 +40,17 @@ impl Service {
         Ok(reply.answer)
     }
 
+    // Makes a call whose answer is a number, and answers that.
+    fn number(&mut self, call: &Call) -> Result<u32, Refusal>
+        requires number { HasNumber call.now }
+        requires result { TakesNoResult call.now }
+        ensures adds { Owes self.old self.new call.now (answering (numbered call.now) result) }
+        ensures exactly { IfOk result (λ n. Returns self.old self.new call.now (numbered call.now n)) }
+    {
+        let answer = self.answer_to(call)?;
+        Ok(number_in(&answer))
+    }
+
     /// Logs a message of the outside for a process, and answers its SSN. A feed number is taken once.
     ///
     /// ```text
@@ -32,15 +59,11 @@ impl Service {
     pub fn input(&mut self, feed: &Feed) -> Result<u32, Refusal>
         ensures { Owes self.old self.new (Call.Input feed.now.dst feed.now.number feed.now.payload) (answering Answer.Logged result) }
     {
-        let answer = self.answer_to(&Call::Input {
+        self.number(&Call::Input {
             to: feed.dst,
             feed: feed.number,
             payload: feed.payload,
-        })?;
-        let Answer::Logged(ssn) = answer else {
-            unreachable!()
-        };
-        Ok(ssn)
+        })
     }
 
     /// Puts a logged and released message on the wire, and answers the key of its packet. 0 is the
@@ -110,11 +133,7 @@ impl Service {
     pub fn checkpoint(&mut self, p: u8) -> Result<u32, Refusal>
         ensures { Owes self.old self.new (Call.Checkpoint p) (answering Answer.Saved result) }
     {
-        let answer = self.answer_to(&Call::Checkpoint { process: p })?;
-        let Answer::Saved(length) = answer else {
-            unreachable!()
-        };
-        Ok(length)
+        self.number(&Call::Checkpoint { process: p })
     }
 
     /// Each sender that is up drops its messages to this one that its checkpoint covers, or if it
@@ -126,11 +145,7 @@ impl Service {
     pub fn trim(&mut self, to: u8) -> Result<u32, Refusal>
         ensures { Owes self.old self.new (Call.Trim to) (answering Answer.Trimmed result) }
     {
-        let answer = self.answer_to(&Call::Trim { to })?;
-        let Answer::Trimmed(count) = answer else {
-            unreachable!()
-        };
-        Ok(count)
+        self.number(&Call::Trim { to })
     }
 
     /// A process loses all but its checkpoint, and answers its new incarnation.
@@ -141,11 +156,7 @@ impl Service {
     pub fn crash(&mut self, p: u8) -> Result<u32, Refusal>
         ensures { Owes self.old self.new (Call.Crash p) (answering Answer.Crashed result) }
     {
-        let answer = self.answer_to(&Call::Crash { process: p })?;
-        let Answer::Crashed(incarnation) = answer else {
-            unreachable!()
-        };
-        Ok(incarnation)
+        self.number(&Call::Crash { process: p })
     }
 
     /// A process comes back, and answers how many messages it keeps. Every other one has to be up.
@@ -157,11 +168,7 @@ impl Service {
         ensures adds { Owes self.old self.new (Call.Recover p) (answering Answer.Kept result) }
         ensures exactly { IfOk result (ReturnsTo self.old self.new p) }
     {
-        let answer = self.answer_to(&Call::Recover { process: p })?;
-        let Answer::Kept(kept) = answer else {
-            unreachable!()
-        };
-        Ok(kept)
+        self.number(&Call::Recover { process: p })
     }
 
     /// As `recover`, but in whatever state the other processes are. After it failures didn't come
@@ -173,11 +180,7 @@ impl Service {
     pub fn recover_alone(&mut self, p: u8) -> Result<u32, Refusal>
         ensures { Owes self.old self.new (Call.RecoverAlone p) (answering Answer.Kept result) }
     {
-        let answer = self.answer_to(&Call::RecoverAlone { process: p })?;
-        let Answer::Kept(kept) = answer else {
-            unreachable!()
-        };
-        Ok(kept)
+        self.number(&Call::RecoverAlone { process: p })
     }
 
     /// Starts the next job of a process that replays.
@@ -202,10 +205,6 @@ impl Service {
     pub fn resync(&mut self, p: u8, peer: u8) -> Result<u32, Refusal>
         ensures { Owes self.old self.new (Call.Resync p peer) (answering Answer.Restored result) }
     {
-        let answer = self.answer_to(&Call::Resync { process: p, peer })?;
-        let Answer::Restored(count) = answer else {
-            unreachable!()
-        };
-        Ok(count)
+        self.number(&Call::Resync { process: p, peer })
     }
 }

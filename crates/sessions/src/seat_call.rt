@@ -5,11 +5,13 @@ ghost use Rattle.std.specs.Prelude.{◌≡◌, IfOk, true};
 ghost use Rattle.machine.specs.Dispatch.{TakesNoResult};
 ghost use Rattle.machine.specs.Simulation.{answering};
 ghost use Rattle.world.specs.Useful.{may_call};
+ghost use Rattle.sessions.specs.Fields.{HasNumber, numbered};
 ghost use Rattle.sessions.specs.Job.{IsJobAt, arrival_of};
 ghost use Rattle.sessions.specs.Journal.{Adds, HandsOut, IsOpenAt, ReturnsTo, world_at};
 ghost use Rattle.sessions.specs.Service.{Returns};
 
 use crate::job::Job;
+use crate::named_call::number_in;
 use crate::seat::Seat;
 use crate::session::Session;
 use machine::Arrival;
@@ -29,6 +31,19 @@ impl<L: Ledger> Session<L> {
         Ok(reply.answer)
     }
 
+    // Makes a call whose answer is a number, and answers that.
+    fn number(&mut self, by: &mut Seat<L>, call: &Call) -> Result<u32, Refusal>
+        requires number { HasNumber call.now }
+        requires result { TakesNoResult call.now }
+        requires may { may_call (world_at self.old) by.old.worker call.now ≡ true }
+        ensures adds { Adds self.old self.new by.old by.new call.now (answering (numbered call.now) result) }
+        ensures worker { by.new.worker ≡ by.old.worker }
+        ensures exactly { IfOk result (λ n. Returns self.old self.new call.now (numbered call.now n)) }
+    {
+        let answer = self.answer_to(by, call)?;
+        Ok(number_in(&answer))
+    }
+
     /// Logs a message of the outside for a process, and answers its SSN. A feed number is taken
     /// once. Any seat may call it.
     ///
@@ -44,11 +59,7 @@ impl<L: Ledger> Session<L> {
             feed: feed.number,
             payload: feed.payload,
         };
-        let answer = self.answer_to(by, &call)?;
-        let Answer::Logged(ssn) = answer else {
-            unreachable!()
-        };
-        Ok(ssn)
+        self.number(by, &call)
     }
 
     /// Puts a logged and released message on the wire, and answers the key of its packet. 0 is the
@@ -136,11 +147,7 @@ impl<L: Ledger> Session<L> {
         ensures adds { Adds self.old self.new by.old by.new (Call.Checkpoint p) (answering Answer.Saved result) }
         ensures worker { by.new.worker ≡ by.old.worker }
     {
-        let answer = self.answer_to(by, &Call::Checkpoint { process: p })?;
-        let Answer::Saved(length) = answer else {
-            unreachable!()
-        };
-        Ok(length)
+        self.number(by, &Call::Checkpoint { process: p })
     }
 
     /// Each sender that is up drops its messages to this one that its checkpoint covers, or if it
@@ -154,11 +161,7 @@ impl<L: Ledger> Session<L> {
         ensures adds { Adds self.old self.new by.old by.new (Call.Trim to) (answering Answer.Trimmed result) }
         ensures worker { by.new.worker ≡ by.old.worker }
     {
-        let answer = self.answer_to(by, &Call::Trim { to })?;
-        let Answer::Trimmed(count) = answer else {
-            unreachable!()
-        };
-        Ok(count)
+        self.number(by, &Call::Trim { to })
     }
 
     /// A process loses all but its checkpoint, and answers its new incarnation.
@@ -171,11 +174,7 @@ impl<L: Ledger> Session<L> {
         ensures adds { Adds self.old self.new by.old by.new (Call.Crash p) (answering Answer.Crashed result) }
         ensures worker { by.new.worker ≡ by.old.worker }
     {
-        let answer = self.answer_to(by, &Call::Crash { process: p })?;
-        let Answer::Crashed(incarnation) = answer else {
-            unreachable!()
-        };
-        Ok(incarnation)
+        self.number(by, &Call::Crash { process: p })
     }
 
     /// A process comes back, and answers how many messages it keeps. Every other one has to be up.
@@ -189,11 +188,7 @@ impl<L: Ledger> Session<L> {
         ensures worker { by.new.worker ≡ by.old.worker }
         ensures exactly { IfOk result (ReturnsTo self.old self.new p) }
     {
-        let answer = self.answer_to(by, &Call::Recover { process: p })?;
-        let Answer::Kept(kept) = answer else {
-            unreachable!()
-        };
-        Ok(kept)
+        self.number(by, &Call::Recover { process: p })
     }
 
     /// As `recover`, but in whatever state the other processes are. After it failures didn't come
@@ -207,11 +202,7 @@ impl<L: Ledger> Session<L> {
         ensures adds { Adds self.old self.new by.old by.new (Call.RecoverAlone p) (answering Answer.Kept result) }
         ensures worker { by.new.worker ≡ by.old.worker }
     {
-        let answer = self.answer_to(by, &Call::RecoverAlone { process: p })?;
-        let Answer::Kept(kept) = answer else {
-            unreachable!()
-        };
-        Ok(kept)
+        self.number(by, &Call::RecoverAlone { process: p })
     }
 
     /// Starts the next job of a process that replays.
@@ -242,10 +233,6 @@ impl<L: Ledger> Session<L> {
         ensures adds { Adds self.old self.new by.old by.new (Call.Resync p peer) (answering Answer.Restored result) }
         ensures worker { by.new.worker ≡ by.old.worker }
     {
-        let answer = self.answer_to(by, &Call::Resync { process: p, peer })?;
-        let Answer::Restored(count) = answer else {
-            unreachable!()
-        };
-        Ok(count)
+        self.number(by, &Call::Resync { process: p, peer })
     }
 }

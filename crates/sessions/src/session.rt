@@ -1,8 +1,9 @@
 //! Sessions of many callers.
 
-ghost use Rattle.std.specs.Prelude.{◌≡◌, ◌↔◌, ◌+◌, ◌≤◌, IfNone, IfOk, IfSome, IsTrue, None, Some, [], true, false, length, map, slice_set};
+ghost use Rattle.std.specs.Prelude.{◌≡◌, ◌↔◌, ◌+◌, ◌≤◌, IfErr, IfNone, IfOk, IfSome, IsTrue, None, Some, [], true, length, map, slice_set};
 ghost use Rattle.interp.specs.Image.{image_in};
 ghost use Rattle.world.specs.Useful.{may_call};
+ghost use Rattle.world.specs.declared.refusal.Refusal.TheVariants.{Memory};
 ghost use Rattle.machine.specs.Simulation.{answering};
 ghost use Rattle.machine.specs.Dispatch.{TakesNoResult, answer_in};
 ghost use Rattle.machine.specs.Choice.{IsPick, IsMove};
@@ -62,6 +63,27 @@ fn seats_of<L: Ledger>(
     Ok(seats)
 }
 
+// The session of this service with its seats, unless memory ran out.
+fn seated<L: Ledger>(
+    service: Service,
+    book: Book<L>,
+    seats: Result<Vec<Option<Seat<L>>>, AllocError>,
+) -> Result<Session<L>, Refusal>
+    requires seats { IfOk seats (λ v. v.items ≡ new_seats SEATS) }
+    requires empty { (service.entries ≡ []) × (book.total ≡ 0) }
+    ensures ok { IfOk result (λ s. s ≡ record service { seats = new_seats SEATS }) }
+    ensures err { IfErr result (λ r. r ≡ Memory) }
+{
+    match seats {
+        Ok(seats) => Ok(Session {
+            service,
+            book,
+            seats,
+        }),
+        Err(_) => Err(Refusal::Memory),
+    }
+}
+
 impl<L: Ledger> Session<L> {
     /// Processes 1 to n with these images. Each is up, in its first incarnation, with a state of
     /// zeros; the journal is empty, and there are 17 seats. Refuses no images or more than 15
@@ -77,12 +99,7 @@ impl<L: Ledger> Session<L> {
     {
         let service = Service::open(alloc, images)?;
         let (book, parts) = blank.open::<L>();
-        let seats = seats_of(alloc, parts)?;
-        Ok(Session {
-            service,
-            book,
-            seats,
-        })
+        seated(service, book, seats_of(alloc, parts))
     }
 
     /// Takes out the seat of this worker, 0 to 16. `None` if it is out already.

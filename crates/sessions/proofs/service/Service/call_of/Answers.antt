@@ -1,17 +1,19 @@
 use Rattle.std.specs.Prelude.{Err, Some}
 use Rattle.std.specs.Option.{option_map}
-use Rattle.std.proofs.Common.{◌≡◌, ◌-◌, ◌++◌, ◌∷◌, [], ℕ, length, map, arith, ap, sym, subst, ◌∙◌}
+use Rattle.std.proofs.Common.{◌≡◌, ◌-◌, ◌++◌, ◌∷◌, [], ℕ, length, map, arith, ap, refl, sym, subst, ◌∙◌}
 use Rattle.std.proofs.lemmas.Result.{err_from_is_err_and}
 use Rattle.limits.specs.declared.TheConstants.{ENTRIES}
 use Rattle.interp.specs.Image.{image_in}
 use Rattle.world.specs.History.{nth}
 use Rattle.world.specs.Legal.{is_single}
+use Rattle.world.specs.Refusals.{cause_of, refusal_of}
 use Rattle.machine.specs.Simulation.{answering}
 use Rattle.machine.specs.Dispatch.{answer_in, job_of}
 use Rattle.world.specs.Useful.{may_call}
 use Rattle.sessions.specs.Fields.{joined, starter}
-use Rattle.sessions.specs.Journal.{TheSession, entry, is_exact_of, world_at}
+use Rattle.sessions.specs.Journal.{TheSession, entry, is_exact_of, room_at, world_at}
 use Rattle.sessions.specs.Driver.{Starts}
+use Rattle.sessions.specs.Service.{seat_of}
 use Rattle.sessions.proofs.JobLemmas.{is-sized, starts, starts-at}
 use Rattle.sessions.proofs.Rooms.{room-of}
 use Rattle.sessions.proofs.Steps.{count-is, here}
@@ -104,3 +106,34 @@ returns-clause-job c =
     let begins = starts (service is entries) c.step.new.self p reply.job handler opened (done at).0.leads (count-is is entries) (handler-at at) in
     let P : TheSession → Type 0 = λ s. Starts (service is entries) (job_of (world_at s) c.args.call.now reply.answer) (joined reply.job handler) in
     rw c.joined.ensures (subst P c.self.view_is begins)
+
+pub step-requires-clause-room : goal.step-requires-clause-room
+step-requires-clause-room c = omega (arith, c.room-room.ensures.value, c.room-room.ensures.bound, c.self.invariant.0.calls)
+
+-- what is refused before the machine takes the call
+pub returns-in_default-clause-adds : goal.returns-in_default-clause-adds
+returns-in_default-clause-adds c = (refl, refl, c.refusal.ensures)
+
+pub returns-in_default-clause-bound : goal.returns-in_default-clause-bound
+returns-in_default-clause-bound c = rw (← c.self.view_is) c.room-room.ensures.bound
+
+pub invariant_of-self : goal.invariant_of-self
+invariant_of-self c = rw c.prepare.ensures.entries c.self.invariant
+
+pub returns-in_default-prepare-clause-adds : goal.returns-in_default-prepare-clause-adds
+returns-in_default-prepare-clause-adds c =
+    let back : service (map image_in c.self.inside.images.items) c.prepare.new.self.entries ≡ c.args.self.now = ap (service (map image_in c.self.inside.images.items)) c.prepare.ensures.entries ∙ c.self.view_is in
+    let P : TheSession → Type 0 = λ s. refusal_of (world_at s) (room_at s) c.args.call.now ≡ cause_of c.refusal-in_default-prepare.result in
+    (back, ap (seat_of c.args.worker) back, subst P back c.refusal-in_default-prepare.ensures)
+
+pub returns-in_default-prepare-clause-bound : goal.returns-in_default-prepare-clause-bound
+returns-in_default-prepare-clause-bound c = rw c.prepare.ensures.entries c.room-room.ensures.bound
+
+pub invariant_of-self-in_err-reply : goal.invariant_of-self-in_err-reply
+invariant_of-self-in_err-reply c = rw (c.in_err-reply.ensures.step.0, c.prepare.ensures.entries) c.self.invariant
+
+pub returns-in_err-reply-clause-bound : goal.returns-in_err-reply-clause-bound
+returns-in_err-reply-clause-bound c = rw c.prepare.ensures.entries c.room-room.ensures.bound
+
+pub returns-clause-bound : goal.returns-clause-bound
+returns-clause-bound c = omega (arith, (done (goal.at.returns-clause-bound c).After-append).0.room)

@@ -107,3 +107,15 @@ returns-in_err-finished-clause-bound c = rw c.reserve.ensures.entries (omega (ar
 
 pub returns-clause-bound : goal.returns-clause-bound
 returns-clause-bound c = omega (arith, (done (goal.at.returns-clause-bound c).After-append).1.0.room)
+
+pub commit-requires : goal.commit-requires
+commit-requires c = omega (arith, c.self.invariant.0.calls, c.self.invariant.0.room)
+
+pub invariant_of-self : goal.invariant_of-self
+invariant_of-self c = rw c.reserve.ensures.entries c.self.invariant
+
+pub invariant_of-self-then-not-reserve : goal.invariant_of-self-then-not-reserve
+invariant_of-self-then-not-reserve c = rw c.reserve.ensures.entries c.self.invariant
+
+pub invariant_of-self-in_err-finished : goal.invariant_of-self-in_err-finished
+invariant_of-self-in_err-finished c = rw (c.in_err-finished.ensures.err.1.1, c.reserve.ensures.entries) c.self.invariant

@@ -4,7 +4,7 @@ use Rattle.sessions.specs.Journal.{world_at}
 use Rattle.sessions.proofs.Steps.{may-free}
 use Rattle.sessions.proofs.session.Session.input.Goals as goal
 
-pub answer_to-requires-clause-may : goal.answer_to-requires-clause-may
-answer_to-requires-clause-may g c =
+pub number-requires-clause-may : goal.number-requires-clause-may
+number-requires-clause-may g c =
     let feed = c.args.feed.now in
     may-free (world_at c.args.self.now) c.args.by.now.worker (Input feed.dst feed.number feed.payload) refl
