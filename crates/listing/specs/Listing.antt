@@ -10,7 +10,7 @@ use Rattle.regtypes.specs.Rules.{rule_number}
 use Rattle.spans.specs.declared.kind.SpanKind.{SpanKind}
 use Rattle.spans.specs.declared.kind.SpanKind.TheVariants.{Unset}
 use Rattle.verifier.specs.FileForm.{file_form_number}
-use Rattle.listing.specs.declared.cause.Cause.{Cause}
+use Rattle.listing.specs.declared.cause.RefusalCause.{RefusalCause}
 use Rattle.listing.specs.declared.study.Study.{Study}
 use Rattle.listing.specs.declared.view.View.{View}
 use Rattle.listing.specs.declared.why.UnsetCause.{UnsetCause}
@@ -58,7 +58,7 @@ known_text s whys i (Some v) = texts_below (register_text s whys i v) REGISTERS 
 -- ---- slots
 
 -- the broken rule, what breaks it, and what to do about that
-abbrev pub broken_text : Study → Rule → ℕ → View → Cause → List ℕ
+abbrev pub broken_text : Study → Rule → ℕ → View → RefusalCause → List ℕ
 broken_text s rule slot v cause = codes "    refused by V" ++ decimal (rule_number rule)
     ++ (codes ": " ++ cause_text (file_form_number (form_of s.form s.table)) (length s.slots.items) slot cause
     ++ (codes "\n    to do: " ++ advice v rule cause ++ codes "\n"))

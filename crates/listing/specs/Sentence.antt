@@ -6,9 +6,10 @@ use Rattle.regtypes.specs.declared.frame.Region.TheVariants.{State}
 use Rattle.regtypes.specs.declared.rule.Rule.{Rule}
 use Rattle.regtypes.specs.declared.rule.Rule.TheVariants.{V1, V2, V3, V4, V5, V6, V7, V8, V9, V10}
 use Rattle.spans.specs.declared.span.Span.{Span}
-use Rattle.listing.specs.declared.cause.Cause.{Cause}
-use Rattle.listing.specs.declared.cause.Cause.TheVariants.{Nothing, Jump, NothingFollows, FramePointer, NoAnswer, OfRegister, OfWord}
-use Rattle.listing.specs.declared.cause.Cause.TheVariants.{SumOfPlaces, Outside, MovedBy, ShiftedBy, NoHelper, NoCount, NoPayload, NoSized}
+use Rattle.listing.specs.declared.cause.RefusalCause.{RefusalCause}
+use Rattle.listing.specs.declared.cause.RefusalCause.TheVariants.{Nothing, Jump, NothingFollows, FramePointer, NoAnswer, OfRegister, OfWord}
+use Rattle.listing.specs.declared.cause.RefusalCause.TheVariants.{SumOfPlaces, Outside, MovedBy, ShiftedBy, NoHelper, NoCount}
+use Rattle.listing.specs.declared.cause.RefusalCause.TheVariants.{NoPayload, NoSized}
 use Rattle.listing.specs.declared.cause.RegisterFault.{RegisterFault}
 use Rattle.listing.specs.declared.cause.RegisterFault.TheVariants as register
 use Rattle.listing.specs.declared.cause.WordFault.{WordFault}
@@ -33,7 +34,7 @@ word_words (word.Read n) = codes " holds a place, of which " ++ decimal n ++ cod
 word_words (word.Written n) = codes " holds a place, of which " ++ decimal n ++ codes " bytes are written"
 
 -- what breaks a rule at a slot, in code of this many slots and of this form
-abbrev pub cause_text : ℕ → ℕ → ℕ → Cause → List ℕ
+abbrev pub cause_text : ℕ → ℕ → ℕ → RefusalCause → List ℕ
 cause_text form slots s Nothing = []
 cause_text form slots s (Jump d) = codes "the jump leads to slot " ++ signed_decimal (pos (s + 1) +ℤ d)
     ++ (codes " of " ++ decimal slots ++ codes ", and has to lead to a later one at which an instruction begins")
@@ -98,7 +99,7 @@ moved_advice t = if t.hi == 2 ^ 64 - 1 then
     index_advice ++ codes "; one of a signed type, as int, may be negative: make it a u64, and compare that" else index_advice
 
 -- what to do about a cause in form 3
-abbrev pub cause_advice : Cause → List ℕ
+abbrev pub cause_advice : RefusalCause → List ℕ
 cause_advice Nothing = codes "read the listing from here upward"
 cause_advice (Jump d) = codes "jump forward, to where an instruction begins: write unrolled above a loop of known length, and turn() first "
     ++ codes "in it where clang leaves it as one"
@@ -133,6 +134,6 @@ rule_advice V9 = codes "set the arguments right before the call, and let the byt
 rule_advice V10 = codes "put a number in r0 before exit, as by mov r0, 0"
 
 -- what to do: in forms 1 and 2 about the rule, in form 3 about the cause
-abbrev pub advice : View → Rule → Cause → List ℕ
+abbrev pub advice : View → Rule → RefusalCause → List ℕ
 advice (Flat f) rule cause = rule_advice rule
 advice (Spans c) rule cause = cause_advice cause

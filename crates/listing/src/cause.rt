@@ -49,7 +49,7 @@ pub enum WordFault {
 
 /// What breaks a rule.
 #[derive(Clone, Copy)]
-pub enum Cause {
+pub enum RefusalCause {
     /// No cause is known.
     Nothing,
     /// A jump by this many slots.
@@ -83,13 +83,13 @@ pub enum Cause {
 }
 
 /// V1: the jump of an instruction.
-fn jump_of(flow: Flow) -> Cause
+fn jump_of(flow: Flow) -> RefusalCause
     ensures { result ≡ jump_of flow }
 {
     match flow {
-        Flow::Leaps(distance) => Cause::Jump(distance),
-        Flow::Forks(distance) => Cause::Jump(distance),
-        Flow::Ends | Flow::Falls(_) => Cause::Nothing,
+        Flow::Leaps(distance) => RefusalCause::Jump(distance),
+        Flow::Forks(distance) => RefusalCause::Jump(distance),
+        Flow::Ends | Flow::Falls(_) => RefusalCause::Nothing,
     }
 }
 
@@ -116,20 +116,20 @@ fn first_unset(view: &View, what: &Attributes) -> Option<Reg>
 }
 
 /// What is wrong with a word of the stack, if there is one.
-pub fn word_cause(fault: WordFault, word: Option<usize>) -> Cause
+pub fn word_cause(fault: WordFault, word: Option<usize>) -> RefusalCause
     ensures { result ≡ word_cause fault word }
 {
     match word {
-        None => Cause::Nothing,
-        Some(cell) => Cause::OfWord(cell, fault),
+        None => RefusalCause::Nothing,
+        Some(cell) => RefusalCause::OfWord(cell, fault),
     }
 }
 
-fn by_missing(reg: Option<Reg>, word: Option<usize>) -> Cause
+fn by_missing(reg: Option<Reg>, word: Option<usize>) -> RefusalCause
     ensures { result ≡ by_missing reg word }
 {
     match reg {
-        Some(reg) => Cause::OfRegister(reg, RegisterFault::Unset),
+        Some(reg) => RefusalCause::OfRegister(reg, RegisterFault::Unset),
         None => word_cause(WordFault::Unset, word),
     }
 }
@@ -145,7 +145,7 @@ fn missing_word(view: &View, access: Option<Access>) -> Option<usize>
 }
 
 /// V3: the register or word that is read but not set.
-fn unset_cause(view: &View, what: &Attributes) -> Cause
+fn unset_cause(view: &View, what: &Attributes) -> RefusalCause
     ensures { result ≡ unset_cause view.now what.now }
 {
     by_missing(first_unset(view, what), missing_word(view, what.access))
@@ -164,13 +164,13 @@ fn first_place(view: &View, what: &Attributes) -> Option<Reg>
     None
 }
 
-fn flat_mixed(access: Option<Access>, reg: Option<Reg>) -> Cause
+fn flat_mixed(access: Option<Access>, reg: Option<Reg>) -> RefusalCause
     ensures { result ≡ flat_mixed access reg }
 {
     match (access, reg) {
-        (_, Some(reg)) => Cause::OfRegister(reg, RegisterFault::PlaceAsNumber),
-        (Some(access), None) => Cause::OfRegister(access.base, RegisterFault::NumberAsBase),
-        (None, None) => Cause::Nothing,
+        (_, Some(reg)) => RefusalCause::OfRegister(reg, RegisterFault::PlaceAsNumber),
+        (Some(access), None) => RefusalCause::OfRegister(access.base, RegisterFault::NumberAsBase),
+        (None, None) => RefusalCause::Nothing,
     }
 }
 
@@ -184,13 +184,16 @@ fn part_fault(access: Access) -> WordFault
     }
 }
 
-fn access_cause(frame: &Cells, access: Access, stored: Option<Reg>, kind: SpanKind) -> Cause
+fn access_cause(frame: &Cells, access: Access, stored: Option<Reg>, kind: SpanKind) -> RefusalCause
     ensures { result ≡ access_cause (kind_at frame.now.kinds) access stored kind }
 {
     match (kind, stored) {
-        (SpanKind::Unset, _) => Cause::Nothing,
-        (SpanKind::Num(_), _) => Cause::OfRegister(access.base, RegisterFault::NumberAsBase),
-        (SpanKind::Place(_, _), Some(reg)) => Cause::OfRegister(reg, RegisterFault::PlaceStored),
+        (SpanKind::Unset, _) => RefusalCause::Nothing,
+        (SpanKind::Num(_), _) => RefusalCause::OfRegister(access.base, RegisterFault::NumberAsBase),
+        (SpanKind::Place(_, _), Some(reg)) => RefusalCause::OfRegister(
+            reg,
+            RegisterFault::PlaceStored,
+        ),
         (SpanKind::Place(_, _), None) => {
             let bytes = access.bytes.into();
             let word = flawed_word(Flaw::Pointing, frame, kind, access.offset, bytes);
@@ -199,7 +202,7 @@ fn access_cause(frame: &Cells, access: Access, stored: Option<Reg>, kind: SpanKi
     }
 }
 
-fn mixed_by(frame: &Cells, access: Option<Access>, reg: Option<Reg>) -> Cause
+fn mixed_by(frame: &Cells, access: Option<Access>, reg: Option<Reg>) -> RefusalCause
     ensures { result ≡ mixed_by (kind_at frame.now.kinds) access reg }
 {
     match access {
@@ -209,7 +212,7 @@ fn mixed_by(frame: &Cells, access: Option<Access>, reg: Option<Reg>) -> Cause
 }
 
 /// A sum of two registers, or else another cause.
-fn sum_or(insn: &Insn, other: Cause) -> Cause
+fn sum_or(insn: &Insn, other: RefusalCause) -> RefusalCause
     ensures { result ≡ sum_or insn.now other }
 {
     match *insn {
@@ -218,13 +221,13 @@ fn sum_or(insn: &Insn, other: Cause) -> Cause
             width: Width::W64,
             dst,
             operand: Operand::Reg(src),
-        } => Cause::SumOfPlaces(dst, src),
+        } => RefusalCause::SumOfPlaces(dst, src),
         _ => other,
     }
 }
 
 /// V5: a number where a place is needed, or a place where a number is needed.
-fn mixed_cause(insn: &Insn, what: &Attributes, view: &View) -> Cause
+fn mixed_cause(insn: &Insn, what: &Attributes, view: &View) -> RefusalCause
     ensures { result ≡ mixed_cause insn.now what.now view.now }
 {
     let place = first_place(view, what);
@@ -234,17 +237,17 @@ fn mixed_cause(insn: &Insn, what: &Attributes, view: &View) -> Cause
     }
 }
 
-fn moved_cause(dst: Reg, src: Reg, a: SpanKind, b: SpanKind) -> Cause
+fn moved_cause(dst: Reg, src: Reg, a: SpanKind, b: SpanKind) -> RefusalCause
     ensures { result ≡ moved_cause dst src a b }
 {
     match (a, b) {
-        (SpanKind::Place(_, _), SpanKind::Num(span)) => Cause::MovedBy(dst, span),
-        (SpanKind::Num(span), SpanKind::Place(_, _)) => Cause::MovedBy(src, span),
-        _ => Cause::Nothing,
+        (SpanKind::Place(_, _), SpanKind::Num(span)) => RefusalCause::MovedBy(dst, span),
+        (SpanKind::Num(span), SpanKind::Place(_, _)) => RefusalCause::MovedBy(src, span),
+        _ => RefusalCause::Nothing,
     }
 }
 
-fn reach_cause(state_len: u16, view: &View, access: Access, kind: SpanKind) -> Cause
+fn reach_cause(state_len: u16, view: &View, access: Access, kind: SpanKind) -> RefusalCause
     ensures { result ≡ reach_cause state_len view.now access kind }
 {
     match kind {
@@ -252,25 +255,30 @@ fn reach_cause(state_len: u16, view: &View, access: Access, kind: SpanKind) -> C
             let lo = distance_at(reach.lo, access.offset);
             let hi = distance_at(reach.hi, access.offset);
             let size = region_len(region, view.low(), state_len);
-            Cause::Outside(access.bytes, region, lo, hi, size)
+            RefusalCause::Outside(access.bytes, region, lo, hi, size)
         }
-        SpanKind::Unset | SpanKind::Num(_) => Cause::Nothing,
+        SpanKind::Unset | SpanKind::Num(_) => RefusalCause::Nothing,
     }
 }
 
 /// V6: an access outside a region, or a place that an immediate moves too far.
-fn out_by(state_len: u16, view: &View, access: Option<Access>, moved: Option<(Reg, i64)>) -> Cause
+fn out_by(
+    state_len: u16,
+    view: &View,
+    access: Option<Access>,
+    moved: Option<(Reg, i64)>,
+) -> RefusalCause
     ensures { result ≡ out_by state_len view.now access moved }
 {
     match (access, moved) {
         (Some(access), _) => reach_cause(state_len, view, access, view.kind(access.base)),
-        (None, Some((reg, by))) => Cause::ShiftedBy(reg, by),
-        (None, None) => Cause::Nothing,
+        (None, Some((reg, by))) => RefusalCause::ShiftedBy(reg, by),
+        (None, None) => RefusalCause::Nothing,
     }
 }
 
 /// V6: a register that moves another to which it is added, or else another cause.
-fn moved_or(insn: &Insn, view: &View, other: Cause) -> Cause
+fn moved_or(insn: &Insn, view: &View, other: RefusalCause) -> RefusalCause
     ensures { result ≡ moved_or insn.now view.now other }
 {
     match *insn {
@@ -285,40 +293,46 @@ fn moved_or(insn: &Insn, view: &View, other: Cause) -> Cause
 }
 
 /// V7: the base of an access.
-fn message_cause(access: Option<Access>) -> Cause
+fn message_cause(access: Option<Access>) -> RefusalCause
     ensures { result ≡ message_cause access }
 {
     match access {
-        None => Cause::Nothing,
-        Some(access) => Cause::OfRegister(access.base, RegisterFault::Message),
+        None => RefusalCause::Nothing,
+        Some(access) => RefusalCause::OfRegister(access.base, RegisterFault::Message),
     }
 }
 
 /// V8: the number of a helper.
-fn helper_cause(insn: &Insn) -> Cause
+fn helper_cause(insn: &Insn) -> RefusalCause
     ensures { result ≡ helper_cause insn.now }
 {
     match *insn {
-        Insn::Call { helper } => Cause::NoHelper(helper),
-        _ => Cause::Nothing,
+        Insn::Call { helper } => RefusalCause::NoHelper(helper),
+        _ => RefusalCause::Nothing,
     }
 }
 
 /// What breaks a rule at a slot where this is known. The form tells the helpers: form 3 has those of form 2.
-pub fn cause_of(form: ImageForm, state_len: u16, insn: &Insn, view: &View, rule: Rule) -> Cause
+pub fn cause_of(
+    form: ImageForm,
+    state_len: u16,
+    insn: &Insn,
+    view: &View,
+    rule: Rule,
+) -> RefusalCause
     ensures { result ≡ cause_of form state_len insn.now view.now rule }
 {
     let what = attributes_from(insn);
     match rule {
         Rule::V1 => jump_of(flow_from(insn)),
-        Rule::V2 => Cause::NothingFollows,
+        Rule::V2 => RefusalCause::NothingFollows,
         Rule::V3 => unset_cause(view, &what),
-        Rule::V4 => Cause::FramePointer,
+        Rule::V4 => RefusalCause::FramePointer,
         Rule::V5 => mixed_cause(insn, &what, view),
         Rule::V6 => moved_or(insn, view, out_by(state_len, view, what.access, what.moved)),
         Rule::V7 => message_cause(what.access),
         Rule::V8 => helper_cause(insn),
         Rule::V9 => call_cause(form, view, insn),
-        Rule::V10 => Cause::NoAnswer,
+        Rule::V10 => RefusalCause::NoAnswer,
     }
 }

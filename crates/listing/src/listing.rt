@@ -13,7 +13,7 @@ ghost use Rattle.listing.specs.Why.{AreWhys};
 ghost use Rattle.listing.specs.FileListing.{IsFileExplained, IsListed};
 ghost use Rattle.listing.specs.Listing.{IsListing, broken_text, head_text, known_text, notes_text, reason_text, refusal_text, register_text, slot_text, verdict_text};
 
-use crate::cause::{Cause, cause_of};
+use crate::cause::{RefusalCause, cause_of};
 use crate::kinds::push_register_kind;
 use crate::notes::{push_dead, push_stack};
 use crate::reads::is_read;
@@ -102,7 +102,7 @@ fn push_broken(
     rule: Rule,
     slot: usize,
     view: &View,
-    cause: Cause,
+    cause: RefusalCause,
 ) -> Result<(), AllocError>
     ensures { OnOk result (string_bytes out.new ≡ string_bytes out.old ++ broken_text study.now rule slot view.now cause) }
 {

@@ -4,7 +4,7 @@ ghost use Rattle.std.specs.Prelude.{◌≡◌, ◌++◌, OnOk, codes, decimal, s
 ghost use Rattle.listing.specs.Kinds.{places_text, range_text, reg_text, word_text};
 ghost use Rattle.listing.specs.Sentence.{advice, cause_advice, cause_text, moved_advice, outside_advice, register_advice, register_words, rule_advice, word_advice, word_words};
 
-use crate::cause::{Cause, RegisterFault, WordFault};
+use crate::cause::{RefusalCause, RegisterFault, WordFault};
 use crate::kinds::{distance_of, push_places, push_range};
 use crate::view::View;
 use decode::Reg;
@@ -76,46 +76,46 @@ pub fn push_cause(
     form: u8,
     slots: usize,
     slot: usize,
-    cause: Cause,
+    cause: RefusalCause,
 ) -> Result<(), AllocError>
     ensures { OnOk result (string_bytes out.new ≡ string_bytes out.old ++ cause_text form slots slot cause) }
 {
     match cause {
-        Cause::Nothing => Ok(()),
-        Cause::Jump(distance) => {
+        RefusalCause::Nothing => Ok(()),
+        RefusalCause::Jump(distance) => {
             let target = slot as i128 + 1 + i128::from(distance);
             write!(
                 out,
                 "the jump leads to slot {target} of {slots}, and has to lead to a later one at which an instruction begins"
             )
         }
-        Cause::NothingFollows => out.push_str("nothing follows this instruction"),
-        Cause::FramePointer => out.push_str("r10 is written, and is for reading"),
-        Cause::NoAnswer => out.push_str("r0 is to be a number at the end"),
-        Cause::OfRegister(Reg { number }, fault) => {
+        RefusalCause::NothingFollows => out.push_str("nothing follows this instruction"),
+        RefusalCause::FramePointer => out.push_str("r10 is written, and is for reading"),
+        RefusalCause::NoAnswer => out.push_str("r0 is to be a number at the end"),
+        RefusalCause::OfRegister(Reg { number }, fault) => {
             let words = register_words(fault);
             write!(out, "r{number}{words}")
         }
-        Cause::OfWord(cell, fault) => push_word(out, cell, fault),
-        Cause::SumOfPlaces(Reg { number: first }, Reg { number: second }) => write!(
+        RefusalCause::OfWord(cell, fault) => push_word(out, cell, fault),
+        RefusalCause::SumOfPlaces(Reg { number: first }, Reg { number: second }) => write!(
             out,
             "r{first} and r{second} are added, and both hold places"
         ),
-        Cause::Outside(bytes, region, lo, hi, size) => {
+        RefusalCause::Outside(bytes, region, lo, hi, size) => {
             push_outside(out, bytes, region, lo, hi, size)
         }
-        Cause::MovedBy(reg, span) => push_moved(out, reg, span),
-        Cause::ShiftedBy(Reg { number }, by) => write!(
+        RefusalCause::MovedBy(reg, span) => push_moved(out, reg, span),
+        RefusalCause::ShiftedBy(Reg { number }, by) => write!(
             out,
             "r{number} is moved by {by}, out of the places from -32768 to 32767"
         ),
-        Cause::NoHelper(helper) => write!(out, "form {form} has no helper {helper}"),
-        Cause::NoCount(reg) => write!(out, "r{reg} is to be a number"),
-        Cause::NoPayload(reg, bytes) => write!(
+        RefusalCause::NoHelper(helper) => write!(out, "form {form} has no helper {helper}"),
+        RefusalCause::NoCount(reg) => write!(out, "r{reg} is to be a number"),
+        RefusalCause::NoPayload(reg, bytes) => write!(
             out,
             "r{reg} is to be a place, with {bytes} bytes from there on in its region"
         ),
-        Cause::NoSized(place, count) => write!(
+        RefusalCause::NoSized(place, count) => write!(
             out,
             "r{place} is to be a place with 256 bytes from there on in its region, and r{count} a number; or they the message and its length"
         ),
@@ -193,25 +193,25 @@ fn moved_advice(span: Span) -> &'static str
 }
 
 /// What to do about a cause in form 3.
-fn cause_advice(cause: Cause) -> &'static str
+fn cause_advice(cause: RefusalCause) -> &'static str
     ensures { result.now ≡ cause_advice cause }
 {
     match cause {
-        Cause::Nothing => "read the listing from here upward",
-        Cause::Jump(_) =>
+        RefusalCause::Nothing => "read the listing from here upward",
+        RefusalCause::Jump(_) =>
             "jump forward, to where an instruction begins: write unrolled above a loop of known length, and turn() first in it where clang leaves it as one",
-        Cause::NothingFollows => "end each way with exit",
-        Cause::FramePointer => "copy it by mov, and change the copy",
-        Cause::NoAnswer => "return a number on each way",
-        Cause::OfRegister(_, fault) => register_advice(fault),
-        Cause::OfWord(_, fault) => word_advice(fault),
-        Cause::SumOfPlaces(_, _) => "compare and compute with indices in place of pointers",
-        Cause::Outside(_, region, lo, hi, _) => outside_advice(region, lo, hi),
-        Cause::MovedBy(_, span) => moved_advice(span),
-        Cause::ShiftedBy(_, _) => REGION,
-        Cause::NoHelper(_) => "call helper 1 to 6",
-        Cause::NoCount(_) => "give the helper a number, set on each way that leads here",
-        Cause::NoPayload(_, _) | Cause::NoSized(_, _) =>
+        RefusalCause::NothingFollows => "end each way with exit",
+        RefusalCause::FramePointer => "copy it by mov, and change the copy",
+        RefusalCause::NoAnswer => "return a number on each way",
+        RefusalCause::OfRegister(_, fault) => register_advice(fault),
+        RefusalCause::OfWord(_, fault) => word_advice(fault),
+        RefusalCause::SumOfPlaces(_, _) => "compare and compute with indices in place of pointers",
+        RefusalCause::Outside(_, region, lo, hi, _) => outside_advice(region, lo, hi),
+        RefusalCause::MovedBy(_, span) => moved_advice(span),
+        RefusalCause::ShiftedBy(_, _) => REGION,
+        RefusalCause::NoHelper(_) => "call helper 1 to 6",
+        RefusalCause::NoCount(_) => "give the helper a number, set on each way that leads here",
+        RefusalCause::NoPayload(_, _) | RefusalCause::NoSized(_, _) =>
             "compare the length with a number that fits before the call, or give a fixed one, and begin where so many bytes are left; where the C compares it already, within(length, most); right above the call does so anew; or --state is too small",
     }
 }
@@ -240,7 +240,7 @@ fn rule_advice(rule: Rule) -> &'static str
 }
 
 /// What to do: in forms 1 and 2 about the rule, in form 3 about the cause.
-pub fn advice(view: &View, rule: Rule, cause: Cause) -> &'static str
+pub fn advice(view: &View, rule: Rule, cause: RefusalCause) -> &'static str
     ensures { result.now ≡ advice view.now rule cause }
 {
     match view {
