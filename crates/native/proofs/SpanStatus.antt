@@ -14,6 +14,7 @@ use Rattle.regtypes.specs.declared.frame.Region.TheVariants.{Stack}
 use Rattle.regtypes.specs.Rules.{first_broken}
 use Rattle.regtypes.specs.Typing.{flow_tests}
 use Rattle.verifier.specs.Span.Rules.{frame_pointer_rule}
+use Rattle.verifier.proofs.Spans.Forms.{are_typings}
 use Rattle.spans.specs.Configuration.{At, Configuration}
 use Rattle.spans.specs.Step.{Ends, Fault, Goes, Leaps, Outcome, step}
 use Rattle.spans.specs.Concrete.{array_size}
@@ -69,7 +70,7 @@ module _ {slots : List (Option Insn)} {n long : ℕ} {who : Who} {table : Table}
     i = insn r.begun g
 
     placed : (first_broken (flow_tests slots s (flow_of i)) ≡ None) × (frame_pointer_rule i ≡ None)
-    placed = (r.begun.typed.allowed s g.f a.before g.there).1 i a.there
+    placed = ((are_typings n slots table).0 r.begun.typed).1 s g.f g.there i a.there
 
     eligible_here : (is_eligible s (task_in n s i) ≡ true) × JumpsWithin s i
     eligible_here = eligible slots n s r.few_slots g.f (no_number g.c g.f g.leq ten) i a.ways placed.0 placed.1 a.leaves
