@@ -181,22 +181,22 @@ module _ (born : ℕ → ℕ) (now : ℕ) (s : Telling) (h : Aged born now s) wh
       let S : ℕ → Type 0 = λ y. put2 s.lost t r lost t y ≡ false in
       let none : lost ≡ false = sym (put2-same s.lost t r lost) ∙ subst S g.1 (subst R g.0 e) in
       let real = h.said (flagged (parcel r t (Told i j k u f)) exact lost) may.1 none in
-      subst P (sym g.0) (subst Q (sym g.1) (later-on born s.cluster (does s.cluster (Arrives r t (Told i j k u f))) o t r (real.1 may.0.1.1)))
+      subst P (sym g.0) (subst Q (sym g.1) (later-on born s.cluster (does s.cluster (Arrives r t (Told i j k u f))) o t r (real.1 may.0.0.1.1)))
   page-later exact lost a may o p q g e = absurd (g)
 
   pub takes-aged : (exact lost : Bool) (a : Act) → is_opening a ≡ false → MayStep s (Takes exact lost a) → Aged born now (step s (Takes exact lost a))
   takes-aged exact lost a n may =
-      let o : On s.cluster (does s.cluster a) = on-event born s.cluster h.plain h.parcels (Acts a) n may.0 in
-      aged-on born now s (step s (Takes exact lost a)) h o (plain-event born s.cluster h.plain h.parcels (Acts a) n may.0) (under-act a may.0) (said-act a may.0)
-      (λ p q l m e. elim (was-act a may.0 p q l m e) [ inl f ↦ inl f | inr g ↦ inr (page-knows a may.0 o p q g) ])
-      (λ p q l m e w f. elim (lost-act lost a n may.0 p q e w f) [
-        | inl v ↦ elim (was-act a may.0 p q l m e) [ inl u ↦ inl (u, v) | inr g ↦ inr (page-later exact lost a may o p q g f) ]
+      let o : On s.cluster (does s.cluster a) = on-event born s.cluster h.plain h.parcels s.durable (Acts a) n may.0 in
+      aged-on born now s (step s (Takes exact lost a)) h o (plain-event born s.cluster h.plain h.parcels s.durable (Acts a) n may.0) (under-act a may.0.0) (said-act a may.0.0)
+      (λ p q l m e. elim (was-act a may.0.0 p q l m e) [ inl f ↦ inl f | inr g ↦ inr (page-knows a may.0.0 o p q g) ])
+      (λ p q l m e w f. elim (lost-act lost a n may.0.0 p q e w f) [
+        | inl v ↦ elim (was-act a may.0.0 p q l m e) [ inl u ↦ inl (u, v) | inr g ↦ inr (page-later exact lost a may o p q g f) ]
         | inr g ↦ inr (page-later exact lost a may o p q g f)
       ])
 
   pub meets-aged : (q p i k : ℕ) → MayStep s (Meeting q p i k) → Aged born now (step s (Meeting q p i k))
   meets-aged q p i k may =
-      aged-on born now s (step s (Meeting q p i k)) h (on-event born s.cluster h.plain h.parcels (Meets q p i k) refl may) (plain-event born s.cluster h.plain h.parcels (Meets q p i k) refl may)
+      aged-on born now s (step s (Meeting q p i k)) h (on-event born s.cluster h.plain h.parcels s.durable (Meets q p i k) refl may) (plain-event born s.cluster h.plain h.parcels s.durable (Meets q p i k) refl may)
       (λ a b y i. inl i) (λ y i e. inl i) (λ a b l m e. inl e) (λ a b l m e w f. inl (e, f))
 
   pub loses-aged : (q p i j k : ℕ) → MayStep s (Losing q p i j k) → Aged born now (step s (Losing q p i j k))
@@ -205,13 +205,13 @@ module _ (born : ℕ → ℕ) (now : ℕ) (s : Telling) (h : Aged born now s) wh
       let a : s.cluster.heard q p ≤ s.cluster.stored p = h.plain.low q p in
       let b : i ≡ s.cluster.heard q p = may.1 in
       let e : j ≡ s.cluster.stored q = elim may.2 [ inl r ↦ r.1 ∙ h.plain.settled q (ap runs r.0.0) | inr r ↦ r.1 ] in
-      aged-on born now s (step s (Losing q p i j k)) h (on-event born s.cluster h.plain h.parcels (Loses q p i j k) refl may) (plain-event born s.cluster h.plain h.parcels (Loses q p i j k) refl may)
+      aged-on born now s (step s (Losing q p i j k)) h (on-event born s.cluster h.plain h.parcels s.durable (Loses q p i j k) refl may) (plain-event born s.cluster h.plain h.parcels s.durable (Loses q p i j k) refl may)
       (one-more s.cluster q p (Told i j k None (λ _. None)) (λ f. n (sym f)) ((omega arith), (omega arith), (0, λ m l g r. refl), λ g. inl (sym b ∙ g, e)))
       (one-said s.cluster (flagged (parcel q p (Told i j k None (λ _. None))) false true) (λ f. absurd (let z : true ≡ false = f in cc)))
       (λ a b l m e. inl e) (λ a b l m e w f. inl (e, f))
 
   pub leaves-aged : (p q : ℕ) → MayStep s (Leaving p q) → Aged born now (step s (Leaving p q))
   leaves-aged p q may =
-      aged-on born now s (step s (Leaving p q)) h (on-event born s.cluster h.plain h.parcels (Leaves p q) refl may.0) (plain-event born s.cluster h.plain h.parcels (Leaves p q) refl may.0)
+      aged-on born now s (step s (Leaving p q)) h (on-event born s.cluster h.plain h.parcels s.durable (Leaves p q) refl may.0) (plain-event born s.cluster h.plain h.parcels s.durable (Leaves p q) refl may.0)
       (λ a b y i. inl i) (λ y i e. inl i) (λ a b l m e. inl e)
       (λ a b l m e w f. inl (e, f))

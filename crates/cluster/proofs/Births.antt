@@ -171,7 +171,7 @@ pub orderly-step : (s : Telling) (x : Step) → Orderly s → MayStep s x → Or
 orderly-step s (Takes exact lost a) h may = split a may
   where
     split : (b : Act) → MayStep s (Takes exact lost b) → Orderly (step s (Takes exact lost b))
-    split (Opens r n) m = (put h.0 r (suc h.1), suc h.1, opens-aged h.0 h.1 s h.2 r n m.0 exact lost)
+    split (Opens r n) m = (put h.0 r (suc h.1), suc h.1, opens-aged h.0 h.1 s h.2 r n m.0.0 exact lost)
     split b m = (h.0, h.1, takes-aged h.0 h.1 s h.2 exact lost b refl m)
 orderly-step s (Meeting q p i k) h may = (h.0, h.1, meets-aged h.0 h.1 s h.2 q p i k may)
 orderly-step s (Losing q p i j k) h may = (h.0, h.1, loses-aged h.0 h.1 s h.2 q p i j k may)

@@ -69,7 +69,7 @@ module _ (p q : ℕ) (ne : q ≢ p) where
     hear k asks = go-first s (Heard p q k s) (ask k) may refl (split (nat_lt (s.cluster.heard q p) (s.cluster.stored p)) refl)
       where
         may : MayStep s (Takes true false (Puts p q (Ask (s.cluster.stored p) k)))
-        may = ((node.1, a, (λ e. ne (sym e)), (coll, refl, asks)), tt)
+        may = (((node.1, a, (λ e. ne (sym e)), (coll, refl, asks)), tt), tt)
 
         g : Orderly (step s (Takes true false (Puts p q (Ask (s.cluster.stored p) k))))
         g = orderly-step s (Takes true false (Puts p q (Ask (s.cluster.stored p) k))) h may
@@ -78,7 +78,7 @@ module _ (p q : ℕ) (ne : q ≢ p) where
         hears : nat_lt (s.cluster.heard q p) (s.cluster.stored p) ≡ true → (takes s.cluster q ≡ true) ⊎ (s.cluster.stage q ≡ Collecting) → CanGo (asked k) (Heard p q k s)
         hears e t =
             let x : Step = Takes true false (Arrives p q (Ask (s.cluster.stored p) k)) in
-            let m : MayStep (step s (Takes true false (Puts p q (Ask (s.cluster.stored p) k)))) (Takes true false (Arrives p q (Ask (s.cluster.stored p) k))) = ((inl refl, (grind (arith, nat_tests), t)), tt) in
+            let m : MayStep (step s (Takes true false (Puts p q (Ask (s.cluster.stored p) k)))) (Takes true false (Arrives p q (Ask (s.cluster.stored p) k))) = (((inl refl, (grind (arith, nat_tests), t)), tt), tt) in
             go-first (asked k) (Heard p q k s) (Takes true false (Arrives p q (Ask (s.cluster.stored p) k))) m refl (
               [],
               tt,
@@ -140,7 +140,7 @@ module _ (p q : ℕ) (ne : q ≢ p) where
         → i ≡ s.cluster.stored p → s.cluster.heard p q ≤ j → Asks (s.cluster.world.saved p) (s.cluster.told p q) k → CanGo s (Answered p q s)
     collect i j k f exact lost there said e low asks =
         let x : Step = Takes exact lost (Arrives q p (Told i j k None f)) in
-        let m : MayStep s (Takes exact lost (Arrives q p (Told i j k None f))) = ((there, (coll, e, low, asks)), said) in
+        let m : MayStep s (Takes exact lost (Arrives q p (Told i j k None f))) = (((there, (coll, e, low, asks)), tt), said) in
         go-first s (Answered p q s) (Takes exact lost (Arrives q p (Told i j k None f))) m refl (
           [],
           tt,
@@ -177,7 +177,7 @@ module _ (p q : ℕ) (ne : q ≢ p) where
             one true f low =
                 let x : Body = Told (s.cluster.stored p) (s.cluster.world.incarnation q) k None (entry_of s.cluster q p) in
                 let m : MayStep s (Takes true false (Puts q p (Told (s.cluster.stored p) (s.cluster.world.incarnation q) k None (entry_of s.cluster q p)))) =
-                ((a, node.1, ne, (f, sym e, refl, (λ v z. absurd (let y : None ≡ Some v = z in cc)), (λ m _ _. refl))), tt) in
+                (((a, node.1, ne, (f, sym e, refl, (λ v z. absurd (let y : None ≡ Some v = z in cc)), (λ m _ _. refl))), tt), tt) in
                 go-first s (Answered p q s) (Takes true false (Puts q p (Told (s.cluster.stored p) (s.cluster.world.incarnation q) k None (entry_of s.cluster q p)))) m refl
                 (collect (step s (Takes true false (Puts q p (Told (s.cluster.stored p) (s.cluster.world.incarnation q) k None (entry_of s.cluster q p)))))
                 (orderly-step s (Takes true false (Puts q p (Told (s.cluster.stored p) (s.cluster.world.incarnation q) k None (entry_of s.cluster q p)))) h m) node a ready coll

@@ -288,20 +288,20 @@ module _ (born : ℕ → ℕ) (c : Cluster) (h : Plain c) (fine : (p d : ℕ) (x
   meets-well : (q : ℕ) (x : Phase) → is_well c q ≡ false → (r : ℕ) → is_well c r ≡ true → (is_well (record c { world = record c.world { phase = put c.world.phase q x } }) r ≡ true) ⊎ (c.stage r ≡ Dead)
   meets-well q x un = choose q (λ j b. is_well c j ≡ true → ((runs (c.stage j) && (c.greeted j && is_up (if b then x else c.world.phase j))) ≡ true) ⊎ (c.stage j ≡ Dead)) (λ w. absurd (true-not-false w un)) (λ j _ w. inl w)
 
-  pub on-event : (e : Event) → opens e ≡ false → Might c e → On c (goes c e)
-  on-event (Acts a) n may = on-act a n may
-  on-event (Meets q p i k) n may =
+  pub on-event : (durable : ℕ → Bool) (e : Event) → opens e ≡ false → Might durable c e → On c (goes c e)
+  on-event durable (Acts a) n may = on-act a n may.0
+  on-event durable (Meets q p i k) n may =
       let l : c.heard q p < i = may.2 in
       let o = on-hears c q p i h.low (omega arith) (fine p q (Ask i k) may.0).1.1 in
       record { count = refl; stored = λ p. refl; heard = o.heard; low = o.low; well = meets-well q (restores_anew (c.world.phase q) p) may.1.1; dead = λ p e. e }
-  on-event (Loses q p i j k) n may = on-same c h.low
-  on-event (Leaves p q) n may = on-turn c p (phase_with (without (todo_of (c.world.phase p)) q)) h.low (λ u. absurd (true-not-false u (not-up c p q may.1)))
+  on-event durable (Loses q p i j k) n may = on-same c h.low
+  on-event durable (Leaves p q) n may = on-turn c p (phase_with (without (todo_of (c.world.phase p)) q)) h.low (λ u. absurd (true-not-false u (not-up c p q may.1)))
 
-  pub plain-event : (e : Event) → opens e ≡ false → Might c e → Plain (goes c e)
-  plain-event (Acts a) n may = plain-act a n may
-  plain-event (Meets q p i k) n may =
+  pub plain-event : (durable : ℕ → Bool) (e : Event) → opens e ≡ false → Might durable c e → Plain (goes c e)
+  plain-event durable (Acts a) n may = plain-act a n may.0
+  plain-event durable (Meets q p i k) n may =
       let f = fine p q (Ask i k) may.0 in
       let g = plain-turn c q (restores_anew (c.world.phase q) p) (un-gate q may.1.1) (anew-sound (c.world.phase q) p (h.sound q)) (λ r e. elim (anew (c.world.phase q) p r e) [ inl z ↦ (let P : ℕ → Type 0 = λ i. IsNode c i × (i ≢ q) in subst P (sym z) (f.1.0, f.0)) | inr t ↦ h.todo q r t ]) h in
       plain-heard (record c { world = record c.world { phase = put c.world.phase q (restores_anew (c.world.phase q) p) } }) (put2 c.heard q p i) (low-hears c q p i h.low f.1.1) g
-  plain-event (Loses q p i j k) n may = h
-  plain-event (Leaves p q) n may = plain-turn c p (phase_with (without (todo_of (c.world.phase p)) q)) (restores-gate c p q h may.1) (sound-with _) (rest-todo p q) h
+  plain-event durable (Loses q p i j k) n may = h
+  plain-event durable (Leaves p q) n may = plain-turn c p (phase_with (without (todo_of (c.world.phase p)) q)) (restores-gate c p q h may.1) (sound-with _) (rest-todo p q) h

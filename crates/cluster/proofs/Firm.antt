@@ -52,10 +52,6 @@ Firm last c =
       shown : (p : ℕ) → last p ≡ true → AreFirst c.world.shown p (kept_sends c p 0);
     }
 
--- no more is released than these
-abbrev pub Held : (ℕ → Bool) → Cluster → Type 0
-Held durable c = (p d : ℕ) → durable p ≡ true → c.world.released p d ≤ length (kept_sends c p d)
-
 -- where checkpoints send more, all of it still holds
 module _ (last : ℕ → Bool) (k l : Sends) (more : (p d : ℕ) → Begins (k p d) (l p d)) where
   pub good-more : (d : ℕ) (m : Message) → IsGood last k d m → IsGood last l d m

@@ -12,10 +12,11 @@ use Rattle.cluster.specs.Parcels.{Delivery, Restored}
 use Rattle.cluster.specs.Cluster.{Cluster, opening}
 use Rattle.cluster.specs.Rules.{Act, Arrives, Works, Replays, Recovers, May, does, message, plan, told_by, kept_by}
 use Rattle.cluster.proofs.Growth.{either-way}
-use Rattle.cluster.specs.Overlap.{Event, Acts, Might, steps, Events, after_events}
-use Rattle.cluster.specs.DurablePromises.{InOrder, AlwaysInOrder}
+use Rattle.cluster.specs.Overlap.{Event, Acts, Might, goes, Events, after_events}
+use Rattle.cluster.specs.DurablePromises.{lasts, InOrder, AlwaysInOrder}
 use Rattle.cluster.proofs.Firsts.{if_next-is}
-use Rattle.cluster.proofs.DurablePromised.{Durable, opens-durable, step-durable}
+use Rattle.cluster.proofs.Firm.{Firm}
+use Rattle.cluster.proofs.DurablePromised.{opens-firm, step-firm}
 
 none-in-order : InOrder []
 none-in-order i m e = absurd (let t : None ≡ Some m = e in cc)
@@ -61,13 +62,13 @@ does-order c (Recovers p k) jobs may o =
 does-order c (Arrives zero p (Restored i j n s None f)) jobs may o = o
 does-order c act jobs may o = o
 
-steps-order : (durable : ℕ → Bool) (c : Cluster) (e : Event) → Durable durable c → Might c e → Ordered c → Ordered (steps durable c e)
-steps-order durable c (Acts a) h may o = does-order c a (λ d m e. (h.firm.jobs d m e).1) may o
-steps-order durable c other h may o = o
+goes-order : (durable : ℕ → Bool) (c : Cluster) (e : Event) → Firm (lasts durable) c → Might durable c e → Ordered c → Ordered (goes c e)
+goes-order durable c (Acts a) h may o = does-order c a (λ d m e. (h.jobs d m e).1) may.0 o
+goes-order durable c other h may o = o
 
-events-order : (durable : ℕ → Bool) (c : Cluster) (es : List Event) → Durable durable c → Events durable c es → Ordered c → Ordered (after_events durable c es)
+events-order : (durable : ℕ → Bool) (c : Cluster) (es : List Event) → Firm (lasts durable) c → Events durable c es → Ordered c → Ordered (after_events c es)
 events-order durable c [] h r o = o
-events-order durable c (e ∷ es) h r o = events-order durable (steps durable c e) es (step-durable durable c e h r.0) r.1 (steps-order durable c e h r.0 o)
+events-order durable c (e ∷ es) h r o = events-order durable (goes c e) es (step-firm durable c e h r.0) r.1 (goes-order durable c e h r.0 o)
 
 pub always-in-order : AlwaysInOrder
-always-in-order n f durable es g r = events-order durable (opening n f) es (opens-durable n f durable g) r (λ p. none-in-order, none-in-order)
+always-in-order n f durable es g r = events-order durable (opening n f) es (opens-firm n f (lasts durable) g) r (λ p. none-in-order, none-in-order)

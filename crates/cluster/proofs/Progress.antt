@@ -6,7 +6,7 @@ use Rattle.world.specs.declared.message.Message.{Message}
 use Rattle.world.specs.History.{Payload, nth, count_of}
 use Rattle.world.specs.Phases.{Phase, Up, Busy, Replaying, todo_of, without, is_busy}
 use Rattle.world.specs.World.{put}
-use Rattle.world.specs.Logs.{sent, length_of, released_to}
+use Rattle.world.specs.Logs.{sent, length_of}
 use Rattle.world.specs.Plan.{logged_as}
 use Rattle.world.specs.Calls.{phase_with, peers, up_to}
 use Rattle.theorems.specs.Growth.{Begins}
@@ -23,7 +23,7 @@ use Rattle.cluster.specs.Cluster.{Collected, Cluster, is_well}
 use Rattle.cluster.specs.Rules.{Act, Input, Puts, Arrives, Works, Replays, Recovers, Keeps, Opens, MayPut, May, does, message, entry_of, entry_in, with_page, Asks, IsAll, told_by, kept_by, entered, put2, goes_on, takes_in, taken_back}
 use Rattle.cluster.proofs.Facts.{choose2, well-is}
 use Rattle.cluster.proofs.Growth.{either-way, plan-begins, takes-back}
-use Rattle.cluster.specs.Overlap.{Event, Acts, Meets, Loses, Leaves, Might, restores_anew, goes, kept_sends}
+use Rattle.cluster.specs.Overlap.{Event, Acts, Meets, Loses, Leaves, IsKept, Might, restores_anew, goes, kept_sends}
 use Rattle.cluster.specs.DurablePromises.{AreFirst}
 use Rattle.cluster.proofs.Firsts.{first-more, first-push, first-take, first-plan}
 use Rattle.cluster.proofs.Firm.{Sends, IsGood, IsThere, IsTrue, IsGoodSoFar, Firm, good-more, there-more, true-more, so-far-more}
@@ -90,12 +90,12 @@ module _ (last : ℕ → Bool) (c : Cluster) (h : Firm last c) where
       let Q2 : ℕ → Type 0 = λ i. Q x.sender i in
       subst Q2 (sym t.3) (subst Q1 (sym t.2) g)
 
-  put-true : (released : (p d : ℕ) → last p ≡ true → released_to c.world p d ≤ length (k p d)) (p d : ℕ) (x : Body) → MayPut c p d x → IsTrue last k p d x
-  put-true released p d (Delivery i ssn x) may = λ e. let r : released_to c.world p d ≤ length (k p d) = released p d e in let s : ssn ≤ released_to c.world p d = may.2 in let t : c.world.trims p d < ssn = may.3 in there-good p d ssn x may.0 may.4 (omega arith) (omega arith)
-  put-true released p d (Number i ssn n) may = named p d ssn n may.2
-  put-true released p d (Told i j n u f) may = λ m x a b e. entry-good p d m x may.0 (sym (may.4 m a b) ∙ e)
-  put-true released p d (Restored i j n s u f) may = λ ssn m a b e. named p d ssn m (names-found (c.world.history p) d ssn m (sym (may.7 ssn a b) ∙ e))
-  put-true released p d other may = tt
+  put-true : (p d : ℕ) (x : Body) → MayPut c p d x → IsKept last c (Puts p d x) → IsTrue last k p d x
+  put-true p d (Delivery i ssn x) may kept = λ e. let t : c.world.trims p d < ssn = may.3 in there-good p d ssn x may.0 may.4 (omega arith) (kept e)
+  put-true p d (Number i ssn n) may kept = named p d ssn n may.2
+  put-true p d (Told i j n u f) may kept = λ m x a b e. entry-good p d m x may.0 (sym (may.4 m a b) ∙ e)
+  put-true p d (Restored i j n s u f) may kept = λ ssn m a b e. named p d ssn m (names-found (c.world.history p) d ssn m (sym (may.7 ssn a b) ∙ e))
+  put-true p d other may kept = tt
 
   -- one parcel more
   parcel-more : (p d : ℕ) (x : Body) → p ≢ d → IsTrue last k p d x → (a b : ℕ) (y : Body) → In (parcel a b y) (parcel p d x ∷ c.parcels) → (a ≢ b) × IsTrue last k a b y
@@ -359,29 +359,29 @@ module _ (last : ℕ → Bool) (c : Cluster) (h : Firm last c) where
         more : (q d : ℕ) → Begins (k q d) (kept_sends (taken_back c p n) q d)
         more = sends-continue c (taken_back c p n) h.grows refl (takes-back c p n (h.within p))
 
-  does-firm : (released : (p d : ℕ) → last p ≡ true → released_to c.world p d ≤ length (k p d)) (a : Act) → May c a → Firm last (does c a)
-  does-firm released (Arrives q p (Restored i j n s (Some u) f)) may = with-numbers (put2 c.world.numbers p q (entered c p q s (Some u) f)) (page-there p q s (Some u) f (h.parcels q p (Restored i j n s (Some u) f) may.0).1)
-  does-firm released (Input d x) may = input-firm d x
-  does-firm released (Puts p d x) may = with-parcel p d x may.2 (put-true released p d x may.3)
-  does-firm released (Arrives p (suc d) (Delivery i ssn x)) may = starts p d i ssn x may
-  does-firm released (Arrives p zero (Delivery i ssn x)) may = shows p i ssn x may
-  does-firm released (Works p m) may = works p m may
-  does-firm released (Replays p j) may = either-way (nat_lt (c.world.saved p + suc j) (length (c.world.history p))) _ _ (Firm last)
+  does-firm : (a : Act) → May c a → IsKept last c a → Firm last (does c a)
+  does-firm (Arrives q p (Restored i j n s (Some u) f)) may kept = with-numbers (put2 c.world.numbers p q (entered c p q s (Some u) f)) (page-there p q s (Some u) f (h.parcels q p (Restored i j n s (Some u) f) may.0).1)
+  does-firm (Input d x) may kept = input-firm d x
+  does-firm (Puts p d x) may kept = with-parcel p d x may.2 (put-true p d x may.3 kept)
+  does-firm (Arrives p (suc d) (Delivery i ssn x)) may kept = starts p d i ssn x may
+  does-firm (Arrives p zero (Delivery i ssn x)) may kept = shows p i ssn x may
+  does-firm (Works p m) may kept = works p m may
+  does-firm (Replays p j) may kept = either-way (nat_lt (c.world.saved p + suc j) (length (c.world.history p))) _ _ (Firm last)
       (with-phase p (Replaying (suc j) false false) (λ m e. let t : false ≡ true = ap is_busy e in cc)) (with-phase p (phase_with (peers c.world p false)) (with-idle (peers c.world p false)))
-  does-firm released (Arrives r s (Number i ssn n)) may = records r s i ssn n may
-  does-firm released (Arrives p q (Ask i n)) may = with-told q p None (λ _. refl) tt
-  does-firm released (Arrives q p (Told i j n u f)) may =
+  does-firm (Arrives r s (Number i ssn n)) may kept = records r s i ssn n may
+  does-firm (Arrives p q (Ask i n)) may kept = with-told q p None (λ _. refl) tt
+  does-firm (Arrives q p (Told i j n u f)) may kept =
       let t = h.parcels q p (Told i j n u f) may.0 in
       with-told p q (Some (with_page (c.told p q) n u f)) (λ e. absurd (t.0 (sym e))) (page-good p q n u f may.1.3 t.1)
-  does-firm released (Recovers p n) may = recovers-firm p n may
-  does-firm released (Arrives p q (Resume i n s)) may = obeys p q i n s
-  does-firm released (Arrives (suc q) p (Restored i j n s None f)) may = restores (suc q) p i j n s f may.0
-  does-firm released (Keeps p) may = keeps p
-  does-firm released (Opens p n) may = opens p n
-  does-firm released act may = h
+  does-firm (Recovers p n) may kept = recovers-firm p n may
+  does-firm (Arrives p q (Resume i n s)) may kept = obeys p q i n s
+  does-firm (Arrives (suc q) p (Restored i j n s None f)) may kept = restores (suc q) p i j n s f may.0
+  does-firm (Keeps p) may kept = keeps p
+  does-firm (Opens p n) may kept = opens p n
+  does-firm act may kept = h
 
-  pub goes-firm : (released : (p d : ℕ) → last p ≡ true → released_to c.world p d ≤ length (k p d)) (e : Event) → Might c e → Firm last (goes c e)
-  goes-firm released (Acts a) may = does-firm released a may
-  goes-firm released (Meets q p i n) may = meets q p i n
-  goes-firm released (Loses q p i j n) may = with-parcel q p (Told i j n None (λ _. None)) (λ e. (h.parcels p q (Ask i n) may.0).0 (sym e)) (λ m x _ _ e. absurd (let z : None ≡ Some x = e in cc))
-  goes-firm released (Leaves p q) may = with-phase p (phase_with (without (todo_of (c.world.phase p)) q)) (with-idle (without (todo_of (c.world.phase p)) q))
+  pub goes-firm : (e : Event) → Might last c e → Firm last (goes c e)
+  goes-firm (Acts a) may = does-firm a may.0 may.1
+  goes-firm (Meets q p i n) may = meets q p i n
+  goes-firm (Loses q p i j n) may = with-parcel q p (Told i j n None (λ _. None)) (λ e. (h.parcels p q (Ask i n) may.0).0 (sym e)) (λ m x _ _ e. absurd (let z : None ≡ Some x = e in cc))
+  goes-firm (Leaves p q) may = with-phase p (phase_with (without (todo_of (c.world.phase p)) q)) (with-idle (without (todo_of (c.world.phase p)) q))

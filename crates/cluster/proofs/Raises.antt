@@ -115,7 +115,7 @@ module _ (born : ℕ → ℕ) (now p : ℕ) where
     obeys = go-first s (Obeyed q s) (Takes true false (Puts p q (Resume (s.cluster.world.incarnation p) (length (s.cluster.world.history p)) (s.cluster.restoring p q)))) may refl (split (s.cluster.resumed q p) refl)
       where
         may : MayStep s (Takes true false (Puts p q (Resume (s.cluster.world.incarnation p) (length (s.cluster.world.history p)) (s.cluster.restoring p q))))
-        may = ((h.node.1, a, (λ e. n (sym e)), (h.live, un, refl, refl, refl)), tt)
+        may = (((h.node.1, a, (λ e. n (sym e)), (h.live, un, refl, refl, refl)), tt), tt)
 
         aged : Aged born now (step s (Takes true false (Puts p q (Resume (s.cluster.world.incarnation p) (length (s.cluster.world.history p)) (s.cluster.restoring p q)))))
         aged = step-aged born now s (Takes true false (Puts p q (Resume (s.cluster.world.incarnation p) (length (s.cluster.world.history p)) (s.cluster.restoring p q)))) refl h.aged may
@@ -127,7 +127,7 @@ module _ (born : ℕ → ℕ) (now p : ℕ) where
             let up : s.cluster.world.phase q ≡ Up = w.1 well in
             let g : s.cluster.greeted q ≡ true = (well-is s.cluster q well).1 in
             let m : MayStep (step s (Takes true false (Puts p q (Resume (s.cluster.world.incarnation p) (length (s.cluster.world.history p)) (s.cluster.restoring p q))))) (Takes true false (Arrives p q (Resume (s.cluster.world.incarnation p) (length (s.cluster.world.history p)) (s.cluster.restoring p q)))) =
-            ((inl refl, ((rw (w.0, g, up) refl), sym (heard-life s h q a n), e, (λ x f. absurd (not-busy s.cluster q up x f)))), tt) in
+            (((inl refl, ((rw (w.0, g, up) refl), sym (heard-life s h q a n), e, (λ x f. absurd (not-busy s.cluster q up x f)))), tt), tt) in
             go-first (step s (Takes true false (Puts p q (Resume (s.cluster.world.incarnation p) (length (s.cluster.world.history p)) (s.cluster.restoring p q))))) (Obeyed q s) (Takes true false (Arrives p q (Resume (s.cluster.world.incarnation p) (length (s.cluster.world.history p)) (s.cluster.restoring p q)))) m refl (
               [],
               tt,
@@ -150,7 +150,7 @@ module _ (born : ℕ → ℕ) (now p : ℕ) where
     may-answer : s.cluster.resumed q p ≡ true → MayStep s (Takes true false (Puts q p answer))
     may-answer e =
         let up : s.cluster.world.phase q ≡ Up = (h.awake q a n).1 well in
-        ((a, h.node.1, n, (well, sym (heard-life s h q a n), e, (λ m f. absurd (not-busy s.cluster q up m f)), refl, refl, (λ v f. absurd (let z : None ≡ Some v = f in cc)), (λ ssn _ _. refl))), tt)
+        (((a, h.node.1, n, (well, sym (heard-life s h q a n), e, (λ m f. absurd (not-busy s.cluster q up m f)), refl, refl, (λ v f. absurd (let z : None ≡ Some v = f in cc)), (λ ssn _ _. refl))), tt), tt)
 
     low : s.cluster.heard p q ≤ s.cluster.world.incarnation q
     low = let l : s.cluster.heard p q ≤ s.cluster.stored q = h.aged.plain.low p q in let e : s.cluster.world.incarnation q ≡ s.cluster.stored q = h.aged.plain.settled q (ap runs (h.awake q a n).0) in omega arith
@@ -163,7 +163,7 @@ module _ (born : ℕ → ℕ) (now p : ℕ) where
       let q : ℕ = suc v in
       let x : Body = answer s h un q a n well in
       let put_ = may-answer s h un q a n well e in
-      let m : MayStep (step s (Takes true false (Puts q p x))) (Takes (s.exact q) false (Arrives q p x)) = ((inl refl, (other, h.live, refl, todo, refl, low s h un q a n well)), inl refl) in
+      let m : MayStep (step s (Takes true false (Puts q p x))) (Takes (s.exact q) false (Arrives q p x)) = (((inl refl, (other, h.live, refl, todo, refl, low s h un q a n well)), tt), inl refl) in
       go-first s (Fewer q s) (Takes true false (Puts q p x)) put_ refl
       (go-first (step s (Takes true false (Puts q p x))) (Fewer q s) (Takes (s.exact q) false (Arrives q p x)) m refl (
         [],
@@ -196,7 +196,7 @@ module _ (born : ℕ → ℕ) (now p : ℕ) where
   greets-one s h un g up e =
       let first : MayStep s (Takes true false (Puts 0 p (answer s h un 0 (omega arith) (gate-other s h) (gate-well s h)))) = may-answer s h un 0 (omega arith) (gate-other s h) (gate-well s h) e in
       let m : MayStep (step s (Takes true false (Puts 0 p (answer s h un 0 (omega arith) (gate-other s h) (gate-well s h))))) (Takes (s.exact 0) false (Arrives 0 p (answer s h un 0 (omega arith) (gate-other s h) (gate-well s h)))) =
-      ((inl refl, (h.live, refl, g, not-replaying (s.cluster.world.phase p) up)), inl refl) in
+      (((inl refl, (h.live, refl, g, not-replaying (s.cluster.world.phase p) up)), tt), inl refl) in
       go-first s (Greeted s) (Takes true false (Puts 0 p (answer s h un 0 (omega arith) (gate-other s h) (gate-well s h)))) first refl
       (go-first (step s (Takes true false (Puts 0 p (answer s h un 0 (omega arith) (gate-other s h) (gate-well s h))))) (Greeted s) (Takes (s.exact 0) false (Arrives 0 p (answer s h un 0 (omega arith) (gate-other s h) (gate-well s h)))) m refl (
         [],
@@ -234,7 +234,7 @@ module _ (born : ℕ → ℕ) (now p : ℕ) where
       split : (x : Phase) → s.cluster.world.phase p ≡ x → is_up x ≡ true → CanGo s (Raised s)
       split Up e u = ([], tt, tt, (kept-here s h, (rw (h.live, g, e) refl), e))
       split (Busy m) e u =
-          let may : MayStep s (Takes true false (Works p m)) = ((h.node, (rw (h.live, g, e) refl), e), tt) in
+          let may : MayStep s (Takes true false (Works p m)) = (((h.node, (rw (h.live, g, e) refl), e), tt), tt) in
           let there : put s.cluster.world.phase p Up p ≡ Up = put-same s.cluster.world.phase p Up in
           go-first s (Raised s) (Takes true false (Works p m)) may refl (
             [],
@@ -321,7 +321,7 @@ module _ (born : ℕ → ℕ) (now p : ℕ) where
 
   replays-one : (s : Telling) → Stand s → (j : ℕ) → s.cluster.world.phase p ≡ Replaying j false false → CanGo s (λ t. Aged born now t × Replayed j s t.cluster × ((q : ℕ) → t.lost p q ≡ s.lost p q))
   replays-one s h j e =
-      let m : MayStep s (Takes true false (Replays p j)) = ((h.node, h.live, e), tt) in
+      let m : MayStep s (Takes true false (Replays p j)) = (((h.node, h.live, e), tt), tt) in
       go-first s (λ t. Aged born now t × Replayed j s t.cluster × ((q : ℕ) → t.lost p q ≡ s.lost p q)) (Takes true false (Replays p j)) m refl
       ([], tt, tt, (step-aged born now s (Takes true false (Replays p j)) refl h.aged m, split (nat_lt (s.cluster.world.saved p + suc j) (length (s.cluster.world.history p))) refl, λ q. refl))
     where

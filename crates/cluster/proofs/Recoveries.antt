@@ -109,7 +109,7 @@ module _ (p : ℕ) (s : Telling) (h : Orderly s) (node : IsNode s.cluster p) (re
     where
       go : (k : ℕ) × Stops (told_by s.cluster p) had (s.cluster.world.saved p) long k → CanGo s (λ t. Orderly t × Recovered p s t.cluster)
       go e =
-          let m : MayStep s (Takes true false (Recovers p e.0)) = ((node, coll, all, e.1.0, e.1.1, e.1.2), tt) in
+          let m : MayStep s (Takes true false (Recovers p e.0)) = (((node, coll, all, e.1.0, e.1.1, e.1.2), tt), tt) in
           go-first s (λ t. Orderly t × Recovered p s t.cluster) (Takes true false (Recovers p e.0)) m refl (
             [],
             tt,

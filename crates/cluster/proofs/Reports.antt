@@ -1,22 +1,17 @@
 -- A run in which no node was ever not exact is one of nodes that don't meet
-use Rattle.std.proofs.Common.{zero, ◌≡◌, inl, inr, ℕ, suc, ◌+◌, ◌≤◌, List, [], ◌∷◌, length, Bool, true, false, refl, sym, ap, ◌∙◌, subst, arith}
-use Rattle.std.specs.Prelude.{Some, None, not, ◌&&◌, ◌==◌, nat_lt, if◌then◌else◌}
+use Rattle.std.proofs.Common.{zero, ◌≡◌, inl, inr, ℕ, suc, ◌+◌, List, [], ◌∷◌, length, Bool, true, false, refl, sym, ap, subst}
+use Rattle.std.specs.Prelude.{Some, None, not, ◌&&◌, nat_lt, if◌then◌else◌}
 use Rattle.world.specs.Handlers.{Handlers}
-use Rattle.theorems.specs.Growth.{Grows}
 use Rattle.theorems.proofs.Changes.{choose, at-itself}
 use Rattle.theorems.proofs.Tests.{both}
 use Rattle.cluster.specs.Parcels.{Body, Delivery, Number, Acknowledgement, Ask, Told, Resume, Restored, Saved, Parcel, parcel, In}
-use Rattle.world.specs.Phases.{is_up}
-use Rattle.world.specs.Logs.{released_to}
-use Rattle.cluster.specs.Cluster.{Cluster, opening, is_well}
+use Rattle.cluster.specs.Cluster.{Cluster, opening}
 use Rattle.cluster.specs.Rules.{Act, Puts, Arrives, Replays, Recovers, Opens, MayTake, May, does, Run, after_run}
 use Rattle.cluster.specs.Promises.{NoOrphanNode, OutputOnce, ReceivedOnce}
-use Rattle.cluster.proofs.Facts.{choose2, true-not-false, well-is}
+use Rattle.cluster.proofs.Facts.{choose2, true-not-false}
 use Rattle.cluster.proofs.Growth.{either-way}
 use Rattle.cluster.proofs.Promised.{nodes-keep}
-use Rattle.cluster.specs.Overlap.{Acts, Loses, Might, kept_sends, renews, steps, Events, after_events}
-use Rattle.cluster.proofs.DurablePromised.{Durable, opens-durable, step-durable}
-use Rattle.cluster.proofs.Less.{letting, Alike, Less, does-alike, does-less, held-less}
+use Rattle.cluster.specs.Overlap.{Events, after_events}
 use Rattle.cluster.specs.Exact.{Flagged, flagged, Said, Telling, starts, Step, Takes, Meeting, Losing, Leaving, Says, step, Steps, after_steps, AlwaysExact, acts_of, events_of, StepsAreEvents, ExactRunsDontMeet, ExactRunsKeep}
 
 -- whether it is an answer to Ask
@@ -30,48 +25,37 @@ more (Puts p d x) ps = parcel p d x ∷ ps
 more (Arrives r s (Number i ssn k)) ps = parcel s r (Acknowledgement i k) ∷ ps
 more a ps = ps
 
--- the cluster with these packets, where this is released
-abbrev among : Cluster → List Parcel → (ℕ → ℕ → ℕ) → Cluster
-among c ps r = record c { parcels = ps; world = record c.world { released = r } }
+-- the cluster with these packets
+abbrev among : Cluster → List Parcel → Cluster
+among c ps = record c { parcels = ps }
 
--- an act leaves the same whatever packets there are and whatever is released, but for these
-either-among : (b : Bool) (x y v w : Cluster) (ps : List Parcel) → (if b then among x ps v.world.released else among y ps w.world.released) ≡ among (if b then x else y) ps (if b then v else w).world.released
-either-among true x y v w ps = refl
-either-among false x y v w ps = refl
+-- an act leaves the same whatever packets there are, but for these
+either-among : (b : Bool) (x y : Cluster) (ps : List Parcel) → (if b then among x ps else among y ps) ≡ among (if b then x else y) ps
+either-among true x y ps = refl
+either-among false x y ps = refl
 
-does-among : (c : Cluster) (ps : List Parcel) (r : ℕ → ℕ → ℕ) (a : Act) → does (among c ps r) a ≡ among (does c a) (more a ps) (does (letting c r) a).world.released
-does-among c ps r (Arrives q p (Restored i j n s (Some u) f)) = refl
-does-among c ps r (Arrives p zero (Delivery i ssn x)) = refl
-does-among c ps r (Replays p j) = either-among (nat_lt (c.world.saved p + suc j) (length (c.world.history p))) _ _ _ _ ps
-does-among c ps r (Recovers p k) = either-among (nat_lt (c.world.saved p) k) _ _ _ _ ps
-does-among c ps r (Arrives zero p (Restored i j n s None f)) = refl
-does-among c ps r act = refl
+does-among : (c : Cluster) (ps : List Parcel) (a : Act) → does (among c ps) a ≡ among (does c a) (more a ps)
+does-among c ps (Arrives q p (Restored i j n s (Some u) f)) = refl
+does-among c ps (Arrives p zero (Delivery i ssn x)) = refl
+does-among c ps (Replays p j) = either-among (nat_lt (c.world.saved p + suc j) (length (c.world.history p))) _ _ ps
+does-among c ps (Recovers p k) = either-among (nat_lt (c.world.saved p) k) _ _ ps
+does-among c ps (Arrives zero p (Restored i j n s None f)) = refl
+does-among c ps act = refl
 
 -- the Told that an act takes is among them
 abbrev Got : List Parcel → Act → Type 0
 Got ps (Arrives q p (Told i j k u f)) = In (parcel q p (Told i j k u f)) ps
 Got ps a = Unit {0}
 
--- an act may happen among other packets, where these have what it takes, and where no less is released
-module _ (c : Cluster) (ps : List Parcel) (r : ℕ → ℕ → ℕ) (others : (x : Parcel) → is_told x.body ≡ false → In x c.parcels → In x ps) (less : Less c (letting c r)) where
-  released-among : (p d : ℕ) → is_well c p ≡ true → released_to c.world p d ≤ released_to (letting c r).world p d
-  released-among p d well = let l : c.world.released p d ≤ r p d = less p d (well-is c p well).2 in split (p == 0) l
-    where
-      split : (b : Bool) → c.world.released p d ≤ r p d → (if b then length (c.world.inputs d) else c.world.released p d) ≤ (if b then length (c.world.inputs d) else r p d)
-      split true l = omega arith
-      split false l = l
-
-  takes-among : (p d : ℕ) (x : Body) → MayTake c p d x → MayTake (among c ps r) p d x
+-- an act may happen among other packets, where these have what it takes
+module _ (c : Cluster) (ps : List Parcel) (others : (x : Parcel) → is_told x.body ≡ false → In x c.parcels → In x ps) where
+  takes-among : (p d : ℕ) (x : Body) → MayTake c p d x → MayTake (among c ps) p d x
   takes-among p d (Restored i j n s (Some u) f) may = may
   takes-among zero d (Restored i j n s None f) may = may
   takes-among p zero (Delivery i ssn x) may = may
   takes-among p d x may = may
 
-  may-among : (a : Act) → Got ps a → May c a → May (among c ps r) a
-  may-among (Puts p d (Delivery i ssn x)) g may =
-      let l : released_to c.world p d ≤ released_to (letting c r).world p d = released-among p d may.3.0 in
-      let s : ssn ≤ released_to c.world p d = may.3.2 in
-      (may.0, may.1, may.2, (may.3.0, may.3.1, (omega arith), may.3.3, may.3.4))
+  may-among : (a : Act) → Got ps a → May c a → May (among c ps) a
   may-among (Arrives p d (Told i j k u f)) g may = (g, may.1)
   may-among (Arrives p d x) g may = (others (parcel p d x) refl may.0, takes-among p d x may.1)
   may-among act g may = may
@@ -142,110 +126,44 @@ got : (s : Telling) (ps : List Parcel) → Follows s ps → (exact lost : Bool) 
 got s ps h exact lost (Arrives q p (Told i j k u f)) n y = h.told (flagged (parcel q p (Told i j k u f)) exact lost) y n
 got s ps h exact lost act n y = tt
 
--- What is released in the exact cluster: where one isn't durable the same, and nowhere less
-abbrev Lets : Telling → (ℕ → ℕ → ℕ) → Type 0
-Lets s r =
-    record {
-      less : Less s.cluster (letting s.cluster r);
-      alike : (j : ℕ) → s.durable j ≡ false → Alike j s.cluster (letting s.cluster r);
-      kept : (j : ℕ) → s.durable j ≡ true → Durable s.durable s.cluster;
-    }
-
-module _ (s : Telling) (r : ℕ → ℕ → ℕ) (h : Lets s r) where
-  -- an act leaves it so
-  lets : (exact lost : Bool) (a : Act) → May s.cluster a → Lets (step s (Takes exact lost a)) (does (letting s.cluster r) a).world.released
-  lets exact lost a may =
-      record {
-        less = λ j d u. split j d u (s.durable j) refl;
-        alike = λ j e.
-            let P : Bool → Type 0 = λ b. (λ (d : ℕ). if b then (if renews (Acts a) j then length (kept_sends (does s.cluster a) j d) else s.cluster.world.released j d) else (does s.cluster a).world.released j d) ≡ (does (letting s.cluster r) a).world.released j in
-            subst P (sym e) (does-alike s.cluster r a j (h.alike j e));
-        kept = λ j e. step-durable s.durable s.cluster (Acts a) (h.kept j e) may;
-      }
-    where
-      split : (j d : ℕ) → is_up ((does s.cluster a).world.phase j) ≡ true → (b : Bool) → s.durable j ≡ b → (steps s.durable s.cluster (Acts a)).world.released j d ≤ (does (letting s.cluster r) a).world.released j d
-      split j d u true e =
-          let m : (steps s.durable s.cluster (Acts a)).world.released j d ≤ (does s.cluster a).world.released j d = held-less s.durable s.cluster (h.kept j e) j d e a may u in
-          let n : (does s.cluster a).world.released j d ≤ (does (letting s.cluster r) a).world.released j d = does-less s.cluster r a may h.less j d u in
-          omega arith
-      split j d u false e = rw e (does-less s.cluster r a may h.less j d u)
-
-  -- and so does one that tells that something is lost
-  lets-losing : (q p i n k : ℕ) → Might s.cluster (Loses q p i n k) → Lets (step s (Losing q p i n k)) r
-  lets-losing q p i n k may =
-      record {
-        less = λ j d u. same j d (s.durable j) (h.less j d u);
-        alike = λ j e.
-            let P : Bool → Type 0 = λ b. (λ (d : ℕ). if b then s.cluster.world.released j d else s.cluster.world.released j d) ≡ r j in
-            subst P (sym e) (h.alike j e);
-        kept = λ j e. step-durable s.durable s.cluster (Loses q p i n k) (h.kept j e) may;
-      }
-    where
-      same : (j d : ℕ) (b : Bool) → s.cluster.world.released j d ≤ r j d → (if b then s.cluster.world.released j d else s.cluster.world.released j d) ≤ r j d
-      same j d true l = l
-      same j d false l = l
-
--- the acts are a run from a cluster with these packets, and lead where the steps lead, but for packets and what is released
+-- the acts are a run from a cluster with these packets, and lead where the steps lead, but for packets
 abbrev Along : Telling → List Step → Cluster → Type 0
-Along s xs c = (qs : List Parcel) × (r : ℕ → ℕ → ℕ) × Run c (acts_of xs) × (after_run c (acts_of xs) ≡ among (after_steps s xs).cluster qs r) × Lets (after_steps s xs) r
+Along s xs c = (qs : List Parcel) × Run c (acts_of xs) × (after_run c (acts_of xs) ≡ among (after_steps s xs).cluster qs)
 
-along : (s : Telling) (ps : List Parcel) (r : ℕ → ℕ → ℕ) (xs : List Step) → Follows s ps → Lets s r → Steps s xs → AlwaysExact s xs → Along s xs (among s.cluster ps r)
-along s ps r [] h l run e = (ps, r, tt, refl, l)
-along s ps r (Takes exact lost a ∷ xs) h l run e =
+along : (s : Telling) (ps : List Parcel) (xs : List Step) → Follows s ps → Steps s xs → AlwaysExact s xs → Along s xs (among s.cluster ps)
+along s ps [] h run e = (ps, tt, refl)
+along s ps (Takes exact lost a ∷ xs) h run e =
     let n : Nothing lost a = nothing s exact lost a (first-exact (step s (Takes exact lost a)) xs e.1) in
-    let t : Along (step s (Takes exact lost a)) xs (among (does s.cluster a) (more a ps) (does (letting s.cluster r) a).world.released) = along (step s (Takes exact lost a)) (more a ps) (does (letting s.cluster r) a).world.released xs (follows s ps h exact lost a n) (lets s r l exact lost a run.0.0) run.1 e.1 in
     let P : Cluster → Type 0 = λ c. Along (step s (Takes exact lost a)) xs c in
-    let u : Along (step s (Takes exact lost a)) xs (does (among s.cluster ps r) a) = subst P (sym (does-among s.cluster ps r a)) t in
-    (u.0, u.1, (may-among s.cluster ps r h.others l.less a (got s ps h exact lost a n run.0.1) run.0.0, u.2), u.3, u.4)
-along s ps r (Meeting q p i k ∷ xs) h l run e = absurd (true-not-false (first-exact (step s (Meeting q p i k)) xs e.1 q) (at-itself q (λ b. (if b then false else s.exact q) ≡ false) refl))
-along s ps r (Losing q p i j k ∷ xs) h l run e = along (step s (Losing q p i j k)) ps r xs (record { others = others; told = told; found = h.found }) (lets-losing s r l q p i j k run.0) run.1 e.1
+    let t = subst P (sym (does-among s.cluster ps a)) (along (step s (Takes exact lost a)) (more a ps) xs (follows s ps h exact lost a n) run.1 e.1) in
+    (t.0, (may-among s.cluster ps h.others a (got s ps h exact lost a n run.0.1) run.0.0.0, t.1), t.2)
+along s ps (Meeting q p i k ∷ xs) h run e = absurd (true-not-false (first-exact (step s (Meeting q p i k)) xs e.1 q) (at-itself q (λ b. (if b then false else s.exact q) ≡ false) refl))
+along s ps (Losing q p i j k ∷ xs) h run e = along (step s (Losing q p i j k)) ps xs (record { others = others; told = told; found = h.found }) run.1 e.1
   where
     others : (x : Parcel) → is_told x.body ≡ false → In x (step s (Losing q p i j k)).cluster.parcels → In x ps
     others x f a = elim a [ inl y ↦ absurd (let z : is_told x.body ≡ true = ap (λ (w : Parcel). is_told w.body) y in true-not-false z f) | inr y ↦ h.others x f y ]
 
     told : (y : Flagged) → Said y (step s (Losing q p i j k)).said → y.lost ≡ false → In y.packet ps
     told y a f = elim a [ inl z ↦ absurd (let w : y.lost ≡ true = ap (λ (v : Flagged). v.lost) z in true-not-false w f) | inr z ↦ h.told y z f ]
-along s ps r (Leaving p q ∷ xs) h l run e = absurd (true-not-false run.0.1 (h.found p q))
+along s ps (Leaving p q ∷ xs) h run e = absurd (true-not-false run.0.1 (h.found p q))
 
-exact-along : (n : ℕ) (f : Handlers) (durable : ℕ → Bool) (xs : List Step) → ((p : ℕ) → durable p ≡ true → Grows f) → Steps (starts n f durable) xs → AlwaysExact (starts n f durable) xs → Along (starts n f durable) xs (opening n f)
-exact-along n f durable xs g r e =
-    along (starts n f durable) [] (λ _ _. 0) xs (record { others = λ x t i. i; told = λ y i t. absurd i; found = λ p q. refl })
-    (record { less = λ j d u. omega arith; alike = λ j f. refl; kept = λ j e. opens-durable n f durable (g j e) }) r e
-
--- no step makes a node durable, or takes that from it
-stays-durable : (s : Telling) (xs : List Step) → (after_steps s xs).durable ≡ s.durable
-stays-durable s [] = refl
-stays-durable s (Takes exact lost a ∷ xs) = stays-durable (step s (Takes exact lost a)) xs
-stays-durable s (Meeting q p i k ∷ xs) = stays-durable (step s (Meeting q p i k)) xs
-stays-durable s (Losing q p i j k ∷ xs) = stays-durable (step s (Losing q p i j k)) xs
-stays-durable s (Leaving p q ∷ xs) = stays-durable (step s (Leaving p q)) xs
+exact-along : (n : ℕ) (f : Handlers) (durable : ℕ → Bool) (xs : List Step) → Steps (starts n f durable) xs → AlwaysExact (starts n f durable) xs → Along (starts n f durable) xs (opening n f)
+exact-along n f durable xs r e = along (starts n f durable) [] xs (record { others = λ x t i. i; told = λ y i t. absurd i; found = λ p q. refl }) r e
 
 pub exact-runs-dont-meet : ExactRunsDontMeet
-exact-runs-dont-meet n f durable xs g r e =
-    let t = exact-along n f durable xs g r e in
-    let l : Lets (after_steps (starts n f durable) xs) t.1 = t.4 in
-    let freed : (after_run (opening n f) (acts_of xs)).world.released ≡ t.1 = ap (λ (c : Cluster). c.world.released) t.3 in
-    let P : List Parcel → (ℕ → ℕ → ℕ) → Type 0 = λ qs r. after_run (opening n f) (acts_of xs) ≡ among (after_steps (starts n f durable) xs).cluster qs r in
-    let P1 : List Parcel → Type 0 = λ qs. P qs t.1 in
-    let P2 : (ℕ → ℕ → ℕ) → Type 0 = λ r. P (after_run (opening n f) (acts_of xs)).parcels r in
-    let Q : (ℕ → ℕ → ℕ) → Type 0 = λ r. (p : ℕ) → durable p ≡ false → (after_steps (starts n f durable) xs).cluster.world.released p ≡ r p in
-    let R : (ℕ → ℕ → ℕ) → Type 0 = λ r. (p d : ℕ) → is_up ((after_steps (starts n f durable) xs).cluster.world.phase p) ≡ true → (after_steps (starts n f durable) xs).cluster.world.released p d ≤ r p d in
-    let kind : (after_steps (starts n f durable) xs).durable ≡ durable = stays-durable (starts n f durable) xs in
-    record {
-      run = t.2;
-      same = subst P2 (sym freed) (subst P1 (sym (ap (λ (c : Cluster). c.parcels) t.3)) t.3);
-      released = subst Q (sym freed) (λ p e. l.alike p (ap (λ (k : ℕ → Bool). k p) kind ∙ e));
-      less = subst R (sym freed) l.less;
-    }
+exact-runs-dont-meet n f durable xs r e =
+    let t = exact-along n f durable xs r e in
+    let P : List Parcel → Type 0 = λ qs. after_run (opening n f) (acts_of xs) ≡ among (after_steps (starts n f durable) xs).cluster qs in
+    record { run = t.1; same = subst P (sym (ap (λ (c : Cluster). c.parcels) t.2)) t.2 }
 
 pub exact-runs-keep : ExactRunsKeep
 exact-runs-keep n f durable xs l g r e =
-    let t = exact-along n f durable xs (λ p e. g) r e in
+    let t = exact-along n f durable xs r e in
     let P : Cluster → Type 0 = λ c. NoOrphanNode c × OutputOnce c × ReceivedOnce c in
-    subst P t.3 (nodes-keep n f (acts_of xs) l g t.2)
+    subst P t.2 (nodes-keep n f (acts_of xs) l g t.1)
 
 -- a step leaves what its event leaves: so the steps are events, one by one
-along-events : (s : Telling) (xs : List Step) → Steps s xs → Events s.durable s.cluster (events_of xs) × (after_events s.durable s.cluster (events_of xs) ≡ (after_steps s xs).cluster)
+along-events : (s : Telling) (xs : List Step) → Steps s xs → Events s.durable s.cluster (events_of xs) × (after_events s.cluster (events_of xs) ≡ (after_steps s xs).cluster)
 along-events s [] r = (tt, refl)
 along-events s (Takes exact lost a ∷ xs) r = let t = along-events (step s (Takes exact lost a)) xs r.1 in ((r.0.0, t.0), t.1)
 along-events s (Meeting q p i k ∷ xs) r = let t = along-events (step s (Meeting q p i k)) xs r.1 in ((r.0, t.0), t.1)

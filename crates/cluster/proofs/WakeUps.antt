@@ -55,7 +55,7 @@ module _ (q : ℕ) where
       split false g x e = stays (inr (live, λ w. absurd (true-not-false (well-is s.cluster q w).1 g)))
       split true g Up e = stays (inr (live, λ _. e))
       split true g (Busy m) e =
-          let may : MayStep s (Takes true false (Works q m)) = ((node, (rw (live, g, e) refl), e), tt) in
+          let may : MayStep s (Takes true false (Works q m)) = (((node, (rw (live, g, e) refl), e), tt), tt) in
           go-first s (Roused q s) (Takes true false (Works q m)) may refl (
             [],
             tt,
@@ -78,7 +78,7 @@ module _ (q : ℕ) where
       split Live e = awake s h node e
       split Collecting e = ([], tt, tt, record { orderly = h; count = refl; ready = inl e; others = λ r _. (refl, refl, refl) })
       split Dead e =
-          let may : MayStep s (Takes true false (Opens q 0)) = ((node, e), tt) in
+          let may : MayStep s (Takes true false (Opens q 0)) = (((node, e), tt), tt) in
           go-first s (Roused q s) (Takes true false (Opens q 0)) may refl (
             [],
             tt,
@@ -91,8 +91,8 @@ module _ (q : ℕ) where
             },
           )
       split Frozen e =
-          let may : MayStep s (Takes true false (Keeps q)) = ((node, e), tt) in
-          let thaws : MayStep (step s (Takes true false (Keeps q))) (Takes true false (Thaws q)) = ((node, e, put-same s.cluster.world.saved q _), tt) in
+          let may : MayStep s (Takes true false (Keeps q)) = (((node, e), tt), tt) in
+          let thaws : MayStep (step s (Takes true false (Keeps q))) (Takes true false (Thaws q)) = (((node, e, put-same s.cluster.world.saved q _), tt), tt) in
           let g : Orderly (step (step s (Takes true false (Keeps q))) (Takes true false (Thaws q))) = orderly-step _ (Takes true false (Thaws q)) (orderly-step s (Takes true false (Keeps q)) h may) thaws in
           go-first s (Roused q s) (Takes true false (Keeps q)) may refl
           (go-first (step s (Takes true false (Keeps q))) (Roused q s) (Takes true false (Thaws q)) thaws refl

@@ -42,22 +42,22 @@ InOrder h = (i : ℕ) (m : Message) → slice_get h i ≡ Some m → m.ssn ≡ s
 -- order
 abbrev pub AlwaysInOrder : Type 0
 AlwaysInOrder = (n : ℕ) (f : Handlers) (durable : ℕ → Bool) (es : List Event) → Grows f → Events durable (opening n f) es
-    → ((p : ℕ) → InOrder ((after_events durable (opening n f) es).world.history p))
-    × InOrder (after_events durable (opening n f) es).world.shown
+    → ((p : ℕ) → InOrder ((after_events (opening n f) es).world.history p))
+    × InOrder (after_events (opening n f) es).world.shown
 
 -- in each run in which some nodes are durable
 abbrev pub DurableKeep : Type 0
 DurableKeep = (n : ℕ) (f : Handlers) (durable : ℕ → Bool) (es : List Event) (p : ℕ) → Grows f → Events durable (opening n f) es
     → lasts durable p ≡ true
-    → NobodyHasMore (after_events durable (opening n f) es) p
+    → NobodyHasMore (after_events (opening n f) es) p
 
 -- a message that a checkpoint covers stays covered for good, of any node
 abbrev pub CheckpointsStay : Type 0
 CheckpointsStay = (n : ℕ) (f : Handlers) (durable : ℕ → Bool) (es more : List Event) (p : ℕ) → Grows f
     → Events durable (opening n f) (es ++ more)
-    → Stays (after_events durable (opening n f) es) (after_events durable (opening n f) (es ++ more)) p
+    → Stays (after_events (opening n f) es) (after_events (opening n f) (es ++ more)) p
 
 -- if all nodes are durable: no orphan, and each output once
 abbrev pub AllDurableKeep : Type 0
 AllDurableKeep = (n : ℕ) (f : Handlers) (es : List Event) → Grows f → Events (λ _. true) (opening n f) es
-    → NoOrphanNode (after_events (λ _. true) (opening n f) es) × OutputOnce (after_events (λ _. true) (opening n f) es)
+    → NoOrphanNode (after_events (opening n f) es) × OutputOnce (after_events (opening n f) es)

@@ -1,14 +1,13 @@
 -- The whole rules: nodes may be durable, nodes whose recoveries meet say so, and each node knows whether it is exact
 use Rattle.std.specs.Prelude.{◌≡◌, ◌⊎◌, ℕ, ◌≤◌, List, [], ◌∷◌, None, Bool, true, false, not, ◌&&◌}
 use Rattle.world.specs.Handlers.{Handlers}
-use Rattle.world.specs.Phases.{is_up}
 use Rattle.world.specs.World.{put}
 use Rattle.theorems.specs.Growth.{Grows}
 use Rattle.cluster.specs.Parcels.{Body, Ask, Told, Restored, Parcel, parcel}
 use Rattle.cluster.specs.Cluster.{Cluster, opening}
-use Rattle.cluster.specs.Rules.{Act, Puts, Arrives, Opens, May, put2, Run, after_run}
+use Rattle.cluster.specs.Rules.{Act, Puts, Arrives, Opens, put2, Run, after_run}
 use Rattle.cluster.specs.Promises.{NoOrphanNode, OutputOnce, ReceivedOnce}
-use Rattle.cluster.specs.Overlap.{Event, Acts, Meets, Loses, Leaves, Might, steps, Events, after_events}
+use Rattle.cluster.specs.Overlap.{Event, Acts, Meets, Loses, Leaves, Might, goes, Events, after_events}
 
 -- a packet Told or Restored also says whether its teller is exact, and whether the teller lost what it had
 pub record Flagged : Type 0 where
@@ -60,10 +59,10 @@ Says s exact lost a = Unit {0}
 
 -- when each may happen
 abbrev pub MayStep : Telling → Step → Type 0
-MayStep s (Takes exact lost a) = May s.cluster a × Says s exact lost a
-MayStep s (Meeting q p i k) = Might s.cluster (Meets q p i k)
-MayStep s (Losing q p i j k) = Might s.cluster (Loses q p i j k)
-MayStep s (Leaving p q) = Might s.cluster (Leaves p q) × (s.lost p q ≡ true)
+MayStep s (Takes exact lost a) = Might s.durable s.cluster (Acts a) × Says s exact lost a
+MayStep s (Meeting q p i k) = Might s.durable s.cluster (Meets q p i k)
+MayStep s (Losing q p i j k) = Might s.durable s.cluster (Loses q p i j k)
+MayStep s (Leaving p q) = Might s.durable s.cluster (Leaves p q) × (s.lost p q ≡ true)
 
 -- who is exact after an act. A node that is opened again has forgotten that it wasn't
 abbrev pub exact_after : (ℕ → Bool) → Bool → Bool → Act → ℕ → Bool
@@ -90,21 +89,21 @@ abbrev pub said_after : Telling → Act → List Flagged
 said_after s (Puts p d x) = also_said s p d x
 said_after s a = s.said
 
--- what each step changes: a durable node releases only what the messages covered by its durable checkpoint send
+-- what each step changes
 abbrev pub step : Telling → Step → Telling
 step s (Takes exact lost a) = record {
   durable = s.durable;
-  cluster = steps s.durable s.cluster (Acts a);
+  cluster = goes s.cluster (Acts a);
   exact = exact_after s.exact exact lost a;
   lost = lost_after s.lost lost a;
   said = said_after s a;
 }
-step s (Meeting q p i k) = record s { cluster = steps s.durable s.cluster (Meets q p i k); exact = put s.exact q false }
+step s (Meeting q p i k) = record s { cluster = goes s.cluster (Meets q p i k); exact = put s.exact q false }
 step s (Losing q p i j k) = record s {
-  cluster = steps s.durable s.cluster (Loses q p i j k);
+  cluster = goes s.cluster (Loses q p i j k);
   said = flagged (parcel q p (Told i j k None (λ _. None))) false true ∷ s.said;
 }
-step s (Leaving p q) = record s { cluster = steps s.durable s.cluster (Leaves p q) }
+step s (Leaving p q) = record s { cluster = goes s.cluster (Leaves p q) }
 
 -- a run: a list of steps, each of which may happen after those before it
 abbrev pub Steps : Telling → List Step → Type 0
@@ -141,27 +140,18 @@ events_of (Leaving p q ∷ xs) = Leaves p q ∷ events_of xs
 abbrev pub StepsAreEvents : Type 0
 StepsAreEvents = (n : ℕ) (f : Handlers) (durable : ℕ → Bool) (xs : List Step) → Steps (starts n f durable) xs
     → Events durable (opening n f) (events_of xs)
-    × (after_events durable (opening n f) (events_of xs) ≡ (after_steps (starts n f durable) xs).cluster)
+    × (after_events (opening n f) (events_of xs) ≡ (after_steps (starts n f durable) xs).cluster)
 
 -- these acts are a run of nodes whose recoveries don't meet. They lead where the steps lead, except for packets that say that something is
--- lost, and for what durable nodes release: a node that is up may release less
-abbrev pub IsRunOf : ℕ → Handlers → (ℕ → Bool) → List Act → Cluster → Type 0
-IsRunOf n f durable acts c =
-    record {
-      run : Run (opening n f) acts;
-      same : after_run (opening n f) acts ≡ record c {
-        parcels = (after_run (opening n f) acts).parcels;
-        world = record c.world { released = (after_run (opening n f) acts).world.released };
-      };
-      released : (p : ℕ) → durable p ≡ false → c.world.released p ≡ (after_run (opening n f) acts).world.released p;
-      less : (p d : ℕ) → is_up (c.world.phase p) ≡ true → c.world.released p d ≤ (after_run (opening n f) acts).world.released p d;
-    }
+-- lost
+abbrev pub IsRunOf : ℕ → Handlers → List Act → Cluster → Type 0
+IsRunOf n f acts c =
+    record { run : Run (opening n f) acts; same : after_run (opening n f) acts ≡ record c { parcels = (after_run (opening n f) acts).parcels } }
 
--- so is each run in which every node was always exact. If there are durable nodes, each handler's sends only grow
+-- so is each run in which every node was always exact
 abbrev pub ExactRunsDontMeet : Type 0
-ExactRunsDontMeet = (n : ℕ) (f : Handlers) (durable : ℕ → Bool) (xs : List Step) → ((p : ℕ) → durable p ≡ true → Grows f)
-    → Steps (starts n f durable) xs → AlwaysExact (starts n f durable) xs
-    → IsRunOf n f durable (acts_of xs) (after_steps (starts n f durable) xs).cluster
+ExactRunsDontMeet = (n : ℕ) (f : Handlers) (durable : ℕ → Bool) (xs : List Step) → Steps (starts n f durable) xs → AlwaysExact (starts n f durable) xs
+    → IsRunOf n f (acts_of xs) (after_steps (starts n f durable) xs).cluster
 
 -- so it keeps the promises of such a run
 abbrev pub ExactRunsKeep : Type 0

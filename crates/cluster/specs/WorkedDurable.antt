@@ -72,16 +72,16 @@ all_durable p = true
 abbrev pub MeetingFailuresLose : Type 0
 MeetingFailuresLose = (g : ℕ → List Message → List ℕ) (x : Payload) →
     Events none_durable (opening 2 (passing g)) (passed_on x ++ acknowledged x ++ both_fall 0)
-    × ((after_events none_durable (opening 2 (passing g)) (passed_on x ++ acknowledged x)).world.acknowledged 2 1 ≡ true)
-    × ((after_events none_durable (opening 2 (passing g)) (passed_on x ++ acknowledged x ++ both_fall 0)).world.history 2 ≡ [])
-    × (¬ NoOrphanNode (after_events none_durable (opening 2 (passing g)) (passed_on x ++ acknowledged x ++ both_fall 0)))
+    × ((after_events (opening 2 (passing g)) (passed_on x ++ acknowledged x)).world.acknowledged 2 1 ≡ true)
+    × ((after_events (opening 2 (passing g)) (passed_on x ++ acknowledged x ++ both_fall 0)).world.history 2 ≡ [])
+    × (¬ NoOrphanNode (after_events (opening 2 (passing g)) (passed_on x ++ acknowledged x ++ both_fall 0)))
 
 -- if both are durable, it isn't: node 2 still has the message
 abbrev pub DurableNodesKeep : Type 0
 DurableNodesKeep = (g : ℕ → List Message → List ℕ) (x : Payload) →
     Events all_durable (opening 2 (passing g)) (passed_on x ++ covered x ++ both_fall 1)
-    × ((after_events all_durable (opening 2 (passing g)) (passed_on x ++ covered x ++ both_fall 1)).world.shown ≡ message 2 1 x ∷ [])
-    × ((after_events all_durable (opening 2 (passing g)) (passed_on x ++ covered x ++ both_fall 1)).world.history 2 ≡ message 1 1 x ∷ [])
+    × ((after_events (opening 2 (passing g)) (passed_on x ++ covered x ++ both_fall 1)).world.shown ≡ message 2 1 x ∷ [])
+    × ((after_events (opening 2 (passing g)) (passed_on x ++ covered x ++ both_fall 1)).world.history 2 ≡ message 1 1 x ∷ [])
 
 -- the same events as steps, if all packets say that nothing is lost
 abbrev pub as_steps : List Event → List Step

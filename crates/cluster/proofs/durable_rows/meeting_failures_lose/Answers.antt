@@ -1,13 +1,14 @@
-use Rattle.std.proofs.Common.{◌≡◌, inl, inr, refl, arith}
+use Rattle.std.proofs.Common.{◌≡◌, refl}
 use Rattle.std.specs.Prelude.{Some, None}
-use Rattle.cluster.specs.Cluster.{WINDOW}
+use Rattle.theorems.specs.WorkedOverlap.{passing}
 use Rattle.cluster.specs.Rules.{message}
-use Rattle.cluster.proofs.Cases.{for-two, live-dead}
+use Rattle.cluster.specs.WorkedDurable.{none_durable, told_of_loss}
+use Rattle.cluster.proofs.LossRun.{told-of-loss}
+use Rattle.cluster.proofs.Reports.{steps-are-events}
 use Rattle.cluster.proofs.durable_rows.meeting_failures_lose.Goals as goal
 
 none-some : {X : Type 0} {x : X} → None ≡ Some x → ⊥
 none-some e = cc
 
 pub returns : goal.returns
-unfolding WINDOW
-returns c g x = (((omega arith, omega arith), ((omega arith, omega arith, (λ e. omega arith), (refl, refl, omega arith, omega arith, refl)), ((inl refl, ((omega arith, omega arith), refl, refl, refl, refl, omega arith)), (((omega arith, omega arith), refl, refl), (((omega arith, omega arith), refl, refl), (((omega arith, omega arith), refl), (((omega arith, omega arith), refl, refl), ((omega arith, omega arith, (λ e. omega arith), (refl, refl, omega arith, omega arith, refl)), ((inl refl, ((omega arith, omega arith), refl, refl, refl, refl, omega arith)), (((omega arith, omega arith), refl, refl), ((omega arith, omega arith, (λ e. omega arith), (refl, refl, record { message = message 1 1 x; at = refl; sender = refl; ssn = refl })), ((inl refl, (refl, refl, refl)), ((inl refl, ((omega arith, omega arith), refl, refl, omega arith, refl)), ((omega arith, omega arith, (λ e. omega arith), (refl, refl, omega arith, omega arith, refl)), ((inl refl, (refl, refl)), (((omega arith, omega arith), live-dead), (((omega arith, omega arith), live-dead), (((omega arith, omega arith), refl), (((omega arith, omega arith), refl), ((omega arith, omega arith, (λ e. omega arith), (refl, refl, refl)), ((inl refl, (omega arith, inl refl)), ((omega arith, omega arith, (λ e. omega arith), (refl, refl, refl, (λ v e. absurd (none-some e)), λ m _ _. refl)), ((inl refl, (refl, refl, omega arith, refl)), ((omega arith, omega arith, (λ e. omega arith), (refl, refl, refl)), ((inl refl, (omega arith, inr refl)), ((inl refl, refl, inr (refl, refl)), ((inl refl, (refl, refl, omega arith, refl)), (((omega arith, omega arith), refl, for-two _ refl refl, omega arith, refl, refl), tt)))))))))))))))))))))))))))), refl, refl, λ h. none-some (h.shown 0 (message 2 1 x) refl))
+returns c g x = ((steps-are-events 2 (passing g) none_durable (told_of_loss x) (told-of-loss g x)).0, refl, refl, λ h. none-some (h.shown 0 (message 2 1 x) refl))
