@@ -8,13 +8,13 @@ use Rattle.world.specs.Logs.{sent, is_entry}
 use Rattle.world.specs.History.{nth}
 use Rattle.world.specs.Plan.{first_below, logged_as, message_of}
 use Rattle.theorems.proofs.Changes.{choose}
-use Rattle.cluster.specs.Parcels.{Body, Delivery, Number, Acknowledgement, Ask, Told, Resume, Restored, Saved, Parcel, parcel, In}
+use Rattle.cluster.specs.Parcels.{Body, Delivery, Number, Acknowledgement, Ask, Told, Restored, Parcel, parcel, In}
 use Rattle.cluster.specs.Cluster.{Stage, Live, Frozen, Dead, Collecting, Collected, Cluster, runs, is_well}
 use Rattle.cluster.specs.Rules.{Act, Puts, Arrives, Replays, Recovers, Freezes, Thaws, Dies, Opens, IsAll, MayPut, May, does, with_page, put2}
 use Rattle.cluster.proofs.Facts.{choose2, well-is, takes-well, takes-is, true-not-false}
 use Rattle.cluster.proofs.Growth.{either-way}
-use Rattle.cluster.specs.Overlap.{Acts, Meets, Loses, Leaves}
-use Rattle.cluster.specs.Exact.{Flagged, flagged, Said, Telling, Takes, Meeting, Losing, Leaving, MayStep, lost_after, also_said, said_after, step}
+use Rattle.cluster.specs.Overlap.{Acts, Meets, Loses, Leaves, Might}
+use Rattle.cluster.specs.Exact.{Flagged, flagged, Said, Telling, MayStep, lost_after, said_after, step}
 use Rattle.cluster.proofs.Ages.{On, is_some, at_stage, has_told, Knows, Later, Fine, Real, Aged, known-on, later-on, aged-on}
 use Rattle.cluster.proofs.DurableTurns.{put2-same, is_opening, on-event, plain-event}
 
@@ -81,25 +81,13 @@ module _ (born : ℕ → ℕ) (now : ℕ) (s : Telling) (h : Aged born now s) wh
   one-said d z r y (inl e) f = let P : Flagged → Type 0 = λ w. w.lost ≡ false → Real born d w.packet.from w.packet.to w.packet.body in inr (subst P (sym e) r f)
   one-said d z r y (inr i) f = inl i
 
-  said-put : (p d : ℕ) (x : Body) → MayPut s.cluster p d x → AreSaid s.cluster (also_said s p d x)
-  said-put p d (Delivery i ssn x) may = λ y i e. inl i
-  said-put p d (Number i ssn k) may = λ y i e. inl i
-  said-put p d (Acknowledgement i k) may = λ y i e. inl i
-  said-put p d (Ask i k) may = λ y i e. inl i
-  said-put p d (Told i j k u f) may =
+  said-act : (exact lost : Bool) (a : Act) → May s.cluster a → AreSaid (does s.cluster a) (said_after s (Acts exact lost a))
+  said-act exact lost (Puts p d (Told i j k u f)) may =
       let a : s.cluster.heard p d ≤ s.cluster.stored d = h.plain.low p d in
-      let b : i ≡ s.cluster.heard p d = may.1 in
-      one-said s.cluster (flagged (parcel p d (Told i j k u f)) (s.exact p) false) (λ _. ((omega arith), λ _. inl may.0))
-  said-put p d (Resume i k r) may = λ y i e. inl i
-  said-put p d (Restored i j n r u f) may = one-said s.cluster (flagged (parcel p d (Restored i j n r u f)) (s.exact p) false) (λ _. tt)
-  said-put p d (Saved n) may = λ y i e. inl i
-
-  said-act : (a : Act) → May s.cluster a → AreSaid (does s.cluster a) (said_after s a)
-  said-act (Arrives q p (Restored i j m r (Some u) f)) may = λ y i e. inl i
-  said-act (Puts p d x) may = said-put p d x may.3
-  said-act (Arrives p zero (Delivery i ssn x)) may = λ y i e. inl i
-  said-act (Arrives zero p (Restored i j m r None f)) may = λ y i e. inl i
-  said-act act may = λ y i e. inl i
+      let b : i ≡ s.cluster.heard p d = may.3.1 in
+      one-said s.cluster (flagged (parcel p d (Told i j k u f)) (s.exact p) false) (λ _. ((omega arith), λ _. inl may.3.0))
+  said-act exact lost (Puts p d (Restored i j n r u f)) may = one-said s.cluster (flagged (parcel p d (Restored i j n r u f)) (s.exact p) false) (λ _. tt)
+  said-act exact lost act may = λ y i e. inl i
 
   -- a node that has an answer had it before, or takes it
   abbrev IsPage : Act → ℕ → ℕ → Type 0
@@ -148,7 +136,7 @@ module _ (born : ℕ → ℕ) (now : ℕ) (s : Telling) (h : Aged born now s) wh
 
   -- what it lost it lost before, while it isn't up
   abbrev Lost : Act → Bool → Cluster → Type 0
-  Lost a lost d = (p q : ℕ) → has_told d p q ≡ true → is_well d p ≡ false → lost_after s.lost lost a p q ≡ false → (s.lost p q ≡ false) ⊎ IsPage a p q
+  Lost a lost d = (p q : ℕ) → has_told d p q ≡ true → is_well d p ≡ false → lost_after s.lost (Acts true lost a) p q ≡ false → (s.lost p q ≡ false) ⊎ IsPage a p q
 
   lost-act : (lost : Bool) (a : Act) → is_opening a ≡ false → May s.cluster a → Lost a lost (does s.cluster a)
   lost-act lost (Arrives q p (Restored i j m r (Some u) g)) n may = λ p q e w f. inl f
@@ -173,7 +161,7 @@ module _ (born : ℕ → ℕ) (now : ℕ) (s : Telling) (h : Aged born now s) wh
       subst P (sym g.0) (subst Q (sym g.1) known)
   page-knows a may o p q g = absurd (g)
 
-  page-later : (exact lost : Bool) (a : Act) → MayStep s (Takes exact lost a) → On s.cluster (does s.cluster a) → (p q : ℕ) → IsPage a p q → lost_after s.lost lost a p q ≡ false → Later born (does s.cluster a) p q
+  page-later : (exact lost : Bool) (a : Act) → MayStep s (Acts exact lost a) → On s.cluster (does s.cluster a) → (p q : ℕ) → IsPage a p q → lost_after s.lost (Acts true lost a) p q ≡ false → Later born (does s.cluster a) p q
   page-later exact lost (Arrives r t (Told i j k u f)) may o p q g e =
       let P : ℕ → Type 0 = λ x. Later born (does s.cluster (Arrives r t (Told i j k u f))) x q in
       let Q : ℕ → Type 0 = λ y. Later born (does s.cluster (Arrives r t (Told i j k u f))) t y in
@@ -184,34 +172,34 @@ module _ (born : ℕ → ℕ) (now : ℕ) (s : Telling) (h : Aged born now s) wh
       subst P (sym g.0) (subst Q (sym g.1) (later-on born s.cluster (does s.cluster (Arrives r t (Told i j k u f))) o t r (real.1 may.0.0.1.1)))
   page-later exact lost a may o p q g e = absurd (g)
 
-  pub takes-aged : (exact lost : Bool) (a : Act) → is_opening a ≡ false → MayStep s (Takes exact lost a) → Aged born now (step s (Takes exact lost a))
+  pub takes-aged : (exact lost : Bool) (a : Act) → is_opening a ≡ false → MayStep s (Acts exact lost a) → Aged born now (step s (Acts exact lost a))
   takes-aged exact lost a n may =
-      let o : On s.cluster (does s.cluster a) = on-event born s.cluster h.plain h.parcels s.durable (Acts a) n may.0 in
-      aged-on born now s (step s (Takes exact lost a)) h o (plain-event born s.cluster h.plain h.parcels s.durable (Acts a) n may.0) (under-act a may.0.0) (said-act a may.0.0)
+      let o : On s.cluster (does s.cluster a) = on-event born s.cluster h.plain h.parcels s.durable (Acts exact lost a) n may.0 in
+      aged-on born now s (step s (Acts exact lost a)) h o (plain-event born s.cluster h.plain h.parcels s.durable (Acts exact lost a) n may.0) (under-act a may.0.0) (said-act exact lost a may.0.0)
       (λ p q l m e. elim (was-act a may.0.0 p q l m e) [ inl f ↦ inl f | inr g ↦ inr (page-knows a may.0.0 o p q g) ])
       (λ p q l m e w f. elim (lost-act lost a n may.0.0 p q e w f) [
         | inl v ↦ elim (was-act a may.0.0 p q l m e) [ inl u ↦ inl (u, v) | inr g ↦ inr (page-later exact lost a may o p q g f) ]
         | inr g ↦ inr (page-later exact lost a may o p q g f)
       ])
 
-  pub meets-aged : (q p i k : ℕ) → MayStep s (Meeting q p i k) → Aged born now (step s (Meeting q p i k))
+  pub meets-aged : (q p i k : ℕ) → Might s.durable s.cluster (Meets q p i k) → Aged born now (step s (Meets q p i k))
   meets-aged q p i k may =
-      aged-on born now s (step s (Meeting q p i k)) h (on-event born s.cluster h.plain h.parcels s.durable (Meets q p i k) refl may) (plain-event born s.cluster h.plain h.parcels s.durable (Meets q p i k) refl may)
+      aged-on born now s (step s (Meets q p i k)) h (on-event born s.cluster h.plain h.parcels s.durable (Meets q p i k) refl may) (plain-event born s.cluster h.plain h.parcels s.durable (Meets q p i k) refl may)
       (λ a b y i. inl i) (λ y i e. inl i) (λ a b l m e. inl e) (λ a b l m e w f. inl (e, f))
 
-  pub loses-aged : (q p i j k : ℕ) → MayStep s (Losing q p i j k) → Aged born now (step s (Losing q p i j k))
+  pub loses-aged : (q p i j k : ℕ) → Might s.durable s.cluster (Loses q p i j k) → Aged born now (step s (Loses q p i j k))
   loses-aged q p i j k may =
       let n : p ≢ q = (fine p q (Ask i k) may.0).0 in
       let a : s.cluster.heard q p ≤ s.cluster.stored p = h.plain.low q p in
       let b : i ≡ s.cluster.heard q p = may.1 in
       let e : j ≡ s.cluster.stored q = elim may.2 [ inl r ↦ r.1 ∙ h.plain.settled q (ap runs r.0.0) | inr r ↦ r.1 ] in
-      aged-on born now s (step s (Losing q p i j k)) h (on-event born s.cluster h.plain h.parcels s.durable (Loses q p i j k) refl may) (plain-event born s.cluster h.plain h.parcels s.durable (Loses q p i j k) refl may)
+      aged-on born now s (step s (Loses q p i j k)) h (on-event born s.cluster h.plain h.parcels s.durable (Loses q p i j k) refl may) (plain-event born s.cluster h.plain h.parcels s.durable (Loses q p i j k) refl may)
       (one-more s.cluster q p (Told i j k None (λ _. None)) (λ f. n (sym f)) ((omega arith), (omega arith), (0, λ m l g r. refl), λ g. inl (sym b ∙ g, e)))
       (one-said s.cluster (flagged (parcel q p (Told i j k None (λ _. None))) false true) (λ f. absurd (let z : true ≡ false = f in cc)))
       (λ a b l m e. inl e) (λ a b l m e w f. inl (e, f))
 
-  pub leaves-aged : (p q : ℕ) → MayStep s (Leaving p q) → Aged born now (step s (Leaving p q))
+  pub leaves-aged : (p q : ℕ) → Might s.durable s.cluster (Leaves p q) → Aged born now (step s (Leaves p q))
   leaves-aged p q may =
-      aged-on born now s (step s (Leaving p q)) h (on-event born s.cluster h.plain h.parcels s.durable (Leaves p q) refl may.0) (plain-event born s.cluster h.plain h.parcels s.durable (Leaves p q) refl may.0)
+      aged-on born now s (step s (Leaves p q)) h (on-event born s.cluster h.plain h.parcels s.durable (Leaves p q) refl may) (plain-event born s.cluster h.plain h.parcels s.durable (Leaves p q) refl may)
       (λ a b y i. inl i) (λ y i e. inl i) (λ a b l m e. inl e)
       (λ a b l m e w f. inl (e, f))

@@ -8,11 +8,12 @@ use Rattle.world.specs.World.{put}
 use Rattle.theorems.proofs.Changes.{choose, at-itself}
 use Rattle.cluster.specs.Parcels.{Body, Ask, Told, Restored}
 use Rattle.cluster.specs.Cluster.{Collecting, Collected, runs, is_well}
-use Rattle.cluster.specs.Rules.{Act, Opens, May, does}
+use Rattle.cluster.specs.Rules.{Opens, May, does}
 use Rattle.cluster.proofs.Facts.{true-not-false}
-use Rattle.cluster.specs.Exact.{Telling, starts, Step, Takes, Meeting, Losing, Leaving, MayStep, step, Steps, after_steps}
+use Rattle.cluster.specs.Overlap.{Event, Acts, Meets, Loses, Leaves}
+use Rattle.cluster.specs.Exact.{Telling, starts, MayStep, step, Steps, after_steps}
 use Rattle.cluster.proofs.Ages.{IsEnding, Plain, is_some, at_stage, has_told, Later, Fine, Real, Aged}
-use Rattle.cluster.proofs.DurableTurns.{put-other, is_opening}
+use Rattle.cluster.proofs.DurableTurns.{put-other, opens}
 use Rattle.cluster.proofs.Age.{takes-aged, meets-aged, loses-aged, leaves-aged}
 
 pub put-same : {X : Type 0} (f : ℕ → X) (p : ℕ) (x : X) → put f p x p ≡ x
@@ -132,7 +133,7 @@ module _ (born : ℕ → ℕ) (now : ℕ) (s : Telling) (h : Aged born now s) (r
         (m, sym (ap (λ x. at_stage x (is_some (s.cluster.told p q))) a) ∙ sym (ap (λ (x : ℕ → Option Collected). at_stage (put s.cluster.stage r Collecting p) (is_some (x q))) b) ∙ e)
   ]
 
-  pub opens-aged : (exact lost : Bool) → Aged (put born r (suc now)) (suc now) (step s (Takes exact lost (Opens r n)))
+  pub opens-aged : (exact lost : Bool) → Aged (put born r (suc now)) (suc now) (step s (Acts exact lost (Opens r n)))
   opens-aged exact lost =
       record {
         past = choose r (λ j b. (if b then suc now else born j) ≤ suc now) (omega arith) (λ j _. let a : born j ≤ now = h.past j in omega arith);
@@ -152,30 +153,19 @@ module _ (born : ℕ → ℕ) (now : ℕ) (s : Telling) (h : Aged born now s) (r
             later-same p q t.0 (h.later p q l m t.1 u v);
       }
 
--- whether a step is that a node is opened
-abbrev pub begins : Step → Bool
-begins (Takes exact lost a) = is_opening a
-begins x = false
-
-pub step-aged : (born : ℕ → ℕ) (now : ℕ) (s : Telling) (x : Step) → begins x ≡ false → Aged born now s → MayStep s x → Aged born now (step s x)
-step-aged born now s (Takes exact lost a) n h may = takes-aged born now s h exact lost a n may
-step-aged born now s (Meeting q p i k) n h may = meets-aged born now s h q p i k may
-step-aged born now s (Losing q p i j k) n h may = loses-aged born now s h q p i j k may
-step-aged born now s (Leaving p q) n h may = leaves-aged born now s h p q may
+pub step-aged : (born : ℕ → ℕ) (now : ℕ) (s : Telling) (x : Event) → opens x ≡ false → Aged born now s → MayStep s x → Aged born now (step s x)
+step-aged born now s (Acts exact lost a) n h may = takes-aged born now s h exact lost a n may
+step-aged born now s (Meets q p i k) n h may = meets-aged born now s h q p i k may.0
+step-aged born now s (Loses q p i j k) n h may = loses-aged born now s h q p i j k may.0
+step-aged born now s (Leaves p q) n h may = leaves-aged born now s h p q may.0
 
 -- at some time, with lives that began at some time
 abbrev pub Orderly : Telling → Type 0
 Orderly s = (born : ℕ → ℕ) × (now : ℕ) × Aged born now s
 
-pub orderly-step : (s : Telling) (x : Step) → Orderly s → MayStep s x → Orderly (step s x)
-orderly-step s (Takes exact lost a) h may = split a may
-  where
-    split : (b : Act) → MayStep s (Takes exact lost b) → Orderly (step s (Takes exact lost b))
-    split (Opens r n) m = (put h.0 r (suc h.1), suc h.1, opens-aged h.0 h.1 s h.2 r n m.0.0 exact lost)
-    split b m = (h.0, h.1, takes-aged h.0 h.1 s h.2 exact lost b refl m)
-orderly-step s (Meeting q p i k) h may = (h.0, h.1, meets-aged h.0 h.1 s h.2 q p i k may)
-orderly-step s (Losing q p i j k) h may = (h.0, h.1, loses-aged h.0 h.1 s h.2 q p i j k may)
-orderly-step s (Leaving p q) h may = (h.0, h.1, leaves-aged h.0 h.1 s h.2 p q may)
+pub orderly-step : (s : Telling) (x : Event) → Orderly s → MayStep s x → Orderly (step s x)
+orderly-step s (Acts exact lost (Opens r n)) h may = (put h.0 r (suc h.1), suc h.1, opens-aged h.0 h.1 s h.2 r n may.0.0 exact lost)
+orderly-step s x h may = (h.0, h.1, step-aged h.0 h.1 s x refl h.2 may)
 
 starts-orderly : (n : ℕ) (f : Handlers) (durable : ℕ → Bool) → Orderly (starts n f durable)
 starts-orderly n f durable = (
@@ -201,9 +191,9 @@ starts-orderly n f durable = (
   },
 )
 
-run-orderly : (s : Telling) (xs : List Step) → Orderly s → Steps s xs → Orderly (after_steps s xs)
+run-orderly : (s : Telling) (es : List Event) → Orderly s → Steps s es → Orderly (after_steps s es)
 run-orderly s [] h r = h
-run-orderly s (x ∷ xs) h r = run-orderly (step s x) xs (orderly-step s x h r.0) r.1
+run-orderly s (e ∷ es) h r = run-orderly (step s e) es (orderly-step s e h r.0) r.1
 
-pub always-orderly : (n : ℕ) (f : Handlers) (durable : ℕ → Bool) (xs : List Step) → Steps (starts n f durable) xs → Orderly (after_steps (starts n f durable) xs)
-always-orderly n f durable xs r = run-orderly (starts n f durable) xs (starts-orderly n f durable) r
+pub always-orderly : (n : ℕ) (f : Handlers) (durable : ℕ → Bool) (es : List Event) → Steps (starts n f durable) es → Orderly (after_steps (starts n f durable) es)
+always-orderly n f durable es r = run-orderly (starts n f durable) es (starts-orderly n f durable) r

@@ -10,8 +10,8 @@ use Rattle.cluster.specs.Parcels.{Body, Ask, Told, parcel, In}
 use Rattle.cluster.specs.Cluster.{Live, Collecting, Collected, runs, is_well, takes}
 use Rattle.cluster.specs.Rules.{Puts, Arrives, IsNode, Asks, IsAll, entry_of, with_page, put2}
 use Rattle.cluster.proofs.Facts.{true-not-false}
-use Rattle.cluster.specs.Overlap.{restores_anew}
-use Rattle.cluster.specs.Exact.{flagged, Said, Telling, Step, Takes, Meeting, Losing, MayStep, step}
+use Rattle.cluster.specs.Overlap.{Event, Acts, Meets, Loses, restores_anew}
+use Rattle.cluster.specs.Exact.{flagged, Said, Telling, MayStep, step}
 use Rattle.cluster.specs.Return.{CanGo}
 use Rattle.cluster.proofs.DurableTurns.{put2-same}
 use Rattle.cluster.proofs.Births.{Orderly, orderly-step}
@@ -59,32 +59,32 @@ Answered p q s u =
 
 module _ (p q : ℕ) (ne : q ≢ p) where
   module _ (s : Telling) (h : Orderly s) (node : IsNode s.cluster p) (a : q ≤ s.cluster.world.count) (ready : AllReady s.cluster) (coll : s.cluster.stage p ≡ Collecting) where
-    abbrev ask : ℕ → Step
-    ask k = Takes true false (Puts p q (Ask (s.cluster.stored p) k))
+    abbrev ask : ℕ → Event
+    ask k = Acts true false (Puts p q (Ask (s.cluster.stored p) k))
 
     abbrev asked : ℕ → Telling
-    asked k = step s (Takes true false (Puts p q (Ask (s.cluster.stored p) k)))
+    asked k = step s (Acts true false (Puts p q (Ask (s.cluster.stored p) k)))
 
     hear : (k : ℕ) → Asks (s.cluster.world.saved p) (s.cluster.told p q) k → CanGo s (Heard p q k s)
     hear k asks = go-first s (Heard p q k s) (ask k) may refl (split (nat_lt (s.cluster.heard q p) (s.cluster.stored p)) refl)
       where
-        may : MayStep s (Takes true false (Puts p q (Ask (s.cluster.stored p) k)))
+        may : MayStep s (Acts true false (Puts p q (Ask (s.cluster.stored p) k)))
         may = (((node.1, a, (λ e. ne (sym e)), (coll, refl, asks)), tt), tt)
 
-        g : Orderly (step s (Takes true false (Puts p q (Ask (s.cluster.stored p) k))))
-        g = orderly-step s (Takes true false (Puts p q (Ask (s.cluster.stored p) k))) h may
+        g : Orderly (step s (Acts true false (Puts p q (Ask (s.cluster.stored p) k))))
+        g = orderly-step s (Acts true false (Puts p q (Ask (s.cluster.stored p) k))) h may
 
         -- it hears that
         hears : nat_lt (s.cluster.heard q p) (s.cluster.stored p) ≡ true → (takes s.cluster q ≡ true) ⊎ (s.cluster.stage q ≡ Collecting) → CanGo (asked k) (Heard p q k s)
         hears e t =
-            let x : Step = Takes true false (Arrives p q (Ask (s.cluster.stored p) k)) in
-            let m : MayStep (step s (Takes true false (Puts p q (Ask (s.cluster.stored p) k)))) (Takes true false (Arrives p q (Ask (s.cluster.stored p) k))) = (((inl refl, (grind (arith, nat_tests), t)), tt), tt) in
-            go-first (asked k) (Heard p q k s) (Takes true false (Arrives p q (Ask (s.cluster.stored p) k))) m refl (
+            let x : Event = Acts true false (Arrives p q (Ask (s.cluster.stored p) k)) in
+            let m : MayStep (step s (Acts true false (Puts p q (Ask (s.cluster.stored p) k)))) (Acts true false (Arrives p q (Ask (s.cluster.stored p) k))) = (((inl refl, (grind (arith, nat_tests), t)), tt), tt) in
+            go-first (asked k) (Heard p q k s) (Acts true false (Arrives p q (Ask (s.cluster.stored p) k))) m refl (
               [],
               tt,
               tt,
               record {
-                orderly = orderly-step (asked k) (Takes true false (Arrives p q (Ask (s.cluster.stored p) k))) g m;
+                orderly = orderly-step (asked k) (Acts true false (Arrives p q (Ask (s.cluster.stored p) k))) g m;
                 count = refl;
                 stage = λ r. refl;
                 ready = ready;
@@ -98,13 +98,13 @@ module _ (p q : ℕ) (ne : q ≢ p) where
         -- or, as it comes back itself, meets p
         meets : nat_lt (s.cluster.heard q p) (s.cluster.stored p) ≡ true → s.cluster.stage q ≡ Live → is_well s.cluster q ≡ false → CanGo (asked k) (Heard p q k s)
         meets e live un =
-            let m : MayStep (step s (Takes true false (Puts p q (Ask (s.cluster.stored p) k)))) (Meeting q p (s.cluster.stored p) k) = (inl refl, (live, un), grind (arith, nat_tests)) in
-            go-first (asked k) (Heard p q k s) (Meeting q p (s.cluster.stored p) k) m refl (
+            let m : MayStep (step s (Acts true false (Puts p q (Ask (s.cluster.stored p) k)))) (Meets q p (s.cluster.stored p) k) = ((inl refl, (live, un), grind (arith, nat_tests)), tt) in
+            go-first (asked k) (Heard p q k s) (Meets q p (s.cluster.stored p) k) m refl (
               [],
               tt,
               tt,
               record {
-                orderly = orderly-step (asked k) (Meeting q p (s.cluster.stored p) k) g m;
+                orderly = orderly-step (asked k) (Meets q p (s.cluster.stored p) k) g m;
                 count = refl;
                 stage = λ r. refl;
                 ready = choose q (λ j b. j ≤ s.cluster.world.count → (s.cluster.stage j ≡ Collecting) ⊎ ((s.cluster.stage j ≡ Live)
@@ -139,14 +139,14 @@ module _ (p q : ℕ) (ne : q ≢ p) where
     collect : (i j k : ℕ) (f : ℕ → Option Message) (exact lost : Bool) → In (parcel q p (Told i j k None f)) s.cluster.parcels → Said (flagged (parcel q p (Told i j k None f)) exact lost) s.said
         → i ≡ s.cluster.stored p → s.cluster.heard p q ≤ j → Asks (s.cluster.world.saved p) (s.cluster.told p q) k → CanGo s (Answered p q s)
     collect i j k f exact lost there said e low asks =
-        let x : Step = Takes exact lost (Arrives q p (Told i j k None f)) in
-        let m : MayStep s (Takes exact lost (Arrives q p (Told i j k None f))) = (((there, (coll, e, low, asks)), tt), said) in
-        go-first s (Answered p q s) (Takes exact lost (Arrives q p (Told i j k None f))) m refl (
+        let x : Event = Acts exact lost (Arrives q p (Told i j k None f)) in
+        let m : MayStep s (Acts exact lost (Arrives q p (Told i j k None f))) = (((there, (coll, e, low, asks)), tt), said) in
+        go-first s (Answered p q s) (Acts exact lost (Arrives q p (Told i j k None f))) m refl (
           [],
           tt,
           tt,
           record {
-            orderly = orderly-step s (Takes exact lost (Arrives q p (Told i j k None f))) h m;
+            orderly = orderly-step s (Acts exact lost (Arrives q p (Told i j k None f))) h m;
             count = refl;
             stage = λ r. refl;
             ready = ready;
@@ -162,9 +162,9 @@ module _ (p q : ℕ) (ne : q ≢ p) where
       where
         loses : (j : ℕ) → (((s.cluster.stage q ≡ Live) × (is_well s.cluster q ≡ false)) × (j ≡ s.cluster.world.incarnation q)) ⊎ ((s.cluster.stage q ≡ Collecting) × (j ≡ s.cluster.stored q)) → s.cluster.heard p q ≤ j → CanGo s (Answered p q s)
         loses j back low =
-            let m : MayStep s (Losing q p (s.cluster.stored p) j k) = (there, sym e, back) in
-            go-first s (Answered p q s) (Losing q p (s.cluster.stored p) j k) m refl
-            (collect (step s (Losing q p (s.cluster.stored p) j k)) (orderly-step s (Losing q p (s.cluster.stored p) j k) h m) node a ready coll (s.cluster.stored p) j k (λ _. None) false true (inl refl) (inl refl) refl low asks)
+            let m : MayStep s (Loses q p (s.cluster.stored p) j k) = ((there, sym e, back), tt) in
+            go-first s (Answered p q s) (Loses q p (s.cluster.stored p) j k) m refl
+            (collect (step s (Loses q p (s.cluster.stored p) j k)) (orderly-step s (Loses q p (s.cluster.stored p) j k) h m) node a ready coll (s.cluster.stored p) j k (λ _. None) false true (inl refl) (inl refl) refl low asks)
 
         split : s.cluster.stage q ≡ Live → (b : Bool) → is_well s.cluster q ≡ b → CanGo s (Answered p q s)
         split live b f =
@@ -176,11 +176,11 @@ module _ (p q : ℕ) (ne : q ≢ p) where
             one false f low = loses (s.cluster.world.incarnation q) (inl ((live, f), refl)) low
             one true f low =
                 let x : Body = Told (s.cluster.stored p) (s.cluster.world.incarnation q) k None (entry_of s.cluster q p) in
-                let m : MayStep s (Takes true false (Puts q p (Told (s.cluster.stored p) (s.cluster.world.incarnation q) k None (entry_of s.cluster q p)))) =
+                let m : MayStep s (Acts true false (Puts q p (Told (s.cluster.stored p) (s.cluster.world.incarnation q) k None (entry_of s.cluster q p)))) =
                 (((a, node.1, ne, (f, sym e, refl, (λ v z. absurd (let y : None ≡ Some v = z in cc)), (λ m _ _. refl))), tt), tt) in
-                go-first s (Answered p q s) (Takes true false (Puts q p (Told (s.cluster.stored p) (s.cluster.world.incarnation q) k None (entry_of s.cluster q p)))) m refl
-                (collect (step s (Takes true false (Puts q p (Told (s.cluster.stored p) (s.cluster.world.incarnation q) k None (entry_of s.cluster q p)))))
-                (orderly-step s (Takes true false (Puts q p (Told (s.cluster.stored p) (s.cluster.world.incarnation q) k None (entry_of s.cluster q p)))) h m) node a ready coll
+                go-first s (Answered p q s) (Acts true false (Puts q p (Told (s.cluster.stored p) (s.cluster.world.incarnation q) k None (entry_of s.cluster q p)))) m refl
+                (collect (step s (Acts true false (Puts q p (Told (s.cluster.stored p) (s.cluster.world.incarnation q) k None (entry_of s.cluster q p)))))
+                (orderly-step s (Acts true false (Puts q p (Told (s.cluster.stored p) (s.cluster.world.incarnation q) k None (entry_of s.cluster q p)))) h m) node a ready coll
                 (s.cluster.stored p) (s.cluster.world.incarnation q) k (entry_of s.cluster q p) (s.exact q) false (inl refl) (inl refl) refl low asks)
 
   -- so p asks it

@@ -13,11 +13,11 @@ use Rattle.cluster.proofs.Firsts.{append_nil}
 
 -- an act takes back no input, and nothing that was shown or that a checkpoint covers; nor does an event
 pub goes-continue : (c : Cluster) (e : Event) → ((p : ℕ) → c.world.saved p ≤ length (c.world.history p)) → Continues c (goes c e)
-goes-continue c (Acts a) within = does-continue c a within
+goes-continue c (Acts exact lost a) within = does-continue c a within
 goes-continue c other within = still c
 
 pub goes-handlers : (c : Cluster) (e : Event) → (goes c e).world.handlers ≡ c.world.handlers
-goes-handlers c (Acts a) = does-handlers c a
+goes-handlers c (Acts exact lost a) = does-handlers c a
 goes-handlers c other = refl
 
 -- more messages send no less

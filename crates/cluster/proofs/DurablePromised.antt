@@ -35,7 +35,7 @@ opens-firm n f last g =
 
 -- the gateway keeps its inputs
 might-last : (durable : ℕ → Bool) (c : Cluster) (e : Event) → Might durable c e → Might (lasts durable) c e
-might-last durable c (Acts (Puts p d (Delivery i ssn x))) may = (may.0, split (p == 0) may.0.3.2 may.1)
+might-last durable c (Acts exact lost (Puts p d (Delivery i ssn x))) may = (may.0, split (p == 0) may.0.3.2 may.1)
   where
     split : (b : Bool) → ssn ≤ (if b then length (c.world.inputs d) else c.world.released p d) → (durable p ≡ true → ssn ≤ length (if b then c.world.inputs d else c.world.handlers.sends p (take (c.world.saved p) (c.world.history p)) d))
         → (b || durable p) ≡ true → ssn ≤ length (if b then c.world.inputs d else c.world.handlers.sends p (take (c.world.saved p) (c.world.history p)) d)

@@ -126,7 +126,7 @@ is_opening (Opens p n) = true
 is_opening a = false
 
 abbrev pub opens : Event → Bool
-opens (Acts a) = is_opening a
+opens (Acts exact lost a) = is_opening a
 opens e = false
 
 abbrev is_collecting : Stage → Bool
@@ -289,7 +289,7 @@ module _ (born : ℕ → ℕ) (c : Cluster) (h : Plain c) (fine : (p d : ℕ) (x
   meets-well q x un = choose q (λ j b. is_well c j ≡ true → ((runs (c.stage j) && (c.greeted j && is_up (if b then x else c.world.phase j))) ≡ true) ⊎ (c.stage j ≡ Dead)) (λ w. absurd (true-not-false w un)) (λ j _ w. inl w)
 
   pub on-event : (durable : ℕ → Bool) (e : Event) → opens e ≡ false → Might durable c e → On c (goes c e)
-  on-event durable (Acts a) n may = on-act a n may.0
+  on-event durable (Acts exact lost a) n may = on-act a n may.0
   on-event durable (Meets q p i k) n may =
       let l : c.heard q p < i = may.2 in
       let o = on-hears c q p i h.low (omega arith) (fine p q (Ask i k) may.0).1.1 in
@@ -298,7 +298,7 @@ module _ (born : ℕ → ℕ) (c : Cluster) (h : Plain c) (fine : (p d : ℕ) (x
   on-event durable (Leaves p q) n may = on-turn c p (phase_with (without (todo_of (c.world.phase p)) q)) h.low (λ u. absurd (true-not-false u (not-up c p q may.1)))
 
   pub plain-event : (durable : ℕ → Bool) (e : Event) → opens e ≡ false → Might durable c e → Plain (goes c e)
-  plain-event durable (Acts a) n may = plain-act a n may.0
+  plain-event durable (Acts exact lost a) n may = plain-act a n may.0
   plain-event durable (Meets q p i k) n may =
       let f = fine p q (Ask i k) may.0 in
       let g = plain-turn c q (restores_anew (c.world.phase q) p) (un-gate q may.1.1) (anew-sound (c.world.phase q) p (h.sound q)) (λ r e. elim (anew (c.world.phase q) p r e) [ inl z ↦ (let P : ℕ → Type 0 = λ i. IsNode c i × (i ≢ q) in subst P (sym z) (f.1.0, f.0)) | inr t ↦ h.todo q r t ]) h in

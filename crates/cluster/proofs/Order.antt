@@ -63,7 +63,7 @@ does-order c (Arrives zero p (Restored i j n s None f)) jobs may o = o
 does-order c act jobs may o = o
 
 goes-order : (durable : ℕ → Bool) (c : Cluster) (e : Event) → Firm (lasts durable) c → Might durable c e → Ordered c → Ordered (goes c e)
-goes-order durable c (Acts a) h may o = does-order c a (λ d m e. (h.jobs d m e).1) may.0 o
+goes-order durable c (Acts exact lost a) h may o = does-order c a (λ d m e. (h.jobs d m e).1) may.0 o
 goes-order durable c other h may o = o
 
 events-order : (durable : ℕ → Bool) (c : Cluster) (es : List Event) → Firm (lasts durable) c → Events durable c es → Ordered c → Ordered (after_events c es)

@@ -272,7 +272,7 @@ module _ (last : ℕ → Bool) (c : Cluster) (h : Firm last c) where
   input-firm : (d : ℕ) (x : Payload) → Firm last (does c (Input d x))
   input-firm d x =
       let l : Sends = kept_sends (does c (Input d x)) in
-      let more : (p q : ℕ) → Begins (k p q) (l p q) = goes-sends c (Acts (Input d x)) h.grows h.within in
+      let more : (p q : ℕ) → Begins (k p q) (l p q) = goes-sends c (Acts true false (Input d x)) h.grows h.within in
       record {
         grows = h.grows;
         within = h.within;
@@ -288,7 +288,7 @@ module _ (last : ℕ → Bool) (c : Cluster) (h : Firm last c) where
   keeps : (p : ℕ) → Firm last (does c (Keeps p))
   keeps p =
       let l : Sends = kept_sends (does c (Keeps p)) in
-      let more : (p q : ℕ) → Begins (k p q) (l p q) = goes-sends c (Acts (Keeps p)) h.grows h.within in
+      let more : (p q : ℕ) → Begins (k p q) (l p q) = goes-sends c (Acts true false (Keeps p)) h.grows h.within in
       record {
         grows = h.grows;
         within = choose p (λ j t. (if t then length (c.world.history p) else c.world.saved j) ≤ length (c.world.history j)) (omega arith) (λ j _. h.within j);
@@ -304,7 +304,7 @@ module _ (last : ℕ → Bool) (c : Cluster) (h : Firm last c) where
   works : (p : ℕ) (m : Message) → May c (Works p m) → Firm last (does c (Works p m))
   works p m may =
       let l : Sends = kept_sends (does c (Works p m)) in
-      let more : (p q : ℕ) → Begins (k p q) (l p q) = goes-sends c (Acts (Works p m)) h.grows h.within in
+      let more : (p q : ℕ) → Begins (k p q) (l p q) = goes-sends c (Acts true false (Works p m)) h.grows h.within in
       let job = h.jobs p m may.2 in
       let good : IsGood last l p m = good-more last k l more p m job.0 in
       let long : length (c.world.history p ++ m ∷ []) ≡ length (c.world.history p) + 1 = length-append _ _ in
@@ -381,7 +381,7 @@ module _ (last : ℕ → Bool) (c : Cluster) (h : Firm last c) where
   does-firm act may kept = h
 
   pub goes-firm : (e : Event) → Might last c e → Firm last (goes c e)
-  goes-firm (Acts a) may = does-firm a may.0 may.1
+  goes-firm (Acts exact lost a) may = does-firm a may.0 may.1
   goes-firm (Meets q p i n) may = meets q p i n
   goes-firm (Loses q p i j n) may = with-parcel q p (Told i j n None (λ _. None)) (λ e. (h.parcels p q (Ask i n) may.0).0 (sym e)) (λ m x _ _ e. absurd (let z : None ≡ Some x = e in cc))
   goes-firm (Leaves p q) may = with-phase p (phase_with (without (todo_of (c.world.phase p)) q)) (with-idle (without (todo_of (c.world.phase p)) q))

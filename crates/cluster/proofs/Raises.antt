@@ -12,7 +12,8 @@ use Rattle.cluster.specs.Parcels.{Body, Resume, Restored}
 use Rattle.cluster.specs.Cluster.{Live, Cluster, runs, is_well}
 use Rattle.cluster.specs.Rules.{Puts, Arrives, Works, Replays, IsNode, goes_on}
 use Rattle.cluster.proofs.Facts.{well-is, is-well}
-use Rattle.cluster.specs.Exact.{Telling, Takes, Leaving, MayStep, step}
+use Rattle.cluster.specs.Overlap.{Acts, Leaves}
+use Rattle.cluster.specs.Exact.{Telling, MayStep, step}
 use Rattle.cluster.specs.Return.{CanGo}
 use Rattle.cluster.proofs.Sane.{without-shorter}
 use Rattle.cluster.proofs.Ages.{IsSound, is_some, at_stage, has_told, Aged}
@@ -112,28 +113,28 @@ module _ (born : ℕ → ℕ) (now p : ℕ) where
 
   module _ (s : Telling) (h : Stand s) (un : is_well s.cluster p ≡ false) (q : ℕ) (a : q ≤ s.cluster.world.count) (n : q ≢ p) (well : is_well s.cluster q ≡ true) where
     obeys : CanGo s (Obeyed q s)
-    obeys = go-first s (Obeyed q s) (Takes true false (Puts p q (Resume (s.cluster.world.incarnation p) (length (s.cluster.world.history p)) (s.cluster.restoring p q)))) may refl (split (s.cluster.resumed q p) refl)
+    obeys = go-first s (Obeyed q s) (Acts true false (Puts p q (Resume (s.cluster.world.incarnation p) (length (s.cluster.world.history p)) (s.cluster.restoring p q)))) may refl (split (s.cluster.resumed q p) refl)
       where
-        may : MayStep s (Takes true false (Puts p q (Resume (s.cluster.world.incarnation p) (length (s.cluster.world.history p)) (s.cluster.restoring p q))))
+        may : MayStep s (Acts true false (Puts p q (Resume (s.cluster.world.incarnation p) (length (s.cluster.world.history p)) (s.cluster.restoring p q))))
         may = (((h.node.1, a, (λ e. n (sym e)), (h.live, un, refl, refl, refl)), tt), tt)
 
-        aged : Aged born now (step s (Takes true false (Puts p q (Resume (s.cluster.world.incarnation p) (length (s.cluster.world.history p)) (s.cluster.restoring p q)))))
-        aged = step-aged born now s (Takes true false (Puts p q (Resume (s.cluster.world.incarnation p) (length (s.cluster.world.history p)) (s.cluster.restoring p q)))) refl h.aged may
+        aged : Aged born now (step s (Acts true false (Puts p q (Resume (s.cluster.world.incarnation p) (length (s.cluster.world.history p)) (s.cluster.restoring p q)))))
+        aged = step-aged born now s (Acts true false (Puts p q (Resume (s.cluster.world.incarnation p) (length (s.cluster.world.history p)) (s.cluster.restoring p q)))) refl h.aged may
 
-        split : (b : Bool) → s.cluster.resumed q p ≡ b → CanGo (step s (Takes true false (Puts p q (Resume (s.cluster.world.incarnation p) (length (s.cluster.world.history p)) (s.cluster.restoring p q))))) (Obeyed q s)
+        split : (b : Bool) → s.cluster.resumed q p ≡ b → CanGo (step s (Acts true false (Puts p q (Resume (s.cluster.world.incarnation p) (length (s.cluster.world.history p)) (s.cluster.restoring p q))))) (Obeyed q s)
         split true e = ([], tt, tt, record { aged = aged; count = refl; stage = λ r. refl; greeted = λ r. refl; phase = λ r. refl; lost = λ r. refl; resumed = e })
         split false e =
             let w = h.awake q a n in
             let up : s.cluster.world.phase q ≡ Up = w.1 well in
             let g : s.cluster.greeted q ≡ true = (well-is s.cluster q well).1 in
-            let m : MayStep (step s (Takes true false (Puts p q (Resume (s.cluster.world.incarnation p) (length (s.cluster.world.history p)) (s.cluster.restoring p q))))) (Takes true false (Arrives p q (Resume (s.cluster.world.incarnation p) (length (s.cluster.world.history p)) (s.cluster.restoring p q)))) =
+            let m : MayStep (step s (Acts true false (Puts p q (Resume (s.cluster.world.incarnation p) (length (s.cluster.world.history p)) (s.cluster.restoring p q))))) (Acts true false (Arrives p q (Resume (s.cluster.world.incarnation p) (length (s.cluster.world.history p)) (s.cluster.restoring p q)))) =
             (((inl refl, ((rw (w.0, g, up) refl), sym (heard-life s h q a n), e, (λ x f. absurd (not-busy s.cluster q up x f)))), tt), tt) in
-            go-first (step s (Takes true false (Puts p q (Resume (s.cluster.world.incarnation p) (length (s.cluster.world.history p)) (s.cluster.restoring p q))))) (Obeyed q s) (Takes true false (Arrives p q (Resume (s.cluster.world.incarnation p) (length (s.cluster.world.history p)) (s.cluster.restoring p q)))) m refl (
+            go-first (step s (Acts true false (Puts p q (Resume (s.cluster.world.incarnation p) (length (s.cluster.world.history p)) (s.cluster.restoring p q))))) (Obeyed q s) (Acts true false (Arrives p q (Resume (s.cluster.world.incarnation p) (length (s.cluster.world.history p)) (s.cluster.restoring p q)))) m refl (
               [],
               tt,
               tt,
               record {
-                aged = step-aged born now _ (Takes true false (Arrives p q (Resume (s.cluster.world.incarnation p) (length (s.cluster.world.history p)) (s.cluster.restoring p q)))) refl aged m;
+                aged = step-aged born now _ (Acts true false (Arrives p q (Resume (s.cluster.world.incarnation p) (length (s.cluster.world.history p)) (s.cluster.restoring p q)))) refl aged m;
                 count = refl;
                 stage = λ r. refl;
                 greeted = λ r. refl;
@@ -147,7 +148,7 @@ module _ (born : ℕ → ℕ) (now p : ℕ) where
     abbrev answer : Body
     answer = Restored (s.cluster.world.incarnation p) (s.cluster.world.incarnation q) (covered s.cluster.world p q) (s.cluster.restoring p q) None (rsn_of (s.cluster.world.history q) p)
 
-    may-answer : s.cluster.resumed q p ≡ true → MayStep s (Takes true false (Puts q p answer))
+    may-answer : s.cluster.resumed q p ≡ true → MayStep s (Acts true false (Puts q p answer))
     may-answer e =
         let up : s.cluster.world.phase q ≡ Up = (h.awake q a n).1 well in
         (((a, h.node.1, n, (well, sym (heard-life s h q a n), e, (λ m f. absurd (not-busy s.cluster q up m f)), refl, refl, (λ v f. absurd (let z : None ≡ Some v = f in cc)), (λ ssn _ _. refl))), tt), tt)
@@ -163,15 +164,15 @@ module _ (born : ℕ → ℕ) (now p : ℕ) where
       let q : ℕ = suc v in
       let x : Body = answer s h un q a n well in
       let put_ = may-answer s h un q a n well e in
-      let m : MayStep (step s (Takes true false (Puts q p x))) (Takes (s.exact q) false (Arrives q p x)) = (((inl refl, (other, h.live, refl, todo, refl, low s h un q a n well)), tt), inl refl) in
-      go-first s (Fewer q s) (Takes true false (Puts q p x)) put_ refl
-      (go-first (step s (Takes true false (Puts q p x))) (Fewer q s) (Takes (s.exact q) false (Arrives q p x)) m refl (
+      let m : MayStep (step s (Acts true false (Puts q p x))) (Acts (s.exact q) false (Arrives q p x)) = (((inl refl, (other, h.live, refl, todo, refl, low s h un q a n well)), tt), inl refl) in
+      go-first s (Fewer q s) (Acts true false (Puts q p x)) put_ refl
+      (go-first (step s (Acts true false (Puts q p x))) (Fewer q s) (Acts (s.exact q) false (Arrives q p x)) m refl (
         [],
         tt,
         tt,
         (
           record {
-            aged = step-aged born now _ (Takes (s.exact q) false (Arrives q p x)) refl (step-aged born now s (Takes true false (Puts q p x)) refl h.aged put_) m;
+            aged = step-aged born now _ (Acts (s.exact q) false (Arrives q p x)) refl (step-aged born now s (Acts true false (Puts q p x)) refl h.aged put_) m;
             count = refl;
             stage = λ r. refl;
             greeted = λ r _. refl;
@@ -194,18 +195,18 @@ module _ (born : ℕ → ℕ) (now p : ℕ) where
 
   greets-one : (s : Telling) (h : Stand s) (un : is_well s.cluster p ≡ false) → s.cluster.greeted p ≡ false → is_up (s.cluster.world.phase p) ≡ true → s.cluster.resumed 0 p ≡ true → CanGo s (Greeted s)
   greets-one s h un g up e =
-      let first : MayStep s (Takes true false (Puts 0 p (answer s h un 0 (omega arith) (gate-other s h) (gate-well s h)))) = may-answer s h un 0 (omega arith) (gate-other s h) (gate-well s h) e in
-      let m : MayStep (step s (Takes true false (Puts 0 p (answer s h un 0 (omega arith) (gate-other s h) (gate-well s h))))) (Takes (s.exact 0) false (Arrives 0 p (answer s h un 0 (omega arith) (gate-other s h) (gate-well s h)))) =
+      let first : MayStep s (Acts true false (Puts 0 p (answer s h un 0 (omega arith) (gate-other s h) (gate-well s h)))) = may-answer s h un 0 (omega arith) (gate-other s h) (gate-well s h) e in
+      let m : MayStep (step s (Acts true false (Puts 0 p (answer s h un 0 (omega arith) (gate-other s h) (gate-well s h))))) (Acts (s.exact 0) false (Arrives 0 p (answer s h un 0 (omega arith) (gate-other s h) (gate-well s h)))) =
       (((inl refl, (h.live, refl, g, not-replaying (s.cluster.world.phase p) up)), tt), inl refl) in
-      go-first s (Greeted s) (Takes true false (Puts 0 p (answer s h un 0 (omega arith) (gate-other s h) (gate-well s h)))) first refl
-      (go-first (step s (Takes true false (Puts 0 p (answer s h un 0 (omega arith) (gate-other s h) (gate-well s h))))) (Greeted s) (Takes (s.exact 0) false (Arrives 0 p (answer s h un 0 (omega arith) (gate-other s h) (gate-well s h)))) m refl (
+      go-first s (Greeted s) (Acts true false (Puts 0 p (answer s h un 0 (omega arith) (gate-other s h) (gate-well s h)))) first refl
+      (go-first (step s (Acts true false (Puts 0 p (answer s h un 0 (omega arith) (gate-other s h) (gate-well s h))))) (Greeted s) (Acts (s.exact 0) false (Arrives 0 p (answer s h un 0 (omega arith) (gate-other s h) (gate-well s h)))) m refl (
         [],
         tt,
         tt,
         (
           record {
-            aged = step-aged born now _ (Takes (s.exact 0) false (Arrives 0 p (answer s h un 0 (omega arith) (gate-other s h) (gate-well s h)))) refl
-                (step-aged born now s (Takes true false (Puts 0 p (answer s h un 0 (omega arith) (gate-other s h) (gate-well s h)))) refl h.aged first) m;
+            aged = step-aged born now _ (Acts (s.exact 0) false (Arrives 0 p (answer s h un 0 (omega arith) (gate-other s h) (gate-well s h)))) refl
+                (step-aged born now s (Acts true false (Puts 0 p (answer s h un 0 (omega arith) (gate-other s h) (gate-well s h)))) refl h.aged first) m;
             count = refl;
             stage = λ r. refl;
             greeted = λ r n. put-other s.cluster.greeted p true r n;
@@ -234,15 +235,15 @@ module _ (born : ℕ → ℕ) (now p : ℕ) where
       split : (x : Phase) → s.cluster.world.phase p ≡ x → is_up x ≡ true → CanGo s (Raised s)
       split Up e u = ([], tt, tt, (kept-here s h, (rw (h.live, g, e) refl), e))
       split (Busy m) e u =
-          let may : MayStep s (Takes true false (Works p m)) = (((h.node, (rw (h.live, g, e) refl), e), tt), tt) in
+          let may : MayStep s (Acts true false (Works p m)) = (((h.node, (rw (h.live, g, e) refl), e), tt), tt) in
           let there : put s.cluster.world.phase p Up p ≡ Up = put-same s.cluster.world.phase p Up in
-          go-first s (Raised s) (Takes true false (Works p m)) may refl (
+          go-first s (Raised s) (Acts true false (Works p m)) may refl (
             [],
             tt,
             tt,
             (
-              record { aged = step-aged born now s (Takes true false (Works p m)) refl h.aged may; count = refl; stage = λ r. refl; greeted = λ r _. refl; phase = λ r n. put-other s.cluster.world.phase p Up r n; lost = λ r. refl },
-              is-well (step s (Takes true false (Works p m))).cluster p (ap runs h.live) g (ap is_up there),
+              record { aged = step-aged born now s (Acts true false (Works p m)) refl h.aged may; count = refl; stage = λ r. refl; greeted = λ r _. refl; phase = λ r n. put-other s.cluster.world.phase p Up r n; lost = λ r. refl },
+              is-well (step s (Acts true false (Works p m))).cluster p (ap runs h.live) g (ap is_up there),
               there,
             ),
           )
@@ -282,13 +283,13 @@ module _ (born : ℕ → ℕ) (now p : ℕ) where
           ([], tt, tt, (kept-kept s t u k r.0, r.1 ∙ ap (λ x. phase_with (without (todo_of x) q)) (o.phase p)))))
       split false w =
           let that = h.aged.plain.todo p q todo in
-          let m : MayStep s (Leaving p q) = ((h.live, todo), h.lost q that.0.1 that.1 w) in
-          go-first s (Fewer q s) (Leaving p q) m refl (
+          let m : MayStep s (Leaves p q) = ((h.live, todo), h.lost q that.0.1 that.1 w) in
+          go-first s (Fewer q s) (Leaves p q) m refl (
             [],
             tt,
             tt,
             (
-              record { aged = step-aged born now s (Leaving p q) refl h.aged m; count = refl; stage = λ r. refl; greeted = λ r _. refl; phase = λ r n. put-other s.cluster.world.phase p (phase_with (without (todo_of (s.cluster.world.phase p)) q)) r n; lost = λ r. refl },
+              record { aged = step-aged born now s (Leaves p q) refl h.aged m; count = refl; stage = λ r. refl; greeted = λ r _. refl; phase = λ r n. put-other s.cluster.world.phase p (phase_with (without (todo_of (s.cluster.world.phase p)) q)) r n; lost = λ r. refl },
               put-same s.cluster.world.phase p (phase_with (without (todo_of (s.cluster.world.phase p)) q)),
             ),
           )
@@ -321,9 +322,9 @@ module _ (born : ℕ → ℕ) (now p : ℕ) where
 
   replays-one : (s : Telling) → Stand s → (j : ℕ) → s.cluster.world.phase p ≡ Replaying j false false → CanGo s (λ t. Aged born now t × Replayed j s t.cluster × ((q : ℕ) → t.lost p q ≡ s.lost p q))
   replays-one s h j e =
-      let m : MayStep s (Takes true false (Replays p j)) = (((h.node, h.live, e), tt), tt) in
-      go-first s (λ t. Aged born now t × Replayed j s t.cluster × ((q : ℕ) → t.lost p q ≡ s.lost p q)) (Takes true false (Replays p j)) m refl
-      ([], tt, tt, (step-aged born now s (Takes true false (Replays p j)) refl h.aged m, split (nat_lt (s.cluster.world.saved p + suc j) (length (s.cluster.world.history p))) refl, λ q. refl))
+      let m : MayStep s (Acts true false (Replays p j)) = (((h.node, h.live, e), tt), tt) in
+      go-first s (λ t. Aged born now t × Replayed j s t.cluster × ((q : ℕ) → t.lost p q ≡ s.lost p q)) (Acts true false (Replays p j)) m refl
+      ([], tt, tt, (step-aged born now s (Acts true false (Replays p j)) refl h.aged m, split (nat_lt (s.cluster.world.saved p + suc j) (length (s.cluster.world.history p))) refl, λ q. refl))
     where
       turned : (x : Phase) → ((s.cluster.world.saved p + suc j < length (s.cluster.world.history p)) × (x ≡ Replaying (suc j) false false)) ⊎ (x ≡ phase_with (peers s.cluster.world p false)) → Replayed j s (record s.cluster { world = record s.cluster.world { phase = put s.cluster.world.phase p x } })
       turned x n =

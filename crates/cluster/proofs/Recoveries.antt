@@ -13,7 +13,8 @@ use Rattle.cluster.specs.Parcels.{reaches}
 use Rattle.cluster.specs.Cluster.{Live, Collecting, Collected, Cluster, runs}
 use Rattle.cluster.specs.Rules.{Recovers, IsNode, IsAll, entry_in, told_by, taken_back, goes_on}
 use Rattle.cluster.proofs.Growth.{either-way}
-use Rattle.cluster.specs.Exact.{Telling, Takes, MayStep}
+use Rattle.cluster.specs.Overlap.{Acts}
+use Rattle.cluster.specs.Exact.{Telling, MayStep}
 use Rattle.cluster.specs.Return.{CanGo}
 use Rattle.cluster.proofs.Ages.{IsEnding}
 use Rattle.cluster.proofs.DurableTurns.{put-other}
@@ -109,13 +110,13 @@ module _ (p : ℕ) (s : Telling) (h : Orderly s) (node : IsNode s.cluster p) (re
     where
       go : (k : ℕ) × Stops (told_by s.cluster p) had (s.cluster.world.saved p) long k → CanGo s (λ t. Orderly t × Recovered p s t.cluster)
       go e =
-          let m : MayStep s (Takes true false (Recovers p e.0)) = (((node, coll, all, e.1.0, e.1.1, e.1.2), tt), tt) in
-          go-first s (λ t. Orderly t × Recovered p s t.cluster) (Takes true false (Recovers p e.0)) m refl (
+          let m : MayStep s (Acts true false (Recovers p e.0)) = (((node, coll, all, e.1.0, e.1.1, e.1.2), tt), tt) in
+          go-first s (λ t. Orderly t × Recovered p s t.cluster) (Acts true false (Recovers p e.0)) m refl (
             [],
             tt,
             tt,
             (
-              orderly-step s (Takes true false (Recovers p e.0)) h m,
+              orderly-step s (Acts true false (Recovers p e.0)) h m,
               either-way (nat_lt (s.cluster.world.saved p) e.0) (record (taken_back s.cluster p e.0) { world = record (taken_back s.cluster p e.0).world { phase = put s.cluster.world.phase p (Replaying 0 false false) } })
                   (goes_on (taken_back s.cluster p e.0) p (peers s.cluster.world p false)) (Recovered p s) (turned e.0 (Replaying 0 false false)) (turned e.0 (phase_with (peers s.cluster.world p false))),
             ),

@@ -11,8 +11,8 @@ use Rattle.cluster.specs.Promises.{NoOrphanNode, OutputOnce, ReceivedOnce}
 use Rattle.cluster.proofs.Facts.{choose2, true-not-false}
 use Rattle.cluster.proofs.Growth.{either-way}
 use Rattle.cluster.proofs.Promised.{nodes-keep}
-use Rattle.cluster.specs.Overlap.{Events, after_events}
-use Rattle.cluster.specs.Exact.{Flagged, flagged, Said, Telling, starts, Step, Takes, Meeting, Losing, Leaving, Says, step, Steps, after_steps, AlwaysExact, acts_of, events_of, StepsAreEvents, ExactRunsDontMeet, ExactRunsKeep}
+use Rattle.cluster.specs.Overlap.{Event, Acts, Meets, Loses, Leaves, Events, after_events}
+use Rattle.cluster.specs.Exact.{Flagged, flagged, Said, Telling, starts, Says, step, Steps, after_steps, AlwaysExact, acts_of, StepsAreEvents, ExactRunsDontMeet, ExactRunsKeep}
 
 -- whether it is an answer to Ask
 abbrev is_told : Body → Bool
@@ -83,7 +83,7 @@ module _ (s : Telling) (ps : List Parcel) (h : Follows s ps) (exact lost : Bool)
   one-said : (x : Parcel) (z : Bool) (y : Flagged) → Said y (flagged x z false ∷ s.said) → y.lost ≡ false → In y.packet (x ∷ ps)
   one-said x z y i e = elim i [ inl f ↦ inl (ap (λ (w : Flagged). w.packet) f) | inr f ↦ inr (h.told y f e) ]
 
-  follows : (a : Act) → Nothing lost a → Follows (step s (Takes exact lost a)) (more a ps)
+  follows : (a : Act) → Nothing lost a → Follows (step s (Acts exact lost a)) (more a ps)
   follows (Arrives q p (Restored i j n r (Some u) f)) g = h
   follows (Puts p d (Delivery i ssn x)) g = record { others = one-more (parcel p d (Delivery i ssn x)); told = λ y i e. inr (h.told y i e); found = h.found }
   follows (Puts p d (Number i ssn k)) g = record { others = one-more (parcel p d (Number i ssn k)); told = λ y i e. inr (h.told y i e); found = h.found }
@@ -106,7 +106,7 @@ module _ (s : Telling) (ps : List Parcel) (h : Follows s ps) (exact lost : Bool)
   follows act g = h
 
 -- all are exact where such a run begins
-first-exact : (s : Telling) (xs : List Step) → AlwaysExact s xs → (p : ℕ) → s.exact p ≡ true
+first-exact : (s : Telling) (xs : List Event) → AlwaysExact s xs → (p : ℕ) → s.exact p ≡ true
 first-exact s [] e p = e p
 first-exact s (x ∷ xs) e p = e.0 p
 
@@ -115,39 +115,39 @@ not-lost true e = absurd (cc)
 not-lost false e = refl
 
 -- a node that is exact after it took a Told was told of nothing lost
-nothing : (s : Telling) (exact lost : Bool) (a : Act) → ((p : ℕ) → (step s (Takes exact lost a)).exact p ≡ true) → Nothing lost a
+nothing : (s : Telling) (exact lost : Bool) (a : Act) → ((p : ℕ) → (step s (Acts exact lost a)).exact p ≡ true) → Nothing lost a
 nothing s exact lost (Arrives q p (Told i j k u f)) e =
     let now : (s.exact p && (exact && not lost)) ≡ true = at-itself p (λ b. (if b then s.exact p && (exact && not lost) else s.exact p) ≡ true → (s.exact p && (exact && not lost)) ≡ true) (λ z. z) (e p) in
     not-lost lost (both exact (not lost) (both (s.exact p) (exact && not lost) now).1).1
 nothing s exact lost act e = tt
 
 -- and what it takes is among the packets that say so
-got : (s : Telling) (ps : List Parcel) → Follows s ps → (exact lost : Bool) (a : Act) → Nothing lost a → Says s exact lost a → Got ps a
+got : (s : Telling) (ps : List Parcel) → Follows s ps → (exact lost : Bool) (a : Act) → Nothing lost a → Says s (Acts exact lost a) → Got ps a
 got s ps h exact lost (Arrives q p (Told i j k u f)) n y = h.told (flagged (parcel q p (Told i j k u f)) exact lost) y n
 got s ps h exact lost act n y = tt
 
 -- the acts are a run from a cluster with these packets, and lead where the steps lead, but for packets
-abbrev Along : Telling → List Step → Cluster → Type 0
+abbrev Along : Telling → List Event → Cluster → Type 0
 Along s xs c = (qs : List Parcel) × Run c (acts_of xs) × (after_run c (acts_of xs) ≡ among (after_steps s xs).cluster qs)
 
-along : (s : Telling) (ps : List Parcel) (xs : List Step) → Follows s ps → Steps s xs → AlwaysExact s xs → Along s xs (among s.cluster ps)
+along : (s : Telling) (ps : List Parcel) (xs : List Event) → Follows s ps → Steps s xs → AlwaysExact s xs → Along s xs (among s.cluster ps)
 along s ps [] h run e = (ps, tt, refl)
-along s ps (Takes exact lost a ∷ xs) h run e =
-    let n : Nothing lost a = nothing s exact lost a (first-exact (step s (Takes exact lost a)) xs e.1) in
-    let P : Cluster → Type 0 = λ c. Along (step s (Takes exact lost a)) xs c in
-    let t = subst P (sym (does-among s.cluster ps a)) (along (step s (Takes exact lost a)) (more a ps) xs (follows s ps h exact lost a n) run.1 e.1) in
+along s ps (Acts exact lost a ∷ xs) h run e =
+    let n : Nothing lost a = nothing s exact lost a (first-exact (step s (Acts exact lost a)) xs e.1) in
+    let P : Cluster → Type 0 = λ c. Along (step s (Acts exact lost a)) xs c in
+    let t = subst P (sym (does-among s.cluster ps a)) (along (step s (Acts exact lost a)) (more a ps) xs (follows s ps h exact lost a n) run.1 e.1) in
     (t.0, (may-among s.cluster ps h.others a (got s ps h exact lost a n run.0.1) run.0.0.0, t.1), t.2)
-along s ps (Meeting q p i k ∷ xs) h run e = absurd (true-not-false (first-exact (step s (Meeting q p i k)) xs e.1 q) (at-itself q (λ b. (if b then false else s.exact q) ≡ false) refl))
-along s ps (Losing q p i j k ∷ xs) h run e = along (step s (Losing q p i j k)) ps xs (record { others = others; told = told; found = h.found }) run.1 e.1
+along s ps (Meets q p i k ∷ xs) h run e = absurd (true-not-false (first-exact (step s (Meets q p i k)) xs e.1 q) (at-itself q (λ b. (if b then false else s.exact q) ≡ false) refl))
+along s ps (Loses q p i j k ∷ xs) h run e = along (step s (Loses q p i j k)) ps xs (record { others = others; told = told; found = h.found }) run.1 e.1
   where
-    others : (x : Parcel) → is_told x.body ≡ false → In x (step s (Losing q p i j k)).cluster.parcels → In x ps
+    others : (x : Parcel) → is_told x.body ≡ false → In x (step s (Loses q p i j k)).cluster.parcels → In x ps
     others x f a = elim a [ inl y ↦ absurd (let z : is_told x.body ≡ true = ap (λ (w : Parcel). is_told w.body) y in true-not-false z f) | inr y ↦ h.others x f y ]
 
-    told : (y : Flagged) → Said y (step s (Losing q p i j k)).said → y.lost ≡ false → In y.packet ps
+    told : (y : Flagged) → Said y (step s (Loses q p i j k)).said → y.lost ≡ false → In y.packet ps
     told y a f = elim a [ inl z ↦ absurd (let w : y.lost ≡ true = ap (λ (v : Flagged). v.lost) z in true-not-false w f) | inr z ↦ h.told y z f ]
-along s ps (Leaving p q ∷ xs) h run e = absurd (true-not-false run.0.1 (h.found p q))
+along s ps (Leaves p q ∷ xs) h run e = absurd (true-not-false run.0.1 (h.found p q))
 
-exact-along : (n : ℕ) (f : Handlers) (durable : ℕ → Bool) (xs : List Step) → Steps (starts n f durable) xs → AlwaysExact (starts n f durable) xs → Along (starts n f durable) xs (opening n f)
+exact-along : (n : ℕ) (f : Handlers) (durable : ℕ → Bool) (xs : List Event) → Steps (starts n f durable) xs → AlwaysExact (starts n f durable) xs → Along (starts n f durable) xs (opening n f)
 exact-along n f durable xs r e = along (starts n f durable) [] xs (record { others = λ x t i. i; told = λ y i t. absurd i; found = λ p q. refl }) r e
 
 pub exact-runs-dont-meet : ExactRunsDontMeet
@@ -162,13 +162,10 @@ exact-runs-keep n f durable xs l g r e =
     let P : Cluster → Type 0 = λ c. NoOrphanNode c × OutputOnce c × ReceivedOnce c in
     subst P t.2 (nodes-keep n f (acts_of xs) l g t.1)
 
--- a step leaves what its event leaves: so the steps are events, one by one
-along-events : (s : Telling) (xs : List Step) → Steps s xs → Events s.durable s.cluster (events_of xs) × (after_events s.cluster (events_of xs) ≡ (after_steps s xs).cluster)
+-- so they are, whatever packets say
+along-events : (s : Telling) (es : List Event) → Steps s es → Events s.durable s.cluster es × (after_events s.cluster es ≡ (after_steps s es).cluster)
 along-events s [] r = (tt, refl)
-along-events s (Takes exact lost a ∷ xs) r = let t = along-events (step s (Takes exact lost a)) xs r.1 in ((r.0.0, t.0), t.1)
-along-events s (Meeting q p i k ∷ xs) r = let t = along-events (step s (Meeting q p i k)) xs r.1 in ((r.0, t.0), t.1)
-along-events s (Losing q p i j k ∷ xs) r = let t = along-events (step s (Losing q p i j k)) xs r.1 in ((r.0, t.0), t.1)
-along-events s (Leaving p q ∷ xs) r = let t = along-events (step s (Leaving p q)) xs r.1 in ((r.0.0, t.0), t.1)
+along-events s (e ∷ es) r = let t = along-events (step s e) es r.1 in ((r.0.0, t.0), t.1)
 
 pub steps-are-events : StepsAreEvents
-steps-are-events n f durable xs r = along-events (starts n f durable) xs r
+steps-are-events n f durable es r = along-events (starts n f durable) es r

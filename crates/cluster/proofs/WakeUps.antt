@@ -6,19 +6,20 @@ use Rattle.world.specs.Phases.{Phase, Up, Busy, Down, Replaying, Resync, is_up}
 use Rattle.cluster.specs.Cluster.{Stage, Live, Frozen, Dead, Collecting, Cluster, is_well}
 use Rattle.cluster.specs.Rules.{Works, Keeps, Thaws, Opens, IsNode}
 use Rattle.cluster.proofs.Facts.{well-is, true-not-false}
-use Rattle.cluster.specs.Exact.{Telling, Step, Takes, MayStep, step, Steps, after_steps}
+use Rattle.cluster.specs.Overlap.{Event, Acts}
+use Rattle.cluster.specs.Exact.{Telling, MayStep, step, Steps, after_steps}
 use Rattle.cluster.specs.Return.{is_quiet, AllQuiet, CanGo}
 use Rattle.cluster.proofs.DurableTurns.{put-other}
 use Rattle.cluster.proofs.Births.{put-same, Orderly, orderly-step}
 
 -- one step more, and one way behind another
-pub go-first : (s : Telling) (P : Telling → Type 0) (x : Step) → MayStep s x → is_quiet x ≡ true → CanGo (step s x) P → CanGo s P
+pub go-first : (s : Telling) (P : Telling → Type 0) (x : Event) → MayStep s x → is_quiet x ≡ true → CanGo (step s x) P → CanGo s P
 go-first s P x may quiet r = (x ∷ r.0, (may, r.1), (quiet, r.2), r.3)
 
 pub go-on : (s : Telling) (P Q : Telling → Type 0) → CanGo s P → ((t : Telling) → P t → CanGo t Q) → CanGo s Q
 go-on s P Q r more = along r.0 s r.1 r.2 r.3
   where
-    along : (xs : List Step) (s : Telling) → Steps s xs → AllQuiet xs → P (after_steps s xs) → CanGo s Q
+    along : (xs : List Event) (s : Telling) → Steps s xs → AllQuiet xs → P (after_steps s xs) → CanGo s Q
     along [] s a b p = more s p
     along (x ∷ xs) s a b p = let u = along xs (step s x) a.1 b.1 p in (x ∷ u.0, (a.0, u.1), (b.0, u.2), u.3)
 
@@ -55,13 +56,13 @@ module _ (q : ℕ) where
       split false g x e = stays (inr (live, λ w. absurd (true-not-false (well-is s.cluster q w).1 g)))
       split true g Up e = stays (inr (live, λ _. e))
       split true g (Busy m) e =
-          let may : MayStep s (Takes true false (Works q m)) = (((node, (rw (live, g, e) refl), e), tt), tt) in
-          go-first s (Roused q s) (Takes true false (Works q m)) may refl (
+          let may : MayStep s (Acts true false (Works q m)) = (((node, (rw (live, g, e) refl), e), tt), tt) in
+          go-first s (Roused q s) (Acts true false (Works q m)) may refl (
             [],
             tt,
             tt,
             record {
-              orderly = orderly-step s (Takes true false (Works q m)) h may;
+              orderly = orderly-step s (Acts true false (Works q m)) h may;
               count = refl;
               ready = inr (live, λ _. put-same s.cluster.world.phase q Up);
               others = λ r n. (refl, refl, put-other s.cluster.world.phase q Up r n);
@@ -78,25 +79,25 @@ module _ (q : ℕ) where
       split Live e = awake s h node e
       split Collecting e = ([], tt, tt, record { orderly = h; count = refl; ready = inl e; others = λ r _. (refl, refl, refl) })
       split Dead e =
-          let may : MayStep s (Takes true false (Opens q 0)) = (((node, e), tt), tt) in
-          go-first s (Roused q s) (Takes true false (Opens q 0)) may refl (
+          let may : MayStep s (Acts true false (Opens q 0)) = (((node, e), tt), tt) in
+          go-first s (Roused q s) (Acts true false (Opens q 0)) may refl (
             [],
             tt,
             tt,
             record {
-              orderly = orderly-step s (Takes true false (Opens q 0)) h may;
+              orderly = orderly-step s (Acts true false (Opens q 0)) h may;
               count = refl;
               ready = inl (put-same s.cluster.stage q Collecting);
               others = λ r n. (put-other s.cluster.stage q Collecting r n, refl, refl);
             },
           )
       split Frozen e =
-          let may : MayStep s (Takes true false (Keeps q)) = (((node, e), tt), tt) in
-          let thaws : MayStep (step s (Takes true false (Keeps q))) (Takes true false (Thaws q)) = (((node, e, put-same s.cluster.world.saved q _), tt), tt) in
-          let g : Orderly (step (step s (Takes true false (Keeps q))) (Takes true false (Thaws q))) = orderly-step _ (Takes true false (Thaws q)) (orderly-step s (Takes true false (Keeps q)) h may) thaws in
-          go-first s (Roused q s) (Takes true false (Keeps q)) may refl
-          (go-first (step s (Takes true false (Keeps q))) (Roused q s) (Takes true false (Thaws q)) thaws refl
-          (go-on (step (step s (Takes true false (Keeps q))) (Takes true false (Thaws q))) (Roused q (step (step s (Takes true false (Keeps q))) (Takes true false (Thaws q)))) (Roused q s) (awake (step (step s (Takes true false (Keeps q))) (Takes true false (Thaws q))) g node (put-same s.cluster.stage q Live)) (λ v r. (
+          let may : MayStep s (Acts true false (Keeps q)) = (((node, e), tt), tt) in
+          let thaws : MayStep (step s (Acts true false (Keeps q))) (Acts true false (Thaws q)) = (((node, e, put-same s.cluster.world.saved q _), tt), tt) in
+          let g : Orderly (step (step s (Acts true false (Keeps q))) (Acts true false (Thaws q))) = orderly-step _ (Acts true false (Thaws q)) (orderly-step s (Acts true false (Keeps q)) h may) thaws in
+          go-first s (Roused q s) (Acts true false (Keeps q)) may refl
+          (go-first (step s (Acts true false (Keeps q))) (Roused q s) (Acts true false (Thaws q)) thaws refl
+          (go-on (step (step s (Acts true false (Keeps q))) (Acts true false (Thaws q))) (Roused q (step (step s (Acts true false (Keeps q))) (Acts true false (Thaws q)))) (Roused q s) (awake (step (step s (Acts true false (Keeps q))) (Acts true false (Thaws q))) g node (put-same s.cluster.stage q Live)) (λ v r. (
             [],
             tt,
             tt,

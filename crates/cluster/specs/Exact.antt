@@ -3,7 +3,7 @@ use Rattle.std.specs.Prelude.{◌≡◌, ◌⊎◌, ℕ, ◌≤◌, List, [], �
 use Rattle.world.specs.Handlers.{Handlers}
 use Rattle.world.specs.World.{put}
 use Rattle.theorems.specs.Growth.{Grows}
-use Rattle.cluster.specs.Parcels.{Body, Ask, Told, Restored, Parcel, parcel}
+use Rattle.cluster.specs.Parcels.{Ask, Told, Restored, Parcel, parcel}
 use Rattle.cluster.specs.Cluster.{Cluster, opening}
 use Rattle.cluster.specs.Rules.{Act, Puts, Arrives, Opens, put2, Run, after_run}
 use Rattle.cluster.specs.Promises.{NoOrphanNode, OutputOnce, ReceivedOnce}
@@ -39,108 +39,74 @@ pub record Telling : Type 0 where
 abbrev pub starts : ℕ → Handlers → (ℕ → Bool) → Telling
 starts n f durable = record { durable = durable; cluster = opening n f; exact = λ _. true; lost = λ _ _. false; said = [] }
 
--- what may happen
-pub data Step : Type 0 where
-  -- an act by the rules for recoveries that don't meet. If it takes a Told or Restored: whether the teller is exact, and whether it lost
-  -- what it had
-  Takes : Bool → Bool → Act → Step
-  -- q, p, incarnation, RSN: q, which is recovering itself, hears a newer Ask of p, and is no longer exact
-  Meeting : ℕ → ℕ → ℕ → ℕ → Step
-  -- q, p, incarnations of p and of q, RSN: q is recovering itself, and tells p that it lost what it had for p
-  Losing : ℕ → ℕ → ℕ → ℕ → ℕ → Step
-  -- p, q: p doesn't wait for q's answer, since q said that it lost it
-  Leaving : ℕ → ℕ → Step
+-- the packet that is taken said this; and p doesn't wait for q only if q said that it lost what it had
+abbrev pub Says : Telling → Event → Type 0
+Says s (Acts exact lost (Arrives p d (Told i j k u f))) = Said (flagged (parcel p d (Told i j k u f)) exact lost) s.said
+Says s (Acts exact lost (Arrives p d (Restored i j n r u f))) = Said (flagged (parcel p d (Restored i j n r u f)) exact lost) s.said
+Says s (Leaves p q) = s.lost p q ≡ true
+Says s e = Unit {0}
 
--- the packet that an act takes said this
-abbrev pub Says : Telling → Bool → Bool → Act → Type 0
-Says s exact lost (Arrives p d (Told i j k u f)) = Said (flagged (parcel p d (Told i j k u f)) exact lost) s.said
-Says s exact lost (Arrives p d (Restored i j n r u f)) = Said (flagged (parcel p d (Restored i j n r u f)) exact lost) s.said
-Says s exact lost a = Unit {0}
+-- when each event may happen
+abbrev pub MayStep : Telling → Event → Type 0
+MayStep s e = Might s.durable s.cluster e × Says s e
 
--- when each may happen
-abbrev pub MayStep : Telling → Step → Type 0
-MayStep s (Takes exact lost a) = Might s.durable s.cluster (Acts a) × Says s exact lost a
-MayStep s (Meeting q p i k) = Might s.durable s.cluster (Meets q p i k)
-MayStep s (Losing q p i j k) = Might s.durable s.cluster (Loses q p i j k)
-MayStep s (Leaving p q) = Might s.durable s.cluster (Leaves p q) × (s.lost p q ≡ true)
-
--- who is exact after an act. A node that is opened again has forgotten that it wasn't
-abbrev pub exact_after : (ℕ → Bool) → Bool → Bool → Act → ℕ → Bool
-exact_after f exact lost (Arrives p d (Told i j k u g)) = put f d (f d && (exact && not lost))
-exact_after f exact lost (Arrives p d (Restored i j n r u g)) = put f d (f d && exact)
-exact_after f exact lost (Opens p n) = put f p true
-exact_after f exact lost a = f
+-- who is exact after an event. A node that is opened again has forgotten that it wasn't
+abbrev pub exact_after : (ℕ → Bool) → Event → ℕ → Bool
+exact_after f (Acts exact lost (Arrives p d (Told i j k u g))) = put f d (f d && (exact && not lost))
+exact_after f (Acts exact lost (Arrives p d (Restored i j n r u g))) = put f d (f d && exact)
+exact_after f (Acts exact lost (Opens p n)) = put f p true
+exact_after f (Meets q p i k) = put f q false
+exact_after f e = f
 
 -- which peers said that they lost what they had. A node that asks anew was told nothing
-abbrev pub lost_after : (ℕ → ℕ → Bool) → Bool → Act → ℕ → ℕ → Bool
-lost_after f lost (Arrives p d (Told i j k u g)) = put2 f d p lost
-lost_after f lost (Arrives p d (Ask i k)) = put2 f d p false
-lost_after f lost (Opens p n) = put f p (λ _. false)
-lost_after f lost a = f
+abbrev pub lost_after : (ℕ → ℕ → Bool) → Event → ℕ → ℕ → Bool
+lost_after f (Acts exact lost (Arrives p d (Told i j k u g))) = put2 f d p lost
+lost_after f (Acts exact lost (Arrives p d (Ask i k))) = put2 f d p false
+lost_after f (Acts exact lost (Opens p n)) = put f p (λ _. false)
+lost_after f e = f
 
--- what a packet says when it is sent
-abbrev pub also_said : Telling → ℕ → ℕ → Body → List Flagged
-also_said s p d (Told i j k u f) = flagged (parcel p d (Told i j k u f)) (s.exact p) false ∷ s.said
-also_said s p d (Restored i j n r u f) = flagged (parcel p d (Restored i j n r u f)) (s.exact p) false ∷ s.said
-also_said s p d x = s.said
+-- what packets said, after an event
+abbrev pub said_after : Telling → Event → List Flagged
+said_after s (Acts exact lost (Puts p d (Told i j k u f))) = flagged (parcel p d (Told i j k u f)) (s.exact p) false ∷ s.said
+said_after s (Acts exact lost (Puts p d (Restored i j n r u f))) = flagged (parcel p d (Restored i j n r u f)) (s.exact p) false ∷ s.said
+said_after s (Loses q p i j k) = flagged (parcel q p (Told i j k None (λ _. None))) false true ∷ s.said
+said_after s e = s.said
 
--- the packets that were said, after an act
-abbrev pub said_after : Telling → Act → List Flagged
-said_after s (Puts p d x) = also_said s p d x
-said_after s a = s.said
-
--- what each step changes
-abbrev pub step : Telling → Step → Telling
-step s (Takes exact lost a) = record {
+-- what each event changes
+abbrev pub step : Telling → Event → Telling
+step s e = record {
   durable = s.durable;
-  cluster = goes s.cluster (Acts a);
-  exact = exact_after s.exact exact lost a;
-  lost = lost_after s.lost lost a;
-  said = said_after s a;
+  cluster = goes s.cluster e;
+  exact = exact_after s.exact e;
+  lost = lost_after s.lost e;
+  said = said_after s e;
 }
-step s (Meeting q p i k) = record s { cluster = goes s.cluster (Meets q p i k); exact = put s.exact q false }
-step s (Losing q p i j k) = record s {
-  cluster = goes s.cluster (Loses q p i j k);
-  said = flagged (parcel q p (Told i j k None (λ _. None))) false true ∷ s.said;
-}
-step s (Leaving p q) = record s { cluster = goes s.cluster (Leaves p q) }
 
--- a run: a list of steps, each of which may happen after those before it
-abbrev pub Steps : Telling → List Step → Type 0
+-- a run of the whole rules
+abbrev pub Steps : Telling → List Event → Type 0
 Steps s [] = Unit {0}
-Steps s (x ∷ xs) = MayStep s x × Steps (step s x) xs
+Steps s (e ∷ es) = MayStep s e × Steps (step s e) es
 
--- the cluster after these steps
-abbrev pub after_steps : Telling → List Step → Telling
+-- the cluster after these events
+abbrev pub after_steps : Telling → List Event → Telling
 after_steps s [] = s
-after_steps s (x ∷ xs) = after_steps (step s x) xs
+after_steps s (e ∷ es) = after_steps (step s e) es
 
--- every node is exact at each step of it
-abbrev pub AlwaysExact : Telling → List Step → Type 0
+-- every node is exact before and after each event
+abbrev pub AlwaysExact : Telling → List Event → Type 0
 AlwaysExact s [] = (p : ℕ) → s.exact p ≡ true
-AlwaysExact s (x ∷ xs) = ((p : ℕ) → s.exact p ≡ true) × AlwaysExact (step s x) xs
+AlwaysExact s (e ∷ es) = ((p : ℕ) → s.exact p ≡ true) × AlwaysExact (step s e) es
 
 -- the acts of a run in which no recoveries meet
-abbrev pub acts_of : List Step → List Act
+abbrev pub acts_of : List Event → List Act
 acts_of [] = []
-acts_of (Takes exact lost a ∷ xs) = a ∷ acts_of xs
-acts_of (Meeting q p i k ∷ xs) = acts_of xs
-acts_of (Losing q p i j k ∷ xs) = acts_of xs
-acts_of (Leaving p q ∷ xs) = acts_of xs
+acts_of (Acts exact lost a ∷ es) = a ∷ acts_of es
+acts_of (e ∷ es) = acts_of es
 
--- the events of any run
-abbrev pub events_of : List Step → List Event
-events_of [] = []
-events_of (Takes exact lost a ∷ xs) = Acts a ∷ events_of xs
-events_of (Meeting q p i k ∷ xs) = Meets q p i k ∷ events_of xs
-events_of (Losing q p i j k ∷ xs) = Loses q p i j k ∷ events_of xs
-events_of (Leaving p q ∷ xs) = Leaves p q ∷ events_of xs
-
--- the events of a run may happen: so it keeps their promises whatever fails
+-- a run of the whole rules is one of events, whatever packets say: so it keeps their promises whatever fails
 abbrev pub StepsAreEvents : Type 0
-StepsAreEvents = (n : ℕ) (f : Handlers) (durable : ℕ → Bool) (xs : List Step) → Steps (starts n f durable) xs
-    → Events durable (opening n f) (events_of xs)
-    × (after_events (opening n f) (events_of xs) ≡ (after_steps (starts n f durable) xs).cluster)
+StepsAreEvents = (n : ℕ) (f : Handlers) (durable : ℕ → Bool) (es : List Event) → Steps (starts n f durable) es
+    → Events durable (opening n f) es × (after_events (opening n f) es ≡ (after_steps (starts n f durable) es).cluster)
 
 -- these acts are a run of nodes whose recoveries don't meet. They lead where the steps lead, except for packets that say that something is
 -- lost
@@ -150,12 +116,12 @@ IsRunOf n f acts c =
 
 -- so is each run in which every node was always exact
 abbrev pub ExactRunsDontMeet : Type 0
-ExactRunsDontMeet = (n : ℕ) (f : Handlers) (durable : ℕ → Bool) (xs : List Step) → Steps (starts n f durable) xs → AlwaysExact (starts n f durable) xs
-    → IsRunOf n f (acts_of xs) (after_steps (starts n f durable) xs).cluster
+ExactRunsDontMeet = (n : ℕ) (f : Handlers) (durable : ℕ → Bool) (es : List Event) → Steps (starts n f durable) es → AlwaysExact (starts n f durable) es
+    → IsRunOf n f (acts_of es) (after_steps (starts n f durable) es).cluster
 
 -- so it keeps the promises of such a run
 abbrev pub ExactRunsKeep : Type 0
-ExactRunsKeep = (n : ℕ) (f : Handlers) (durable : ℕ → Bool) (xs : List Step) → n ≤ 15 → Grows f → Steps (starts n f durable) xs
-    → AlwaysExact (starts n f durable) xs
-    → NoOrphanNode (after_steps (starts n f durable) xs).cluster × OutputOnce (after_steps (starts n f durable) xs).cluster
-    × ReceivedOnce (after_steps (starts n f durable) xs).cluster
+ExactRunsKeep = (n : ℕ) (f : Handlers) (durable : ℕ → Bool) (es : List Event) → n ≤ 15 → Grows f → Steps (starts n f durable) es
+    → AlwaysExact (starts n f durable) es
+    → NoOrphanNode (after_steps (starts n f durable) es).cluster × OutputOnce (after_steps (starts n f durable) es).cluster
+    × ReceivedOnce (after_steps (starts n f durable) es).cluster

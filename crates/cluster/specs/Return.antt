@@ -4,7 +4,8 @@ use Rattle.std.proofs.Common.{◌≢◌}
 use Rattle.world.specs.Handlers.{Handlers}
 use Rattle.cluster.specs.Cluster.{Cluster, opening, is_well}
 use Rattle.cluster.specs.Rules.{Act, Input, Dies, IsNode, Run, after_run, FromOpening}
-use Rattle.cluster.specs.Exact.{Telling, starts, Step, Takes, Steps, after_steps}
+use Rattle.cluster.specs.Overlap.{Event, Acts}
+use Rattle.cluster.specs.Exact.{Telling, starts, Steps, after_steps}
 
 -- whether a process dies
 abbrev pub is_death : Act → Bool
@@ -32,23 +33,23 @@ LoneComesBack = (n : ℕ) (f : Handlers) (acts : List Act) (p : ℕ) → FromOpe
     → ((q : ℕ) → IsNode (after_run (opening n f) acts) q → q ≢ p → is_well (after_run (opening n f) acts) q ≡ true)
     → CanReach (after_run (opening n f) acts) AllUp
 
--- a step that is no failure and needs nothing from outside: no node dies, and the gateway gets no input
-abbrev pub is_quiet : Step → Bool
-is_quiet (Takes exact lost (Dies p)) = false
-is_quiet (Takes exact lost (Input d x)) = false
-is_quiet x = true
+-- an event that is no failure and needs nothing from outside: no node dies, and the gateway gets no input
+abbrev pub is_quiet : Event → Bool
+is_quiet (Acts exact lost (Dies p)) = false
+is_quiet (Acts exact lost (Input d x)) = false
+is_quiet e = true
 
--- in none of these steps a process dies or is doubted
-abbrev pub AllQuiet : List Step → Type 0
+-- all of these are
+abbrev pub AllQuiet : List Event → Type 0
 AllQuiet [] = Unit {0}
-AllQuiet (x ∷ xs) = (is_quiet x ≡ true) × AllQuiet xs
+AllQuiet (e ∷ es) = (is_quiet e ≡ true) × AllQuiet es
 
--- by such steps alone the nodes can go on to where this holds
+-- by such events alone the nodes can go on to where this holds
 abbrev pub CanGo : Telling → (Telling → Type 0) → Type 0
-CanGo s P = (xs : List Step) × Steps s xs × AllQuiet xs × P (after_steps s xs)
+CanGo s P = (es : List Event) × Steps s es × AllQuiet es × P (after_steps s es)
 
 -- after any run of the whole rules, whatever failed, with any number of nodes down or recovering and any packets on the way: the nodes can
 -- go on until all are up
 abbrev pub AllComeBack : Type 0
-AllComeBack = (n : ℕ) (f : Handlers) (durable : ℕ → Bool) (xs : List Step) → Steps (starts n f durable) xs
-    → CanGo (after_steps (starts n f durable) xs) (λ s. AllUp s.cluster)
+AllComeBack = (n : ℕ) (f : Handlers) (durable : ℕ → Bool) (es : List Event) → Steps (starts n f durable) es
+    → CanGo (after_steps (starts n f durable) es) (λ s. AllUp s.cluster)
