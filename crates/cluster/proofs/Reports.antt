@@ -154,7 +154,7 @@ pub exact-runs-dont-meet : ExactRunsDontMeet
 exact-runs-dont-meet n f durable xs r e =
     let t = exact-along n f durable xs r e in
     let P : List Parcel → Type 0 = λ qs. after_run (opening n f) (acts_of xs) ≡ among (after_steps (starts n f durable) xs).cluster qs in
-    record { run = t.1; same = subst P (sym (ap (λ (c : Cluster). c.parcels) t.2)) t.2 }
+    (t.1, subst P (sym (ap (λ (c : Cluster). c.parcels) t.2)) t.2)
 
 pub exact-runs-keep : ExactRunsKeep
 exact-runs-keep n f durable xs l g r e =

@@ -112,11 +112,12 @@ StepsAreEvents = (n : ℕ) (f : Handlers) (durable : ℕ → Bool) (es : List Ev
 -- lost
 abbrev pub IsRunOf : ℕ → Handlers → List Act → Cluster → Type 0
 IsRunOf n f acts c =
-    record { run : Run (opening n f) acts; same : after_run (opening n f) acts ≡ record c { parcels = (after_run (opening n f) acts).parcels } }
+    Run (opening n f) acts × (after_run (opening n f) acts ≡ record c { parcels = (after_run (opening n f) acts).parcels })
 
 -- so is each run in which every node was always exact
 abbrev pub ExactRunsDontMeet : Type 0
-ExactRunsDontMeet = (n : ℕ) (f : Handlers) (durable : ℕ → Bool) (es : List Event) → Steps (starts n f durable) es → AlwaysExact (starts n f durable) es
+ExactRunsDontMeet = (n : ℕ) (f : Handlers) (durable : ℕ → Bool) (es : List Event) → Steps (starts n f durable) es
+    → AlwaysExact (starts n f durable) es
     → IsRunOf n f (acts_of es) (after_steps (starts n f durable) es).cluster
 
 -- so it keeps the promises of such a run

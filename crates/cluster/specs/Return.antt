@@ -39,7 +39,7 @@ is_quiet (Acts exact lost (Dies p)) = false
 is_quiet (Acts exact lost (Input d x)) = false
 is_quiet e = true
 
--- all of these are
+-- all of these events are such
 abbrev pub AllQuiet : List Event → Type 0
 AllQuiet [] = Unit {0}
 AllQuiet (e ∷ es) = (is_quiet e ≡ true) × AllQuiet es

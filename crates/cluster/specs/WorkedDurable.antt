@@ -32,7 +32,8 @@ covered x = Freezes 2 ∷ Keeps 2 ∷ Thaws 2 ∷ sends 2 0 (Delivery 1 1 x)
 
 -- both die, and are opened again; node 1 tells node 2, whose checkpoint covers s messages, that what it had is lost
 abbrev pub both_fall : ℕ → List Event
-both_fall s = taken (Dies 1 ∷ Dies 2 ∷ Opens 1 0 ∷ Opens 2 0 ∷ asks 2 0 2 s ++ tells 2 0 2 1 s no_entries ++ asks 2 1 2 s) ++ Loses 1 2 2 2 s ∷ []
+both_fall s =
+    taken (Dies 1 ∷ Dies 2 ∷ Opens 1 0 ∷ Opens 2 0 ∷ asks 2 0 2 s ++ tells 2 0 2 1 s no_entries ++ asks 2 1 2 s) ++ Loses 1 2 2 2 s ∷ []
 
 -- node 2 takes that, and keeps s messages
 abbrev pub keeps : ℕ → List Event
@@ -46,10 +47,11 @@ none_durable p = false
 abbrev pub all_durable : ℕ → Bool
 all_durable p = true
 
--- the run of nodes that aren't durable, until node 1 has told node 2 that what it had is lost; and until node 2 recovers
+-- the run of nodes that aren't durable, until node 1 has told node 2 that what it had is lost
 abbrev pub until_told : Payload → List Event
 until_told x = taken (passed_on x ++ acknowledged x) ++ both_fall 0
 
+-- and then node 2 takes that, and recovers
 abbrev pub told_of_loss : Payload → List Event
 told_of_loss x = until_told x ++ keeps 0
 
