@@ -1,16 +1,17 @@
 -- All nodes come back, those whose lives began last first: whoever isn't up told the others of a loss, or its life began after theirs
-use Rattle.std.proofs.Common.{◌≡◌, ◌≢◌, inl, inr, ℕ, zero, suc, ◌<◌, ◌≤◌, [], Bool, true, false, refl, sym, ap, ◌∙◌, subst, arith}
+use Rattle.std.proofs.Common.{◌≡◌, ◌≢◌, inl, inr, ℕ, zero, suc, ◌<◌, ◌≤◌, List, [], ◌∷◌, Bool, true, false, refl, sym, ap, ◌∙◌, subst, arith}
 use Rattle.std.specs.Prelude.{◌==◌}
 use Rattle.std.proofs.lemmas.Bool.Decides.{nat_tests}
 use Rattle.world.specs.Phases.{Up}
 use Rattle.cluster.specs.Cluster.{Cluster, runs, is_well}
 use Rattle.cluster.specs.Rules.{IsNode}
 use Rattle.cluster.proofs.Facts.{true-not-false}
-use Rattle.cluster.specs.Exact.{Telling, starts, after_steps}
-use Rattle.cluster.specs.Return.{CanGo, AllUp, AllComeBack}
+use Rattle.cluster.specs.Overlap.{Event}
+use Rattle.cluster.specs.Exact.{Telling, starts, step, after_steps}
+use Rattle.cluster.specs.Return.{AllQuiet, AllUp, AllComeBack}
 use Rattle.cluster.proofs.Ages.{is_some, at_stage, has_told, Aged}
 use Rattle.cluster.proofs.Births.{Orderly, always-orderly}
-use Rattle.cluster.proofs.WakeUps.{go-on, IsAwake, AllReady, rouse-all}
+use Rattle.cluster.proofs.WakeUps.{Calm, Goes, go-on, IsAwake, AllReady, rouse-all}
 use Rattle.cluster.proofs.Recoveries.{AllAwake, recover-all}
 use Rattle.cluster.proofs.Raises.{Stand, Raised, well-kept, raise}
 
@@ -62,7 +63,7 @@ module _ (born : ℕ → ℕ) (now : ℕ) where
 
   -- those that began at b come back, one after the other
   these : (b m : ℕ) (s : Telling) → Aged born now s → AllAwake s.cluster → m ≤ suc s.cluster.world.count → Old b s.cluster → Below b m s.cluster
-      → ((t : Telling) → Aged born now t → AllAwake t.cluster → Below b 0 t.cluster → CanGo t Ends) → CanGo s Ends
+      → ((t : Telling) → Aged born now t → AllAwake t.cluster → Below b 0 t.cluster → Goes t Ends) → Goes s Ends
   these b zero s h awake l old below more = more s h awake below
   these b (suc m) s h awake l old below more = split (λ t x y z v w. these b m t x y z v w more) (is_well s.cluster m) refl (born m == b) refl
     where
@@ -73,7 +74,7 @@ module _ (born : ℕ → ℕ) (now : ℕ) where
           one true e = let z : m ≡ q = grind (arith, nat_tests) in let P : ℕ → Type 0 = λ i. is_well t.cluster i ≡ false → born i < b in subst P z here w
           one false e = let z : q ≢ m = grind (arith, nat_tests) in below q (omega arith) (omega arith) (un q w)
 
-      split : ((t : Telling) → Aged born now t → AllAwake t.cluster → m ≤ suc t.cluster.world.count → Old b t.cluster → Below b m t.cluster → CanGo t Ends) → (x : Bool) → is_well s.cluster m ≡ x → (y : Bool) → (born m == b) ≡ y → CanGo s Ends
+      split : ((t : Telling) → Aged born now t → AllAwake t.cluster → m ≤ suc t.cluster.world.count → Old b t.cluster → Below b m t.cluster → Goes t Ends) → (x : Bool) → is_well s.cluster m ≡ x → (y : Bool) → (born m == b) ≡ y → Goes s Ends
       split go true e y f = go s h awake (omega arith) old (past s refl (λ q w. w) (λ w. absurd (true-not-false e w)))
       split go false e false f = go s h awake (omega arith) old (past s refl (λ q w. w) (λ w. let d : born m ≢ b = grind (arith, nat_tests) in let o : born m ≤ b = old m (omega arith) w in omega arith))
       split go false e true f =
@@ -89,7 +90,7 @@ module _ (born : ℕ → ℕ) (now : ℕ) where
           some (suc m) w = omega arith
 
   -- those that began later come first
-  latest-first : (b : ℕ) (s : Telling) → Aged born now s → AllAwake s.cluster → Old b s.cluster → CanGo s Ends
+  latest-first : (b : ℕ) (s : Telling) → Aged born now s → AllAwake s.cluster → Old b s.cluster → Goes s Ends
   latest-first zero s h awake old = these 0 (suc s.cluster.world.count) s h awake (omega arith) old (λ q a c w. absurd (omega arith)) (λ t g up below.
       ([], tt, tt, λ q a. all t below q a (is_well t.cluster q) refl))
     where
@@ -99,9 +100,16 @@ module _ (born : ℕ → ℕ) (now : ℕ) where
   latest-first (suc b) s h awake old = these (suc b) (suc s.cluster.world.count) s h awake (omega arith) old (λ q a c w. absurd (omega arith)) (λ t g up below.
       latest-first b t g up (λ q a w. let l : born q < suc b = below q (omega arith) a w in omega arith))
 
-pub all-come-back : AllComeBack
-all-come-back n f durable xs r =
-    go-on (after_steps (starts n f durable) xs) (λ t. Orderly t × AllReady t.cluster) Ends
-    (rouse-all (after_steps (starts n f durable) xs).cluster.world.count (after_steps (starts n f durable) xs) (always-orderly n f durable xs r) (omega arith) (λ q a b. absurd (omega arith))) (λ t u.
+-- wherever an orderly run led
+pub orderly-back : (s : Telling) → Orderly s → Goes s Ends
+orderly-back s h =
+    go-on s (λ t. Orderly t × AllReady t.cluster) Ends (rouse-all s.cluster.world.count s h (omega arith) (λ q a b. absurd (omega arith))) (λ t u.
     go-on t (λ t. Orderly t × AllAwake t.cluster) Ends (recover-all t.cluster.world.count t u.0 (omega arith) u.1 (λ q a b. absurd (omega arith))) (λ v w.
     latest-first w.0.0 w.0.1 w.0.1 v w.0.2 w.1 (λ q a e. w.0.2.past q)))
+
+calm-quiet : (s : Telling) (es : List Event) → Calm s es → AllQuiet es
+calm-quiet s [] c = tt
+calm-quiet s (e ∷ es) c = (c.0.0, calm-quiet (step s e) es c.1)
+
+pub all-come-back : AllComeBack
+all-come-back n f durable es r = let t = orderly-back (after_steps (starts n f durable) es) (always-orderly n f durable es r) in (t.0, t.1, calm-quiet (after_steps (starts n f durable) es) t.0 t.2, t.3)

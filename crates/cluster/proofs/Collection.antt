@@ -12,10 +12,9 @@ use Rattle.cluster.specs.Rules.{Puts, Arrives, IsNode, Asks, IsAll, entry_of, wi
 use Rattle.cluster.proofs.Facts.{true-not-false}
 use Rattle.cluster.specs.Overlap.{Event, Acts, Meets, Loses, restores_anew}
 use Rattle.cluster.specs.Exact.{flagged, Said, Telling, MayStep, step}
-use Rattle.cluster.specs.Return.{CanGo}
 use Rattle.cluster.proofs.DurableTurns.{put2-same}
 use Rattle.cluster.proofs.Births.{Orderly, orderly-step}
-use Rattle.cluster.proofs.WakeUps.{go-first, go-on, AllReady}
+use Rattle.cluster.proofs.WakeUps.{Goes, two-down, go-first, go-last, go-on, AllReady}
 
 put2-row : {X : Type 0} (f : ℕ → ℕ → X) (a b : ℕ) (x : X) (r c : ℕ) → r ≢ a → put2 f a b x r c ≡ f r c
 put2-row f a b x r c n = let m : (r == a) ≡ false = grind (arith, nat_tests) in rw m refl
@@ -65,8 +64,8 @@ module _ (p q : ℕ) (ne : q ≢ p) where
     abbrev asked : ℕ → Telling
     asked k = step s (Acts true false (Puts p q (Ask (s.cluster.stored p) k)))
 
-    hear : (k : ℕ) → Asks (s.cluster.world.saved p) (s.cluster.told p q) k → CanGo s (Heard p q k s)
-    hear k asks = go-first s (Heard p q k s) (ask k) may refl (split (nat_lt (s.cluster.heard q p) (s.cluster.stored p)) refl)
+    hear : (k : ℕ) → Asks (s.cluster.world.saved p) (s.cluster.told p q) k → Goes s (Heard p q k s)
+    hear k asks = go-first s (Heard p q k s) (ask k) may (refl, λ _ _. refl) (split (nat_lt (s.cluster.heard q p) (s.cluster.stored p)) refl)
       where
         may : MayStep s (Acts true false (Puts p q (Ask (s.cluster.stored p) k)))
         may = (((node.1, a, (λ e. ne (sym e)), (coll, refl, asks)), tt), tt)
@@ -75,61 +74,51 @@ module _ (p q : ℕ) (ne : q ≢ p) where
         g = orderly-step s (Acts true false (Puts p q (Ask (s.cluster.stored p) k))) h may
 
         -- it hears that
-        hears : nat_lt (s.cluster.heard q p) (s.cluster.stored p) ≡ true → (takes s.cluster q ≡ true) ⊎ (s.cluster.stage q ≡ Collecting) → CanGo (asked k) (Heard p q k s)
+        hears : nat_lt (s.cluster.heard q p) (s.cluster.stored p) ≡ true → (takes s.cluster q ≡ true) ⊎ (s.cluster.stage q ≡ Collecting) → Goes (asked k) (Heard p q k s)
         hears e t =
             let x : Event = Acts true false (Arrives p q (Ask (s.cluster.stored p) k)) in
             let m : MayStep (step s (Acts true false (Puts p q (Ask (s.cluster.stored p) k)))) (Acts true false (Arrives p q (Ask (s.cluster.stored p) k))) = (((inl refl, (grind (arith, nat_tests), t)), tt), tt) in
-            go-first (asked k) (Heard p q k s) (Acts true false (Arrives p q (Ask (s.cluster.stored p) k))) m refl (
-              [],
-              tt,
-              tt,
-              record {
-                orderly = orderly-step (asked k) (Acts true false (Arrives p q (Ask (s.cluster.stored p) k))) g m;
-                count = refl;
-                stage = λ r. refl;
-                ready = ready;
-                heard = put2-same s.cluster.heard q p (s.cluster.stored p);
-                told = λ r. put2-row s.cluster.told q p None p r (λ z. ne (sym z));
-                asked = inl refl;
-                asks = let P : Option Collected → Type 0 = λ x. Asks (s.cluster.world.saved p) x k in subst P (sym (put2-row s.cluster.told q p None p q (λ z. ne (sym z)))) asks;
-              },
-            )
+            go-last (asked k) (Heard p q k s) (Acts true false (Arrives p q (Ask (s.cluster.stored p) k))) m (refl, λ _ _. refl) (record {
+              orderly = orderly-step (asked k) (Acts true false (Arrives p q (Ask (s.cluster.stored p) k))) g m;
+              count = refl;
+              stage = λ r. refl;
+              ready = ready;
+              heard = put2-same s.cluster.heard q p (s.cluster.stored p);
+              told = λ r. put2-row s.cluster.told q p None p r (λ z. ne (sym z));
+              asked = inl refl;
+              asks = let P : Option Collected → Type 0 = λ x. Asks (s.cluster.world.saved p) x k in subst P (sym (put2-row s.cluster.told q p None p q (λ z. ne (sym z)))) asks;
+            })
 
         -- or, as it comes back itself, meets p
-        meets : nat_lt (s.cluster.heard q p) (s.cluster.stored p) ≡ true → s.cluster.stage q ≡ Live → is_well s.cluster q ≡ false → CanGo (asked k) (Heard p q k s)
+        meets : nat_lt (s.cluster.heard q p) (s.cluster.stored p) ≡ true → s.cluster.stage q ≡ Live → is_well s.cluster q ≡ false → Goes (asked k) (Heard p q k s)
         meets e live un =
             let m : MayStep (step s (Acts true false (Puts p q (Ask (s.cluster.stored p) k)))) (Meets q p (s.cluster.stored p) k) = ((inl refl, (live, un), grind (arith, nat_tests)), tt) in
-            go-first (asked k) (Heard p q k s) (Meets q p (s.cluster.stored p) k) m refl (
-              [],
-              tt,
-              tt,
-              record {
-                orderly = orderly-step (asked k) (Meets q p (s.cluster.stored p) k) g m;
-                count = refl;
-                stage = λ r. refl;
-                ready = choose q (λ j b. j ≤ s.cluster.world.count → (s.cluster.stage j ≡ Collecting) ⊎ ((s.cluster.stage j ≡ Live)
-                    × ((runs (s.cluster.stage j) && (s.cluster.greeted j && is_up (if b then restores_anew (s.cluster.world.phase q) p else s.cluster.world.phase j))) ≡ true → (if b then restores_anew (s.cluster.world.phase q) p else s.cluster.world.phase j) ≡ Up)))
-                    (λ _. inr (live, λ w. absurd (down (runs (s.cluster.stage q)) (s.cluster.greeted q) (is_up (restores_anew (s.cluster.world.phase q) p)) (anew-up (s.cluster.world.phase q) p) w))) (λ j _. ready j);
-                heard = put2-same s.cluster.heard q p (s.cluster.stored p);
-                told = λ r. refl;
-                asked = inl refl;
-                asks = asks;
-              },
-            )
+            go-last (asked k) (Heard p q k s) (Meets q p (s.cluster.stored p) k) m (refl, λ r o. absurd (two-down s.cluster p q r ne node.1 a (rw coll refl) un o)) (record {
+              orderly = orderly-step (asked k) (Meets q p (s.cluster.stored p) k) g m;
+              count = refl;
+              stage = λ r. refl;
+              ready = choose q (λ j b. j ≤ s.cluster.world.count → (s.cluster.stage j ≡ Collecting) ⊎ ((s.cluster.stage j ≡ Live)
+                  × ((runs (s.cluster.stage j) && (s.cluster.greeted j && is_up (if b then restores_anew (s.cluster.world.phase q) p else s.cluster.world.phase j))) ≡ true → (if b then restores_anew (s.cluster.world.phase q) p else s.cluster.world.phase j) ≡ Up)))
+                  (λ _. inr (live, λ w. absurd (down (runs (s.cluster.stage q)) (s.cluster.greeted q) (is_up (restores_anew (s.cluster.world.phase q) p)) (anew-up (s.cluster.world.phase q) p) w))) (λ j _. ready j);
+              heard = put2-same s.cluster.heard q p (s.cluster.stored p);
+              told = λ r. refl;
+              asked = inl refl;
+              asks = asks;
+            })
           where
             down : (x y z : Bool) → z ≡ false → (x && (y && z)) ≡ true → ⊥
             down true true z e w = true-not-false w e
             down true false z e w = true-not-false w refl
             down false y z e w = true-not-false w refl
 
-        split : (b : Bool) → nat_lt (s.cluster.heard q p) (s.cluster.stored p) ≡ b → CanGo (asked k) (Heard p q k s)
+        split : (b : Bool) → nat_lt (s.cluster.heard q p) (s.cluster.stored p) ≡ b → Goes (asked k) (Heard p q k s)
         split false e =
             let low : s.cluster.heard q p ≤ s.cluster.stored p = h.2.plain.low q p in
             let l : s.cluster.stored p ≤ s.cluster.heard q p = not-below (s.cluster.heard q p) (s.cluster.stored p) e in
             ([], tt, tt, record { orderly = g; count = refl; stage = λ r. refl; ready = ready; heard = omega arith; told = λ r. refl; asked = inl refl; asks = asks })
         split true e = elim (ready q a) [ inl c ↦ hears e (inr c) | inr w ↦ awake w.0 (takes s.cluster q) refl ]
           where
-            awake : s.cluster.stage q ≡ Live → (b : Bool) → takes s.cluster q ≡ b → CanGo (asked k) (Heard p q k s)
+            awake : s.cluster.stage q ≡ Live → (b : Bool) → takes s.cluster q ≡ b → Goes (asked k) (Heard p q k s)
             awake live true t = hears e (inl t)
             awake live false t =
                 let same : is_well s.cluster q ≡ takes s.cluster q = rw live refl in
@@ -137,55 +126,50 @@ module _ (p q : ℕ) (ne : q ≢ p) where
 
     -- a page is collected
     collect : (i j k : ℕ) (f : ℕ → Option Message) (exact lost : Bool) → In (parcel q p (Told i j k None f)) s.cluster.parcels → Said (flagged (parcel q p (Told i j k None f)) exact lost) s.said
-        → i ≡ s.cluster.stored p → s.cluster.heard p q ≤ j → Asks (s.cluster.world.saved p) (s.cluster.told p q) k → CanGo s (Answered p q s)
+        → i ≡ s.cluster.stored p → s.cluster.heard p q ≤ j → Asks (s.cluster.world.saved p) (s.cluster.told p q) k → Goes s (Answered p q s)
     collect i j k f exact lost there said e low asks =
         let x : Event = Acts exact lost (Arrives q p (Told i j k None f)) in
         let m : MayStep s (Acts exact lost (Arrives q p (Told i j k None f))) = (((there, (coll, e, low, asks)), tt), said) in
-        go-first s (Answered p q s) (Acts exact lost (Arrives q p (Told i j k None f))) m refl (
-          [],
-          tt,
-          tt,
-          record {
-            orderly = orderly-step s (Acts exact lost (Arrives q p (Told i j k None f))) h m;
-            count = refl;
-            stage = λ r. refl;
-            ready = ready;
-            whole = let P : Option Collected → Type 0 = λ t. IsAll t in subst P (sym (put2-same s.cluster.told p q (Some (with_page (s.cluster.told p q) k None f)))) refl;
-            told = λ r n. put2-column s.cluster.told p q (Some (with_page (s.cluster.told p q) k None f)) p r n;
-          },
-        )
+        go-last s (Answered p q s) (Acts exact lost (Arrives q p (Told i j k None f))) m (refl, λ _ _. refl) (record {
+          orderly = orderly-step s (Acts exact lost (Arrives q p (Told i j k None f))) h m;
+          count = refl;
+          stage = λ r. refl;
+          ready = ready;
+          whole = let P : Option Collected → Type 0 = λ t. IsAll t in subst P (sym (put2-same s.cluster.told p q (Some (with_page (s.cluster.told p q) k None f)))) refl;
+          told = λ r n. put2-column s.cluster.told p q (Some (with_page (s.cluster.told p q) k None f)) p r n;
+        })
 
   module _ (s : Telling) (h : Orderly s) (node : IsNode s.cluster p) (a : q ≤ s.cluster.world.count) (ready : AllReady s.cluster) (coll : s.cluster.stage p ≡ Collecting) where
     -- q tells what its log holds where it is up, and else that it lost that
-    tells : (k : ℕ) → s.cluster.heard q p ≡ s.cluster.stored p → In (parcel p q (Ask (s.cluster.stored p) k)) s.cluster.parcels → Asks (s.cluster.world.saved p) (s.cluster.told p q) k → CanGo s (Answered p q s)
+    tells : (k : ℕ) → s.cluster.heard q p ≡ s.cluster.stored p → In (parcel p q (Ask (s.cluster.stored p) k)) s.cluster.parcels → Asks (s.cluster.world.saved p) (s.cluster.told p q) k → Goes s (Answered p q s)
     tells k e there asks = elim (ready q a) [ inl c ↦ loses (s.cluster.stored q) (inr (c, refl)) (h.2.plain.low p q) | inr w ↦ split w.0 (is_well s.cluster q) refl ]
       where
-        loses : (j : ℕ) → (((s.cluster.stage q ≡ Live) × (is_well s.cluster q ≡ false)) × (j ≡ s.cluster.world.incarnation q)) ⊎ ((s.cluster.stage q ≡ Collecting) × (j ≡ s.cluster.stored q)) → s.cluster.heard p q ≤ j → CanGo s (Answered p q s)
+        loses : (j : ℕ) → (((s.cluster.stage q ≡ Live) × (is_well s.cluster q ≡ false)) × (j ≡ s.cluster.world.incarnation q)) ⊎ ((s.cluster.stage q ≡ Collecting) × (j ≡ s.cluster.stored q)) → s.cluster.heard p q ≤ j → Goes s (Answered p q s)
         loses j back low =
             let m : MayStep s (Loses q p (s.cluster.stored p) j k) = ((there, sym e, back), tt) in
-            go-first s (Answered p q s) (Loses q p (s.cluster.stored p) j k) m refl
+            go-first s (Answered p q s) (Loses q p (s.cluster.stored p) j k) m (refl, λ r o. absurd (two-down s.cluster p q r ne node.1 a (rw coll refl) (elim back [ inl v ↦ v.0.1 | inr v ↦ (rw v.0 refl) ]) o))
             (collect (step s (Loses q p (s.cluster.stored p) j k)) (orderly-step s (Loses q p (s.cluster.stored p) j k) h m) node a ready coll (s.cluster.stored p) j k (λ _. None) false true (inl refl) (inl refl) refl low asks)
 
-        split : s.cluster.stage q ≡ Live → (b : Bool) → is_well s.cluster q ≡ b → CanGo s (Answered p q s)
+        split : s.cluster.stage q ≡ Live → (b : Bool) → is_well s.cluster q ≡ b → Goes s (Answered p q s)
         split live b f =
             let l : s.cluster.heard p q ≤ s.cluster.stored q = h.2.plain.low p q in
             let o : s.cluster.world.incarnation q ≡ s.cluster.stored q = h.2.plain.settled q (ap runs live) in
             one b f (omega arith)
           where
-            one : (b : Bool) → is_well s.cluster q ≡ b → s.cluster.heard p q ≤ s.cluster.world.incarnation q → CanGo s (Answered p q s)
+            one : (b : Bool) → is_well s.cluster q ≡ b → s.cluster.heard p q ≤ s.cluster.world.incarnation q → Goes s (Answered p q s)
             one false f low = loses (s.cluster.world.incarnation q) (inl ((live, f), refl)) low
             one true f low =
                 let x : Body = Told (s.cluster.stored p) (s.cluster.world.incarnation q) k None (entry_of s.cluster q p) in
                 let m : MayStep s (Acts true false (Puts q p (Told (s.cluster.stored p) (s.cluster.world.incarnation q) k None (entry_of s.cluster q p)))) =
                 (((a, node.1, ne, (f, sym e, refl, (λ v z. absurd (let y : None ≡ Some v = z in cc)), (λ m _ _. refl))), tt), tt) in
-                go-first s (Answered p q s) (Acts true false (Puts q p (Told (s.cluster.stored p) (s.cluster.world.incarnation q) k None (entry_of s.cluster q p)))) m refl
+                go-first s (Answered p q s) (Acts true false (Puts q p (Told (s.cluster.stored p) (s.cluster.world.incarnation q) k None (entry_of s.cluster q p)))) m (refl, λ _ _. refl)
                 (collect (step s (Acts true false (Puts q p (Told (s.cluster.stored p) (s.cluster.world.incarnation q) k None (entry_of s.cluster q p)))))
                 (orderly-step s (Acts true false (Puts q p (Told (s.cluster.stored p) (s.cluster.world.incarnation q) k None (entry_of s.cluster q p)))) h m) node a ready coll
                 (s.cluster.stored p) (s.cluster.world.incarnation q) k (entry_of s.cluster q p) (s.exact q) false (inl refl) (inl refl) refl low asks)
 
   -- so p asks it
   module _ (s : Telling) (h : Orderly s) (node : IsNode s.cluster p) (a : q ≤ s.cluster.world.count) (ready : AllReady s.cluster) (coll : s.cluster.stage p ≡ Collecting) where
-    asks-for : (k : ℕ) → Asks (s.cluster.world.saved p) (s.cluster.told p q) k → CanGo s (Answered p q s)
+    asks-for : (k : ℕ) → Asks (s.cluster.world.saved p) (s.cluster.told p q) k → Goes s (Answered p q s)
     asks-for k asks =
         go-on s (Heard p q k s) (Answered p q s) (hear s h node a ready coll k asks) (λ u r.
         let same : u.cluster.world.count ≡ s.cluster.world.count = r.count in
@@ -198,13 +182,13 @@ module _ (p q : ℕ) (ne : q ≢ p) where
         )))
 
     -- whatever it has told so far
-    pub asks-one : CanGo s (Answered p q s)
+    pub asks-one : Goes s (Answered p q s)
     asks-one = split (s.cluster.told p q) refl
       where
-        page : (x : Collected) → s.cluster.told p q ≡ Some x → (u : Option ℕ) → x.upto ≡ u → CanGo s (Answered p q s)
+        page : (x : Collected) → s.cluster.told p q ≡ Some x → (u : Option ℕ) → x.upto ≡ u → Goes s (Answered p q s)
         page x e None f = ([], tt, tt, record { orderly = h; count = refl; stage = λ r. refl; ready = ready; whole = let P : Option Collected → Type 0 = λ y. IsAll y in subst P (sym e) f; told = λ r n. refl })
         page x e (Some v) f = asks-for v (let P : Option Collected → Type 0 = λ y. Asks (s.cluster.world.saved p) y v in subst P (sym e) f)
 
-        split : (x : Option Collected) → s.cluster.told p q ≡ x → CanGo s (Answered p q s)
+        split : (x : Option Collected) → s.cluster.told p q ≡ x → Goes s (Answered p q s)
         split None e = asks-for (s.cluster.world.saved p) (let P : Option Collected → Type 0 = λ y. Asks (s.cluster.world.saved p) y (s.cluster.world.saved p) in subst P (sym e) refl)
         split (Some x) e = page x e x.upto refl

@@ -14,12 +14,11 @@ use Rattle.cluster.specs.Rules.{Puts, Arrives, Works, Replays, IsNode, goes_on}
 use Rattle.cluster.proofs.Facts.{well-is, is-well}
 use Rattle.cluster.specs.Overlap.{Acts, Leaves}
 use Rattle.cluster.specs.Exact.{Telling, MayStep, step}
-use Rattle.cluster.specs.Return.{CanGo}
 use Rattle.cluster.proofs.Sane.{without-shorter}
 use Rattle.cluster.proofs.Ages.{IsSound, is_some, at_stage, has_told, Aged}
 use Rattle.cluster.proofs.DurableTurns.{put-other, put2-same}
 use Rattle.cluster.proofs.Births.{put-same, step-aged}
-use Rattle.cluster.proofs.WakeUps.{go-first, go-on, IsAwake}
+use Rattle.cluster.proofs.WakeUps.{Goes, two-down, go-first, go-last, go-on, IsAwake}
 
 unphased : (x y z : Bool) → z ≡ false → (x && (y && z)) ≡ false
 unphased true true z e = e
@@ -112,8 +111,8 @@ module _ (born : ℕ → ℕ) (now p : ℕ) where
   not-busy c q w m e = let t : false ≡ true = ap is_busy (sym w ∙ e) in cc
 
   module _ (s : Telling) (h : Stand s) (un : is_well s.cluster p ≡ false) (q : ℕ) (a : q ≤ s.cluster.world.count) (n : q ≢ p) (well : is_well s.cluster q ≡ true) where
-    obeys : CanGo s (Obeyed q s)
-    obeys = go-first s (Obeyed q s) (Acts true false (Puts p q (Resume (s.cluster.world.incarnation p) (length (s.cluster.world.history p)) (s.cluster.restoring p q)))) may refl (split (s.cluster.resumed q p) refl)
+    obeys : Goes s (Obeyed q s)
+    obeys = go-first s (Obeyed q s) (Acts true false (Puts p q (Resume (s.cluster.world.incarnation p) (length (s.cluster.world.history p)) (s.cluster.restoring p q)))) may (refl, λ _ _. refl) (split (s.cluster.resumed q p) refl)
       where
         may : MayStep s (Acts true false (Puts p q (Resume (s.cluster.world.incarnation p) (length (s.cluster.world.history p)) (s.cluster.restoring p q))))
         may = (((h.node.1, a, (λ e. n (sym e)), (h.live, un, refl, refl, refl)), tt), tt)
@@ -121,7 +120,7 @@ module _ (born : ℕ → ℕ) (now p : ℕ) where
         aged : Aged born now (step s (Acts true false (Puts p q (Resume (s.cluster.world.incarnation p) (length (s.cluster.world.history p)) (s.cluster.restoring p q)))))
         aged = step-aged born now s (Acts true false (Puts p q (Resume (s.cluster.world.incarnation p) (length (s.cluster.world.history p)) (s.cluster.restoring p q)))) refl h.aged may
 
-        split : (b : Bool) → s.cluster.resumed q p ≡ b → CanGo (step s (Acts true false (Puts p q (Resume (s.cluster.world.incarnation p) (length (s.cluster.world.history p)) (s.cluster.restoring p q))))) (Obeyed q s)
+        split : (b : Bool) → s.cluster.resumed q p ≡ b → Goes (step s (Acts true false (Puts p q (Resume (s.cluster.world.incarnation p) (length (s.cluster.world.history p)) (s.cluster.restoring p q))))) (Obeyed q s)
         split true e = ([], tt, tt, record { aged = aged; count = refl; stage = λ r. refl; greeted = λ r. refl; phase = λ r. refl; lost = λ r. refl; resumed = e })
         split false e =
             let w = h.awake q a n in
@@ -129,20 +128,15 @@ module _ (born : ℕ → ℕ) (now p : ℕ) where
             let g : s.cluster.greeted q ≡ true = (well-is s.cluster q well).1 in
             let m : MayStep (step s (Acts true false (Puts p q (Resume (s.cluster.world.incarnation p) (length (s.cluster.world.history p)) (s.cluster.restoring p q))))) (Acts true false (Arrives p q (Resume (s.cluster.world.incarnation p) (length (s.cluster.world.history p)) (s.cluster.restoring p q)))) =
             (((inl refl, ((rw (w.0, g, up) refl), sym (heard-life s h q a n), e, (λ x f. absurd (not-busy s.cluster q up x f)))), tt), tt) in
-            go-first (step s (Acts true false (Puts p q (Resume (s.cluster.world.incarnation p) (length (s.cluster.world.history p)) (s.cluster.restoring p q))))) (Obeyed q s) (Acts true false (Arrives p q (Resume (s.cluster.world.incarnation p) (length (s.cluster.world.history p)) (s.cluster.restoring p q)))) m refl (
-              [],
-              tt,
-              tt,
-              record {
-                aged = step-aged born now _ (Acts true false (Arrives p q (Resume (s.cluster.world.incarnation p) (length (s.cluster.world.history p)) (s.cluster.restoring p q)))) refl aged m;
-                count = refl;
-                stage = λ r. refl;
-                greeted = λ r. refl;
-                phase = λ r. refl;
-                lost = λ r. refl;
-                resumed = put2-same s.cluster.resumed q p true;
-              },
-            )
+            go-last (step s (Acts true false (Puts p q (Resume (s.cluster.world.incarnation p) (length (s.cluster.world.history p)) (s.cluster.restoring p q))))) (Obeyed q s) (Acts true false (Arrives p q (Resume (s.cluster.world.incarnation p) (length (s.cluster.world.history p)) (s.cluster.restoring p q)))) m (refl, λ _ _. refl) (record {
+              aged = step-aged born now _ (Acts true false (Arrives p q (Resume (s.cluster.world.incarnation p) (length (s.cluster.world.history p)) (s.cluster.restoring p q)))) refl aged m;
+              count = refl;
+              stage = λ r. refl;
+              greeted = λ r. refl;
+              phase = λ r. refl;
+              lost = λ r. refl;
+              resumed = put2-same s.cluster.resumed q p true;
+            })
 
     -- what it answers then
     abbrev answer : Body
@@ -158,29 +152,24 @@ module _ (born : ℕ → ℕ) (now p : ℕ) where
 
   -- p takes it in, of another node
   restores-one : (s : Telling) (h : Stand s) (un : is_well s.cluster p ≡ false) (q : ℕ) (a : q ≤ s.cluster.world.count) (n : q ≢ p) (well : is_well s.cluster q ≡ true)
-      → s.cluster.resumed q p ≡ true → IsNode s.cluster q → has (todo_of (s.cluster.world.phase p)) q ≡ true → CanGo s (Fewer q s)
+      → s.cluster.resumed q p ≡ true → IsNode s.cluster q → has (todo_of (s.cluster.world.phase p)) q ≡ true → Goes s (Fewer q s)
   restores-one s h un zero a n well e other todo = absurd (let l : 0 < 0 = other.0 in omega arith)
   restores-one s h un (suc v) a n well e other todo =
       let q : ℕ = suc v in
       let x : Body = answer s h un q a n well in
       let put_ = may-answer s h un q a n well e in
       let m : MayStep (step s (Acts true false (Puts q p x))) (Acts (s.exact q) false (Arrives q p x)) = (((inl refl, (other, h.live, refl, todo, refl, low s h un q a n well)), tt), inl refl) in
-      go-first s (Fewer q s) (Acts true false (Puts q p x)) put_ refl
-      (go-first (step s (Acts true false (Puts q p x))) (Fewer q s) (Acts (s.exact q) false (Arrives q p x)) m refl (
-        [],
-        tt,
-        tt,
-        (
-          record {
-            aged = step-aged born now _ (Acts (s.exact q) false (Arrives q p x)) refl (step-aged born now s (Acts true false (Puts q p x)) refl h.aged put_) m;
-            count = refl;
-            stage = λ r. refl;
-            greeted = λ r _. refl;
-            phase = λ r n. put-other s.cluster.world.phase p (phase_with (without (todo_of (s.cluster.world.phase p)) q)) r n;
-            lost = λ r. refl;
-          },
-          put-same s.cluster.world.phase p (phase_with (without (todo_of (s.cluster.world.phase p)) q)),
-        ),
+      go-first s (Fewer q s) (Acts true false (Puts q p x)) put_ (refl, λ _ _. refl)
+      (go-last (step s (Acts true false (Puts q p x))) (Fewer q s) (Acts (s.exact q) false (Arrives q p x)) m (refl, λ _ _. refl) (
+        record {
+          aged = step-aged born now _ (Acts (s.exact q) false (Arrives q p x)) refl (step-aged born now s (Acts true false (Puts q p x)) refl h.aged put_) m;
+          count = refl;
+          stage = λ r. refl;
+          greeted = λ r _. refl;
+          phase = λ r n. put-other s.cluster.world.phase p (phase_with (without (todo_of (s.cluster.world.phase p)) q)) r n;
+          lost = λ r. refl;
+        },
+        put-same s.cluster.world.phase p (phase_with (without (todo_of (s.cluster.world.phase p)) q)),
       ))
 
   -- the gateway greets it
@@ -193,29 +182,24 @@ module _ (born : ℕ → ℕ) (now p : ℕ) where
   gate-well : (s : Telling) → Stand s → is_well s.cluster 0 ≡ true
   gate-well s h = let g = h.aged.plain.gateway in rw (g.0, g.1, g.2) refl
 
-  greets-one : (s : Telling) (h : Stand s) (un : is_well s.cluster p ≡ false) → s.cluster.greeted p ≡ false → is_up (s.cluster.world.phase p) ≡ true → s.cluster.resumed 0 p ≡ true → CanGo s (Greeted s)
+  greets-one : (s : Telling) (h : Stand s) (un : is_well s.cluster p ≡ false) → s.cluster.greeted p ≡ false → is_up (s.cluster.world.phase p) ≡ true → s.cluster.resumed 0 p ≡ true → Goes s (Greeted s)
   greets-one s h un g up e =
       let first : MayStep s (Acts true false (Puts 0 p (answer s h un 0 (omega arith) (gate-other s h) (gate-well s h)))) = may-answer s h un 0 (omega arith) (gate-other s h) (gate-well s h) e in
       let m : MayStep (step s (Acts true false (Puts 0 p (answer s h un 0 (omega arith) (gate-other s h) (gate-well s h))))) (Acts (s.exact 0) false (Arrives 0 p (answer s h un 0 (omega arith) (gate-other s h) (gate-well s h)))) =
       (((inl refl, (h.live, refl, g, not-replaying (s.cluster.world.phase p) up)), tt), inl refl) in
-      go-first s (Greeted s) (Acts true false (Puts 0 p (answer s h un 0 (omega arith) (gate-other s h) (gate-well s h)))) first refl
-      (go-first (step s (Acts true false (Puts 0 p (answer s h un 0 (omega arith) (gate-other s h) (gate-well s h))))) (Greeted s) (Acts (s.exact 0) false (Arrives 0 p (answer s h un 0 (omega arith) (gate-other s h) (gate-well s h)))) m refl (
-        [],
-        tt,
-        tt,
-        (
-          record {
-            aged = step-aged born now _ (Acts (s.exact 0) false (Arrives 0 p (answer s h un 0 (omega arith) (gate-other s h) (gate-well s h)))) refl
-                (step-aged born now s (Acts true false (Puts 0 p (answer s h un 0 (omega arith) (gate-other s h) (gate-well s h)))) refl h.aged first) m;
-            count = refl;
-            stage = λ r. refl;
-            greeted = λ r n. put-other s.cluster.greeted p true r n;
-            phase = λ r _. refl;
-            lost = λ r. refl;
-          },
-          put-same s.cluster.greeted p true,
-          refl,
-        ),
+      go-first s (Greeted s) (Acts true false (Puts 0 p (answer s h un 0 (omega arith) (gate-other s h) (gate-well s h)))) first (refl, λ _ _. refl)
+      (go-last (step s (Acts true false (Puts 0 p (answer s h un 0 (omega arith) (gate-other s h) (gate-well s h))))) (Greeted s) (Acts (s.exact 0) false (Arrives 0 p (answer s h un 0 (omega arith) (gate-other s h) (gate-well s h)))) m (refl, λ _ _. refl) (
+        record {
+          aged = step-aged born now _ (Acts (s.exact 0) false (Arrives 0 p (answer s h un 0 (omega arith) (gate-other s h) (gate-well s h)))) refl
+              (step-aged born now s (Acts true false (Puts 0 p (answer s h un 0 (omega arith) (gate-other s h) (gate-well s h)))) refl h.aged first) m;
+          count = refl;
+          stage = λ r. refl;
+          greeted = λ r n. put-other s.cluster.greeted p true r n;
+          phase = λ r _. refl;
+          lost = λ r. refl;
+        },
+        put-same s.cluster.greeted p true,
+        refl,
       ))
     where
       not-replaying : (x : Phase) → is_up x ≡ true → is_replaying x ≡ false
@@ -229,31 +213,26 @@ module _ (born : ℕ → ℕ) (now p : ℕ) where
   kept-here s h = record { aged = h.aged; count = refl; stage = λ r. refl; greeted = λ r _. refl; phase = λ r _. refl; lost = λ r. refl }
 
   -- it finishes the message that it works on
-  finish : (s : Telling) → Stand s → s.cluster.greeted p ≡ true → is_up (s.cluster.world.phase p) ≡ true → CanGo s (Raised s)
+  finish : (s : Telling) → Stand s → s.cluster.greeted p ≡ true → is_up (s.cluster.world.phase p) ≡ true → Goes s (Raised s)
   finish s h g up = split (s.cluster.world.phase p) refl up
     where
-      split : (x : Phase) → s.cluster.world.phase p ≡ x → is_up x ≡ true → CanGo s (Raised s)
+      split : (x : Phase) → s.cluster.world.phase p ≡ x → is_up x ≡ true → Goes s (Raised s)
       split Up e u = ([], tt, tt, (kept-here s h, (rw (h.live, g, e) refl), e))
       split (Busy m) e u =
           let may : MayStep s (Acts true false (Works p m)) = (((h.node, (rw (h.live, g, e) refl), e), tt), tt) in
           let there : put s.cluster.world.phase p Up p ≡ Up = put-same s.cluster.world.phase p Up in
-          go-first s (Raised s) (Acts true false (Works p m)) may refl (
-            [],
-            tt,
-            tt,
-            (
-              record { aged = step-aged born now s (Acts true false (Works p m)) refl h.aged may; count = refl; stage = λ r. refl; greeted = λ r _. refl; phase = λ r n. put-other s.cluster.world.phase p Up r n; lost = λ r. refl },
-              is-well (step s (Acts true false (Works p m))).cluster p (ap runs h.live) g (ap is_up there),
-              there,
-            ),
+          go-last s (Raised s) (Acts true false (Works p m)) may (refl, λ _ _. refl) (
+            record { aged = step-aged born now s (Acts true false (Works p m)) refl h.aged may; count = refl; stage = λ r. refl; greeted = λ r _. refl; phase = λ r n. put-other s.cluster.world.phase p Up r n; lost = λ r. refl },
+            is-well (step s (Acts true false (Works p m))).cluster p (ap runs h.live) g (ap is_up there),
+            there,
           )
       split x e u = absurd (cc)
 
   -- before that, the gateway answers
-  lands : (s : Telling) → Stand s → is_up (s.cluster.world.phase p) ≡ true → CanGo s (Raised s)
+  lands : (s : Telling) → Stand s → is_up (s.cluster.world.phase p) ≡ true → Goes s (Raised s)
   lands s h up = split (s.cluster.greeted p) refl
     where
-      split : (b : Bool) → s.cluster.greeted p ≡ b → CanGo s (Raised s)
+      split : (b : Bool) → s.cluster.greeted p ≡ b → Goes s (Raised s)
       split true g = finish s h g up
       split false g =
           let un : is_well s.cluster p ≡ false = (rw (h.live, g) refl) in
@@ -265,10 +244,10 @@ module _ (born : ℕ → ℕ) (now p : ℕ) where
           go-on u (Raised u) (Raised s) (finish u (stand-kept s u h w) r.1 (ap is_up r.2 ∙ ap is_up (o.phase p) ∙ up)) (λ x y. ([], tt, tt, (kept-kept s u x w y.0, y.1, y.2)))))
 
   -- and before that each of those from which it restores its numbers, or it leaves that one
-  fewer : (s : Telling) → Stand s → (q : ℕ) → has (todo_of (s.cluster.world.phase p)) q ≡ true → is_up (s.cluster.world.phase p) ≡ false → CanGo s (Fewer q s)
+  fewer : (s : Telling) → Stand s → (q : ℕ) → has (todo_of (s.cluster.world.phase p)) q ≡ true → is_up (s.cluster.world.phase p) ≡ false → Goes s (Fewer q s)
   fewer s h q todo down = split (is_well s.cluster q) refl
     where
-      split : (b : Bool) → is_well s.cluster q ≡ b → CanGo s (Fewer q s)
+      split : (b : Bool) → is_well s.cluster q ≡ b → Goes s (Fewer q s)
       split true w =
           let that = h.aged.plain.todo p q todo in
           let un : is_well s.cluster p ≡ false = unphased (runs (s.cluster.stage p)) (s.cluster.greeted p) (is_up (s.cluster.world.phase p)) down in
@@ -284,17 +263,12 @@ module _ (born : ℕ → ℕ) (now p : ℕ) where
       split false w =
           let that = h.aged.plain.todo p q todo in
           let m : MayStep s (Leaves p q) = ((h.live, todo), h.lost q that.0.1 that.1 w) in
-          go-first s (Fewer q s) (Leaves p q) m refl (
-            [],
-            tt,
-            tt,
-            (
-              record { aged = step-aged born now s (Leaves p q) refl h.aged m; count = refl; stage = λ r. refl; greeted = λ r _. refl; phase = λ r n. put-other s.cluster.world.phase p (phase_with (without (todo_of (s.cluster.world.phase p)) q)) r n; lost = λ r. refl },
-              put-same s.cluster.world.phase p (phase_with (without (todo_of (s.cluster.world.phase p)) q)),
-            ),
+          go-last s (Fewer q s) (Leaves p q) m (refl, λ r o. absurd (two-down s.cluster p q r that.1 h.node.1 that.0.1 (unphased (runs (s.cluster.stage p)) (s.cluster.greeted p) (is_up (s.cluster.world.phase p)) down) w o)) (
+            record { aged = step-aged born now s (Leaves p q) refl h.aged m; count = refl; stage = λ r. refl; greeted = λ r _. refl; phase = λ r n. put-other s.cluster.world.phase p (phase_with (without (todo_of (s.cluster.world.phase p)) q)) r n; lost = λ r. refl },
+            put-same s.cluster.world.phase p (phase_with (without (todo_of (s.cluster.world.phase p)) q)),
           )
 
-  restores : (k : ℕ) (s : Telling) → Stand s → (rs : List ℕ) → length rs ≤ k → s.cluster.world.phase p ≡ phase_with rs → CanGo s (Raised s)
+  restores : (k : ℕ) (s : Telling) → Stand s → (rs : List ℕ) → length rs ≤ k → s.cluster.world.phase p ≡ phase_with rs → Goes s (Raised s)
   restores k s h [] l e = lands s h (ap is_up e)
   restores zero s h (q ∷ rs) l e = absurd (omega arith)
   restores (suc k) s h (q ∷ rs) l e =
@@ -320,10 +294,10 @@ module _ (born : ℕ → ℕ) (now p : ℕ) where
         next : ((s.cluster.world.saved p + suc j < length (s.cluster.world.history p)) × (d.world.phase p ≡ Replaying (suc j) false false)) ⊎ (d.world.phase p ≡ phase_with (peers s.cluster.world p false));
       }
 
-  replays-one : (s : Telling) → Stand s → (j : ℕ) → s.cluster.world.phase p ≡ Replaying j false false → CanGo s (λ t. Aged born now t × Replayed j s t.cluster × ((q : ℕ) → t.lost p q ≡ s.lost p q))
+  replays-one : (s : Telling) → Stand s → (j : ℕ) → s.cluster.world.phase p ≡ Replaying j false false → Goes s (λ t. Aged born now t × Replayed j s t.cluster × ((q : ℕ) → t.lost p q ≡ s.lost p q))
   replays-one s h j e =
       let m : MayStep s (Acts true false (Replays p j)) = (((h.node, h.live, e), tt), tt) in
-      go-first s (λ t. Aged born now t × Replayed j s t.cluster × ((q : ℕ) → t.lost p q ≡ s.lost p q)) (Acts true false (Replays p j)) m refl
+      go-first s (λ t. Aged born now t × Replayed j s t.cluster × ((q : ℕ) → t.lost p q ≡ s.lost p q)) (Acts true false (Replays p j)) m (refl, λ _ _. refl)
       ([], tt, tt, (step-aged born now s (Acts true false (Replays p j)) refl h.aged m, split (nat_lt (s.cluster.world.saved p + suc j) (length (s.cluster.world.history p))) refl, λ q. refl))
     where
       turned : (x : Phase) → ((s.cluster.world.saved p + suc j < length (s.cluster.world.history p)) × (x ≡ Replaying (suc j) false false)) ⊎ (x ≡ phase_with (peers s.cluster.world p false)) → Replayed j s (record s.cluster { world = record s.cluster.world { phase = put s.cluster.world.phase p x } })
@@ -343,14 +317,14 @@ module _ (born : ℕ → ℕ) (now p : ℕ) where
       split false f = turned (phase_with (peers s.cluster.world p false)) (inr refl)
 
   replays-on : (s : Telling) → Stand s → (j : ℕ) → s.cluster.world.phase p ≡ Replaying j false false
-      → ((t : Telling) → Replayed j s t.cluster → Stand t → s.cluster.world.saved p + suc j < length (s.cluster.world.history p) → t.cluster.world.phase p ≡ Replaying (suc j) false false → CanGo t (Raised t)) → CanGo s (Raised s)
+      → ((t : Telling) → Replayed j s t.cluster → Stand t → s.cluster.world.saved p + suc j < length (s.cluster.world.history p) → t.cluster.world.phase p ≡ Replaying (suc j) false false → Goes t (Raised t)) → Goes s (Raised s)
   replays-on s h j e more =
       go-on s (λ t. Aged born now t × Replayed j s t.cluster × ((q : ℕ) → t.lost p q ≡ s.lost p q)) (Raised s) (replays-one s h j e) (λ t r.
       let w : Kept s t = record { aged = r.0; count = r.1.count; stage = r.1.stage; greeted = λ x _. r.1.greeted x; phase = r.1.phase; lost = r.2 } in
       go-on t (Raised t) (Raised s) (elim r.1.next [ inl f ↦ more t r.1 (stand-kept s t h w) f.0 f.1 | inr f ↦ restores (length (peers s.cluster.world p false)) t (stand-kept s t h w) (peers s.cluster.world p false) (omega arith) f ])
       (λ u x. ([], tt, tt, (kept-kept s t u w x.0, x.1, x.2))))
 
-  replays : (k : ℕ) (s : Telling) → Stand s → (j : ℕ) → length (s.cluster.world.history p) ≤ s.cluster.world.saved p + j + k → s.cluster.world.phase p ≡ Replaying j false false → CanGo s (Raised s)
+  replays : (k : ℕ) (s : Telling) → Stand s → (j : ℕ) → length (s.cluster.world.history p) ≤ s.cluster.world.saved p + j + k → s.cluster.world.phase p ≡ Replaying j false false → Goes s (Raised s)
   replays zero s h j l e = replays-on s h j e (λ t r g b f. absurd (omega arith))
   replays (suc k) s h j l e = replays-on s h j e (λ t r g b f.
       let n : length (t.cluster.world.history p) ≡ length (s.cluster.world.history p) = r.history in
@@ -358,16 +332,16 @@ module _ (born : ℕ → ℕ) (now p : ℕ) where
       replays k t g (suc j) (omega arith) f)
 
   -- wherever it is
-  pub raise : (s : Telling) → Stand s → CanGo s (Raised s)
+  pub raise : (s : Telling) → Stand s → Goes s (Raised s)
   raise s h = split (s.cluster.world.phase p) refl (h.aged.plain.sound p)
     where
-      split : (x : Phase) → s.cluster.world.phase p ≡ x → IsSound x → CanGo s (Raised s)
+      split : (x : Phase) → s.cluster.world.phase p ≡ x → IsSound x → Goes s (Raised s)
       split Up e o = lands s h (ap is_up e)
       split (Busy m) e o = lands s h (ap is_up e)
       split Down e o = absurd (o)
       split (Replaying j w a) e o = at w a e o
         where
-          at : (w a : Bool) → s.cluster.world.phase p ≡ Replaying j w a → (w ≡ false) × (a ≡ false) → CanGo s (Raised s)
+          at : (w a : Bool) → s.cluster.world.phase p ≡ Replaying j w a → (w ≡ false) × (a ≡ false) → Goes s (Raised s)
           at false false e o = replays (length (s.cluster.world.history p)) s h j (omega arith) e
           at true a e o = absurd (let z : true ≡ false = o.0 in cc)
           at false true e o = absurd (let z : true ≡ false = o.1 in cc)

@@ -15,12 +15,11 @@ use Rattle.cluster.specs.Rules.{Recovers, IsNode, IsAll, entry_in, told_by, take
 use Rattle.cluster.proofs.Growth.{either-way}
 use Rattle.cluster.specs.Overlap.{Acts}
 use Rattle.cluster.specs.Exact.{Telling, MayStep}
-use Rattle.cluster.specs.Return.{CanGo}
 use Rattle.cluster.proofs.Ages.{IsEnding}
 use Rattle.cluster.proofs.DurableTurns.{put-other}
 use Rattle.cluster.proofs.Births.{put-same, Orderly, orderly-step}
 use Rattle.cluster.proofs.Stops.{Stops, stops}
-use Rattle.cluster.proofs.WakeUps.{go-first, go-on, IsAwake, IsReady, AllReady}
+use Rattle.cluster.proofs.WakeUps.{Goes, go-last, go-on, IsAwake, IsReady, AllReady}
 use Rattle.cluster.proofs.Collection.{Answered, asks-one}
 
 -- all have told p all
@@ -35,11 +34,11 @@ Gathered p s u =
     }
 
 -- those from m on have told all: it asks the others, one after the other
-gather : (p m : ℕ) (s : Telling) → Orderly s → IsNode s.cluster p → AllReady s.cluster → s.cluster.stage p ≡ Collecting → m ≤ suc s.cluster.world.count → ((q : ℕ) → m ≤ q → q ≤ s.cluster.world.count → q ≢ p → IsAll (s.cluster.told p q)) → CanGo s (Gathered p s)
+gather : (p m : ℕ) (s : Telling) → Orderly s → IsNode s.cluster p → AllReady s.cluster → s.cluster.stage p ≡ Collecting → m ≤ suc s.cluster.world.count → ((q : ℕ) → m ≤ q → q ≤ s.cluster.world.count → q ≢ p → IsAll (s.cluster.told p q)) → Goes s (Gathered p s)
 gather p zero s h node ready coll l all = ([], tt, tt, record { orderly = h; count = refl; stage = λ r. refl; ready = ready; whole = λ q a n. all q (omega arith) a n })
 gather p (suc m) s h node ready coll l all = split (λ t. gather p m t) (m == p) refl
   where
-    split : ((t : Telling) → Orderly t → IsNode t.cluster p → AllReady t.cluster → t.cluster.stage p ≡ Collecting → m ≤ suc t.cluster.world.count → ((q : ℕ) → m ≤ q → q ≤ t.cluster.world.count → q ≢ p → IsAll (t.cluster.told p q)) → CanGo t (Gathered p t)) → (b : Bool) → (m == p) ≡ b → CanGo s (Gathered p s)
+    split : ((t : Telling) → Orderly t → IsNode t.cluster p → AllReady t.cluster → t.cluster.stage p ≡ Collecting → m ≤ suc t.cluster.world.count → ((q : ℕ) → m ≤ q → q ≤ t.cluster.world.count → q ≢ p → IsAll (t.cluster.told p q)) → Goes t (Gathered p t)) → (b : Bool) → (m == p) ≡ b → Goes s (Gathered p s)
     split more true e = more s h node ready coll (omega arith) (λ q b a n. all q (let t : m ≢ q = (λ f. let z : m ≡ p = grind (arith, nat_tests) in n (sym f ∙ z)) in omega arith) a n)
     split more false e =
         go-on s (Answered p m s) (Gathered p s) (asks-one p m (grind (arith, nat_tests)) s h node (omega arith) ready coll) (λ u r.
@@ -105,28 +104,23 @@ module _ (p : ℕ) (s : Telling) (h : Orderly s) (node : IsNode s.cluster p) (re
             (λ _. inr (refl, λ w. absurd (let z : false ≡ true = w in cc))) (λ j _. ready j);
       }
 
-  recovers : CanGo s (λ t. Orderly t × Recovered p s t.cluster)
+  recovers : Goes s (λ t. Orderly t × Recovered p s t.cluster)
   recovers = go ends
     where
-      go : (k : ℕ) × Stops (told_by s.cluster p) had (s.cluster.world.saved p) long k → CanGo s (λ t. Orderly t × Recovered p s t.cluster)
+      go : (k : ℕ) × Stops (told_by s.cluster p) had (s.cluster.world.saved p) long k → Goes s (λ t. Orderly t × Recovered p s t.cluster)
       go e =
           let m : MayStep s (Acts true false (Recovers p e.0)) = (((node, coll, all, e.1.0, e.1.1, e.1.2), tt), tt) in
-          go-first s (λ t. Orderly t × Recovered p s t.cluster) (Acts true false (Recovers p e.0)) m refl (
-            [],
-            tt,
-            tt,
-            (
-              orderly-step s (Acts true false (Recovers p e.0)) h m,
-              either-way (nat_lt (s.cluster.world.saved p) e.0) (record (taken_back s.cluster p e.0) { world = record (taken_back s.cluster p e.0).world { phase = put s.cluster.world.phase p (Replaying 0 false false) } })
-                  (goes_on (taken_back s.cluster p e.0) p (peers s.cluster.world p false)) (Recovered p s) (turned e.0 (Replaying 0 false false)) (turned e.0 (phase_with (peers s.cluster.world p false))),
-            ),
+          go-last s (λ t. Orderly t × Recovered p s t.cluster) (Acts true false (Recovers p e.0)) m (refl, λ _ _. refl) (
+            orderly-step s (Acts true false (Recovers p e.0)) h m,
+            either-way (nat_lt (s.cluster.world.saved p) e.0) (record (taken_back s.cluster p e.0) { world = record (taken_back s.cluster p e.0).world { phase = put s.cluster.world.phase p (Replaying 0 false false) } })
+                (goes_on (taken_back s.cluster p e.0) p (peers s.cluster.world p false)) (Recovered p s) (turned e.0 (Replaying 0 false false)) (turned e.0 (phase_with (peers s.cluster.world p false))),
           )
 
 -- so none collects any more
 abbrev pub AllAwake : Cluster → Type 0
 AllAwake c = (q : ℕ) → q ≤ c.world.count → IsAwake c q
 
-pub recover-all : (m : ℕ) (s : Telling) → Orderly s → m ≤ s.cluster.world.count → AllReady s.cluster → ((q : ℕ) → m < q → q ≤ s.cluster.world.count → s.cluster.stage q ≡ Live) → CanGo s (λ t. Orderly t × AllAwake t.cluster)
+pub recover-all : (m : ℕ) (s : Telling) → Orderly s → m ≤ s.cluster.world.count → AllReady s.cluster → ((q : ℕ) → m < q → q ≤ s.cluster.world.count → s.cluster.stage q ≡ Live) → Goes s (λ t. Orderly t × AllAwake t.cluster)
 recover-all zero s h l ready live = ([], tt, tt, (h, λ q a. awake q (place q a) (ready q a)))
   where
     place : (q : ℕ) → q ≤ s.cluster.world.count → s.cluster.stage q ≡ Live
@@ -138,7 +132,7 @@ recover-all zero s h l ready live = ([], tt, tt, (h, λ q a. awake q (place q a)
     awake q e (inr a) = a
 recover-all (suc m) s h l ready live = split (λ t. recover-all m t) (ready (suc m) l)
   where
-    split : ((t : Telling) → Orderly t → m ≤ t.cluster.world.count → AllReady t.cluster → ((q : ℕ) → m < q → q ≤ t.cluster.world.count → t.cluster.stage q ≡ Live) → CanGo t (λ t. Orderly t × AllAwake t.cluster)) → IsReady s.cluster (suc m) → CanGo s (λ t. Orderly t × AllAwake t.cluster)
+    split : ((t : Telling) → Orderly t → m ≤ t.cluster.world.count → AllReady t.cluster → ((q : ℕ) → m < q → q ≤ t.cluster.world.count → t.cluster.stage q ≡ Live) → Goes t (λ t. Orderly t × AllAwake t.cluster)) → IsReady s.cluster (suc m) → Goes s (λ t. Orderly t × AllAwake t.cluster)
     split more (inr a) = more s h (omega arith) ready (λ q b c. one q b c (q == suc m) refl)
       where
         one : (q : ℕ) → m < q → q ≤ s.cluster.world.count → (b : Bool) → (q == suc m) ≡ b → s.cluster.stage q ≡ Live

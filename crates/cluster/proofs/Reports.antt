@@ -4,15 +4,14 @@ use Rattle.std.specs.Prelude.{Some, None, not, ◌&&◌, nat_lt, if◌then◌els
 use Rattle.world.specs.Handlers.{Handlers}
 use Rattle.theorems.proofs.Changes.{choose, at-itself}
 use Rattle.theorems.proofs.Tests.{both}
-use Rattle.cluster.specs.Parcels.{Body, Delivery, Number, Acknowledgement, Ask, Told, Resume, Restored, Saved, Parcel, parcel, In}
+use Rattle.cluster.specs.Parcels.{Body, Delivery, Number, Acknowledgement, Ask, Told, Restored, Parcel, parcel, In}
 use Rattle.cluster.specs.Cluster.{Cluster, opening}
 use Rattle.cluster.specs.Rules.{Act, Puts, Arrives, Replays, Recovers, Opens, MayTake, May, does, Run, after_run}
 use Rattle.cluster.specs.Promises.{NoOrphanNode, OutputOnce, ReceivedOnce}
 use Rattle.cluster.proofs.Facts.{choose2, true-not-false}
-use Rattle.cluster.proofs.Growth.{either-way}
 use Rattle.cluster.proofs.Promised.{nodes-keep}
 use Rattle.cluster.specs.Overlap.{Event, Acts, Meets, Loses, Leaves, Events, after_events}
-use Rattle.cluster.specs.Exact.{Flagged, flagged, Said, Telling, starts, Says, step, Steps, after_steps, AlwaysExact, acts_of, StepsAreEvents, ExactRunsDontMeet, ExactRunsKeep}
+use Rattle.cluster.specs.Exact.{Flagged, flagged, Said, Telling, starts, Says, lost_after, said_after, step, Steps, after_steps, AlwaysExact, acts_of, StepsAreEvents, ExactRunsDontMeet, ExactRunsKeep}
 
 -- whether it is an answer to Ask
 abbrev is_told : Body → Bool
@@ -20,7 +19,7 @@ is_told (Told i j k u f) = true
 is_told x = false
 
 -- the packets behind an act
-abbrev more : Act → List Parcel → List Parcel
+abbrev pub more : Act → List Parcel → List Parcel
 more (Puts p d x) ps = parcel p d x ∷ ps
 more (Arrives r s (Number i ssn k)) ps = parcel s r (Acknowledgement i k) ∷ ps
 more a ps = ps
@@ -41,6 +40,9 @@ does-among c ps (Replays p j) = either-among (nat_lt (c.world.saved p + suc j) (
 does-among c ps (Recovers p k) = either-among (nat_lt (c.world.saved p) k) _ _ ps
 does-among c ps (Arrives zero p (Restored i j n s None f)) = refl
 does-among c ps act = refl
+
+pub parcels-are : (c : Cluster) (a : Act) → (does c a).parcels ≡ more a c.parcels
+parcels-are c a = ap (λ (d : Cluster). d.parcels) (does-among c c.parcels a)
 
 -- the Told that an act takes is among them
 abbrev Got : List Parcel → Act → Type 0
@@ -75,35 +77,32 @@ Nothing lost (Arrives q p (Told i j k u f)) = lost ≡ false
 Nothing lost a = Unit {0}
 
 module _ (s : Telling) (ps : List Parcel) (h : Follows s ps) (exact lost : Bool) where
-  -- one packet more, of which nothing is said
-  one-more : (x : Parcel) (y : Parcel) → is_told y.body ≡ false → In y (x ∷ s.cluster.parcels) → In y (x ∷ ps)
-  one-more x y e i = elim i [ inl f ↦ inl f | inr f ↦ inr (h.others y e f) ]
+  others-more : (a : Act) (x : Parcel) → is_told x.body ≡ false → In x (more a s.cluster.parcels) → In x (more a ps)
+  others-more (Puts p d y) x e i = elim i [ inl f ↦ inl f | inr f ↦ inr (h.others x e f) ]
+  others-more (Arrives r t (Number i ssn k)) x e o = elim o [ inl f ↦ inl f | inr f ↦ inr (h.others x e f) ]
+  others-more act x e i = h.others x e i
 
-  -- or of which it is said that nothing is lost
+  -- one packet more, of which it is said that nothing is lost
   one-said : (x : Parcel) (z : Bool) (y : Flagged) → Said y (flagged x z false ∷ s.said) → y.lost ≡ false → In y.packet (x ∷ ps)
   one-said x z y i e = elim i [ inl f ↦ inl (ap (λ (w : Flagged). w.packet) f) | inr f ↦ inr (h.told y f e) ]
 
+  told-more : (a : Act) (y : Flagged) → Said y (said_after s (Acts exact lost a)) → y.lost ≡ false → In y.packet (more a ps)
+  told-more (Puts p d (Told i j k u f)) y = one-said (parcel p d (Told i j k u f)) (s.exact p) y
+  told-more (Puts p d (Restored i j n r u f)) y = one-said (parcel p d (Restored i j n r u f)) (s.exact p) y
+  told-more (Puts p d x) y = λ i e. inr (h.told y i e)
+  told-more (Arrives r t (Number i ssn k)) y = λ i e. inr (h.told y i e)
+  told-more act y = h.told y
+
+  found-more : (a : Act) → Nothing lost a → (b c : ℕ) → lost_after s.lost (Acts exact lost a) b c ≡ false
+  found-more (Arrives p q (Ask i k)) g = choose2 q p (λ a b t. (if t then false else s.lost a b) ≡ false) refl (λ a b _. h.found a b)
+  found-more (Arrives q p (Told i j k u f)) g = choose2 p q (λ a b t. (if t then lost else s.lost a b) ≡ false) g (λ a b _. h.found a b)
+  found-more (Opens p n) g = λ a b. choose p (λ j t. (if t then (λ (k : ℕ). false) else s.lost j) b ≡ false) refl (λ j _. h.found j b) a
+  found-more act g = h.found
+
   follows : (a : Act) → Nothing lost a → Follows (step s (Acts exact lost a)) (more a ps)
-  follows (Arrives q p (Restored i j n r (Some u) f)) g = h
-  follows (Puts p d (Delivery i ssn x)) g = record { others = one-more (parcel p d (Delivery i ssn x)); told = λ y i e. inr (h.told y i e); found = h.found }
-  follows (Puts p d (Number i ssn k)) g = record { others = one-more (parcel p d (Number i ssn k)); told = λ y i e. inr (h.told y i e); found = h.found }
-  follows (Puts p d (Acknowledgement i k)) g = record { others = one-more (parcel p d (Acknowledgement i k)); told = λ y i e. inr (h.told y i e); found = h.found }
-  follows (Puts p d (Ask i k)) g = record { others = one-more (parcel p d (Ask i k)); told = λ y i e. inr (h.told y i e); found = h.found }
-  follows (Puts p d (Told i j k u f)) g = record { others = one-more (parcel p d (Told i j k u f)); told = one-said (parcel p d (Told i j k u f)) (s.exact p); found = h.found }
-  follows (Puts p d (Resume i k r)) g = record { others = one-more (parcel p d (Resume i k r)); told = λ y i e. inr (h.told y i e); found = h.found }
-  follows (Puts p d (Restored i j n r u f)) g = record { others = one-more (parcel p d (Restored i j n r u f)); told = one-said (parcel p d (Restored i j n r u f)) (s.exact p); found = h.found }
-  follows (Puts p d (Saved n)) g = record { others = one-more (parcel p d (Saved n)); told = λ y i e. inr (h.told y i e); found = h.found }
-  follows (Arrives p zero (Delivery i ssn x)) g = h
-  follows (Replays p j) g =
-      record { others = either-way (nat_lt (s.cluster.world.saved p + suc j) (length (s.cluster.world.history p))) _ _ (λ v. (x : Parcel) → is_told x.body ≡ false → In x v.parcels → In x ps) h.others h.others; told = h.told; found = h.found }
-  follows (Arrives r t (Number i ssn k)) g = record { others = one-more (parcel t r (Acknowledgement i k)); told = λ y i e. inr (h.told y i e); found = h.found }
-  follows (Arrives p q (Ask i k)) g = record { others = h.others; told = h.told; found = choose2 q p (λ a b t. (if t then false else s.lost a b) ≡ false) refl (λ a b _. h.found a b) }
-  follows (Arrives q p (Told i j k u f)) g = record { others = h.others; told = h.told; found = choose2 p q (λ a b t. (if t then lost else s.lost a b) ≡ false) g (λ a b _. h.found a b) }
-  follows (Recovers p k) g =
-      record { others = either-way (nat_lt (s.cluster.world.saved p) k) _ _ (λ v. (x : Parcel) → is_told x.body ≡ false → In x v.parcels → In x ps) h.others h.others; told = h.told; found = h.found }
-  follows (Arrives zero p (Restored i j n r None f)) g = h
-  follows (Opens p n) g = record { others = h.others; told = h.told; found = λ a b. choose p (λ j t. (if t then (λ (k : ℕ). false) else s.lost j) b ≡ false) refl (λ j _. h.found j b) a }
-  follows act g = h
+  follows a g =
+      let P : List Parcel → Type 0 = λ qs. (x : Parcel) → is_told x.body ≡ false → In x qs → In x (more a ps) in
+      record { others = subst P (sym (parcels-are s.cluster a)) (others-more a); told = told-more a; found = found-more a g }
 
 -- all are exact where such a run begins
 first-exact : (s : Telling) (xs : List Event) → AlwaysExact s xs → (p : ℕ) → s.exact p ≡ true

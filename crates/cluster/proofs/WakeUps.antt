@@ -8,18 +8,47 @@ use Rattle.cluster.specs.Rules.{Works, Keeps, Thaws, Opens, IsNode}
 use Rattle.cluster.proofs.Facts.{well-is, true-not-false}
 use Rattle.cluster.specs.Overlap.{Event, Acts}
 use Rattle.cluster.specs.Exact.{Telling, MayStep, step, Steps, after_steps}
-use Rattle.cluster.specs.Return.{is_quiet, AllQuiet, CanGo}
+use Rattle.cluster.specs.Return.{is_quiet}
 use Rattle.cluster.proofs.DurableTurns.{put-other}
 use Rattle.cluster.proofs.Births.{put-same, Orderly, orderly-step}
 
--- one step more, and one way behind another
-pub go-first : (s : Telling) (P : Telling → Type 0) (x : Event) → MayStep s x → is_quiet x ≡ true → CanGo (step s x) P → CanGo s P
-go-first s P x may quiet r = (x ∷ r.0, (may, r.1), (quiet, r.2), r.3)
+-- all but p are up
+abbrev pub AllBut : ℕ → Cluster → Type 0
+AllBut p c = (q : ℕ) → q ≤ c.world.count → q ≢ p → is_well c q ≡ true
 
-pub go-on : (s : Telling) (P Q : Telling → Type 0) → CanGo s P → ((t : Telling) → P t → CanGo t Q) → CanGo s Q
+abbrev pub is_act : Event → Bool
+is_act (Acts exact lost a) = true
+is_act e = false
+
+-- quiet events, which are acts while all but one are up
+abbrev pub Calm : Telling → List Event → Type 0
+Calm s [] = Unit {0}
+Calm s (e ∷ es) = ((is_quiet e ≡ true) × ((p : ℕ) → AllBut p s.cluster → is_act e ≡ true)) × Calm (step s e) es
+
+-- by such events the nodes can go on to where this holds
+abbrev pub Goes : Telling → (Telling → Type 0) → Type 0
+Goes s P = (es : List Event) × Steps s es × Calm s es × P (after_steps s es)
+
+-- not so with two that aren't up
+pub two-down : (c : Cluster) (p q r : ℕ) → q ≢ p → p ≤ c.world.count → q ≤ c.world.count → is_well c p ≡ false → is_well c q ≡ false → AllBut r c → ⊥
+two-down c p q r ne a b v w o = split (p == r) refl
+  where
+    split : (t : Bool) → (p == r) ≡ t → ⊥
+    split true e = true-not-false (o q b (λ f. let z : p ≡ r = grind (arith, nat_tests) in ne (f ∙ sym z))) w
+    split false e = true-not-false (o p a (grind (arith, nat_tests))) v
+
+-- one event more, and one way behind another
+pub go-first : (s : Telling) (P : Telling → Type 0) (x : Event) → MayStep s x → (is_quiet x ≡ true) × ((p : ℕ) → AllBut p s.cluster → is_act x ≡ true) → Goes (step s x) P → Goes s P
+go-first s P x may calm r = (x ∷ r.0, (may, r.1), (calm, r.2), r.3)
+
+-- and the last one
+pub go-last : (s : Telling) (P : Telling → Type 0) (x : Event) → MayStep s x → (is_quiet x ≡ true) × ((p : ℕ) → AllBut p s.cluster → is_act x ≡ true) → P (step s x) → Goes s P
+go-last s P x may calm h = go-first s P x may calm ([], tt, tt, h)
+
+pub go-on : (s : Telling) (P Q : Telling → Type 0) → Goes s P → ((t : Telling) → P t → Goes t Q) → Goes s Q
 go-on s P Q r more = along r.0 s r.1 r.2 r.3
   where
-    along : (xs : List Event) (s : Telling) → Steps s xs → AllQuiet xs → P (after_steps s xs) → CanGo s Q
+    along : (xs : List Event) (s : Telling) → Steps s xs → Calm s xs → P (after_steps s xs) → Goes s Q
     along [] s a b p = more s p
     along (x ∷ xs) s a b p = let u = along xs (step s x) a.1 b.1 p in (x ∷ u.0, (a.0, u.1), (b.0, u.2), u.3)
 
@@ -46,57 +75,47 @@ pub record Roused (q : ℕ) (s t : Telling) : Type 0 where
   pub others : (r : ℕ) → r ≢ q → IsSame s.cluster t.cluster r
 
 module _ (q : ℕ) where
-  awake : (s : Telling) → Orderly s → IsNode s.cluster q → s.cluster.stage q ≡ Live → CanGo s (Roused q s)
+  awake : (s : Telling) → Orderly s → IsNode s.cluster q → s.cluster.stage q ≡ Live → Goes s (Roused q s)
   awake s h node live = split (s.cluster.greeted q) refl (s.cluster.world.phase q) refl
     where
-      stays : IsReady s.cluster q → CanGo s (Roused q s)
+      stays : IsReady s.cluster q → Goes s (Roused q s)
       stays r = ([], tt, tt, record { orderly = h; count = refl; ready = r; others = λ r _. (refl, refl, refl) })
 
-      split : (g : Bool) → s.cluster.greeted q ≡ g → (x : Phase) → s.cluster.world.phase q ≡ x → CanGo s (Roused q s)
+      split : (g : Bool) → s.cluster.greeted q ≡ g → (x : Phase) → s.cluster.world.phase q ≡ x → Goes s (Roused q s)
       split false g x e = stays (inr (live, λ w. absurd (true-not-false (well-is s.cluster q w).1 g)))
       split true g Up e = stays (inr (live, λ _. e))
       split true g (Busy m) e =
           let may : MayStep s (Acts true false (Works q m)) = (((node, (rw (live, g, e) refl), e), tt), tt) in
-          go-first s (Roused q s) (Acts true false (Works q m)) may refl (
-            [],
-            tt,
-            tt,
-            record {
-              orderly = orderly-step s (Acts true false (Works q m)) h may;
-              count = refl;
-              ready = inr (live, λ _. put-same s.cluster.world.phase q Up);
-              others = λ r n. (refl, refl, put-other s.cluster.world.phase q Up r n);
-            },
-          )
+          go-last s (Roused q s) (Acts true false (Works q m)) may (refl, λ _ _. refl) (record {
+            orderly = orderly-step s (Acts true false (Works q m)) h may;
+            count = refl;
+            ready = inr (live, λ _. put-same s.cluster.world.phase q Up);
+            others = λ r n. (refl, refl, put-other s.cluster.world.phase q Up r n);
+          })
       split true g Down e = stays (inr (live, λ w. absurd (true-not-false (well-is s.cluster q w).2 (ap is_up e))))
       split true g (Replaying j v a) e = stays (inr (live, λ w. absurd (true-not-false (well-is s.cluster q w).2 (ap is_up e))))
       split true g (Resync rs) e = stays (inr (live, λ w. absurd (true-not-false (well-is s.cluster q w).2 (ap is_up e))))
 
-  rouse : (s : Telling) → Orderly s → IsNode s.cluster q → CanGo s (Roused q s)
+  rouse : (s : Telling) → Orderly s → IsNode s.cluster q → Goes s (Roused q s)
   rouse s h node = split (s.cluster.stage q) refl
     where
-      split : (x : Stage) → s.cluster.stage q ≡ x → CanGo s (Roused q s)
+      split : (x : Stage) → s.cluster.stage q ≡ x → Goes s (Roused q s)
       split Live e = awake s h node e
       split Collecting e = ([], tt, tt, record { orderly = h; count = refl; ready = inl e; others = λ r _. (refl, refl, refl) })
       split Dead e =
           let may : MayStep s (Acts true false (Opens q 0)) = (((node, e), tt), tt) in
-          go-first s (Roused q s) (Acts true false (Opens q 0)) may refl (
-            [],
-            tt,
-            tt,
-            record {
-              orderly = orderly-step s (Acts true false (Opens q 0)) h may;
-              count = refl;
-              ready = inl (put-same s.cluster.stage q Collecting);
-              others = λ r n. (put-other s.cluster.stage q Collecting r n, refl, refl);
-            },
-          )
+          go-last s (Roused q s) (Acts true false (Opens q 0)) may (refl, λ _ _. refl) (record {
+            orderly = orderly-step s (Acts true false (Opens q 0)) h may;
+            count = refl;
+            ready = inl (put-same s.cluster.stage q Collecting);
+            others = λ r n. (put-other s.cluster.stage q Collecting r n, refl, refl);
+          })
       split Frozen e =
           let may : MayStep s (Acts true false (Keeps q)) = (((node, e), tt), tt) in
           let thaws : MayStep (step s (Acts true false (Keeps q))) (Acts true false (Thaws q)) = (((node, e, put-same s.cluster.world.saved q _), tt), tt) in
           let g : Orderly (step (step s (Acts true false (Keeps q))) (Acts true false (Thaws q))) = orderly-step _ (Acts true false (Thaws q)) (orderly-step s (Acts true false (Keeps q)) h may) thaws in
-          go-first s (Roused q s) (Acts true false (Keeps q)) may refl
-          (go-first (step s (Acts true false (Keeps q))) (Roused q s) (Acts true false (Thaws q)) thaws refl
+          go-first s (Roused q s) (Acts true false (Keeps q)) may (refl, λ _ _. refl)
+          (go-first (step s (Acts true false (Keeps q))) (Roused q s) (Acts true false (Thaws q)) thaws (refl, λ _ _. refl)
           (go-on (step (step s (Acts true false (Keeps q))) (Acts true false (Thaws q))) (Roused q (step (step s (Acts true false (Keeps q))) (Acts true false (Thaws q)))) (Roused q s) (awake (step (step s (Acts true false (Keeps q))) (Acts true false (Thaws q))) g node (put-same s.cluster.stage q Live)) (λ v r. (
             [],
             tt,
@@ -108,7 +127,7 @@ module _ (q : ℕ) where
 abbrev pub AllReady : Cluster → Type 0
 AllReady c = (q : ℕ) → q ≤ c.world.count → IsReady c q
 
-pub rouse-all : (m : ℕ) (s : Telling) → Orderly s → m ≤ s.cluster.world.count → ((q : ℕ) → m < q → q ≤ s.cluster.world.count → IsReady s.cluster q) → CanGo s (λ t. Orderly t × AllReady t.cluster)
+pub rouse-all : (m : ℕ) (s : Telling) → Orderly s → m ≤ s.cluster.world.count → ((q : ℕ) → m < q → q ≤ s.cluster.world.count → IsReady s.cluster q) → Goes s (λ t. Orderly t × AllReady t.cluster)
 rouse-all zero s h l up = ([], tt, tt, (h, all))
   where
     all : (q : ℕ) → q ≤ s.cluster.world.count → IsReady s.cluster q

@@ -1,0 +1,129 @@
+-- A run of the basic rules is one of the whole rules in which all packets say that nothing is lost. So a lone node comes back as all do
+use Rattle.std.proofs.Common.{◌≡◌, ◌≢◌, inl, inr, ℕ, zero, suc, ◌+◌, ◌≤◌, List, [], ◌∷◌, length, Bool, true, false, refl, sym, ap, ◌∙◌, subst, arith}
+use Rattle.std.specs.Prelude.{Some, None, ◌&&◌, nat_lt, not, if◌then◌else◌}
+use Rattle.world.specs.Phases.{is_up}
+use Rattle.world.specs.World.{put}
+use Rattle.theorems.proofs.Changes.{choose}
+use Rattle.cluster.specs.Parcels.{Body, Delivery, Number, Acknowledgement, Told, Restored, Parcel, parcel, In}
+use Rattle.cluster.specs.Cluster.{Stage, Live, Frozen, Dead, Collecting, Cluster, opening, runs, is_well}
+use Rattle.cluster.specs.Rules.{Act, Puts, Arrives, Replays, Recovers, Freezes, Thaws, Dies, Opens, May, does, Run, after_run}
+use Rattle.cluster.specs.Overlap.{Event, Acts, IsKept}
+use Rattle.cluster.specs.Exact.{flagged, Said, Telling, starts, Says, step, Steps, after_steps, said_after, exact_after}
+use Rattle.cluster.specs.Return.{is_death, is_quiet, CanReach, AllUp, LoneComesBack}
+use Rattle.cluster.proofs.Facts.{well-is, is-well, true-not-false}
+use Rattle.cluster.proofs.Growth.{either-way}
+use Rattle.cluster.proofs.Reports.{more, parcels-are}
+use Rattle.cluster.proofs.DurableTurns.{on-act}
+use Rattle.cluster.proofs.Births.{Orderly, orderly-step, starts-orderly}
+use Rattle.cluster.proofs.WakeUps.{AllBut, Calm}
+use Rattle.cluster.proofs.AllBack.{orderly-back}
+
+-- whether what it says of its teller matters
+abbrev is_answer : Body → Bool
+is_answer (Told i j k u f) = true
+is_answer (Restored i j n s u f) = true
+is_answer x = false
+
+-- no node is durable, all are exact, and each answer says so and that nothing is lost
+abbrev Trusts : Telling → Type 0
+Trusts s =
+    record {
+      durable : (p : ℕ) → s.durable p ≡ false;
+      exact : (p : ℕ) → s.exact p ≡ true;
+      said : (x : Parcel) → is_answer x.body ≡ true → In x s.cluster.parcels → Said (flagged x true false) s.said;
+    }
+
+module _ (s : Telling) (h : Trusts s) where
+  says : (a : Act) → May s.cluster a → Says s (Acts true false a)
+  says (Arrives p d (Told i j k u f)) may = h.said (parcel p d (Told i j k u f)) refl may.0
+  says (Arrives p d (Restored i j n r u f)) may = h.said (parcel p d (Restored i j n r u f)) refl may.0
+  says act may = tt
+
+  is-kept : (a : Act) → IsKept s.durable s.cluster a
+  is-kept (Puts p d (Delivery i ssn x)) = λ e. absurd (true-not-false e (h.durable p))
+  is-kept act = tt
+
+  exact-act : (a : Act) (p : ℕ) → exact_after s.exact (Acts true false a) p ≡ true
+  exact-act (Arrives p d (Told i j k u f)) = choose d (λ j b. (if b then s.exact d && (true && not false) else s.exact j) ≡ true) (rw (h.exact d) refl) (λ j _. h.exact j)
+  exact-act (Arrives p d (Restored i j n r u f)) = choose d (λ j b. (if b then s.exact d && true else s.exact j) ≡ true) (rw (h.exact d) refl) (λ j _. h.exact j)
+  exact-act (Opens p n) = choose p (λ j b. (if b then true else s.exact j) ≡ true) refl (λ j _. h.exact j)
+  exact-act act = h.exact
+
+  -- one packet more, that is no answer, or says so
+  one-more : (x y : Parcel) → is_answer y.body ≡ false → is_answer x.body ≡ true → In x (y ∷ s.cluster.parcels) → Said (flagged x true false) s.said
+  one-more x y n a i = elim i [ inl e ↦ absurd (true-not-false a (ap (λ (z : Parcel). is_answer z.body) e ∙ n)) | inr t ↦ h.said x a t ]
+
+  one-said : (x y : Parcel) (b : Bool) → b ≡ true → is_answer x.body ≡ true → In x (y ∷ s.cluster.parcels) → Said (flagged x true false) (flagged y b false ∷ s.said)
+  one-said x y b t a i = elim i [ inl e ↦ inl (ap (λ (z : Parcel). flagged z true false) e ∙ ap (λ (c : Bool). flagged y c false) (sym t)) | inr k ↦ inr (h.said x a k) ]
+
+  said-act : (a : Act) (x : Parcel) → is_answer x.body ≡ true → In x (more a s.cluster.parcels) → Said (flagged x true false) (said_after s (Acts true false a))
+  said-act (Puts p d (Told i j k u f)) x = one-said x (parcel p d (Told i j k u f)) (s.exact p) (h.exact p)
+  said-act (Puts p d (Restored i j n r u f)) x = one-said x (parcel p d (Restored i j n r u f)) (s.exact p) (h.exact p)
+  said-act (Puts p d y) x = one-more x (parcel p d y) refl
+  said-act (Arrives r t (Number i ssn k)) x = one-more x (parcel t r (Acknowledgement i k)) refl
+  said-act act x = h.said x
+
+  trusts-act : (a : Act) → Trusts (step s (Acts true false a))
+  trusts-act a =
+      let P : List Parcel → Type 0 = λ ps. (x : Parcel) → is_answer x.body ≡ true → In x ps → Said (flagged x true false) (said_after s (Acts true false a)) in
+      record { durable = h.durable; exact = exact-act a; said = subst P (sym (parcels-are s.cluster a)) (said-act a) }
+
+-- where a run leads an orderly one does too
+acts-orderly : (s : Telling) → Trusts s → Orderly s → (acts : List Act) → Run s.cluster acts → (t : Telling) × (t.cluster ≡ after_run s.cluster acts) × Orderly t
+acts-orderly s h o [] r = (s, refl, o)
+acts-orderly s h o (a ∷ acts) r = acts-orderly (step s (Acts true false a)) (trusts-act s h a) (orderly-step s (Acts true false a) o ((r.0, is-kept s h a), says s h a r.0)) acts r.1
+
+-- nobody dies of another act
+abbrev NoneDies : Cluster → (ℕ → Stage) → Type 0
+NoneDies c stage = (q : ℕ) → stage q ≡ Dead → c.stage q ≡ Dead
+
+moves : (c : Cluster) (p : ℕ) (x : Stage) → x ≢ Dead → NoneDies c (put c.stage p x)
+moves c p x n = choose p (λ j b. (if b then x else c.stage j) ≡ Dead → c.stage j ≡ Dead) (λ e. absurd (n e)) (λ j _ e. e)
+
+dead-before : (c : Cluster) (a : Act) → is_death a ≡ false → NoneDies c (does c a).stage
+dead-before c (Arrives q p (Restored i j m s (Some u) f)) n = λ r e. e
+dead-before c (Arrives p zero (Delivery i ssn x)) n = λ r e. e
+dead-before c (Replays p j) n = either-way (nat_lt (c.world.saved p + suc j) (length (c.world.history p))) _ _ (λ d. NoneDies c d.stage) (λ r e. e) (λ r e. e)
+dead-before c (Recovers p k) n = let l = moves c p Live (λ e. absurd (cc)) in either-way (nat_lt (c.world.saved p) k) _ _ (λ d. NoneDies c d.stage) l l
+dead-before c (Arrives zero p (Restored i j m s None f)) n = λ r e. e
+dead-before c (Freezes p) n = moves c p Frozen (λ e. absurd (cc))
+dead-before c (Thaws p) n = moves c p Live (λ e. absurd (cc))
+dead-before c (Opens p m) n = moves c p Collecting (λ e. absurd (cc))
+dead-before c (Dies p) n = absurd (cc)
+dead-before c act n = λ r e. e
+
+lives : (exact lost : Bool) (a : Act) → is_quiet (Acts exact lost a) ≡ true → is_death a ≡ false
+lives exact lost (Dies p) e = absurd (cc)
+lives exact lost a e = refl
+
+-- so who is up stays so
+alone-act : (s : Telling) → Orderly s → (p : ℕ) (a : Act) → is_death a ≡ false → May s.cluster a → AllBut p s.cluster → AllBut p (does s.cluster a)
+alone-act s h p (Opens r m) n may o q l ne =
+    choose r (λ j b. is_well s.cluster j ≡ true → (runs (if b then Collecting else s.cluster.stage j) && (s.cluster.greeted j && is_up (s.cluster.world.phase j))) ≡ true)
+    (λ w. absurd (true-not-false (well-is s.cluster r w).0 (ap runs may.1))) (λ j _ w. w) q (o q l ne)
+alone-act s h p act n may o q l ne =
+    let on = on-act h.0 s.cluster h.2.plain h.2.parcels act refl may in
+    let same : (does s.cluster act).world.count ≡ s.cluster.world.count = on.count in
+    let w : is_well s.cluster q ≡ true = o q (omega arith) ne in
+    elim (on.well q w) [ inl v ↦ v | inr d ↦ absurd (true-not-false (well-is s.cluster q w).0 (ap runs (dead-before s.cluster act n q d))) ]
+
+-- and calm events are acts
+alone-run : (p : ℕ) (es : List Event) (s : Telling) (P : Cluster → Type 0) → Orderly s → AllBut p s.cluster → Steps s es → Calm s es → P (after_steps s es).cluster → CanReach s.cluster P
+alone-run p [] s P h o r c x = ([], tt, tt, x)
+alone-run p (Acts exact lost a ∷ es) s P h o r c x =
+    let n = lives exact lost a c.0.0 in
+    let t = alone-run p es (step s (Acts exact lost a)) P (orderly-step s (Acts exact lost a) h r.0) (alone-act s h p a n r.0.0.0 o) r.1 c.1 x in
+    (a ∷ t.0, (r.0.0.0, t.1), (n, t.2), t.3)
+alone-run p (e ∷ es) s P h o r c x = absurd (let z : false ≡ true = c.0.1 p o in cc)
+
+pub lone-comes-back : LoneComesBack
+lone-comes-back n f acts p run node up =
+    let none : ℕ → Bool = λ _. false in
+    let t = acts-orderly (starts n f (λ _. false)) (record { durable = λ p. refl; exact = λ p. refl; said = λ x a i. absurd (i) }) (starts-orderly n f (λ _. false)) acts run.run in
+    let g = orderly-back t.0 t.2 in
+    let P : Cluster → Type 0 = λ c. CanReach c AllUp in
+    subst P t.1 (alone-run p g.0 t.0 AllUp t.2 (others t.0 t.1 t.2) g.1 g.2 g.3)
+  where
+    others : (t : Telling) → t.cluster ≡ after_run (opening n f) acts → Orderly t → AllBut p t.cluster
+    others t e h zero l ne = let w = h.2.plain.gateway in is-well t.cluster 0 (ap runs w.0) w.1 (ap is_up w.2)
+    others t e h (suc q) l ne = let P : Cluster → Type 0 = λ c. suc q ≤ c.world.count → is_well c (suc q) ≡ true in subst P (sym e) (λ l. up (suc q) (omega arith, l) ne) l
