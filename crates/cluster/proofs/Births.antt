@@ -167,7 +167,7 @@ pub orderly-step : (s : Telling) (x : Event) → Orderly s → MayStep s x → O
 orderly-step s (Acts exact lost (Opens r n)) h may = (put h.0 r (suc h.1), suc h.1, opens-aged h.0 h.1 s h.2 r n may.0.0 exact lost)
 orderly-step s x h may = (h.0, h.1, step-aged h.0 h.1 s x refl h.2 may)
 
-pub starts-orderly : (n : ℕ) (f : Handlers) (durable : ℕ → Bool) → Orderly (starts n f durable)
+starts-orderly : (n : ℕ) (f : Handlers) (durable : ℕ → Bool) → Orderly (starts n f durable)
 starts-orderly n f durable = (
   (λ _. 0),
   0,

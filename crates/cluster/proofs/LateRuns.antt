@@ -179,7 +179,7 @@ both-return g x =
 pub heard-comes-back : HeardComesBack
 heard-comes-back g x = (both-return g x, refl, inr (inr (inr (inr (inr (inr (inr (inr (inr (inr (inr (inr (inr (inr (inr (inr (inl refl)))))))))))))))), λ may. let e : ◌≡◌ {A = ℕ} 1 2 = may.1.1 in absurd (omega arith))
 
-is-told-again : (g : ℕ → List Message → List ℕ) → Run (opening 2 (passing g)) old_ask_answered
+pub is-told-again : (g : ℕ → List Message → List ℕ) → Run (opening 2 (passing g)) old_ask_answered
 is-told-again g =
     ((omega arith, omega arith), λ e. absurd (cc))
     ▸ ((omega arith, omega arith), refl)

@@ -1,6 +1,7 @@
 -- A run of the basic rules is one of the whole rules in which all packets say that nothing is lost. So a lone node comes back as all do
 use Rattle.std.proofs.Common.{◌≡◌, ◌≢◌, inl, inr, ℕ, zero, suc, ◌+◌, ◌≤◌, List, [], ◌∷◌, length, Bool, true, false, refl, sym, ap, ◌∙◌, subst, arith}
 use Rattle.std.specs.Prelude.{Some, None, ◌&&◌, nat_lt, not, if◌then◌else◌}
+use Rattle.world.specs.Handlers.{Handlers}
 use Rattle.world.specs.Phases.{is_up}
 use Rattle.world.specs.World.{put}
 use Rattle.theorems.proofs.Changes.{choose}
@@ -10,11 +11,12 @@ use Rattle.cluster.specs.Rules.{Act, Puts, Arrives, Replays, Recovers, Freezes, 
 use Rattle.cluster.specs.Overlap.{Event, Acts, IsKept}
 use Rattle.cluster.specs.Exact.{flagged, Said, Telling, starts, Says, step, Steps, after_steps, said_after, exact_after}
 use Rattle.cluster.specs.Return.{is_death, is_quiet, CanReach, AllUp, LoneComesBack}
+use Rattle.cluster.specs.WorkedDurable.{none_durable, taken}
 use Rattle.cluster.proofs.Facts.{well-is, is-well, true-not-false}
 use Rattle.cluster.proofs.Growth.{either-way}
 use Rattle.cluster.proofs.Reports.{more, parcels-are}
 use Rattle.cluster.proofs.DurableTurns.{on-act}
-use Rattle.cluster.proofs.Births.{Orderly, orderly-step, starts-orderly}
+use Rattle.cluster.proofs.Births.{Orderly, orderly-step, always-orderly}
 use Rattle.cluster.proofs.WakeUps.{AllBut, Calm}
 use Rattle.cluster.proofs.AllBack.{orderly-back}
 
@@ -25,7 +27,7 @@ is_answer (Restored i j n s u f) = true
 is_answer x = false
 
 -- no node is durable, all are exact, and each answer says so and that nothing is lost
-abbrev Trusts : Telling → Type 0
+abbrev pub Trusts : Telling → Type 0
 Trusts s =
     record {
       durable : (p : ℕ) → s.durable p ≡ false;
@@ -68,10 +70,18 @@ module _ (s : Telling) (h : Trusts s) where
       let P : List Parcel → Type 0 = λ ps. (x : Parcel) → is_answer x.body ≡ true → In x ps → Said (flagged x true false) (said_after s (Acts true false a)) in
       record { durable = h.durable; exact = exact-act a; said = subst P (sym (parcels-are s.cluster a)) (said-act a) }
 
--- where a run leads an orderly one does too
-acts-orderly : (s : Telling) → Trusts s → Orderly s → (acts : List Act) → Run s.cluster acts → (t : Telling) × (t.cluster ≡ after_run s.cluster acts) × Orderly t
-acts-orderly s h o [] r = (s, refl, o)
-acts-orderly s h o (a ∷ acts) r = acts-orderly (step s (Acts true false a)) (trusts-act s h a) (orderly-step s (Acts true false a) o ((r.0, is-kept s h a), says s h a r.0)) acts r.1
+-- so acts are events, and lead where they lead
+pub acts-steps : (s : Telling) → Trusts s → (acts : List Act) → Run s.cluster acts → Steps s (taken acts)
+acts-steps s h [] r = tt
+acts-steps s h (a ∷ acts) r = (((r.0, is-kept s h a), says s h a r.0), acts-steps (step s (Acts true false a)) (trusts-act s h a) acts r.1)
+
+acts-end : (s : Telling) (acts : List Act) → (after_steps s (taken acts)).cluster ≡ after_run s.cluster acts
+acts-end s [] = refl
+acts-end s (a ∷ acts) = acts-end (step s (Acts true false a)) acts
+
+-- nothing was said at the opening
+pub trusts-first : (n : ℕ) (f : Handlers) → Trusts (starts n f none_durable)
+trusts-first n f = record { durable = λ p. refl; exact = λ p. refl; said = λ x a i. absurd (i) }
 
 -- nobody dies of another act
 abbrev NoneDies : Cluster → (ℕ → Stage) → Type 0
@@ -118,11 +128,12 @@ alone-run p (e ∷ es) s P h o r c x = absurd (let z : false ≡ true = c.0.1 p 
 
 pub lone-comes-back : LoneComesBack
 lone-comes-back n f acts p run node up =
-    let none : ℕ → Bool = λ _. false in
-    let t = acts-orderly (starts n f (λ _. false)) (record { durable = λ p. refl; exact = λ p. refl; said = λ x a i. absurd (i) }) (starts-orderly n f (λ _. false)) acts run.run in
-    let g = orderly-back t.0 t.2 in
+    let s : Telling = starts n f none_durable in
+    let h : Orderly (after_steps s (taken acts)) = always-orderly n f none_durable (taken acts) (acts-steps s (trusts-first n f) acts run.run) in
+    let g = orderly-back (after_steps s (taken acts)) h in
+    let same : (after_steps s (taken acts)).cluster ≡ after_run (opening n f) acts = acts-end s acts in
     let P : Cluster → Type 0 = λ c. CanReach c AllUp in
-    subst P t.1 (alone-run p g.0 t.0 AllUp t.2 (others t.0 t.1 t.2) g.1 g.2 g.3)
+    subst P same (alone-run p g.0 (after_steps s (taken acts)) AllUp h (others (after_steps s (taken acts)) same h) g.1 g.2 g.3)
   where
     others : (t : Telling) → t.cluster ≡ after_run (opening n f) acts → Orderly t → AllBut p t.cluster
     others t e h zero l ne = let w = h.2.plain.gateway in is-well t.cluster 0 (ap runs w.0) w.1 (ap is_up w.2)
