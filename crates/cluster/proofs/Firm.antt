@@ -11,6 +11,7 @@ use Rattle.cluster.specs.Cluster.{Collected, Cluster}
 use Rattle.cluster.specs.Rules.{message}
 use Rattle.cluster.specs.Overlap.{kept_sends}
 use Rattle.cluster.specs.DurablePromises.{AreFirst}
+use Rattle.cluster.proofs.Firsts.{first-more}
 
 -- what each sends to each by the messages that its checkpoint covers
 abbrev pub Sends : Type 0
@@ -37,20 +38,24 @@ abbrev pub IsGoodSoFar : (ℕ → Bool) → Sends → ℕ → Option Collected �
 IsGoodSoFar last k p None = Unit {0}
 IsGoodSoFar last k p (Some t) = (m : ℕ) (x : Message) → reaches t.upto m ≡ true → t.entries m ≡ Some x → IsGood last k p x
 
--- all that nodes have of those whose messages last is sent by what their checkpoints cover
-abbrev pub Firm : (ℕ → Bool) → Cluster → Type 0
-Firm last c =
+-- all that nodes have of those whose messages last is among these
+abbrev pub FirmBy : (ℕ → Bool) → Sends → Cluster → Type 0
+FirmBy last k c =
     record {
       grows : Grows c.world.handlers;
       within : (p : ℕ) → c.world.saved p ≤ length (c.world.history p);
-      parcels : (p d : ℕ) (x : Body) → In (parcel p d x) c.parcels → (p ≢ d) × IsTrue last (kept_sends c) p d x;
-      jobs : (d : ℕ) (m : Message) → c.world.phase d ≡ Busy m → IsGood last (kept_sends c) d m × (m.ssn ≡ suc (count_of m.sender (c.world.history d)));
-      numbers : (s d ssn m : ℕ) → c.world.numbers s d ssn ≡ Some m → IsThere last (kept_sends c) s d ssn;
-      told : (p q : ℕ) → IsGoodSoFar last (kept_sends c) p (c.told p q);
+      parcels : (p d : ℕ) (x : Body) → In (parcel p d x) c.parcels → (p ≢ d) × IsTrue last k p d x;
+      jobs : (d : ℕ) (m : Message) → c.world.phase d ≡ Busy m → IsGood last k d m × (m.ssn ≡ suc (count_of m.sender (c.world.history d)));
+      numbers : (s d ssn m : ℕ) → c.world.numbers s d ssn ≡ Some m → IsThere last k s d ssn;
+      told : (p q : ℕ) → IsGoodSoFar last k p (c.told p q);
       own : (p : ℕ) → c.told p p ≡ None;
-      received : (p d : ℕ) → last p ≡ true → AreFirst (c.world.history d) p (kept_sends c p d);
-      shown : (p : ℕ) → last p ≡ true → AreFirst c.world.shown p (kept_sends c p 0);
+      received : (p d : ℕ) → last p ≡ true → AreFirst (c.world.history d) p (k p d);
+      shown : (p : ℕ) → last p ≡ true → AreFirst c.world.shown p (k p 0);
     }
+
+-- and so is sent by what their checkpoints cover
+abbrev pub Firm : (ℕ → Bool) → Cluster → Type 0
+Firm last c = FirmBy last (kept_sends c) c
 
 -- where checkpoints send more, all of it still holds
 module _ (last : ℕ → Bool) (k l : Sends) (more : (p d : ℕ) → Begins (k p d) (l p d)) where
@@ -70,3 +75,17 @@ module _ (last : ℕ → Bool) (k l : Sends) (more : (p d : ℕ) → Begins (k p
   pub so-far-more : (p : ℕ) (t : Option Collected) → IsGoodSoFar last k p t → IsGoodSoFar last l p t
   so-far-more p None g = tt
   so-far-more p (Some t) g = λ m x a e. good-more p x (g m x a e)
+
+  pub firm-more : (c : Cluster) → FirmBy last k c → FirmBy last l c
+  firm-more c h =
+      record {
+        grows = h.grows;
+        within = h.within;
+        parcels = λ p q y i. let t = h.parcels p q y i in (t.0, true-more p q y t.1);
+        jobs = λ q m e. let t = h.jobs q m e in (good-more q m t.0, t.1);
+        numbers = λ s q ssn m e. there-more s q ssn (h.numbers s q ssn m e);
+        told = λ p q. so-far-more p (c.told p q) (h.told p q);
+        own = h.own;
+        received = λ p q t. first-more (c.world.history q) p (k p q) (l p q) (more p q) (h.received p q t);
+        shown = λ p t. first-more c.world.shown p (k p 0) (l p 0) (more p 0) (h.shown p t);
+      }

@@ -25,8 +25,8 @@ use Rattle.cluster.proofs.Facts.{choose2, well-is}
 use Rattle.cluster.proofs.Growth.{either-way, plan-begins, takes-back}
 use Rattle.cluster.specs.Overlap.{Event, Acts, Meets, Loses, Leaves, IsKept, Might, restores_anew, goes, kept_sends}
 use Rattle.cluster.specs.DurablePromises.{AreFirst}
-use Rattle.cluster.proofs.Firsts.{first-more, first-push, first-take, first-plan}
-use Rattle.cluster.proofs.Firm.{Sends, IsGood, IsThere, IsTrue, IsGoodSoFar, Firm, good-more, there-more, true-more, so-far-more}
+use Rattle.cluster.proofs.Firsts.{first-push, first-take, first-plan}
+use Rattle.cluster.proofs.Firm.{Sends, IsGood, IsThere, IsTrue, IsGoodSoFar, Firm, good-more, firm-more}
 use Rattle.cluster.proofs.DurableGrowth.{sends-continue, goes-sends}
 
 -- Phases in which nothing is worked on
@@ -154,70 +154,44 @@ module _ (last : ℕ → Bool) (c : Cluster) (h : Firm last c) where
 
   -- Events by which checkpoints cover nothing new
 
+  these : (ps : List Parcel) (x : ℕ → Phase) (ns : ℕ → ℕ → ℕ → Option ℕ) (ts : ℕ → ℕ → Option Collected) → ((a b : ℕ) (y : Body) → In (parcel a b y) ps → (a ≢ b) × IsTrue last k a b y) → Jobs x → ((s d ssn m : ℕ) → ns s d ssn ≡ Some m → IsThere last k s d ssn)
+      → ((p q : ℕ) → IsGoodSoFar last k p (ts p q)) → ((p : ℕ) → ts p p ≡ None) → Firm last (record c { parcels = ps; told = ts; world = record c.world { phase = x; numbers = ns } })
+  these ps x ns ts parcels jobs numbers told own =
+      record { grows = h.grows; within = h.within; parcels = parcels; jobs = jobs; numbers = numbers; told = told; own = own; received = h.received; shown = h.shown }
+
   with-parcel : (p d : ℕ) (x : Body) → p ≢ d → IsTrue last k p d x → Firm last (does c (Puts p d x))
-  with-parcel p d x ne t =
-      record { grows = h.grows; within = h.within; parcels = parcel-more p d x ne t; jobs = h.jobs; numbers = h.numbers; told = h.told; own = h.own; received = h.received; shown = h.shown }
+  with-parcel p d x ne t = these (parcel p d x ∷ c.parcels) c.world.phase c.world.numbers c.told (parcel-more p d x ne t) h.jobs h.numbers h.told h.own
 
   with-phase : (p : ℕ) (x : Phase) → IsIdle x → Firm last (record c { world = record c.world { phase = put c.world.phase p x } })
-  with-phase p x idle =
-      record { grows = h.grows; within = h.within; parcels = h.parcels; jobs = jobs-idle p x idle; numbers = h.numbers; told = h.told; own = h.own; received = h.received; shown = h.shown }
+  with-phase p x idle = these c.parcels (put c.world.phase p x) c.world.numbers c.told h.parcels (jobs-idle p x idle) h.numbers h.told h.own
 
   with-told : (p q : ℕ) (o : Option Collected) → (p ≡ q → o ≡ None) → IsGoodSoFar last k p o → Firm last (record c { told = put2 c.told p q o })
-  with-told p q o none g =
-      record { grows = h.grows; within = h.within; parcels = h.parcels; jobs = h.jobs; numbers = h.numbers; told = told-changed p q o g; own = own-changed p q o none; received = h.received; shown = h.shown }
+  with-told p q o none g = these c.parcels c.world.phase c.world.numbers (put2 c.told p q o) h.parcels h.jobs h.numbers (told-changed p q o g) (own-changed p q o none)
 
   with-numbers : (f : ℕ → ℕ → ℕ → Option ℕ) → ((s d ssn m : ℕ) → f s d ssn ≡ Some m → IsThere last k s d ssn) → Firm last (record c { world = record c.world { numbers = f } })
-  with-numbers f g =
-      record { grows = h.grows; within = h.within; parcels = h.parcels; jobs = h.jobs; numbers = g; told = h.told; own = h.own; received = h.received; shown = h.shown }
+  with-numbers f g = these c.parcels c.world.phase f c.told h.parcels h.jobs g h.told h.own
 
   starts : (p d i ssn : ℕ) (x : Payload) → May c (Arrives p (suc d) (Delivery i ssn x)) → Firm last (does c (Arrives p (suc d) (Delivery i ssn x)))
   starts p e i ssn x may =
       let d : ℕ = suc e in
       let g : IsGood last k d (message p ssn x) = (h.parcels p d (Delivery i ssn x) may.0).1 in
       let n : ssn ≡ suc (count_of p (c.world.history d)) = may.1.4 in
-      record {
-        grows = h.grows;
-        within = h.within;
-        parcels = h.parcels;
-        jobs = choose d (λ j t. (m : Message) → (if t then Busy (message p ssn x) else c.world.phase j) ≡ Busy m → IsGood last k j m × (m.ssn ≡ suc (count_of m.sender (c.world.history j))))
-            (λ m e. let same : message p ssn x ≡ m = cc in let P : Message → Type 0 = λ y. IsGood last k d y × (y.ssn ≡ suc (count_of y.sender (c.world.history d))) in subst P same (g, n)) (λ j _. h.jobs j);
-        numbers = h.numbers;
-        told = h.told;
-        own = h.own;
-        received = h.received;
-        shown = h.shown;
-      }
+      these c.parcels (put c.world.phase d (Busy (message p ssn x))) c.world.numbers c.told h.parcels
+      (choose d (λ j t. (m : Message) → (if t then Busy (message p ssn x) else c.world.phase j) ≡ Busy m → IsGood last k j m × (m.ssn ≡ suc (count_of m.sender (c.world.history j))))
+      (λ m e. let same : message p ssn x ≡ m = cc in let P : Message → Type 0 = λ y. IsGood last k d y × (y.ssn ≡ suc (count_of y.sender (c.world.history d))) in subst P same (g, n)) (λ j _. h.jobs j)) h.numbers h.told h.own
 
   shows : (p i ssn : ℕ) (x : Payload) → May c (Arrives p zero (Delivery i ssn x)) → Firm last (does c (Arrives p zero (Delivery i ssn x)))
   shows p i ssn x may =
       let g : IsGood last k 0 (message p ssn x) = (h.parcels p 0 (Delivery i ssn x) may.0).1 in
-      record {
-        grows = h.grows;
-        within = h.within;
-        parcels = h.parcels;
-        jobs = h.jobs;
-        numbers = h.numbers;
-        told = h.told;
-        own = h.own;
-        received = h.received;
-        shown = λ q l. first-push c.world.shown (message p ssn x) q (k q 0) may.1.1 (λ e. let P : ℕ → Type 0 = λ z. (last z ≡ true → nth (k z 0) ssn ≡ Some x) in subst P e g l) (h.shown q l);
-      }
+      let shown : (q : ℕ) → last q ≡ true → AreFirst (c.world.shown ++ message p ssn x ∷ []) q (k q 0) = λ q l. first-push c.world.shown (message p ssn x) q (k q 0) may.1.1 (λ e. let P : ℕ → Type 0 = λ z. (last z ≡ true → nth (k z 0) ssn ≡ Some x) in subst P e g l) (h.shown q l) in
+      record { grows = h.grows; within = h.within; parcels = h.parcels; jobs = h.jobs; numbers = h.numbers; told = h.told; own = h.own; received = h.received; shown = shown }
 
   records : (r s i ssn n : ℕ) → May c (Arrives r s (Number i ssn n)) → Firm last (does c (Arrives r s (Number i ssn n)))
   records r s i ssn n may =
       let t = h.parcels r s (Number i ssn n) may.0 in
-      record {
-        grows = h.grows;
-        within = h.within;
-        parcels = parcel-more s r (Acknowledgement i n) (λ e. t.0 (sym e)) tt;
-        jobs = h.jobs;
-        numbers = choose2 s r (λ a b y. (j m : ℕ) → (if y then put (c.world.numbers s r) ssn (Some n) else c.world.numbers a b) j ≡ Some m → IsThere last k a b j)
-            (choose ssn (λ j y. (m : ℕ) → (if y then Some n else c.world.numbers s r j) ≡ Some m → IsThere last k s r j) (λ m _. t.1) (λ j _ m e. h.numbers s r j m e)) (λ a b _ j m e. h.numbers a b j m e);
-        told = h.told;
-        own = h.own;
-        received = h.received;
-        shown = h.shown;
-      }
+      these (parcel s r (Acknowledgement i n) ∷ c.parcels) c.world.phase (put2 c.world.numbers s r (put (c.world.numbers s r) ssn (Some n))) c.told (parcel-more s r (Acknowledgement i n) (λ e. t.0 (sym e)) tt) h.jobs
+      (choose2 s r (λ a b y. (j m : ℕ) → (if y then put (c.world.numbers s r) ssn (Some n) else c.world.numbers a b) j ≡ Some m → IsThere last k a b j)
+      (choose ssn (λ j y. (m : ℕ) → (if y then Some n else c.world.numbers s r j) ≡ Some m → IsThere last k s r j) (λ m _. t.1) (λ j _ m e. h.numbers s r j m e)) (λ a b _ j m e. h.numbers a b j m e)) h.told h.own
 
   obeys : (p q i n s : ℕ) → Firm last (does c (Arrives p q (Resume i n s)))
   obeys p q i n s =
@@ -227,101 +201,50 @@ module _ (last : ℕ → Bool) (c : Cluster) (h : Firm last c) where
 
   restores : (q p i j n s : ℕ) (f : ℕ → Option ℕ) → In (parcel q p (Restored i j n s None f)) c.parcels → Firm last (goes_on (takes_in c p q j n s None f) p (without (todo_of (c.world.phase p)) q))
   restores q p i j n s f there =
-      record {
-        grows = h.grows;
-        within = h.within;
-        parcels = h.parcels;
-        jobs = jobs-idle p (phase_with (without (todo_of (c.world.phase p)) q)) (with-idle _);
-        numbers = page-there p q s None f (h.parcels q p (Restored i j n s None f) there).1;
-        told = h.told;
-        own = h.own;
-        received = h.received;
-        shown = h.shown;
-      }
+      let x : Phase = phase_with (without (todo_of (c.world.phase p)) q) in
+      these c.parcels (put c.world.phase p x) (put2 c.world.numbers p q (entered c p q s None f)) c.told h.parcels (jobs-idle p x (with-idle _)) (page-there p q s None f (h.parcels q p (Restored i j n s None f) there).1) h.told h.own
 
   opens : (p n : ℕ) → Firm last (does c (Opens p n))
   opens p n =
-      record {
-        grows = h.grows;
-        within = h.within;
-        parcels = h.parcels;
-        jobs = h.jobs;
-        numbers = h.numbers;
-        told = λ a b. choose p (λ j t. IsGoodSoFar last k j ((if t then (λ _. None) else c.told j) b)) tt (λ j _. h.told j b) a;
-        own = λ a. choose p (λ j t. (if t then (λ _. None) else c.told j) j ≡ None) refl (λ j _. h.own j) a;
-        received = h.received;
-        shown = h.shown;
-      }
+      these c.parcels c.world.phase c.world.numbers (put c.told p (λ _. None)) h.parcels h.jobs h.numbers (λ a b. choose p (λ j t. IsGoodSoFar last k j ((if t then (λ _. None) else c.told j) b)) tt (λ j _. h.told j b) a)
+      (λ a. choose p (λ j t. (if t then (λ _. None) else c.told j) j ≡ None) refl (λ j _. h.own j) a)
 
   meets : (q p i n : ℕ) → Firm last (goes c (Meets q p i n))
   meets q p i n =
-      record {
-        grows = h.grows;
-        within = h.within;
-        parcels = h.parcels;
-        jobs = choose q (λ j t. (m : Message) → (if t then restores_anew (c.world.phase q) p else c.world.phase j) ≡ Busy m → IsGood last k j m × (m.ssn ≡ suc (count_of m.sender (c.world.history j)))) (λ m e. h.jobs q m (anew-idle (c.world.phase q) p m e)) (λ j _. h.jobs j);
-        numbers = choose2 q p (λ a b t. (ssn m : ℕ) → (if t then (λ _. None) else c.world.numbers a b) ssn ≡ Some m → IsThere last k a b ssn) (λ ssn m e. absurd (let z : None ≡ Some m = e in cc)) (λ a b _ ssn m e. h.numbers a b ssn m e);
-        told = h.told;
-        own = h.own;
-        received = h.received;
-        shown = h.shown;
-      }
+      these c.parcels (put c.world.phase q (restores_anew (c.world.phase q) p)) (put2 c.world.numbers q p (λ _. None)) c.told h.parcels
+      (choose q (λ j t. (m : Message) → (if t then restores_anew (c.world.phase q) p else c.world.phase j) ≡ Busy m → IsGood last k j m × (m.ssn ≡ suc (count_of m.sender (c.world.history j)))) (λ m e. h.jobs q m (anew-idle (c.world.phase q) p m e)) (λ j _. h.jobs j))
+      (choose2 q p (λ a b t. (ssn m : ℕ) → (if t then (λ _. None) else c.world.numbers a b) ssn ≡ Some m → IsThere last k a b ssn) (λ ssn m e. absurd (let z : None ≡ Some m = e in cc)) (λ a b _ ssn m e. h.numbers a b ssn m e)) h.told h.own
 
   -- Events by which they do
 
   input-firm : (d : ℕ) (x : Payload) → Firm last (does c (Input d x))
-  input-firm d x =
-      let l : Sends = kept_sends (does c (Input d x)) in
-      let more : (p q : ℕ) → Begins (k p q) (l p q) = goes-sends c (Acts true false (Input d x)) h.grows h.within in
-      record {
-        grows = h.grows;
-        within = h.within;
-        parcels = λ p q y i. let t = h.parcels p q y i in (t.0, true-more last k l more p q y t.1);
-        jobs = λ q m e. let t = h.jobs q m e in (good-more last k l more q m t.0, t.1);
-        numbers = λ s q ssn m e. there-more last k l more s q ssn (h.numbers s q ssn m e);
-        told = λ p q. so-far-more last k l more p (c.told p q) (h.told p q);
-        own = h.own;
-        received = λ p q t. first-more (c.world.history q) p (k p q) (l p q) (more p q) (h.received p q t);
-        shown = λ p t. first-more c.world.shown p (k p 0) (l p 0) (more p 0) (h.shown p t);
-      }
+  input-firm d x = firm-more last k (kept_sends (does c (Input d x))) (goes-sends c (Acts true false (Input d x)) h.grows h.within) c h
 
   keeps : (p : ℕ) → Firm last (does c (Keeps p))
   keeps p =
-      let l : Sends = kept_sends (does c (Keeps p)) in
-      let more : (p q : ℕ) → Begins (k p q) (l p q) = goes-sends c (Acts true false (Keeps p)) h.grows h.within in
-      record {
-        grows = h.grows;
-        within = choose p (λ j t. (if t then length (c.world.history p) else c.world.saved j) ≤ length (c.world.history j)) (omega arith) (λ j _. h.within j);
-        parcels = λ p q y i. let t = h.parcels p q y i in (t.0, true-more last k l more p q y t.1);
-        jobs = λ q m e. let t = h.jobs q m e in (good-more last k l more q m t.0, t.1);
-        numbers = λ s q ssn m e. there-more last k l more s q ssn (h.numbers s q ssn m e);
-        told = λ p q. so-far-more last k l more p (c.told p q) (h.told p q);
-        own = h.own;
-        received = λ p q t. first-more (c.world.history q) p (k p q) (l p q) (more p q) (h.received p q t);
-        shown = λ p t. first-more c.world.shown p (k p 0) (l p 0) (more p 0) (h.shown p t);
-      }
+      let r = firm-more last k (kept_sends (does c (Keeps p))) (goes-sends c (Acts true false (Keeps p)) h.grows h.within) c h in
+      let within = choose p (λ j t. (if t then length (c.world.history p) else c.world.saved j) ≤ length (c.world.history j)) (omega arith) (λ j _. h.within j) in
+      record { grows = h.grows; within = within; parcels = r.parcels; jobs = r.jobs; numbers = r.numbers; told = r.told; own = h.own; received = r.received; shown = r.shown }
 
   works : (p : ℕ) (m : Message) → May c (Works p m) → Firm last (does c (Works p m))
   works p m may =
       let l : Sends = kept_sends (does c (Works p m)) in
-      let more : (p q : ℕ) → Begins (k p q) (l p q) = goes-sends c (Acts true false (Works p m)) h.grows h.within in
-      let job = h.jobs p m may.2 in
-      let good : IsGood last l p m = good-more last k l more p m job.0 in
+      let r = firm-more last k (kept_sends (does c (Works p m))) (goes-sends c (Acts true false (Works p m)) h.grows h.within) c h in
+      let job : IsGood last l p m × (m.ssn ≡ suc (count_of m.sender (c.world.history p))) = r.jobs p m may.2 in
       let long : length (c.world.history p ++ m ∷ []) ≡ length (c.world.history p) + 1 = length-append _ _ in
       let low : c.world.saved p ≤ length (c.world.history p) = h.within p in
       record {
         grows = h.grows;
         within = choose p (λ j t. c.world.saved j ≤ length (if t then c.world.history p ++ m ∷ [] else c.world.history j)) (omega arith) (λ j _. h.within j);
-        parcels = λ p q y i. let t = h.parcels p q y i in (t.0, true-more last k l more p q y t.1);
+        parcels = r.parcels;
         jobs = choose p (λ j t. (y : Message) → (if t then Up else c.world.phase j) ≡ Busy y → IsGood last l j y × (y.ssn ≡ suc (count_of y.sender (if t then c.world.history p ++ m ∷ [] else c.world.history j))))
-            (λ y e. absurd (let t : false ≡ true = ap is_busy e in cc)) (λ j _ y e. let t = h.jobs j y e in (good-more last k l more j y t.0, t.1));
-        numbers = λ s q ssn m e. there-more last k l more s q ssn (h.numbers s q ssn m e);
-        told = λ p q. so-far-more last k l more p (c.told p q) (h.told p q);
+            (λ y e. absurd (let t : false ≡ true = ap is_busy e in cc)) (λ j _. r.jobs j);
+        numbers = r.numbers;
+        told = r.told;
         own = h.own;
         received = λ s d t. choose p (λ j y. AreFirst (if y then c.world.history p ++ m ∷ [] else c.world.history j) s (l s j))
-            (first-push (c.world.history p) m s (l s p) job.1 (λ e. let P : ℕ → Type 0 = λ z. (last z ≡ true → nth (l z p) m.ssn ≡ Some m.payload) in subst P e good t) (first-more (c.world.history p) s (k s p) (l s p) (more s p) (h.received s p t)))
-            (λ j _. first-more (c.world.history j) s (k s j) (l s j) (more s j) (h.received s j t)) d;
-        shown = λ p t. first-more c.world.shown p (k p 0) (l p 0) (more p 0) (h.shown p t);
+            (first-push (c.world.history p) m s (l s p) job.1 (λ e. let P : ℕ → Type 0 = λ z. (last z ≡ true → nth (l z p) m.ssn ≡ Some m.payload) in subst P e job.0 t) (r.received s p t)) (λ j _. r.received s j t) d;
+        shown = r.shown;
       }
 
   -- p has collected
@@ -329,26 +252,24 @@ module _ (last : ℕ → Bool) (c : Cluster) (h : Firm last c) where
     recovers : (x : Phase) → IsIdle x → ((q d : ℕ) → Begins (k q d) (kept_sends (record (taken_back c p n) { world = record (taken_back c p n).world { phase = put c.world.phase p x } }) q d)) → Firm last (record (taken_back c p n) { world = record (taken_back c p n).world { phase = put c.world.phase p x } })
     recovers x idle more =
         let l : Sends = kept_sends (record (taken_back c p n) { world = record (taken_back c p n).world { phase = put c.world.phase p x } }) in
+        let r = firm-more last k l more c h in
         let low : c.world.saved p ≤ length (c.world.history p) = h.within p in
         let b : Begins (take (c.world.saved p) (c.world.history p)) (kept_by c p n) = plan-begins (told_by c p) (take (c.world.saved p) (c.world.history p)) (n - c.world.saved p) in
         let long : length (take (c.world.saved p) (c.world.history p)) ≡ c.world.saved p = take-length (c.world.history p) (c.world.saved p) low in
         let longer : length (take (c.world.saved p) (c.world.history p)) ≤ length (kept_by c p n) = begins-length _ _ b in
-        let good : (m : ℕ) (y : Message) → told_by c p m ≡ Some y → IsGood last k p y = all-good p may.2 in
         record {
           grows = h.grows;
           within = choose p (λ j t. c.world.saved j ≤ length (if t then kept_by c p n else c.world.history j)) (omega arith) (λ j _. h.within j);
-          parcels = λ a d y i. let t = h.parcels a d y i in (t.0, true-more last k l more a d y t.1);
-          jobs = choose p (λ j t. (y : Message) → (if t then x else c.world.phase j) ≡ Busy y → IsGood last l j y × (y.ssn ≡ suc (count_of y.sender (if t then kept_by c p n else c.world.history j))))
-              (λ y e. absurd (idle y e)) (λ j _ y e. let t = h.jobs j y e in (good-more last k l more j y t.0, t.1));
-          numbers = λ s d ssn m. choose p (λ j t. (if t then (λ _ _. None) else c.world.numbers j) d ssn ≡ Some m → IsThere last l j d ssn) (λ e. absurd (let z : None ≡ Some m = e in cc)) (λ j _ e. there-more last k l more j d ssn (h.numbers j d ssn m e)) s;
-          told = λ a d. choose p (λ j t. IsGoodSoFar last l j ((if t then (λ _. None) else c.told j) d)) tt (λ j _. so-far-more last k l more j (c.told j d) (h.told j d)) a;
+          parcels = r.parcels;
+          jobs = choose p (λ j t. (y : Message) → (if t then x else c.world.phase j) ≡ Busy y → IsGood last l j y × (y.ssn ≡ suc (count_of y.sender (if t then kept_by c p n else c.world.history j)))) (λ y e. absurd (idle y e)) (λ j _. r.jobs j);
+          numbers = λ s d ssn m. choose p (λ j t. (if t then (λ _ _. None) else c.world.numbers j) d ssn ≡ Some m → IsThere last l j d ssn) (λ e. absurd (let z : None ≡ Some m = e in cc)) (λ j _. r.numbers j d ssn m) s;
+          told = λ a d. choose p (λ j t. IsGoodSoFar last l j ((if t then (λ _. None) else c.told j) d)) tt (λ j _. r.told j d) a;
           own = λ a. choose p (λ j t. (if t then (λ _. None) else c.told j) j ≡ None) refl (λ j _. h.own j) a;
           received = λ s d t. choose p (λ j y. AreFirst (if y then kept_by c p n else c.world.history j) s (l s j))
               (first-plan (told_by c p) (take (c.world.saved p) (c.world.history p)) (n - c.world.saved p) s (l s p)
-              (λ m y e f. let P : ℕ → Type 0 = λ z. (last z ≡ true → nth (l z p) y.ssn ≡ Some y.payload) in subst P f (good-more last k l more p y (good m y e)) t)
-              (first-take (c.world.history p) (c.world.saved p) s (l s p) (first-more (c.world.history p) s (k s p) (l s p) (more s p) (h.received s p t))))
-              (λ j _. first-more (c.world.history j) s (k s j) (l s j) (more s j) (h.received s j t)) d;
-          shown = λ s t. first-more c.world.shown s (k s 0) (l s 0) (more s 0) (h.shown s t);
+              (λ m y e f. let P : ℕ → Type 0 = λ z. (last z ≡ true → nth (l z p) y.ssn ≡ Some y.payload) in subst P f (good-more last k l more p y (all-good p may.2 m y e)) t)
+              (first-take (c.world.history p) (c.world.saved p) s (l s p) (r.received s p t))) (λ j _. r.received s j t) d;
+          shown = r.shown;
         }
 
     recovers-firm : Firm last (does c (Recovers p n))
