@@ -11,6 +11,8 @@ use Rattle.cluster.specs.Parcels.{Body, Delivery, Ask, Told, Restored, parcel, I
 use Rattle.cluster.specs.Cluster.{Stage, Live, Frozen, Dead, Collecting, Collected, Cluster, runs, is_well}
 use Rattle.cluster.specs.Rules.{Act, Arrives, Works, Replays, Recovers, Freezes, Keeps, Thaws, Dies, Opens, IsNode, May, does, message, with_page, kept_by, put2}
 use Rattle.cluster.proofs.Facts.{choose2, well-is, is-well, takes-is, true-not-false}
+use Rattle.cluster.specs.Return.{is_death}
+use Rattle.cluster.proofs.Settings.{does-count}
 use Rattle.cluster.proofs.Growth.{either-way}
 use Rattle.cluster.specs.Overlap.{Event, Acts, Meets, Loses, Leaves, Might, restores_anew, goes}
 use Rattle.cluster.proofs.Sane.{Low, todo-turn, todo-with, peers-nodes, without-less}
@@ -42,13 +44,24 @@ module _ (c : Cluster) where
   sound-turn : (p : ℕ) (x : Phase) → IsSound x → ((j : ℕ) → IsSound (c.world.phase j)) → (j : ℕ) → IsSound (put c.world.phase p x j)
   sound-turn p x s h = choose p (λ j b. IsSound (if b then x else c.world.phase j)) s (λ j _. h j)
 
-  -- p turns to another phase; it wasn't up before, or is so after it
-  well-turn : (p : ℕ) (x : Phase) → (is_up (c.world.phase p) ≡ true → is_up x ≡ true) → (q : ℕ) → is_well c q ≡ true → (is_well (record c { world = record c.world { phase = put c.world.phase p x } }) q ≡ true) ⊎ (c.stage q ≡ Dead)
-  well-turn p x up = choose p (λ j b. is_well c j ≡ true → ((runs (c.stage j) && (c.greeted j && is_up (if b then x else c.world.phase j))) ≡ true) ⊎ (c.stage j ≡ Dead))
-      (λ w. let t = well-is c p w in let u : is_up x ≡ true = up t.2 in inl (rw (t.0, t.1, u) refl)) (λ j _ w. inl w)
+  -- who is up stays so
+  abbrev StayUp : Cluster → Type 0
+  StayUp d = (q : ℕ) → is_well c q ≡ true → is_well d q ≡ true
 
-  on-turn : (p : ℕ) (x : Phase) → Low c → (is_up (c.world.phase p) ≡ true → is_up x ≡ true) → On c (record c { world = record c.world { phase = put c.world.phase p x } })
-  on-turn p x l up = record { count = refl; stored = λ p. refl; heard = λ p q. omega arith; low = l; well = well-turn p x up; dead = λ p e. e }
+  -- p turns to another phase; it wasn't up before, or is so after it
+  well-turn : (p : ℕ) (x : Phase) → (is_up (c.world.phase p) ≡ true → is_up x ≡ true) → StayUp (record c { world = record c.world { phase = put c.world.phase p x } })
+  well-turn p x up = choose p (λ j b. is_well c j ≡ true → (runs (c.stage j) && (c.greeted j && is_up (if b then x else c.world.phase j))) ≡ true) (λ w. let t = well-is c p w in let u : is_up x ≡ true = up t.2 in rw (t.0, t.1, u) refl) (λ j _ w. w)
+
+  -- or to another stage
+  well-stage : (p : ℕ) (x : Stage) → (is_well c p ≡ true → runs x ≡ true) → StayUp (record c { stage = put c.stage p x })
+  well-stage p x r = choose p (λ j b. is_well c j ≡ true → (runs (if b then x else c.stage j) && (c.greeted j && is_up (c.world.phase j))) ≡ true) (λ w. let t = well-is c p w in let u : runs x ≡ true = r w in rw (u, t.1, t.2) refl) (λ j _ w. w)
+
+  well-recovers : (p : ℕ) (x : Phase) → c.stage p ≡ Collecting → StayUp (record c { stage = put c.stage p Live; greeted = put c.greeted p false; world = record c.world { phase = put c.world.phase p x } })
+  well-recovers p x e = choose p (λ j b. is_well c j ≡ true → (runs (if b then Live else c.stage j) && ((if b then false else c.greeted j) && is_up (if b then x else c.world.phase j))) ≡ true) (λ w. absurd (true-not-false (well-is c p w).0 (ap runs e))) (λ j _ w. w)
+
+  -- who is dead stays so
+  dead-stage : (p : ℕ) (x : Stage) → c.stage p ≢ Dead → (q : ℕ) → c.stage q ≡ Dead → put c.stage p x q ≡ Dead
+  dead-stage p x n = choose p (λ j b. c.stage j ≡ Dead → (if b then x else c.stage j) ≡ Dead) (λ e. absurd (n e)) (λ j _ e. e)
 
   plain-turn : (p : ℕ) (x : Phase) → 0 ≢ p → IsSound x → ((q : ℕ) → has (todo_of x) q ≡ true → IsNode c q × (q ≢ p)) → Plain c → Plain (record c { world = record c.world { phase = put c.world.phase p x } })
   plain-turn p x n s t h =
@@ -57,13 +70,12 @@ module _ (c : Cluster) where
   pub low-hears : (a b i : ℕ) → Low c → i ≤ c.stored b → Low (record c { heard = put2 c.heard a b i })
   low-hears a b i l n = choose2 a b (λ x y t. (if t then i else c.heard x y) ≤ c.stored y) n (λ x y _. l x y)
 
-  -- more was heard
-  on-hears : (a b i : ℕ) → Low c → c.heard a b ≤ i → i ≤ c.stored b → On c (record c { heard = put2 c.heard a b i })
-  on-hears a b i l m n =
-      record { count = refl; stored = λ p. refl; heard = choose2 a b (λ x y t. c.heard x y ≤ (if t then i else c.heard x y)) m (λ x y _. omega arith); low = low-hears a b i l n; well = λ p w. inl w; dead = λ p e. e }
+  -- incarnations stay, and no less was heard
+  abbrev Hears : Cluster → Type 0
+  Hears d = ((p : ℕ) → d.stored p ≡ c.stored p) × ((p q : ℕ) → c.heard p q ≤ d.heard p q) × Low d
 
-  on-same : Low c → On c c
-  on-same l = record { count = refl; stored = λ p. refl; heard = λ p q. omega arith; low = l; well = λ p w. inl w; dead = λ p e. e }
+  hears : (a b i : ℕ) → Low c → c.heard a b ≤ i → i ≤ c.stored b → Hears (record c { heard = put2 c.heard a b i })
+  hears a b i l m n = (λ p. refl, choose2 a b (λ x y t. c.heard x y ≤ (if t then i else c.heard x y)) m (λ x y _. omega arith), low-hears a b i l n)
 
   not-gate : (p : ℕ) → IsNode c p → 0 ≢ p
   not-gate p n e = let l : 0 < p = n.0 in omega arith
@@ -87,22 +99,6 @@ module _ (c : Cluster) where
 
   stage-gate : (p : ℕ) (x : Stage) → 0 ≢ p → Plain c → put c.stage p x 0 ≡ Live
   stage-gate p x n h = put-other c.stage p x 0 n ∙ h.gateway.0
-
-  -- p turns to another stage
-  well-stage : (p : ℕ) (x : Stage) → runs x ≡ true → (q : ℕ) → is_well c q ≡ true → (is_well (record c { stage = put c.stage p x }) q ≡ true) ⊎ (put c.stage p x q ≡ Dead)
-  well-stage p x r = choose p (λ j b. is_well c j ≡ true → ((runs (if b then x else c.stage j) && (c.greeted j && is_up (c.world.phase j))) ≡ true) ⊎ ((if b then x else c.stage j) ≡ Dead))
-      (λ w. let t = well-is c p w in inl (rw (r, t.1, t.2) refl)) (λ j _ w. inl w)
-
-  on-stage : (p : ℕ) (x : Stage) → Low c → runs x ≡ true → c.stage p ≢ Dead → On c (record c { stage = put c.stage p x })
-  on-stage p x l r n =
-      record {
-        count = refl;
-        stored = λ p. refl;
-        heard = λ p q. omega arith;
-        low = l;
-        well = well-stage p x r;
-        dead = choose p (λ j b. c.stage j ≡ Dead → (if b then x else c.stage j) ≡ Dead) (λ e. absurd (n e)) (λ j _ e. e);
-      }
 
   settled-stage : (p : ℕ) (x : Stage) → (runs x ≡ true → c.world.incarnation p ≡ c.stored p) → Plain c → (q : ℕ) → runs (put c.stage p x q) ≡ true → c.world.incarnation q ≡ c.stored q
   settled-stage p x s h = choose p (λ j b. runs (if b then x else c.stage j) ≡ true → c.world.incarnation j ≡ c.stored j) s (λ j _. h.settled j)
@@ -129,67 +125,56 @@ abbrev pub opens : Event → Bool
 opens (Acts exact lost a) = is_opening a
 opens e = false
 
-abbrev is_collecting : Stage → Bool
-is_collecting Collecting = true
-is_collecting x = false
-
-abbrev is_frozen : Stage → Bool
-is_frozen Frozen = true
-is_frozen x = false
+-- who is up stays so, unless it dies
+pub well-act : (c : Cluster) (a : Act) → is_death a ≡ false → May c a → StayUp c (does c a)
+well-act c (Arrives q p (Restored i j m s (Some u) f)) n may = λ r w. w
+well-act c (Arrives p (suc d) (Delivery i ssn x)) n may = well-turn c (suc d) (Busy (message p ssn x)) (λ _. refl)
+well-act c (Works p m) n may = well-turn c p Up (λ _. refl)
+well-act c (Replays p j) n may = either-way (nat_lt (c.world.saved p + suc j) (length (c.world.history p))) _ _ (StayUp c)
+    (well-turn c p (Replaying (suc j) false false) (λ u. absurd (true-not-false u (ap is_up may.2)))) (well-turn c p (phase_with (peers c.world p false)) (λ u. absurd (true-not-false u (ap is_up may.2))))
+well-act c (Recovers p k) n may = either-way (nat_lt (c.world.saved p) k) _ _ (StayUp c) (well-recovers c p (Replaying 0 false false) may.1) (well-recovers c p (phase_with (peers c.world p false)) may.1)
+well-act c (Arrives (suc q) p (Restored i j m s None f)) n may = well-turn c p (phase_with (without (todo_of (c.world.phase p)) (suc q))) (λ u. absurd (true-not-false u (not-up c p (suc q) may.1.3)))
+well-act c (Arrives zero p (Restored i j m s None f)) n may =
+    choose p (λ j b. is_well c j ≡ true → (runs (c.stage j) && ((if b then true else c.greeted j) && is_up (c.world.phase j))) ≡ true) (λ w. let t = well-is c p w in rw (t.0, t.2) refl) (λ j _ w. w)
+well-act c (Freezes p) n may = well-stage c p Frozen (λ _. refl)
+well-act c (Thaws p) n may = well-stage c p Live (λ _. refl)
+well-act c (Dies p) n may = absurd (cc)
+well-act c (Opens p m) n may = well-stage c p Collecting (λ w. absurd (true-not-false (well-is c p w).0 (ap runs may.1)))
+well-act c act n may = λ r w. w
 
 module _ (born : ℕ → ℕ) (c : Cluster) (h : Plain c) (fine : (p d : ℕ) (x : Body) → In (parcel p d x) c.parcels → (p ≢ d) × Fine born c p d x) where
-  replaying-up : (p j : ℕ) (x : Phase) → c.world.phase p ≡ Replaying j false false → is_up (c.world.phase p) ≡ true → is_up x ≡ true
-  replaying-up p j x e u = absurd (true-not-false u (ap is_up e))
+  heard-act : (a : Act) → is_opening a ≡ false → May c a → Hears c (does c a)
+  heard-act (Arrives q p (Restored i j m s (Some u) f)) n may = hears c p q j h.low may.1.5 (fine q p (Restored i j m s (Some u) f) may.0).1
+  heard-act (Arrives p zero (Delivery i ssn x)) n may = (λ p. refl, λ p q. omega arith, h.low)
+  heard-act (Replays p j) n may = let o : Hears c c = (λ p. refl, λ p q. omega arith, h.low) in either-way (nat_lt (c.world.saved p + suc j) (length (c.world.history p))) _ _ (Hears c) o o
+  heard-act (Arrives p q (Ask i k)) n may = let l : c.heard q p < i = may.1.0 in hears c q p i h.low (omega arith) (fine p q (Ask i k) may.0).1.1
+  heard-act (Arrives q p (Told i j k u f)) n may = hears c p q j h.low may.1.2 (fine q p (Told i j k u f) may.0).1.1
+  heard-act (Recovers p k) n may = let o : Hears c c = (λ p. refl, λ p q. omega arith, h.low) in either-way (nat_lt (c.world.saved p) k) _ _ (Hears c) o o
+  heard-act (Arrives (suc q) p (Restored i j m s None f)) n may = hears c p (suc q) j h.low may.1.5 (fine (suc q) p (Restored i j m s None f) may.0).1
+  heard-act (Arrives zero p (Restored i j m s None f)) n may = (λ p. refl, λ p q. omega arith, h.low)
+  heard-act (Opens p m) n may = absurd (cc)
+  heard-act act n may = (λ p. refl, λ p q. omega arith, h.low)
 
-  on-recovers : (p k : ℕ) (x : Phase) → c.stage p ≡ Collecting → On c (record c { stage = put c.stage p Live; greeted = put c.greeted p false; world = record c.world { phase = put c.world.phase p x } })
-  on-recovers p k x e =
-      record {
-        count = refl;
-        stored = λ p. refl;
-        heard = λ p q. omega arith;
-        low = h.low;
-        well = choose p (λ j b. is_well c j ≡ true → ((runs (if b then Live else c.stage j) && ((if b then false else c.greeted j) && is_up (if b then x else c.world.phase j))) ≡ true) ⊎ ((if b then Live else c.stage j) ≡ Dead))
-            (λ w. absurd (true-not-false (well-is c p w).0 (ap runs e))) (λ j _ w. inl w);
-        dead = choose p (λ j b. c.stage j ≡ Dead → (if b then Live else c.stage j) ≡ Dead) (λ f. absurd (true-not-false (ap is_collecting e) (ap is_collecting f))) (λ j _ f. f);
-      }
+  dead-act : (a : Act) → is_opening a ≡ false → May c a → (q : ℕ) → c.stage q ≡ Dead → (does c a).stage q ≡ Dead
+  dead-act (Arrives q p (Restored i j m s (Some u) f)) n may = λ r e. e
+  dead-act (Arrives p zero (Delivery i ssn x)) n may = λ r e. e
+  dead-act (Replays p j) n may = either-way (nat_lt (c.world.saved p + suc j) (length (c.world.history p))) _ _ (λ d. (q : ℕ) → c.stage q ≡ Dead → d.stage q ≡ Dead) (λ r e. e) (λ r e. e)
+  dead-act (Recovers p k) n may =
+      let o = dead-stage c p Live (λ f. let t : Collecting ≡ Dead = sym may.1 ∙ f in cc) in
+      either-way (nat_lt (c.world.saved p) k) _ _ (λ d. (q : ℕ) → c.stage q ≡ Dead → d.stage q ≡ Dead) o o
+  dead-act (Arrives zero p (Restored i j m s None f)) n may = λ r e. e
+  dead-act (Freezes p) n may = dead-stage c p Frozen (λ e. absurd (true-not-false (ap runs (takes-is c p may.1).0) (ap runs e)))
+  dead-act (Thaws p) n may = dead-stage c p Live (λ e. absurd (true-not-false (ap runs may.1) (ap runs e)))
+  dead-act (Dies p) n may = choose p (λ j b. c.stage j ≡ Dead → (if b then Dead else c.stage j) ≡ Dead) (λ _. refl) (λ j _ e. e)
+  dead-act (Opens p m) n may = absurd (cc)
+  dead-act act n may = λ r e. e
 
-  pub on-act : (a : Act) → is_opening a ≡ false → May c a → On c (does c a)
-  on-act (Arrives q p (Restored i j m s (Some u) f)) n may = on-hears c p q j h.low may.1.5 (fine q p (Restored i j m s (Some u) f) may.0).1
-  on-act (Arrives p (suc d) (Delivery i ssn x)) n may = on-turn c (suc d) (Busy (message p ssn x)) h.low (λ _. refl)
-  on-act (Works p m) n may = on-turn c p Up h.low (λ _. refl)
-  on-act (Replays p j) n may = either-way (nat_lt (c.world.saved p + suc j) (length (c.world.history p))) _ _ (On c)
-      (on-turn c p (Replaying (suc j) false false) h.low (replaying-up p j (Replaying (suc j) false false) may.2))
-      (on-turn c p (phase_with (peers c.world p false)) h.low (replaying-up p j (phase_with (peers c.world p false)) may.2))
-  on-act (Arrives p q (Ask i k)) n may = let l : c.heard q p < i = may.1.0 in on-hears c q p i h.low (omega arith) (fine p q (Ask i k) may.0).1.1
-  on-act (Arrives q p (Told i j k u f)) n may = on-hears c p q j h.low may.1.2 (fine q p (Told i j k u f) may.0).1.1
-  on-act (Recovers p k) n may = either-way (nat_lt (c.world.saved p) k) _ _ (On c) (on-recovers p k (Replaying 0 false false) may.1) (on-recovers p k (phase_with (peers c.world p false)) may.1)
-  on-act (Arrives (suc q) p (Restored i j m s None f)) n may =
-      let o = on-hears c p (suc q) j h.low may.1.5 (fine (suc q) p (Restored i j m s None f) may.0).1 in
-      let x : Phase = phase_with (without (todo_of (c.world.phase p)) (suc q)) in
-      record { count = refl; stored = λ p. refl; heard = o.heard; low = o.low; well = well-turn c p x (λ u. absurd (true-not-false u (not-up c p (suc q) may.1.3))); dead = λ p e. e }
-  on-act (Arrives zero p (Restored i j m s None f)) n may =
-      record {
-        count = refl;
-        stored = λ p. refl;
-        heard = λ p q. omega arith;
-        low = h.low;
-        well = choose p (λ j b. is_well c j ≡ true → ((runs (c.stage j) && ((if b then true else c.greeted j) && is_up (c.world.phase j))) ≡ true) ⊎ (c.stage j ≡ Dead))
-            (λ w. let t = well-is c p w in inl (rw (t.0, t.2) refl)) (λ j _ w. inl w);
-        dead = λ p e. e;
-      }
-  on-act (Freezes p) n may = on-stage c p Frozen h.low refl (λ e. absurd (true-not-false (ap runs (takes-is c p may.1).0) (ap runs e)))
-  on-act (Thaws p) n may = on-stage c p Live h.low refl (λ e. absurd (true-not-false (ap runs may.1) (ap runs e)))
-  on-act (Dies p) n may =
-      record {
-        count = refl;
-        stored = λ p. refl;
-        heard = λ p q. omega arith;
-        low = h.low;
-        well = choose p (λ j b. is_well c j ≡ true → ((runs (if b then Dead else c.stage j) && (c.greeted j && is_up (c.world.phase j))) ≡ true) ⊎ ((if b then Dead else c.stage j) ≡ Dead)) (λ w. inr refl) (λ j _ w. inl w);
-        dead = choose p (λ j b. c.stage j ≡ Dead → (if b then Dead else c.stage j) ≡ Dead) (λ e. refl) (λ j _ e. e);
-      }
-  on-act (Opens p m) n may = absurd (cc)
-  on-act act n may = on-same c h.low
+  up-act : (a : Act) → May c a → (q : ℕ) → is_well c q ≡ true → (is_well (does c a) q ≡ true) ⊎ ((does c a).stage q ≡ Dead)
+  up-act (Dies p) may = choose p (λ j b. is_well c j ≡ true → ((runs (if b then Dead else c.stage j) && (c.greeted j && is_up (c.world.phase j))) ≡ true) ⊎ ((if b then Dead else c.stage j) ≡ Dead)) (λ w. inr refl) (λ j _ w. inl w)
+  up-act a may = λ q w. inl (well-act c a refl may q w)
+
+  on-act : (a : Act) → is_opening a ≡ false → May c a → On c (does c a)
+  on-act a n may = let t = heard-act a n may in record { count = does-count c a; stored = t.0; heard = t.1; low = t.2; well = up-act a may; dead = dead-act a n may }
 
   plain-recovers : (p k : ℕ) (x : Phase) → May c (Recovers p k) → IsSound x → ((q : ℕ) → has (todo_of x) q ≡ true → IsNode c q × (q ≢ p))
       → Plain (record c { stage = put c.stage p Live; greeted = put c.greeted p false; told = put c.told p (λ _. None); world = record c.world { incarnation = put c.world.incarnation p (c.stored p); history = put c.world.history p (kept_by c p k); phase = put c.world.phase p x } })
@@ -285,17 +270,19 @@ module _ (born : ℕ → ℕ) (c : Cluster) (h : Plain c) (fine : (p d : ℕ) (x
       let z : is_well c 0 ≡ false = subst P (sym e) w in
       true-not-false (is-well c 0 (ap runs h.gateway.0) h.gateway.1 (ap is_up h.gateway.2)) z
 
-  meets-well : (q : ℕ) (x : Phase) → is_well c q ≡ false → (r : ℕ) → is_well c r ≡ true → (is_well (record c { world = record c.world { phase = put c.world.phase q x } }) r ≡ true) ⊎ (c.stage r ≡ Dead)
-  meets-well q x un = choose q (λ j b. is_well c j ≡ true → ((runs (c.stage j) && (c.greeted j && is_up (if b then x else c.world.phase j))) ≡ true) ⊎ (c.stage j ≡ Dead)) (λ w. absurd (true-not-false w un)) (λ j _ w. inl w)
+  meets-well : (q : ℕ) (x : Phase) → is_well c q ≡ false → StayUp c (record c { world = record c.world { phase = put c.world.phase q x } })
+  meets-well q x un = choose q (λ j b. is_well c j ≡ true → (runs (c.stage j) && (c.greeted j && is_up (if b then x else c.world.phase j))) ≡ true) (λ w. absurd (true-not-false w un)) (λ j _ w. w)
 
   pub on-event : (durable : ℕ → Bool) (e : Event) → opens e ≡ false → Might durable c e → On c (goes c e)
   on-event durable (Acts exact lost a) n may = on-act a n may.0
   on-event durable (Meets q p i k) n may =
       let l : c.heard q p < i = may.2 in
-      let o = on-hears c q p i h.low (omega arith) (fine p q (Ask i k) may.0).1.1 in
-      record { count = refl; stored = λ p. refl; heard = o.heard; low = o.low; well = meets-well q (restores_anew (c.world.phase q) p) may.1.1; dead = λ p e. e }
-  on-event durable (Loses q p i j k) n may = on-same c h.low
-  on-event durable (Leaves p q) n may = on-turn c p (phase_with (without (todo_of (c.world.phase p)) q)) h.low (λ u. absurd (true-not-false u (not-up c p q may.1)))
+      let t = hears c q p i h.low (omega arith) (fine p q (Ask i k) may.0).1.1 in
+      record { count = refl; stored = t.0; heard = t.1; low = t.2; well = λ r w. inl (meets-well q (restores_anew (c.world.phase q) p) may.1.1 r w); dead = λ p e. e }
+  on-event durable (Loses q p i j k) n may = record { count = refl; stored = λ p. refl; heard = λ p q. omega arith; low = h.low; well = λ p w. inl w; dead = λ p e. e }
+  on-event durable (Leaves p q) n may =
+      let x : Phase = phase_with (without (todo_of (c.world.phase p)) q) in
+      record { count = refl; stored = λ p. refl; heard = λ p q. omega arith; low = h.low; well = λ r w. inl (well-turn c p x (λ u. absurd (true-not-false u (not-up c p q may.1))) r w); dead = λ p e. e }
 
   pub plain-event : (durable : ℕ → Bool) (e : Event) → opens e ≡ false → Might durable c e → Plain (goes c e)
   plain-event durable (Acts exact lost a) n may = plain-act a n may.0

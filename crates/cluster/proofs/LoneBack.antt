@@ -1,21 +1,20 @@
 -- A run of the basic rules is one of the whole rules in which all packets say that nothing is lost. So a lone node comes back as all do
-use Rattle.std.proofs.Common.{◌≡◌, ◌≢◌, inl, inr, ℕ, zero, suc, ◌+◌, ◌≤◌, List, [], ◌∷◌, length, Bool, true, false, refl, sym, ap, ◌∙◌, subst, arith}
-use Rattle.std.specs.Prelude.{Some, None, ◌&&◌, nat_lt, not, if◌then◌else◌}
+use Rattle.std.proofs.Common.{◌≡◌, inl, inr, ℕ, zero, suc, ◌≤◌, List, [], ◌∷◌, Bool, true, false, refl, sym, ap, ◌∙◌, subst, arith}
+use Rattle.std.specs.Prelude.{◌&&◌, not, if◌then◌else◌}
 use Rattle.world.specs.Handlers.{Handlers}
 use Rattle.world.specs.Phases.{is_up}
-use Rattle.world.specs.World.{put}
 use Rattle.theorems.proofs.Changes.{choose}
 use Rattle.cluster.specs.Parcels.{Body, Delivery, Number, Acknowledgement, Told, Restored, Parcel, parcel, In}
-use Rattle.cluster.specs.Cluster.{Stage, Live, Frozen, Dead, Collecting, Cluster, opening, runs, is_well}
-use Rattle.cluster.specs.Rules.{Act, Puts, Arrives, Replays, Recovers, Freezes, Thaws, Dies, Opens, May, does, Run, after_run}
+use Rattle.cluster.specs.Cluster.{Cluster, opening, runs, is_well}
+use Rattle.cluster.specs.Rules.{Act, Puts, Arrives, Dies, Opens, May, does, Run, after_run}
 use Rattle.cluster.specs.Overlap.{Event, Acts, IsKept}
 use Rattle.cluster.specs.Exact.{flagged, Said, Telling, starts, Says, step, Steps, after_steps, said_after, exact_after}
 use Rattle.cluster.specs.Return.{is_death, is_quiet, CanReach, AllUp, LoneComesBack}
 use Rattle.cluster.specs.WorkedDurable.{none_durable, taken}
-use Rattle.cluster.proofs.Facts.{well-is, is-well, true-not-false}
-use Rattle.cluster.proofs.Growth.{either-way}
+use Rattle.cluster.proofs.Facts.{is-well, true-not-false}
+use Rattle.cluster.proofs.Settings.{does-count}
 use Rattle.cluster.proofs.Reports.{more, parcels-are}
-use Rattle.cluster.proofs.DurableTurns.{on-act}
+use Rattle.cluster.proofs.DurableTurns.{well-act}
 use Rattle.cluster.proofs.Births.{Orderly, orderly-step, always-orderly}
 use Rattle.cluster.proofs.WakeUps.{AllBut, Calm}
 use Rattle.cluster.proofs.AllBack.{orderly-back}
@@ -83,46 +82,20 @@ acts-end s (a ∷ acts) = acts-end (step s (Acts true false a)) acts
 pub trusts-first : (n : ℕ) (f : Handlers) → Trusts (starts n f none_durable)
 trusts-first n f = record { durable = λ p. refl; exact = λ p. refl; said = λ x a i. absurd (i) }
 
--- nobody dies of another act
-abbrev NoneDies : Cluster → (ℕ → Stage) → Type 0
-NoneDies c stage = (q : ℕ) → stage q ≡ Dead → c.stage q ≡ Dead
-
-moves : (c : Cluster) (p : ℕ) (x : Stage) → x ≢ Dead → NoneDies c (put c.stage p x)
-moves c p x n = choose p (λ j b. (if b then x else c.stage j) ≡ Dead → c.stage j ≡ Dead) (λ e. absurd (n e)) (λ j _ e. e)
-
-dead-before : (c : Cluster) (a : Act) → is_death a ≡ false → NoneDies c (does c a).stage
-dead-before c (Arrives q p (Restored i j m s (Some u) f)) n = λ r e. e
-dead-before c (Arrives p zero (Delivery i ssn x)) n = λ r e. e
-dead-before c (Replays p j) n = either-way (nat_lt (c.world.saved p + suc j) (length (c.world.history p))) _ _ (λ d. NoneDies c d.stage) (λ r e. e) (λ r e. e)
-dead-before c (Recovers p k) n = let l = moves c p Live (λ e. absurd (cc)) in either-way (nat_lt (c.world.saved p) k) _ _ (λ d. NoneDies c d.stage) l l
-dead-before c (Arrives zero p (Restored i j m s None f)) n = λ r e. e
-dead-before c (Freezes p) n = moves c p Frozen (λ e. absurd (cc))
-dead-before c (Thaws p) n = moves c p Live (λ e. absurd (cc))
-dead-before c (Opens p m) n = moves c p Collecting (λ e. absurd (cc))
-dead-before c (Dies p) n = absurd (cc)
-dead-before c act n = λ r e. e
-
 lives : (exact lost : Bool) (a : Act) → is_quiet (Acts exact lost a) ≡ true → is_death a ≡ false
 lives exact lost (Dies p) e = absurd (cc)
 lives exact lost a e = refl
 
--- so who is up stays so
-alone-act : (s : Telling) → Orderly s → (p : ℕ) (a : Act) → is_death a ≡ false → May s.cluster a → AllBut p s.cluster → AllBut p (does s.cluster a)
-alone-act s h p (Opens r m) n may o q l ne =
-    choose r (λ j b. is_well s.cluster j ≡ true → (runs (if b then Collecting else s.cluster.stage j) && (s.cluster.greeted j && is_up (s.cluster.world.phase j))) ≡ true)
-    (λ w. absurd (true-not-false (well-is s.cluster r w).0 (ap runs may.1))) (λ j _ w. w) q (o q l ne)
-alone-act s h p act n may o q l ne =
-    let on = on-act h.0 s.cluster h.2.plain h.2.parcels act refl may in
-    let same : (does s.cluster act).world.count ≡ s.cluster.world.count = on.count in
-    let w : is_well s.cluster q ≡ true = o q (omega arith) ne in
-    elim (on.well q w) [ inl v ↦ v | inr d ↦ absurd (true-not-false (well-is s.cluster q w).0 (ap runs (dead-before s.cluster act n q d))) ]
+-- and who is up stays so
+alone-act : (c : Cluster) (p : ℕ) (a : Act) → is_death a ≡ false → May c a → AllBut p c → AllBut p (does c a)
+alone-act c p a n may o q l ne = let same : (does c a).world.count ≡ c.world.count = does-count c a in well-act c a n may q (o q (omega arith) ne)
 
 -- and calm events are acts
 alone-run : (p : ℕ) (es : List Event) (s : Telling) (P : Cluster → Type 0) → Orderly s → AllBut p s.cluster → Steps s es → Calm s es → P (after_steps s es).cluster → CanReach s.cluster P
 alone-run p [] s P h o r c x = ([], tt, tt, x)
 alone-run p (Acts exact lost a ∷ es) s P h o r c x =
     let n = lives exact lost a c.0.0 in
-    let t = alone-run p es (step s (Acts exact lost a)) P (orderly-step s (Acts exact lost a) h r.0) (alone-act s h p a n r.0.0.0 o) r.1 c.1 x in
+    let t = alone-run p es (step s (Acts exact lost a)) P (orderly-step s (Acts exact lost a) h r.0) (alone-act s.cluster p a n r.0.0.0 o) r.1 c.1 x in
     (a ∷ t.0, (r.0.0.0, t.1), (n, t.2), t.3)
 alone-run p (e ∷ es) s P h o r c x = absurd (let z : false ≡ true = c.0.1 p o in cc)
 
