@@ -10,7 +10,7 @@ use Rattle.world.specs.Logs.{covered}
 use Rattle.world.specs.Calls.{phase_with, peers}
 use Rattle.cluster.specs.Parcels.{Body, Resume, Restored}
 use Rattle.cluster.specs.Cluster.{Live, Cluster, runs, is_well}
-use Rattle.cluster.specs.Rules.{Puts, Arrives, Works, Replays, IsNode, goes_on}
+use Rattle.cluster.specs.Rules.{Puts, Arrives, Works, Replays, IsNode, MayTake, goes_on}
 use Rattle.cluster.proofs.Facts.{well-is, is-well}
 use Rattle.cluster.specs.Overlap.{Acts, Leaves}
 use Rattle.cluster.specs.Exact.{Telling, MayStep, step}
@@ -93,50 +93,37 @@ module _ (born : ℕ → ℕ) (now p : ℕ) where
 
   -- q, which is up, obeyed its Resume
   abbrev Obeyed : ℕ → Telling → Telling → Type 0
-  Obeyed q s t =
-      record {
-        aged : Aged born now t;
-        count : t.cluster.world.count ≡ s.cluster.world.count;
-        stage : (r : ℕ) → t.cluster.stage r ≡ s.cluster.stage r;
-        greeted : (r : ℕ) → t.cluster.greeted r ≡ s.cluster.greeted r;
-        phase : (r : ℕ) → t.cluster.world.phase r ≡ s.cluster.world.phase r;
-        lost : (q : ℕ) → t.lost p q ≡ s.lost p q;
-        resumed : t.cluster.resumed q p ≡ true;
-      }
-
-  obeyed-kept : (q : ℕ) (s t : Telling) → Obeyed q s t → Kept s t
-  obeyed-kept q s t o = record { aged = o.aged; count = o.count; stage = o.stage; greeted = λ r _. o.greeted r; phase = λ r _. o.phase r; lost = o.lost }
+  Obeyed q s t = Kept s t × (t.cluster.greeted p ≡ s.cluster.greeted p) × (t.cluster.world.phase p ≡ s.cluster.world.phase p) × (t.cluster.resumed q p ≡ true)
 
   not-busy : (c : Cluster) (q : ℕ) → c.world.phase q ≡ Up → (m : Message) → c.world.phase q ≡ Busy m → ⊥
   not-busy c q w m e = let t : false ≡ true = ap is_busy (sym w ∙ e) in cc
 
   module _ (s : Telling) (h : Stand s) (un : is_well s.cluster p ≡ false) (q : ℕ) (a : q ≤ s.cluster.world.count) (n : q ≢ p) (well : is_well s.cluster q ≡ true) where
+    abbrev resume : Body
+    resume = Resume (s.cluster.world.incarnation p) (length (s.cluster.world.history p)) (s.cluster.restoring p q)
+
+    abbrev asked : Telling
+    asked = step s (Acts true false (Puts p q resume))
+
     obeys : Goes s (Obeyed q s)
-    obeys = go-first s (Obeyed q s) (Acts true false (Puts p q (Resume (s.cluster.world.incarnation p) (length (s.cluster.world.history p)) (s.cluster.restoring p q)))) may (refl, λ _ _. refl) (split (s.cluster.resumed q p) refl)
+    obeys = go-first s (Obeyed q s) (Acts true false (Puts p q resume)) may (refl, λ _ _. refl) (split (s.cluster.resumed q p) refl)
       where
-        may : MayStep s (Acts true false (Puts p q (Resume (s.cluster.world.incarnation p) (length (s.cluster.world.history p)) (s.cluster.restoring p q))))
+        may : MayStep s (Acts true false (Puts p q resume))
         may = (((h.node.1, a, (λ e. n (sym e)), (h.live, un, refl, refl, refl)), tt), tt)
 
-        aged : Aged born now (step s (Acts true false (Puts p q (Resume (s.cluster.world.incarnation p) (length (s.cluster.world.history p)) (s.cluster.restoring p q)))))
-        aged = step-aged born now s (Acts true false (Puts p q (Resume (s.cluster.world.incarnation p) (length (s.cluster.world.history p)) (s.cluster.restoring p q)))) refl h.aged may
+        aged : Aged born now asked
+        aged = step-aged born now s (Acts true false (Puts p q resume)) refl h.aged may
 
-        split : (b : Bool) → s.cluster.resumed q p ≡ b → Goes (step s (Acts true false (Puts p q (Resume (s.cluster.world.incarnation p) (length (s.cluster.world.history p)) (s.cluster.restoring p q))))) (Obeyed q s)
-        split true e = ([], tt, tt, record { aged = aged; count = refl; stage = λ r. refl; greeted = λ r. refl; phase = λ r. refl; lost = λ r. refl; resumed = e })
+        split : (b : Bool) → s.cluster.resumed q p ≡ b → Goes asked (Obeyed q s)
+        split true e = ([], tt, tt, (record { aged = aged; count = refl; stage = λ r. refl; greeted = λ r _. refl; phase = λ r _. refl; lost = λ r. refl }, refl, refl, e))
         split false e =
             let w = h.awake q a n in
             let up : s.cluster.world.phase q ≡ Up = w.1 well in
             let g : s.cluster.greeted q ≡ true = (well-is s.cluster q well).1 in
-            let m : MayStep (step s (Acts true false (Puts p q (Resume (s.cluster.world.incarnation p) (length (s.cluster.world.history p)) (s.cluster.restoring p q))))) (Acts true false (Arrives p q (Resume (s.cluster.world.incarnation p) (length (s.cluster.world.history p)) (s.cluster.restoring p q)))) =
-            (((inl refl, ((rw (w.0, g, up) refl), sym (heard-life s h q a n), e, (λ x f. absurd (not-busy s.cluster q up x f)))), tt), tt) in
-            go-last (step s (Acts true false (Puts p q (Resume (s.cluster.world.incarnation p) (length (s.cluster.world.history p)) (s.cluster.restoring p q))))) (Obeyed q s) (Acts true false (Arrives p q (Resume (s.cluster.world.incarnation p) (length (s.cluster.world.history p)) (s.cluster.restoring p q)))) m (refl, λ _ _. refl) (record {
-              aged = step-aged born now _ (Acts true false (Arrives p q (Resume (s.cluster.world.incarnation p) (length (s.cluster.world.history p)) (s.cluster.restoring p q)))) refl aged m;
-              count = refl;
-              stage = λ r. refl;
-              greeted = λ r. refl;
-              phase = λ r. refl;
-              lost = λ r. refl;
-              resumed = put2-same s.cluster.resumed q p true;
-            })
+            let m : MayStep asked (Acts true false (Arrives p q resume)) = (((inl refl, ((rw (w.0, g, up) refl), sym (heard-life s h q a n), e, (λ x f. absurd (not-busy s.cluster q up x f)))), tt), tt) in
+            let later : Aged born now (step asked (Acts true false (Arrives p q resume))) = step-aged born now asked (Acts true false (Arrives p q resume)) refl aged m in
+            go-last asked (Obeyed q s) (Acts true false (Arrives p q resume)) m (refl, λ _ _. refl)
+            (record { aged = later; count = refl; stage = λ r. refl; greeted = λ r _. refl; phase = λ r _. refl; lost = λ r. refl }, refl, refl, put2-same s.cluster.resumed q p true)
 
     -- what it answers then
     abbrev answer : Body
@@ -150,27 +137,29 @@ module _ (born : ℕ → ℕ) (now p : ℕ) where
     low : s.cluster.heard p q ≤ s.cluster.world.incarnation q
     low = let l : s.cluster.heard p q ≤ s.cluster.stored q = h.aged.plain.low p q in let e : s.cluster.world.incarnation q ≡ s.cluster.stored q = h.aged.plain.settled q (ap runs (h.awake q a n).0) in omega arith
 
-  -- p takes it in, of another node
+    abbrev told : Telling
+    told = step s (Acts true false (Puts q p answer))
+
+    abbrev taken : Telling
+    taken = step told (Acts (s.exact q) false (Arrives q p answer))
+
+    -- and p takes in
+    answers : s.cluster.resumed q p ≡ true → (P : Telling → Type 0) → MayTake told.cluster q p answer → (Aged born now taken → P taken) → Goes s P
+    answers e P take more =
+        let first : Aged born now told = step-aged born now s (Acts true false (Puts q p answer)) refl h.aged (may-answer e) in
+        let m : MayStep told (Acts (s.exact q) false (Arrives q p answer)) = (((inl refl, take), tt), inl refl) in
+        go-first s P (Acts true false (Puts q p answer)) (may-answer e) (refl, λ _ _. refl)
+        (go-last told P (Acts (s.exact q) false (Arrives q p answer)) m (refl, λ _ _. refl) (more (step-aged born now told (Acts (s.exact q) false (Arrives q p answer)) refl first m)))
+
+  -- of another node
   restores-one : (s : Telling) (h : Stand s) (un : is_well s.cluster p ≡ false) (q : ℕ) (a : q ≤ s.cluster.world.count) (n : q ≢ p) (well : is_well s.cluster q ≡ true)
       → s.cluster.resumed q p ≡ true → IsNode s.cluster q → has (todo_of (s.cluster.world.phase p)) q ≡ true → Goes s (Fewer q s)
   restores-one s h un zero a n well e other todo = absurd (let l : 0 < 0 = other.0 in omega arith)
   restores-one s h un (suc v) a n well e other todo =
       let q : ℕ = suc v in
-      let x : Body = answer s h un q a n well in
-      let put_ = may-answer s h un q a n well e in
-      let m : MayStep (step s (Acts true false (Puts q p x))) (Acts (s.exact q) false (Arrives q p x)) = (((inl refl, (other, h.live, refl, todo, refl, low s h un q a n well)), tt), inl refl) in
-      go-first s (Fewer q s) (Acts true false (Puts q p x)) put_ (refl, λ _ _. refl)
-      (go-last (step s (Acts true false (Puts q p x))) (Fewer q s) (Acts (s.exact q) false (Arrives q p x)) m (refl, λ _ _. refl) (
-        record {
-          aged = step-aged born now _ (Acts (s.exact q) false (Arrives q p x)) refl (step-aged born now s (Acts true false (Puts q p x)) refl h.aged put_) m;
-          count = refl;
-          stage = λ r. refl;
-          greeted = λ r _. refl;
-          phase = λ r n. put-other s.cluster.world.phase p (phase_with (without (todo_of (s.cluster.world.phase p)) q)) r n;
-          lost = λ r. refl;
-        },
-        put-same s.cluster.world.phase p (phase_with (without (todo_of (s.cluster.world.phase p)) q)),
-      ))
+      let x : Phase = phase_with (without (todo_of (s.cluster.world.phase p)) q) in
+      answers s h un (suc v) a n well e (Fewer q s) (other, h.live, refl, todo, refl, low s h un (suc v) a n well)
+      (λ aged. (record { aged = aged; count = refl; stage = λ r. refl; greeted = λ r _. refl; phase = put-other s.cluster.world.phase p x; lost = λ r. refl }, put-same s.cluster.world.phase p x))
 
   -- the gateway greets it
   abbrev Greeted : Telling → Telling → Type 0
@@ -184,23 +173,8 @@ module _ (born : ℕ → ℕ) (now p : ℕ) where
 
   greets-one : (s : Telling) (h : Stand s) (un : is_well s.cluster p ≡ false) → s.cluster.greeted p ≡ false → is_up (s.cluster.world.phase p) ≡ true → s.cluster.resumed 0 p ≡ true → Goes s (Greeted s)
   greets-one s h un g up e =
-      let first : MayStep s (Acts true false (Puts 0 p (answer s h un 0 (omega arith) (gate-other s h) (gate-well s h)))) = may-answer s h un 0 (omega arith) (gate-other s h) (gate-well s h) e in
-      let m : MayStep (step s (Acts true false (Puts 0 p (answer s h un 0 (omega arith) (gate-other s h) (gate-well s h))))) (Acts (s.exact 0) false (Arrives 0 p (answer s h un 0 (omega arith) (gate-other s h) (gate-well s h)))) =
-      (((inl refl, (h.live, refl, g, not-replaying (s.cluster.world.phase p) up)), tt), inl refl) in
-      go-first s (Greeted s) (Acts true false (Puts 0 p (answer s h un 0 (omega arith) (gate-other s h) (gate-well s h)))) first (refl, λ _ _. refl)
-      (go-last (step s (Acts true false (Puts 0 p (answer s h un 0 (omega arith) (gate-other s h) (gate-well s h))))) (Greeted s) (Acts (s.exact 0) false (Arrives 0 p (answer s h un 0 (omega arith) (gate-other s h) (gate-well s h)))) m (refl, λ _ _. refl) (
-        record {
-          aged = step-aged born now _ (Acts (s.exact 0) false (Arrives 0 p (answer s h un 0 (omega arith) (gate-other s h) (gate-well s h)))) refl
-              (step-aged born now s (Acts true false (Puts 0 p (answer s h un 0 (omega arith) (gate-other s h) (gate-well s h)))) refl h.aged first) m;
-          count = refl;
-          stage = λ r. refl;
-          greeted = λ r n. put-other s.cluster.greeted p true r n;
-          phase = λ r _. refl;
-          lost = λ r. refl;
-        },
-        put-same s.cluster.greeted p true,
-        refl,
-      ))
+      answers s h un 0 (omega arith) (gate-other s h) (gate-well s h) e (Greeted s) (h.live, refl, g, not-replaying (s.cluster.world.phase p) up)
+      (λ aged. (record { aged = aged; count = refl; stage = λ r. refl; greeted = put-other s.cluster.greeted p true; phase = λ r _. refl; lost = λ r. refl }, put-same s.cluster.greeted p true, refl))
     where
       not-replaying : (x : Phase) → is_up x ≡ true → is_replaying x ≡ false
       not-replaying Up e = refl
@@ -237,11 +211,10 @@ module _ (born : ℕ → ℕ) (now p : ℕ) where
       split false g =
           let un : is_well s.cluster p ≡ false = (rw (h.live, g) refl) in
           go-on s (Obeyed 0 s) (Raised s) (obeys s h un 0 (omega arith) (gate-other s h) (gate-well s h)) (λ t o.
-          let k : Kept s t = obeyed-kept 0 s t o in
-          let v : is_well t.cluster p ≡ false = (rw (o.stage p, o.greeted p, o.phase p) un) in
-          go-on t (Greeted t) (Raised s) (greets-one t (stand-kept s t h k) v (o.greeted p ∙ g) (ap is_up (o.phase p) ∙ up) o.resumed) (λ u r.
-          let w : Kept s u = kept-kept s t u k r.0 in
-          go-on u (Raised u) (Raised s) (finish u (stand-kept s u h w) r.1 (ap is_up r.2 ∙ ap is_up (o.phase p) ∙ up)) (λ x y. ([], tt, tt, (kept-kept s u x w y.0, y.1, y.2)))))
+          let v : is_well t.cluster p ≡ false = (rw (o.0.stage p, o.1, o.2) un) in
+          go-on t (Greeted t) (Raised s) (greets-one t (stand-kept s t h o.0) v (o.1 ∙ g) (ap is_up o.2 ∙ up) o.3) (λ u r.
+          let w : Kept s u = kept-kept s t u o.0 r.0 in
+          go-on u (Raised u) (Raised s) (finish u (stand-kept s u h w) r.1 (ap is_up r.2 ∙ ap is_up o.2 ∙ up)) (λ x y. ([], tt, tt, (kept-kept s u x w y.0, y.1, y.2)))))
 
   -- and before that each of those from which it restores its numbers, or it leaves that one
   fewer : (s : Telling) → Stand s → (q : ℕ) → has (todo_of (s.cluster.world.phase p)) q ≡ true → is_up (s.cluster.world.phase p) ≡ false → Goes s (Fewer q s)
@@ -252,14 +225,12 @@ module _ (born : ℕ → ℕ) (now p : ℕ) where
           let that = h.aged.plain.todo p q todo in
           let un : is_well s.cluster p ≡ false = unphased (runs (s.cluster.stage p)) (s.cluster.greeted p) (is_up (s.cluster.world.phase p)) down in
           go-on s (Obeyed q s) (Fewer q s) (obeys s h un q that.0.1 that.1 w) (λ t o.
-          let k : Kept s t = obeyed-kept q s t o in
-          let same : t.cluster.world.count ≡ s.cluster.world.count = o.count in
+          let same : t.cluster.world.count ≡ s.cluster.world.count = o.0.count in
           let l : q ≤ s.cluster.world.count = that.0.1 in
-          let v : is_well t.cluster p ≡ false = (rw (o.stage p, o.greeted p, o.phase p) un) in
-          let x : is_well t.cluster q ≡ true = (rw (o.stage q, o.greeted q, o.phase q) w) in
-          let here : has (todo_of (t.cluster.world.phase p)) q ≡ true = ap (λ x. has (todo_of x) q) (o.phase p) ∙ todo in
-          go-on t (Fewer q t) (Fewer q s) (restores-one t (stand-kept s t h k) v q (omega arith) that.1 x o.resumed (that.0.0, omega arith) here) (λ u r.
-          ([], tt, tt, (kept-kept s t u k r.0, r.1 ∙ ap (λ x. phase_with (without (todo_of x) q)) (o.phase p)))))
+          let v : is_well t.cluster p ≡ false = (rw (o.0.stage p, o.1, o.2) un) in
+          let here : has (todo_of (t.cluster.world.phase p)) q ≡ true = ap (λ x. has (todo_of x) q) o.2 ∙ todo in
+          go-on t (Fewer q t) (Fewer q s) (restores-one t (stand-kept s t h o.0) v q (omega arith) that.1 (well-kept s t o.0 q that.1 ∙ w) o.3 (that.0.0, omega arith) here) (λ u r.
+          ([], tt, tt, (kept-kept s t u o.0 r.0, r.1 ∙ ap (λ x. phase_with (without (todo_of x) q)) o.2))))
       split false w =
           let that = h.aged.plain.todo p q todo in
           let m : MayStep s (Leaves p q) = ((h.live, todo), h.lost q that.0.1 that.1 w) in
