@@ -2,7 +2,7 @@
 use Rattle.std.proofs.Common.{◌≡◌, ◌≢◌, inl, inr, ℕ, zero, suc, ◌<◌, ◌≤◌, List, [], ◌∷◌, Bool, true, false, refl, sym, ap, ◌∙◌, subst, arith}
 use Rattle.std.specs.Prelude.{◌==◌}
 use Rattle.std.proofs.lemmas.Bool.Decides.{nat_tests}
-use Rattle.world.specs.Phases.{Up}
+use Rattle.theorems.proofs.Changes.{choose}
 use Rattle.cluster.specs.Cluster.{Cluster, runs, is_well}
 use Rattle.cluster.specs.Rules.{IsNode}
 use Rattle.cluster.proofs.Facts.{true-not-false}
@@ -43,11 +43,10 @@ module _ (born : ℕ → ℕ) (now : ℕ) where
 
   -- it is up, and all is as it was of the others
   raised-awake : (p : ℕ) (s t : Telling) → Raised born now p s t → AllAwake s.cluster → AllAwake t.cluster
-  raised-awake p s t r awake q a = let same : t.cluster.world.count ≡ s.cluster.world.count = r.0.count in split (q == p) refl (awake q (omega arith))
-    where
-      split : (b : Bool) → (q == p) ≡ b → IsAwake s.cluster q → IsAwake t.cluster q
-      split true e w = let z : p ≡ q = grind (arith, nat_tests) in let P : ℕ → Type 0 = λ i. t.cluster.world.phase i ≡ Up in (r.0.stage q ∙ w.0, λ _. subst P z r.2)
-      split false e w = let z : q ≢ p = grind (arith, nat_tests) in (r.0.stage q ∙ w.0, λ v. r.0.phase q z ∙ w.1 (sym (well-kept born now p s t r.0 q z) ∙ v))
+  raised-awake p s t r awake =
+      let same : t.cluster.world.count ≡ s.cluster.world.count = r.0.count in
+      choose p (λ q _. q ≤ t.cluster.world.count → IsAwake t.cluster q) (λ a. (r.0.stage p ∙ (awake p (omega arith)).0, λ _. r.2))
+      (λ q z a. let w = awake q (omega arith) in (r.0.stage q ∙ w.0, λ v. r.0.phase q z ∙ w.1 (sym (well-kept born now p s t r.0 q z) ∙ v)))
 
   -- whoever isn't up after it wasn't so before, and isn't p
   raised-un : (p : ℕ) (s t : Telling) → Raised born now p s t → (q : ℕ) → is_well t.cluster q ≡ false → (q ≢ p) × (is_well s.cluster q ≡ false)
@@ -68,11 +67,7 @@ module _ (born : ℕ → ℕ) (now : ℕ) where
   these b (suc m) s h awake l old below more = split (λ t x y z v w. these b m t x y z v w more) (is_well s.cluster m) refl (born m == b) refl
     where
       past : (t : Telling) → t.cluster.world.count ≡ s.cluster.world.count → ((q : ℕ) → is_well t.cluster q ≡ false → is_well s.cluster q ≡ false) → (is_well t.cluster m ≡ false → born m < b) → Below b m t.cluster
-      past t same un here q a c w = one (q == m) refl
-        where
-          one : (x : Bool) → (q == m) ≡ x → born q < b
-          one true e = let z : m ≡ q = grind (arith, nat_tests) in let P : ℕ → Type 0 = λ i. is_well t.cluster i ≡ false → born i < b in subst P z here w
-          one false e = let z : q ≢ m = grind (arith, nat_tests) in below q (omega arith) (omega arith) (un q w)
+      past t same un here = choose m (λ q _. m ≤ q → q ≤ t.cluster.world.count → is_well t.cluster q ≡ false → born q < b) (λ _ _. here) (λ q z a c w. below q (omega arith) (omega arith) (un q w))
 
       split : ((t : Telling) → Aged born now t → AllAwake t.cluster → m ≤ suc t.cluster.world.count → Old b t.cluster → Below b m t.cluster → Goes t Ends) → (x : Bool) → is_well s.cluster m ≡ x → (y : Bool) → (born m == b) ≡ y → Goes s Ends
       split go true e y f = go s h awake (omega arith) old (past s refl (λ q w. w) (λ w. absurd (true-not-false e w)))

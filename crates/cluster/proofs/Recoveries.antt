@@ -44,15 +44,9 @@ gather p (suc m) s h node ready coll l all = split (λ t. gather p m t) (m == p)
         go-on s (Answered p m s) (Gathered p s) (asks-one p m (grind (arith, nat_tests)) s h node (omega arith) ready coll) (λ u r.
         let same : u.cluster.world.count ≡ s.cluster.world.count = r.count in
         let there : IsNode u.cluster p = (node.0, (let x : p ≤ s.cluster.world.count = node.1 in omega arith)) in
-        go-on u (Gathered p u) (Gathered p s) (more u r.orderly there r.ready (r.stage p ∙ coll) (omega arith) (λ q b a n. told u r q (q == m) refl b (omega arith) n)) (λ t v.
+        go-on u (Gathered p u) (Gathered p s) (more u r.orderly there r.ready (r.stage p ∙ coll) (omega arith)
+        (choose m (λ q _. m ≤ q → q ≤ u.cluster.world.count → q ≢ p → IsAll (u.cluster.told p q)) (λ _ _ _. r.whole) (λ q z g l n. let P : Option Collected → Type 0 = λ x. IsAll x in subst P (sym (r.told q z)) (all q (omega arith) (omega arith) n)))) (λ t v.
         ([], tt, tt, record { orderly = v.orderly; count = v.count ∙ r.count; stage = λ x. v.stage x ∙ r.stage x; ready = v.ready; whole = v.whole })))
-      where
-        told : (u : Telling) → Answered p m s u → (q : ℕ) (b : Bool) → (q == m) ≡ b → m ≤ q → q ≤ s.cluster.world.count → q ≢ p → IsAll (u.cluster.told p q)
-        told u r q true g l a n = let z : m ≡ q = grind (arith, nat_tests) in let P : ℕ → Type 0 = λ i. IsAll (u.cluster.told p i) in subst P z r.whole
-        told u r q false g l a n =
-            let z : q ≢ m = grind (arith, nat_tests) in
-            let P : Option Collected → Type 0 = λ x. IsAll x in
-            subst P (sym (r.told q z)) (all q (omega arith) a n)
 
 -- p has recovered
 abbrev Recovered : ℕ → Telling → Cluster → Type 0
@@ -133,18 +127,10 @@ recover-all zero s h l ready live = ([], tt, tt, (h, λ q a. awake q (place q a)
 recover-all (suc m) s h l ready live = split (λ t. recover-all m t) (ready (suc m) l)
   where
     split : ((t : Telling) → Orderly t → m ≤ t.cluster.world.count → AllReady t.cluster → ((q : ℕ) → m < q → q ≤ t.cluster.world.count → t.cluster.stage q ≡ Live) → Goes t (λ t. Orderly t × AllAwake t.cluster)) → IsReady s.cluster (suc m) → Goes s (λ t. Orderly t × AllAwake t.cluster)
-    split more (inr a) = more s h (omega arith) ready (λ q b c. one q b c (q == suc m) refl)
-      where
-        one : (q : ℕ) → m < q → q ≤ s.cluster.world.count → (b : Bool) → (q == suc m) ≡ b → s.cluster.stage q ≡ Live
-        one q b c true e = let z : suc m ≡ q = grind (arith, nat_tests) in let P : ℕ → Type 0 = λ i. s.cluster.stage i ≡ Live in subst P z a.0
-        one q b c false e = let z : q ≢ suc m = grind (arith, nat_tests) in live q (omega arith) c
+    split more (inr a) = more s h (omega arith) ready (choose (suc m) (λ q _. m < q → q ≤ s.cluster.world.count → s.cluster.stage q ≡ Live) (λ _ _. a.0) (λ q z b c. live q (omega arith) c))
     split more (inl coll) =
         go-on s (Gathered (suc m) s) (λ t. Orderly t × AllAwake t.cluster) (gather (suc m) (suc s.cluster.world.count) s h (omega arith, l) ready coll (omega arith) (λ q a b n. absurd (omega arith))) (λ u r.
         let same : u.cluster.world.count ≡ s.cluster.world.count = r.count in
         go-on u (λ t. Orderly t × Recovered (suc m) u t.cluster) (λ t. Orderly t × AllAwake t.cluster) (recovers (suc m) u r.orderly (omega arith, omega arith) r.ready (r.stage (suc m) ∙ coll) r.whole) (λ t v.
         let again : t.cluster.world.count ≡ u.cluster.world.count = v.1.count in
-        more t v.0 (omega arith) v.1.ready (λ q b c. one u r t v.1 q b (omega arith) (q == suc m) refl)))
-      where
-        one : (u : Telling) → Gathered (suc m) s u → (t : Telling) → Recovered (suc m) u t.cluster → (q : ℕ) → m < q → q ≤ s.cluster.world.count → (b : Bool) → (q == suc m) ≡ b → t.cluster.stage q ≡ Live
-        one u r t v q b c true e = let z : suc m ≡ q = grind (arith, nat_tests) in let P : ℕ → Type 0 = λ i. t.cluster.stage i ≡ Live in subst P z v.live
-        one u r t v q b c false e = let z : q ≢ suc m = grind (arith, nat_tests) in v.stage q z ∙ r.stage q ∙ live q (omega arith) c
+        more t v.0 (omega arith) v.1.ready (choose (suc m) (λ q _. m < q → q ≤ t.cluster.world.count → t.cluster.stage q ≡ Live) (λ _ _. v.1.live) (λ q z b c. v.1.stage q z ∙ r.stage q ∙ live q (omega arith) (omega arith)))))

@@ -1,8 +1,9 @@
 -- Nodes that are down are opened, those that are frozen thaw, and those that work on a message finish it
-use Rattle.std.proofs.Common.{◌≡◌, ◌≢◌, inl, inr, ℕ, zero, suc, ◌<◌, ◌≤◌, List, [], ◌∷◌, Bool, true, false, refl, sym, ap, ◌∙◌, subst, arith}
+use Rattle.std.proofs.Common.{◌≡◌, ◌≢◌, inl, inr, ℕ, zero, suc, ◌<◌, ◌≤◌, List, [], ◌∷◌, Bool, true, false, refl, sym, ap, ◌∙◌, arith}
 use Rattle.std.specs.Prelude.{◌⊎◌, ◌==◌}
 use Rattle.std.proofs.lemmas.Bool.Decides.{nat_tests}
 use Rattle.world.specs.Phases.{Phase, Up, Busy, Down, Replaying, Resync, is_up}
+use Rattle.theorems.proofs.Changes.{choose}
 use Rattle.cluster.specs.Cluster.{Stage, Live, Frozen, Dead, Collecting, Cluster, is_well}
 use Rattle.cluster.specs.Rules.{Works, Keeps, Thaws, Opens, IsNode}
 use Rattle.cluster.proofs.Facts.{well-is, true-not-false}
@@ -136,8 +137,4 @@ rouse-all zero s h l up = ([], tt, tt, (h, all))
 rouse-all (suc m) s h l up =
     go-on s (Roused (suc m) s) (λ t. Orderly t × AllReady t.cluster) (rouse (suc m) s h (omega arith, l)) (λ t r.
     let same : t.cluster.world.count ≡ s.cluster.world.count = r.count in
-    rouse-all m t r.orderly (omega arith) (λ q a b. one t r q a (omega arith) (q == suc m) refl))
-  where
-    one : (t : Telling) → Roused (suc m) s t → (q : ℕ) → m < q → q ≤ s.cluster.world.count → (b : Bool) → (q == suc m) ≡ b → IsReady t.cluster q
-    one t r q a l true e = let z : suc m ≡ q = grind (arith, nat_tests) in let P : ℕ → Type 0 = λ i. IsReady t.cluster i in subst P z r.ready
-    one t r q a l false e = let z : q ≢ suc m = grind (arith, nat_tests) in same-ready s.cluster t.cluster q (r.others q z) (up q (omega arith) l)
+    rouse-all m t r.orderly (omega arith) (choose (suc m) (λ q _. m < q → q ≤ t.cluster.world.count → IsReady t.cluster q) (λ _ _. r.ready) (λ q z a l. same-ready s.cluster t.cluster q (r.others q z) (up q (omega arith) (omega arith)))))
