@@ -1,5 +1,5 @@
 -- All nodes come back, those whose lives began last first: whoever isn't up told the others of a loss, or its life began after theirs
-use Rattle.std.proofs.Common.{◌≡◌, ◌≢◌, inl, inr, ℕ, zero, suc, ◌<◌, ◌≤◌, List, [], ◌∷◌, Bool, true, false, refl, sym, ap, ◌∙◌, subst, arith}
+use Rattle.std.proofs.Common.{◌≡◌, ◌≢◌, inl, inr, ℕ, zero, suc, ◌<◌, ◌≤◌, List, [], ◌∷◌, Bool, true, false, refl, sym, ap, ◌∙◌, arith}
 use Rattle.std.specs.Prelude.{◌==◌}
 use Rattle.std.proofs.lemmas.Bool.Decides.{nat_tests}
 use Rattle.theorems.proofs.Changes.{choose}
@@ -50,11 +50,7 @@ module _ (born : ℕ → ℕ) (now : ℕ) where
 
   -- whoever isn't up after it wasn't so before, and isn't p
   raised-un : (p : ℕ) (s t : Telling) → Raised born now p s t → (q : ℕ) → is_well t.cluster q ≡ false → (q ≢ p) × (is_well s.cluster q ≡ false)
-  raised-un p s t r q w = split (q == p) refl
-    where
-      split : (b : Bool) → (q == p) ≡ b → (q ≢ p) × (is_well s.cluster q ≡ false)
-      split true e = let z : q ≡ p = grind (arith, nat_tests) in let P : ℕ → Type 0 = λ i. is_well t.cluster i ≡ false in absurd (true-not-false r.1 (subst P z w))
-      split false e = let z : q ≢ p = grind (arith, nat_tests) in (z, sym (well-kept born now p s t r.0 q z) ∙ w)
+  raised-un p s t r = choose p (λ q _. is_well t.cluster q ≡ false → (q ≢ p) × (is_well s.cluster q ≡ false)) (λ w. absurd (true-not-false r.1 w)) (λ q z w. (z, sym (well-kept born now p s t r.0 q z) ∙ w))
 
   -- of those that aren't up and began at b none is at m or above
   abbrev Below : ℕ → ℕ → Cluster → Type 0

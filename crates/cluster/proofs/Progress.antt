@@ -1,6 +1,6 @@
 -- Each event leaves it so
 use Rattle.std.proofs.Common.{zero, ◌≡◌, ◌≢◌, inl, inr, ℕ, suc, ◌+◌, ◌-◌, ◌<◌, ◌≤◌, List, [], ◌∷◌, ◌++◌, length, take, Bool, true, false, refl, sym, ap, ◌∙◌, subst, arith, length-append}
-use Rattle.std.specs.Prelude.{Option, Some, None, ◌==◌, ◌&&◌, nat_lt, nat_le, if◌then◌else◌}
+use Rattle.std.specs.Prelude.{Option, Some, None, ◌&&◌, nat_lt, nat_le, if◌then◌else◌}
 use Rattle.std.proofs.lemmas.Bool.Decides.{nat_tests}
 use Rattle.world.specs.declared.message.Message.{Message}
 use Rattle.world.specs.History.{Payload, nth, count_of}
@@ -131,16 +131,9 @@ module _ (last : ℕ → Bool) (c : Cluster) (h : Firm last c) where
       told (Some t) g a e = let P : Option ℕ → Type 0 = λ v. reaches v m ≡ true in g m x (subst P (sym a) refl) e
 
       one : (q : ℕ) → q ≤ c.world.count → entry_in (c.told p q) m ≡ Some x → IsGood last k p x
-      one q l e = split (q == p) refl
-        where
-          split : (b : Bool) → (q == p) ≡ b → IsGood last k p x
-          split true s =
-              let same : p ≡ q = grind (arith, nat_tests) in
-              let P : ℕ → Type 0 = λ z. c.told p z ≡ None in
-              let none : c.told p q ≡ None = subst P same (h.own p) in
-              let Q : Option Collected → Type 0 = λ o. entry_in o m ≡ Some x in
-              absurd (let z : None ≡ Some x = subst Q none e in cc)
-          split false s = told (c.told p q) (h.told p q) (all q l (grind (arith, nat_tests))) e
+      one =
+          choose p (λ q _. q ≤ c.world.count → entry_in (c.told p q) m ≡ Some x → IsGood last k p x) (λ _ e. absurd (let z : None ≡ Some x = sym (ap (λ o. entry_in o m) (h.own p)) ∙ e in cc))
+          (λ q n l e. told (c.told p q) (h.told p q) (all q l n) e)
 
   -- numbers that are entered
   page-there : (p q s : ℕ) (u : Option ℕ) (f : ℕ → Option ℕ) → ((ssn m : ℕ) → s < ssn → reaches u ssn ≡ true → f ssn ≡ Some m → IsThere last k p q ssn)

@@ -61,18 +61,13 @@ Recovered p s d =
 module _ (p : ℕ) (s : Telling) (h : Orderly s) (node : IsNode s.cluster p) (ready : AllReady s.cluster) (coll : s.cluster.stage p ≡ Collecting) (all : (q : ℕ) → q ≤ s.cluster.world.count → q ≢ p → IsAll (s.cluster.told p q)) where
   -- behind some number nobody told it a message
   no-more : (q : ℕ) → q ≤ s.cluster.world.count → (b : ℕ) × ((m : ℕ) → b < m → entry_in (s.cluster.told p q) m ≡ None)
-  no-more q l = split (q == p) refl
+  no-more =
+      choose p (λ q _. q ≤ s.cluster.world.count → (b : ℕ) × ((m : ℕ) → b < m → entry_in (s.cluster.told p q) m ≡ None)) (λ _. (0, λ m l. ap (λ t. entry_in t m) (h.2.plain.own p)))
+      (λ q n l. told (s.cluster.told p q) (h.2.plain.ends p q) (all q l n))
     where
       told : (t : Option Collected) → IsEnding t → IsAll t → (b : ℕ) × ((m : ℕ) → b < m → entry_in t m ≡ None)
       told None e a = (0, λ m l. refl)
       told (Some t) e a = (e.0, λ m l. e.1 m l (let P : Option ℕ → Type 0 = λ u. reaches u m ≡ true in subst P (sym a) refl))
-
-      split : (b : Bool) → (q == p) ≡ b → (b : ℕ) × ((m : ℕ) → b < m → entry_in (s.cluster.told p q) m ≡ None)
-      split true e =
-          let z : p ≡ q = grind (arith, nat_tests) in
-          let P : ℕ → Type 0 = λ i. (b : ℕ) × ((m : ℕ) → b < m → entry_in (s.cluster.told p i) m ≡ None) in
-          subst P z (0, λ m l. ap (λ t. entry_in t m) (h.2.plain.own p))
-      split false e = told (s.cluster.told p q) (h.2.plain.ends p q) (all q l (grind (arith, nat_tests)))
 
   none-below : (n : ℕ) → n ≤ suc s.cluster.world.count → (b : ℕ) × ((m : ℕ) → b < m → first_below (λ q. entry_in (s.cluster.told p q) m) n ≡ None)
   none-below zero l = (0, λ m g. refl)

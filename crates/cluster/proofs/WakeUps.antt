@@ -1,7 +1,6 @@
 -- Nodes that are down are opened, those that are frozen thaw, and those that work on a message finish it
 use Rattle.std.proofs.Common.{◌≡◌, ◌≢◌, inl, inr, ℕ, zero, suc, ◌<◌, ◌≤◌, List, [], ◌∷◌, Bool, true, false, refl, sym, ap, ◌∙◌, arith}
-use Rattle.std.specs.Prelude.{◌⊎◌, ◌==◌}
-use Rattle.std.proofs.lemmas.Bool.Decides.{nat_tests}
+use Rattle.std.specs.Prelude.{◌⊎◌}
 use Rattle.world.specs.Phases.{Phase, Up, Busy, Down, Replaying, Resync, is_up}
 use Rattle.theorems.proofs.Changes.{choose}
 use Rattle.cluster.specs.Cluster.{Stage, Live, Frozen, Dead, Collecting, Cluster, is_well}
@@ -32,11 +31,7 @@ Goes s P = (es : List Event) × Steps s es × Calm s es × P (after_steps s es)
 
 -- not so with two that aren't up
 pub two-down : (c : Cluster) (p q r : ℕ) → q ≢ p → p ≤ c.world.count → q ≤ c.world.count → is_well c p ≡ false → is_well c q ≡ false → AllBut r c → ⊥
-two-down c p q r ne a b v w o = split (p == r) refl
-  where
-    split : (t : Bool) → (p == r) ≡ t → ⊥
-    split true e = true-not-false (o q b (λ f. let z : p ≡ r = grind (arith, nat_tests) in ne (f ∙ sym z))) w
-    split false e = true-not-false (o p a (grind (arith, nat_tests))) v
+two-down c p q r ne a b v w o = choose r (λ j _. q ≢ j → is_well c j ≡ false → j ≤ c.world.count → ⊥) (λ n _ _. true-not-false (o q b n) w) (λ j n _ x l. true-not-false (o j l n) x) p ne v a
 
 -- one event more, and one way behind another
 pub go-first : (s : Telling) (P : Telling → Type 0) (x : Event) → MayStep s x → (is_quiet x ≡ true) × ((p : ℕ) → AllBut p s.cluster → is_act x ≡ true) → Goes (step s x) P → Goes s P
