@@ -1,14 +1,15 @@
 -- What a node keeps of what it received came since its checkpoint, and its logs wait for their receivers
 use Rattle.std.proofs.Common.{◌≡◌, ℕ, zero, suc, ◌+◌, ◌<◌, ◌≤◌, List, [], ◌∷◌, ◌++◌, length, take, drop, Bool, true, false, refl, subst, arith}
 use Rattle.std.specs.Prelude.{None, Some, ◌==◌, nat_lt, if◌then◌else◌}
-use Rattle.std.proofs.lemmas.Bool.Decides.{nat_tests}
 use Rattle.world.specs.declared.message.Message.{Message}
 use Rattle.world.specs.History.{count_of}
 use Rattle.world.specs.Phases.{Phase, Down, is_busy}
+use Rattle.world.specs.World.{put}
 use Rattle.world.specs.Logs.{payloads, sent, sent_in_all, covered, length_in}
 use Rattle.world.specs.Refusals.{one_if}
 use Rattle.theorems.specs.Orphans.{payloads_of}
 use Rattle.theorems.specs.Invariants.Sound.{Replays}
+use Rattle.theorems.proofs.Changes.{choose}
 use Rattle.theorems.proofs.ListLemmas.{take-all, begins-length}
 use Rattle.theorems.proofs.PhaseLemmas.{up-length}
 use Rattle.theorems.proofs.TidyLemmas.{sent-more}
@@ -54,39 +55,30 @@ many-none test [] = refl
 many-none test (x ∷ h) = many-none test h
 
 module _ (test : Message → Bool) (p : ℕ) (c : Cluster) (b : Beside) (agrees : Agrees c b) (lawful : Lawful (world c b)) (k : ℕ) (h : how_many test (receipts c p) ≤ k) where
-  works : (q : ℕ) (m : Message) (t : Bool) → (p == q) ≡ t → how_many test (drop (c.world.saved p) (if t then c.world.history q ++ m ∷ [] else c.world.history p)) ≤ (if t then (if test m then 1 else 0) + k else k)
-  works q m false e = h
-  works q m true e =
-      let same : p ≡ q = grind (arith, nat_tests) in
-      let P : ℕ → Type 0 = λ j. how_many test (drop (c.world.saved p) (c.world.history j ++ m ∷ [])) ≤ (if test m then 1 else 0) + how_many test (receipts c p) in
-      let r : how_many test (drop (c.world.saved p) (c.world.history q ++ m ∷ [])) ≤ (if test m then 1 else 0) + how_many test (receipts c p) = subst P same (many-push test (c.world.saved p) (c.world.history p) m) in
-      omega arith
+  works : (q : ℕ) (m : Message) → how_many test (receipts (does c (Works q m)) p) ≤ (if p == q then (if test m then 1 else 0) + k else k)
+  works q m =
+      choose q (λ j t. how_many test (receipts c j) ≤ k → how_many test (drop (c.world.saved j) (if t then c.world.history q ++ m ∷ [] else c.world.history j)) ≤ (if t then (if test m then 1 else 0) + k else k))
+      (λ g. let r : how_many test (drop (c.world.saved q) (c.world.history q ++ m ∷ [])) ≤ (if test m then 1 else 0) + how_many test (receipts c q) = many-push test (c.world.saved q) (c.world.history q) m in omega arith) (λ j _ g. g) p h
 
-  keeps : (q : ℕ) (t : Bool) → (p == q) ≡ t → how_many test (drop (if t then length (c.world.history q) else c.world.saved p) (c.world.history p)) ≤ (if t then 0 else k)
-  keeps q false e = h
-  keeps q true e =
-      let same : p ≡ q = grind (arith, nat_tests) in
-      let P : ℕ → Type 0 = λ j. how_many test (drop (length (c.world.history j)) (c.world.history p)) ≤ 0 in
-      let r : how_many test (drop (length (c.world.history p)) (c.world.history p)) ≡ 0 = many-none test (c.world.history p) in
-      subst P same (omega arith)
+  keeps : (q : ℕ) → how_many test (receipts (does c (Keeps q)) p) ≤ (if p == q then 0 else k)
+  keeps q =
+      choose q (λ j t. how_many test (receipts c j) ≤ k → how_many test (drop (if t then length (c.world.history q) else c.world.saved j) (c.world.history j)) ≤ (if t then 0 else k))
+      (λ g. let r : how_many test (drop (length (c.world.history q)) (c.world.history q)) ≡ 0 = many-none test (c.world.history q) in omega arith) (λ j _ g. g) p h
 
-  recovers : (q n : ℕ) → May c (Recovers q n) → (t : Bool) → (p == q) ≡ t → how_many test (drop (c.world.saved p) (if t then kept_by c q n else c.world.history p)) ≤ k
-  recovers q n may false e = h
-  recovers q n may true e =
-      let same : p ≡ q = grind (arith, nat_tests) in
-      let P : ℕ → Type 0 = λ j. how_many test (drop (c.world.saved p) (take n (c.world.history j))) ≤ k in
-      let r : how_many test (drop (c.world.saved p) (take n (c.world.history p))) ≤ how_many test (receipts c p) = many-take test (c.world.saved p) n (c.world.history p) in
-      rw (kept-is c b q n agrees lawful may) (subst P same (omega arith))
+  recovers : (q n : ℕ) → May c (Recovers q n) → how_many test (drop (c.world.saved p) (put c.world.history q (kept_by c q n) p)) ≤ k
+  recovers q n may =
+      choose q (λ j t. how_many test (receipts c j) ≤ k → how_many test (drop (c.world.saved j) (if t then kept_by c q n else c.world.history j)) ≤ k)
+      (λ g. let r : how_many test (drop (c.world.saved q) (take n (c.world.history q))) ≤ how_many test (receipts c q) = many-take test (c.world.saved q) n (c.world.history q) in rw (kept-is c b q n agrees lawful may) (omega arith)) (λ j _ g. g) p h
 
   -- each step keeps at most what it may
   pub receipts-step : (a : Act) → May c a → how_many test (receipts (does c a) p) ≤ counts test p a k
   receipts-step (Arrives q r (Restored i j n s (Some u) f)) may = h
   receipts-step (Arrives q zero (Delivery i ssn x)) may = h
-  receipts-step (Works q m) may = works q m (p == q) refl
+  receipts-step (Works q m) may = works q m
   receipts-step (ReplaysOne q j) may = either-way (nat_lt (c.world.saved q + suc j) (length (c.world.history q))) _ _ (λ v. how_many test (receipts v p) ≤ k) h h
-  receipts-step (Recovers q n) may = either-way (nat_lt (c.world.saved q) n) _ _ (λ v. how_many test (receipts v p) ≤ k) (recovers q n may (p == q) refl) (recovers q n may (p == q) refl)
+  receipts-step (Recovers q n) may = either-way (nat_lt (c.world.saved q) n) _ _ (λ v. how_many test (receipts v p) ≤ k) (recovers q n may) (recovers q n may)
   receipts-step (Arrives zero q (Restored i j n s None f)) may = h
-  receipts-step (Keeps q) may = keeps q (p == q) refl
+  receipts-step (Keeps q) may = keeps q
   receipts-step act may = h
 
 -- and so each run
@@ -127,19 +119,14 @@ within-history other h saved l r = omega arith
 module _ (c : Cluster) (b : Beside) (agrees : Agrees c b) (lawful : Lawful (world c b)) where
   -- what anyone took was sent
   pub taken-sent : (p d : ℕ) → count_of p (if d == 0 then c.world.shown else c.world.history d) ≤ sent_in_all c.world p d
-  taken-sent p d = split (d == 0) refl
-    where
-      split : (t : Bool) → (d == 0) ≡ t → count_of p (if t then c.world.shown else c.world.history d) ≤ sent_in_all c.world p d
-      split true e =
-          let z : 0 ≡ d = grind (arith, nat_tests) in
-          let P : ℕ → Type 0 = λ j. count_of p c.world.shown ≤ sent_in_all c.world p j in
-          let l : length (payloads_of p c.world.shown) ≤ sent_in_all c.world p 0 = begins-length _ _ (output-once-node c b agrees lawful p) in
-          let q : length (payloads_of p c.world.shown) ≡ count_of p c.world.shown = count-payloads p c.world.shown in
-          subst P z (omega arith)
-      split false e =
-          let l : length (payloads_of p (c.world.history d)) ≤ sent_in_all c.world p d = begins-length _ _ ((received-once-node c b agrees lawful).order p d) in
-          let q : length (payloads_of p (c.world.history d)) ≡ count_of p (c.world.history d) = count-payloads p (c.world.history d) in
-          omega arith
+  taken-sent p = choose 0 (λ d t. count_of p (if t then c.world.shown else c.world.history d) ≤ sent_in_all c.world p d)
+      (let l : length (payloads_of p c.world.shown) ≤ sent_in_all c.world p 0 = begins-length _ _ (output-once-node c b agrees lawful p) in
+      let q : length (payloads_of p c.world.shown) ≡ count_of p c.world.shown = count-payloads p c.world.shown in
+      omega arith)
+      (λ d _.
+      let l : length (payloads_of p (c.world.history d)) ≤ sent_in_all c.world p d = begins-length _ _ ((received-once-node c b agrees lawful).order p d) in
+      let q : length (payloads_of p (c.world.history d)) ≡ count_of p (c.world.history d) = count-payloads p (c.world.history d) in
+      omega arith)
 
   -- what anyone took it has for good, or took since its checkpoint
   pub taken-parts : (p d : ℕ) → count_of p (if d == 0 then c.world.shown else c.world.history d) ≡ covered c.world p d + unsaved c p d

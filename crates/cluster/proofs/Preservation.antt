@@ -18,7 +18,7 @@ use Rattle.theorems.specs.Growth.{Begins}
 use Rattle.theorems.proofs.Changes.{choose, elsewhere, at-itself}
 use Rattle.theorems.proofs.HistoryLemmas.{count-mono}
 use Rattle.theorems.proofs.ListLemmas.{begins-self, nth-within, take-all}
-use Rattle.theorems.proofs.Tests.{is_at_most, different}
+use Rattle.theorems.proofs.Tests.{is_at_most}
 use Rattle.cluster.specs.Parcels.{reaches}
 use Rattle.cluster.specs.Cluster.{Cluster, Frozen, Collecting, Collected, waiting, WINDOW}
 use Rattle.cluster.specs.Rules.{Keeps, May, does, IsNode}
@@ -158,16 +158,8 @@ module _ (c : Cluster) (b : Beside) (p : ℕ) (h : Agrees c b) (l : Lawful (worl
   all k e = at-itself p (λ t. (if t then (λ (k : ℕ). nat_le k (length (c.world.history p))) else c.world.acknowledged p) k ≡ true) (is_at_most k _ e)
 
   acks : (s q k : ℕ) → OnWire b.wire (AcknowledgementPacket s q k (b.incarnation q)) → (c'.world.acknowledged q k ≡ true) ⊎ OnWire b'.wire (AcknowledgementPacket s q k (b.incarnation q))
-  acks s q k o = split (q == p) refl
-    where
-      split : (t : Bool) → (q == p) ≡ t → (c'.world.acknowledged q k ≡ true) ⊎ OnWire b'.wire (AcknowledgementPacket s q k (b.incarnation q))
-      split true e =
-          let same : p ≡ q = grind (arith, nat_tests) in
-          let t = rw o.is at (l.exact.packets o.key) refl in
-          let P : ℕ → Type 0 = λ z. k ≤ length (c.world.history z) in
-          let Q : ℕ → Type 0 = λ z. c'.world.acknowledged z k ≡ true in
-          inl (subst Q same (all k (subst P (sym same) (nth-within (c.world.history q) k t.message t.at).1)))
-      split false e = inr (still-cleaned c p may.0.0 b.wire (AcknowledgementPacket s q k (b.incarnation q)) (λ f. different q p e f) o)
+  acks s q k = choose p (λ j _. OnWire b.wire (AcknowledgementPacket s j k (b.incarnation j)) → (c'.world.acknowledged j k ≡ true) ⊎ OnWire b'.wire (AcknowledgementPacket s j k (b.incarnation j)))
+      (λ o. let t = rw o.is at (l.exact.packets o.key) refl in inl (all k (nth-within (c.world.history p) k t.message t.at).1)) (λ j n o. inr (still-cleaned c p may.0.0 b.wire (AcknowledgementPacket s j k (b.incarnation j)) n o)) q
 
   agrees-keeps : Agrees c' b'
   agrees-keeps =

@@ -383,13 +383,7 @@ module _ (c : Cluster) (b : Beside) (p k : ℕ) (h : Agrees c b) (l : Lawful (wo
         shorter m e = kept-length m (let z : k ≤ length g = long in omega arith)
 
         lone : (u v : ℕ) → u ≤ c.world.count → v ≤ c.world.count → u ≢ v → is_back d u ≡ false → is_back d v ≡ true
-        lone u v a z n e = split (v == p) refl
-          where
-            split : (t : Bool) → (v == p) ≡ t → is_back d v ≡ true
-            split true f =
-                let m : u ≢ p = λ y. n (y ∙ (let s : p ≡ v = grind (arith, nat_tests) in s)) in
-                absurd (true-not-false (back-d u m ∙ qback u a m) e)
-            split false f = let m : v ≢ p = different v p f in back-d v m ∙ qback v z m
+        lone u v a z n e = choose p (λ j _. j ≤ c.world.count → u ≢ j → is_back d j ≡ true) (λ _ m. absurd (true-not-false (back-d u m ∙ qback u a m) e)) (λ j m l _. back-d j m ∙ qback j l m) v z n
 
         unanswered : (u : ℕ) → u ≤ c.world.count → u ≢ p → is_answered d p u ≡ false
         unanswered u a n = at-itself p (λ s. (if u == 0 then (if s then false else c.greeted p) else is_restored (if s then x else c.world.phase p) u) ≡ false) (split (u == 0) refl)
