@@ -281,7 +281,7 @@ module _ (c : Cluster) (b : Beside) (p k : ℕ) (h : Agrees c b) (l : Lawful (wo
             numbers = λ u v i m e. let t = number-was u v i m e in elsewhere p (λ j s. c.world.numbers j v i ≡ Some m → (if s then no-numbers else c.world.numbers j) v i ≡ Some m) (λ j f. f) u t.0 (h.numbered.numbers u v i m t.1);
             logged = λ u v i m a z n e. choose p (λ j s. j ≤ c.world.count → j ≢ v → (if s then no-numbers else c.world.numbers j) v i ≡ Some m
                 → (b'.numbers j v i ≡ Some m) ⊎ ((is_answered d v j ≡ false) × (runs (if s then Live else c.stage j) ≡ true → (if s then (λ (x : ℕ). true) else c.resumed j) v ≡ false) × (suc (length (d.world.history v)) < m)) ⊎ (m ≤ c.world.saved v) ⊎ (is_restored (if s then x else c.world.phase j) v ≡ false))
-                (λ _ _ f. absurd (cc)) (λ j o y t f. logged j v i m o y z t (h.numbered.logged j v i m y z t f)) u a n e;
+                (λ _ _ f. absurd (cc)) (λ j o y t f. logged j v i m o y z (h.numbered.logged j v i m y z t f)) u a n e;
             fresh = λ u v i e. choose p (λ j s. j ≡ u → is_restored (if s then x else c.world.phase j) v ≡ false → b'.numbers u v i ≡ None)
                 (λ f _. none-of-p u v i (sym f) (b'.numbers u v i) refl) (λ j n f g. absurd (all-restored j v n g)) u refl e;
             partly = λ u v i e. choose p (λ j s. is_restored (if s then x else c.world.phase j) v ≡ false → (if s then no-numbers else c.world.numbers j) v i ≡ (if nat_lt 0 i && nat_le i ((if s then (λ (y : ℕ). 0) else c.restoring j) v) then rsn_of (d.world.history v) j i else None))
@@ -392,45 +392,29 @@ module _ (c : Cluster) (b : Beside) (p k : ℕ) (h : Agrees c b) (l : Lawful (wo
             split true z = refl
             split false z = behind u (grind (arith, nat_tests)) a n
 
-        logged : (u v i m : ℕ) → u ≢ p → u ≤ c.world.count → v ≤ c.world.count → u ≢ v → NumberAs c b u v i m → (b'.numbers u v i ≡ Some m) ⊎ ((is_answered d v u ≡ false) × (runs (c.stage u) ≡ true → c.resumed u v ≡ false) × (suc (length (d.world.history v)) < m)) ⊎ (m ≤ c.world.saved v) ⊎ (is_restored (c.world.phase u) v ≡ false)
-        logged u v i m o a z n (inr (inr e)) = inr (inr e)
-        logged u v i m o a z n (inr (inl e)) = split (v == p) refl
+        logged-here : (u i m : ℕ) → u ≢ p → u ≤ c.world.count → NumberAs c b u p i m → (b'.numbers u p i ≡ Some m) ⊎ ((is_answered d p u ≡ false) × (runs (c.stage u) ≡ true → c.resumed u p ≡ false) × (suc (length (d.world.history p)) < m)) ⊎ (m ≤ c.world.saved p) ⊎ (is_restored (c.world.phase u) p ≡ false)
+        logged-here u i m o a (inr (inr e)) = inr (inr e)
+        logged-here u i m o a (inr (inl e)) = inr (inl (unanswered u a o, e.1, shorter m e.2))
+        logged-here u i m o a (inl e) = by_number (nat_le m k) refl
           where
-            split : (t : Bool) → (v == p) ≡ t → (b'.numbers u v i ≡ Some m) ⊎ ((is_answered d v u ≡ false) × (runs (c.stage u) ≡ true → c.resumed u v ≡ false) × (suc (length (d.world.history v)) < m)) ⊎ (m ≤ c.world.saved v) ⊎ (is_restored (c.world.phase u) v ≡ false)
-            split false f = absurd (true-not-false (back-answered c v u (qback v z (different v p f))) e.0)
-            split true f =
-                let s : p ≡ v = grind (arith, nat_tests) in
-                let P : ℕ → Type 0 = λ y. (is_answered d y u ≡ false) × (runs (c.stage u) ≡ true → c.resumed u y ≡ false) × (suc (length (d.world.history y)) < m) in
-                let Q : ℕ → Type 0 = λ y. (is_answered c y u ≡ false) × (runs (c.stage u) ≡ true → c.resumed u y ≡ false) × (suc (length (c.world.history y)) < m) in
-                let old : (is_answered c p u ≡ false) × (runs (c.stage u) ≡ true → c.resumed u p ≡ false) × (suc (length g) < m) = subst Q (sym s) e in
-                inr (inl (subst P s ((unanswered u a o, old.1, shorter m old.2))))
-        logged u v i m o a z n (inl e) = split (v == p) refl
-          where
-            split : (t : Bool) → (v == p) ≡ t → (b'.numbers u v i ≡ Some m) ⊎ ((is_answered d v u ≡ false) × (runs (c.stage u) ≡ true → c.resumed u v ≡ false) × (suc (length (d.world.history v)) < m)) ⊎ (m ≤ c.world.saved v) ⊎ (is_restored (c.world.phase u) v ≡ false)
-            split false f = inl (number-is u v i m o e (λ s. absurd (different v p f s)))
-            split true f = by_number (nat_le m k) refl
-              where
-                same : p ≡ v
-                same = grind (arith, nat_tests)
+            not-next : m ≢ suc k
+            not-next s =
+                let t = l.exact.recorded u p i m e in
+                let P : ℕ → Type 0 = λ y. nth g y ≡ Some t.message in
+                let Q : ℕ → Type 0 = λ y. b.numbers u p y ≡ Some m in
+                let R : ℕ → Type 0 = λ y. b.numbers u p t.message.ssn ≡ Some y in
+                no-next c b p k h l may u t.message a o (subst P s t.at) t.sender (subst R s (subst Q (sym t.ssn) e))
 
-                number : b.numbers u p i ≡ Some m
-                number = let P : ℕ → Type 0 = λ y. b.numbers u y i ≡ Some m in subst P (sym same) e
+            by_number : (t : Bool) → nat_le m k ≡ t → (b'.numbers u p i ≡ Some m) ⊎ ((is_answered d p u ≡ false) × (runs (c.stage u) ≡ true → c.resumed u p ≡ false) × (suc (length (d.world.history p)) < m)) ⊎ (m ≤ c.world.saved p) ⊎ (is_restored (c.world.phase u) p ≡ false)
+            by_number true y = inl (number-is u p i m o e (λ _. grind (arith, nat_tests)))
+            by_number false y =
+                let nl : c.world.incarnation p < c.stored p = new-life in
+                let more : suc k < m = (let s : k < m = grind (arith, nat_tests) in let r : m ≢ suc k = not-next in omega arith) in
+                inr (inl (unanswered u a o, (λ ran. (h.hearing.heard u p a may.0.1 o ran).later (let e1 : c.heard u p ≡ c.stored p = (h.hearing.given u p a may.0.1 o may.1 (told-all c b p k h l may u a o).3).1 ran in omega arith)), kept-length m more))
 
-                not-next : m ≢ suc k
-                not-next s =
-                    let t = l.exact.recorded u p i m number in
-                    let P : ℕ → Type 0 = λ y. nth g y ≡ Some t.message in
-                    let Q : ℕ → Type 0 = λ y. b.numbers u p y ≡ Some m in
-                    let R : ℕ → Type 0 = λ y. b.numbers u p t.message.ssn ≡ Some y in
-                    no-next c b p k h l may u t.message a o (subst P s t.at) t.sender (subst R s (subst Q (sym t.ssn) number))
-
-                by_number : (t : Bool) → nat_le m k ≡ t → (b'.numbers u v i ≡ Some m) ⊎ ((is_answered d v u ≡ false) × (runs (c.stage u) ≡ true → c.resumed u v ≡ false) × (suc (length (d.world.history v)) < m)) ⊎ (m ≤ c.world.saved v) ⊎ (is_restored (c.world.phase u) v ≡ false)
-                by_number true y = inl (number-is u v i m o e (λ _. grind (arith, nat_tests)))
-                by_number false y =
-                    let P : ℕ → Type 0 = λ y. (is_answered d y u ≡ false) × (runs (c.stage u) ≡ true → c.resumed u y ≡ false) × (suc (length (d.world.history y)) < m) in
-                    let nl : c.world.incarnation p < c.stored p = new-life in
-                    let more : suc k < m = (let s : k < m = grind (arith, nat_tests) in let r : m ≢ suc k = not-next in omega arith) in
-                    inr (inl (subst P same ((unanswered u a o, (λ ran. (h.hearing.heard u p a may.0.1 o ran).later (let e1 : c.heard u p ≡ c.stored p = (h.hearing.given u p a may.0.1 o may.1 (told-all c b p k h l may u a o).3).1 ran in omega arith)), kept-length m more))))
+        logged : (u v i m : ℕ) → u ≢ p → u ≤ c.world.count → v ≤ c.world.count → NumberAs c b u v i m → (b'.numbers u v i ≡ Some m) ⊎ ((is_answered d v u ≡ false) × (runs (c.stage u) ≡ true → c.resumed u v ≡ false) × (suc (length (d.world.history v)) < m)) ⊎ (m ≤ c.world.saved v) ⊎ (is_restored (c.world.phase u) v ≡ false)
+        logged u v i m o a = choose p (λ v _. v ≤ c.world.count → NumberAs c b u v i m → (b'.numbers u v i ≡ Some m) ⊎ ((is_answered d v u ≡ false) × (runs (c.stage u) ≡ true → c.resumed u v ≡ false) × (suc (length (d.world.history v)) < m)) ⊎ (m ≤ c.world.saved v) ⊎ (is_restored (c.world.phase u) v ≡ false))
+            (λ _. logged-here u i m o a) (λ v n z e. elim e [ inl f ↦ inl (number-is u v i m o f (λ s. absurd (n s))) | inr (inl f) ↦ absurd (true-not-false (back-answered c v u (qback v z n)) f.0) | inr (inr f) ↦ inr (inr f) ]) v
 
   -- Both
 
