@@ -9,8 +9,8 @@ use Rattle.theorems.proofs.Tests.{not-below}
 use Rattle.cluster.specs.Parcels.{Body, Ask, Told, parcel, In}
 use Rattle.cluster.specs.Cluster.{Live, Collecting, Collected, runs, is_well, takes}
 use Rattle.cluster.specs.Rules.{Puts, Arrives, IsNode, Asks, IsAll, entry_of, with_page, put2}
-use Rattle.cluster.proofs.Facts.{true-not-false}
-use Rattle.cluster.specs.Overlap.{Event, Acts, Meets, Loses, restores_anew}
+use Rattle.cluster.proofs.Facts.{true-not-false, unphased}
+use Rattle.cluster.specs.Overlap.{Event, Acts, Meets, Loses, restores_anew, goes}
 use Rattle.cluster.specs.Exact.{flagged, Said, Telling, MayStep, step}
 use Rattle.cluster.proofs.DurableTurns.{put2-same}
 use Rattle.cluster.proofs.Births.{Orderly, orderly-step}
@@ -30,31 +30,21 @@ anew-up : (x : Phase) (p : ℕ) → is_up (restores_anew x p) ≡ false
 anew-up Up p = refl
 anew-up other p = refl
 
+-- as many run as before, and all are ready
+abbrev pub Still : Telling → Telling → Type 0
+Still s u =
+    record { orderly : Orderly u; count : u.cluster.world.count ≡ s.cluster.world.count; stage : (r : ℕ) → u.cluster.stage r ≡ s.cluster.stage r; ready : AllReady u.cluster }
+
+pub still-still : (s t u : Telling) → Still s t → Still t u → Still s u
+still-still s t u a b = record { orderly = b.orderly; count = b.count ∙ a.count; stage = λ r. b.stage r ∙ a.stage r; ready = b.ready }
+
 -- of two nodes that differ: q has heard of the life in which p asks
 abbrev Heard : ℕ → ℕ → ℕ → Telling → Telling → Type 0
-Heard p q k s u =
-    record {
-      orderly : Orderly u;
-      count : u.cluster.world.count ≡ s.cluster.world.count;
-      stage : (r : ℕ) → u.cluster.stage r ≡ s.cluster.stage r;
-      ready : AllReady u.cluster;
-      heard : u.cluster.heard q p ≡ u.cluster.stored p;
-      told : (r : ℕ) → u.cluster.told p r ≡ s.cluster.told p r;
-      asked : In (parcel p q (Ask (u.cluster.stored p) k)) u.cluster.parcels;
-      asks : Asks (u.cluster.world.saved p) (u.cluster.told p q) k;
-    }
+Heard p q k s u = Still s u × (u.cluster.heard q p ≡ u.cluster.stored p) × ((r : ℕ) → u.cluster.told p r ≡ s.cluster.told p r) × In (parcel p q (Ask (u.cluster.stored p) k)) u.cluster.parcels × Asks (u.cluster.world.saved p) (u.cluster.told p q) k
 
 -- q has told p all
 abbrev pub Answered : ℕ → ℕ → Telling → Telling → Type 0
-Answered p q s u =
-    record {
-      orderly : Orderly u;
-      count : u.cluster.world.count ≡ s.cluster.world.count;
-      stage : (r : ℕ) → u.cluster.stage r ≡ s.cluster.stage r;
-      ready : AllReady u.cluster;
-      whole : IsAll (u.cluster.told p q);
-      told : (r : ℕ) → r ≢ q → u.cluster.told p r ≡ s.cluster.told p r;
-    }
+Answered p q s u = Still s u × IsAll (u.cluster.told p q) × ((r : ℕ) → r ≢ q → u.cluster.told p r ≡ s.cluster.told p r)
 
 module _ (p q : ℕ) (ne : q ≢ p) where
   module _ (s : Telling) (h : Orderly s) (node : IsNode s.cluster p) (a : q ≤ s.cluster.world.count) (ready : AllReady s.cluster) (coll : s.cluster.stage p ≡ Collecting) where
@@ -76,46 +66,28 @@ module _ (p q : ℕ) (ne : q ≢ p) where
         -- it hears that
         hears : nat_lt (s.cluster.heard q p) (s.cluster.stored p) ≡ true → (takes s.cluster q ≡ true) ⊎ (s.cluster.stage q ≡ Collecting) → Goes (asked k) (Heard p q k s)
         hears e t =
-            let x : Event = Acts true false (Arrives p q (Ask (s.cluster.stored p) k)) in
-            let m : MayStep (step s (Acts true false (Puts p q (Ask (s.cluster.stored p) k)))) (Acts true false (Arrives p q (Ask (s.cluster.stored p) k))) = (((inl refl, (grind (arith, nat_tests), t)), tt), tt) in
-            go-last (asked k) (Heard p q k s) (Acts true false (Arrives p q (Ask (s.cluster.stored p) k))) m (refl, λ _ _. refl) (record {
-              orderly = orderly-step (asked k) (Acts true false (Arrives p q (Ask (s.cluster.stored p) k))) g m;
-              count = refl;
-              stage = λ r. refl;
-              ready = ready;
-              heard = put2-same s.cluster.heard q p (s.cluster.stored p);
-              told = λ r. put2-row s.cluster.told q p None p r (λ z. ne (sym z));
-              asked = inl refl;
-              asks = let P : Option Collected → Type 0 = λ x. Asks (s.cluster.world.saved p) x k in subst P (sym (put2-row s.cluster.told q p None p q (λ z. ne (sym z)))) asks;
-            })
+            let m : MayStep (asked k) (Acts true false (Arrives p q (Ask (s.cluster.stored p) k))) = (((inl refl, (grind (arith, nat_tests), t)), tt), tt) in
+            let P : Option Collected → Type 0 = λ x. Asks (s.cluster.world.saved p) x k in
+            let row : (r : ℕ) → put2 s.cluster.told q p None p r ≡ s.cluster.told p r = λ r. put2-row s.cluster.told q p None p r (λ z. ne (sym z)) in
+            go-last (asked k) (Heard p q k s) (Acts true false (Arrives p q (Ask (s.cluster.stored p) k))) m (refl, λ _ _. refl)
+            (record { orderly = orderly-step (asked k) (Acts true false (Arrives p q (Ask (s.cluster.stored p) k))) g m; count = refl; stage = λ r. refl; ready = ready }, put2-same s.cluster.heard q p (s.cluster.stored p), row, inl refl, subst P (sym (row q)) asks)
 
         -- or, as it comes back itself, meets p
         meets : nat_lt (s.cluster.heard q p) (s.cluster.stored p) ≡ true → s.cluster.stage q ≡ Live → is_well s.cluster q ≡ false → Goes (asked k) (Heard p q k s)
         meets e live un =
-            let m : MayStep (step s (Acts true false (Puts p q (Ask (s.cluster.stored p) k)))) (Meets q p (s.cluster.stored p) k) = ((inl refl, (live, un), grind (arith, nat_tests)), tt) in
-            go-last (asked k) (Heard p q k s) (Meets q p (s.cluster.stored p) k) m (refl, λ r o. absurd (two-down s.cluster p q r ne node.1 a (rw coll refl) un o)) (record {
-              orderly = orderly-step (asked k) (Meets q p (s.cluster.stored p) k) g m;
-              count = refl;
-              stage = λ r. refl;
-              ready = choose q (λ j b. j ≤ s.cluster.world.count → (s.cluster.stage j ≡ Collecting) ⊎ ((s.cluster.stage j ≡ Live)
-                  × ((runs (s.cluster.stage j) && (s.cluster.greeted j && is_up (if b then restores_anew (s.cluster.world.phase q) p else s.cluster.world.phase j))) ≡ true → (if b then restores_anew (s.cluster.world.phase q) p else s.cluster.world.phase j) ≡ Up)))
-                  (λ _. inr (live, λ w. absurd (down (runs (s.cluster.stage q)) (s.cluster.greeted q) (is_up (restores_anew (s.cluster.world.phase q) p)) (anew-up (s.cluster.world.phase q) p) w))) (λ j _. ready j);
-              heard = put2-same s.cluster.heard q p (s.cluster.stored p);
-              told = λ r. refl;
-              asked = inl refl;
-              asks = asks;
-            })
-          where
-            down : (x y z : Bool) → z ≡ false → (x && (y && z)) ≡ true → ⊥
-            down true true z e w = true-not-false w e
-            down true false z e w = true-not-false w refl
-            down false y z e w = true-not-false w refl
+            let m : MayStep (asked k) (Meets q p (s.cluster.stored p) k) = ((inl refl, (live, un), grind (arith, nat_tests)), tt) in
+            let x : Phase = restores_anew (s.cluster.world.phase q) p in
+            let down : (runs (s.cluster.stage q) && (s.cluster.greeted q && is_up x)) ≡ false = unphased (runs (s.cluster.stage q)) (s.cluster.greeted q) (is_up x) (anew-up (s.cluster.world.phase q) p) in
+            let all : AllReady (goes s.cluster (Meets q p (s.cluster.stored p) k)) = choose q (λ j b. j ≤ s.cluster.world.count → (s.cluster.stage j ≡ Collecting) ⊎ ((s.cluster.stage j ≡ Live)
+            × ((runs (s.cluster.stage j) && (s.cluster.greeted j && is_up (if b then x else s.cluster.world.phase j))) ≡ true → (if b then x else s.cluster.world.phase j) ≡ Up))) (λ _. inr (live, λ w. absurd (true-not-false w down))) (λ j _. ready j) in
+            go-last (asked k) (Heard p q k s) (Meets q p (s.cluster.stored p) k) m (refl, λ r o. absurd (two-down s.cluster p q r ne node.1 a (rw coll refl) un o))
+            (record { orderly = orderly-step (asked k) (Meets q p (s.cluster.stored p) k) g m; count = refl; stage = λ r. refl; ready = all }, put2-same s.cluster.heard q p (s.cluster.stored p), λ r. refl, inl refl, asks)
 
         split : (b : Bool) → nat_lt (s.cluster.heard q p) (s.cluster.stored p) ≡ b → Goes (asked k) (Heard p q k s)
         split false e =
             let low : s.cluster.heard q p ≤ s.cluster.stored p = h.2.plain.low q p in
             let l : s.cluster.stored p ≤ s.cluster.heard q p = not-below (s.cluster.heard q p) (s.cluster.stored p) e in
-            ([], tt, tt, record { orderly = g; count = refl; stage = λ r. refl; ready = ready; heard = omega arith; told = λ r. refl; asked = inl refl; asks = asks })
+            ([], tt, tt, (record { orderly = g; count = refl; stage = λ r. refl; ready = ready }, (omega arith), λ r. refl, inl refl, asks))
         split true e = elim (ready q a) [ inl c ↦ hears e (inr c) | inr w ↦ awake w.0 (takes s.cluster q) refl ]
           where
             awake : s.cluster.stage q ≡ Live → (b : Bool) → takes s.cluster q ≡ b → Goes (asked k) (Heard p q k s)
@@ -128,16 +100,11 @@ module _ (p q : ℕ) (ne : q ≢ p) where
     collect : (i j k : ℕ) (f : ℕ → Option Message) (exact lost : Bool) → In (parcel q p (Told i j k None f)) s.cluster.parcels → Said (flagged (parcel q p (Told i j k None f)) exact lost) s.said
         → i ≡ s.cluster.stored p → s.cluster.heard p q ≤ j → Asks (s.cluster.world.saved p) (s.cluster.told p q) k → Goes s (Answered p q s)
     collect i j k f exact lost there said e low asks =
-        let x : Event = Acts exact lost (Arrives q p (Told i j k None f)) in
         let m : MayStep s (Acts exact lost (Arrives q p (Told i j k None f))) = (((there, (coll, e, low, asks)), tt), said) in
-        go-last s (Answered p q s) (Acts exact lost (Arrives q p (Told i j k None f))) m (refl, λ _ _. refl) (record {
-          orderly = orderly-step s (Acts exact lost (Arrives q p (Told i j k None f))) h m;
-          count = refl;
-          stage = λ r. refl;
-          ready = ready;
-          whole = let P : Option Collected → Type 0 = λ t. IsAll t in subst P (sym (put2-same s.cluster.told p q (Some (with_page (s.cluster.told p q) k None f)))) refl;
-          told = λ r n. put2-column s.cluster.told p q (Some (with_page (s.cluster.told p q) k None f)) p r n;
-        })
+        let page : Option Collected = Some (with_page (s.cluster.told p q) k None f) in
+        let P : Option Collected → Type 0 = λ t. IsAll t in
+        go-last s (Answered p q s) (Acts exact lost (Arrives q p (Told i j k None f))) m (refl, λ _ _. refl)
+        (record { orderly = orderly-step s (Acts exact lost (Arrives q p (Told i j k None f))) h m; count = refl; stage = λ r. refl; ready = ready }, subst P (sym (put2-same s.cluster.told p q page)) refl, λ r n. put2-column s.cluster.told p q page p r n)
 
   module _ (s : Telling) (h : Orderly s) (node : IsNode s.cluster p) (a : q ≤ s.cluster.world.count) (ready : AllReady s.cluster) (coll : s.cluster.stage p ≡ Collecting) where
     -- q tells what its log holds where it is up, and else that it lost that
@@ -172,21 +139,16 @@ module _ (p q : ℕ) (ne : q ≢ p) where
     asks-for : (k : ℕ) → Asks (s.cluster.world.saved p) (s.cluster.told p q) k → Goes s (Answered p q s)
     asks-for k asks =
         go-on s (Heard p q k s) (Answered p q s) (hear s h node a ready coll k asks) (λ u r.
-        let same : u.cluster.world.count ≡ s.cluster.world.count = r.count in
+        let same : u.cluster.world.count ≡ s.cluster.world.count = r.0.count in
         let there : IsNode u.cluster p = (node.0, (let l : p ≤ s.cluster.world.count = node.1 in omega arith)) in
-        go-on u (Answered p q u) (Answered p q s) (tells u r.orderly there (omega arith) r.ready (r.stage p ∙ coll) k r.heard r.asked r.asks) (λ t v. (
-          [],
-          tt,
-          tt,
-          record { orderly = v.orderly; count = v.count ∙ r.count; stage = λ x. v.stage x ∙ r.stage x; ready = v.ready; whole = v.whole; told = λ x n. v.told x n ∙ r.told x },
-        )))
+        go-on u (Answered p q u) (Answered p q s) (tells u r.0.orderly there (omega arith) r.0.ready (r.0.stage p ∙ coll) k r.1 r.3 r.4) (λ t v. ([], tt, tt, (still-still s u t r.0 v.0, v.1, λ x n. v.2 x n ∙ r.2 x))))
 
     -- whatever it has told so far
     pub asks-one : Goes s (Answered p q s)
     asks-one = split (s.cluster.told p q) refl
       where
         page : (x : Collected) → s.cluster.told p q ≡ Some x → (u : Option ℕ) → x.upto ≡ u → Goes s (Answered p q s)
-        page x e None f = ([], tt, tt, record { orderly = h; count = refl; stage = λ r. refl; ready = ready; whole = let P : Option Collected → Type 0 = λ y. IsAll y in subst P (sym e) f; told = λ r n. refl })
+        page x e None f = let P : Option Collected → Type 0 = λ y. IsAll y in ([], tt, tt, (record { orderly = h; count = refl; stage = λ r. refl; ready = ready }, subst P (sym e) f, λ r n. refl))
         page x e (Some v) f = asks-for v (let P : Option Collected → Type 0 = λ y. Asks (s.cluster.world.saved p) y v in subst P (sym e) f)
 
         split : (x : Option Collected) → s.cluster.told p q ≡ x → Goes s (Answered p q s)

@@ -1,6 +1,6 @@
 -- How a node is up again whose peers are all up, or told it that what they had is lost
 use Rattle.std.proofs.Common.{◌≡◌, ◌≢◌, inl, inr, ℕ, zero, suc, ◌+◌, ◌<◌, ◌≤◌, List, [], ◌∷◌, length, Bool, true, false, refl, sym, ap, ◌∙◌, subst, arith}
-use Rattle.std.specs.Prelude.{◌⊎◌, Some, None, ◌&&◌, ◌==◌, nat_lt, if◌then◌else◌}
+use Rattle.std.specs.Prelude.{◌⊎◌, Some, None, ◌==◌, nat_lt, if◌then◌else◌}
 use Rattle.std.proofs.lemmas.Bool.Decides.{nat_tests}
 use Rattle.world.specs.declared.message.Message.{Message}
 use Rattle.world.specs.History.{rsn_of}
@@ -11,7 +11,7 @@ use Rattle.world.specs.Calls.{phase_with, peers}
 use Rattle.cluster.specs.Parcels.{Body, Resume, Restored}
 use Rattle.cluster.specs.Cluster.{Live, Cluster, runs, is_well}
 use Rattle.cluster.specs.Rules.{Puts, Arrives, Works, Replays, IsNode, MayTake, goes_on}
-use Rattle.cluster.proofs.Facts.{well-is, is-well}
+use Rattle.cluster.proofs.Facts.{well-is, is-well, unphased}
 use Rattle.cluster.specs.Overlap.{Acts, Leaves}
 use Rattle.cluster.specs.Exact.{Telling, MayStep, step}
 use Rattle.cluster.proofs.Sane.{without-shorter}
@@ -19,11 +19,6 @@ use Rattle.cluster.proofs.Ages.{IsSound, is_some, at_stage, has_told, Aged}
 use Rattle.cluster.proofs.DurableTurns.{put-other, put2-same}
 use Rattle.cluster.proofs.Births.{put-same, step-aged}
 use Rattle.cluster.proofs.WakeUps.{Goes, two-down, go-first, go-last, go-on, IsAwake}
-
-unphased : (x y z : Bool) → z ≡ false → (x && (y && z)) ≡ false
-unphased true true z e = e
-unphased true false z e = refl
-unphased false y z e = refl
 
 module _ (born : ℕ → ℕ) (now p : ℕ) where
   -- p runs; its peers do too, and each that isn't up told it that what it had is lost

@@ -20,33 +20,26 @@ use Rattle.cluster.proofs.DurableTurns.{put-other}
 use Rattle.cluster.proofs.Births.{put-same, Orderly, orderly-step}
 use Rattle.cluster.proofs.Stops.{Stops, stops}
 use Rattle.cluster.proofs.WakeUps.{Goes, go-last, go-on, IsAwake, IsReady, AllReady}
-use Rattle.cluster.proofs.Collection.{Answered, asks-one}
+use Rattle.cluster.proofs.Collection.{Still, still-still, Answered, asks-one}
 
 -- all have told p all
 abbrev Gathered : ℕ → Telling → Telling → Type 0
-Gathered p s u =
-    record {
-      orderly : Orderly u;
-      count : u.cluster.world.count ≡ s.cluster.world.count;
-      stage : (r : ℕ) → u.cluster.stage r ≡ s.cluster.stage r;
-      ready : AllReady u.cluster;
-      whole : (q : ℕ) → q ≤ u.cluster.world.count → q ≢ p → IsAll (u.cluster.told p q);
-    }
+Gathered p s u = Still s u × ((q : ℕ) → q ≤ u.cluster.world.count → q ≢ p → IsAll (u.cluster.told p q))
 
 -- those from m on have told all: it asks the others, one after the other
 gather : (p m : ℕ) (s : Telling) → Orderly s → IsNode s.cluster p → AllReady s.cluster → s.cluster.stage p ≡ Collecting → m ≤ suc s.cluster.world.count → ((q : ℕ) → m ≤ q → q ≤ s.cluster.world.count → q ≢ p → IsAll (s.cluster.told p q)) → Goes s (Gathered p s)
-gather p zero s h node ready coll l all = ([], tt, tt, record { orderly = h; count = refl; stage = λ r. refl; ready = ready; whole = λ q a n. all q (omega arith) a n })
+gather p zero s h node ready coll l all = ([], tt, tt, (record { orderly = h; count = refl; stage = λ r. refl; ready = ready }, λ q a n. all q (omega arith) a n))
 gather p (suc m) s h node ready coll l all = split (λ t. gather p m t) (m == p) refl
   where
     split : ((t : Telling) → Orderly t → IsNode t.cluster p → AllReady t.cluster → t.cluster.stage p ≡ Collecting → m ≤ suc t.cluster.world.count → ((q : ℕ) → m ≤ q → q ≤ t.cluster.world.count → q ≢ p → IsAll (t.cluster.told p q)) → Goes t (Gathered p t)) → (b : Bool) → (m == p) ≡ b → Goes s (Gathered p s)
     split more true e = more s h node ready coll (omega arith) (λ q b a n. all q (let t : m ≢ q = (λ f. let z : m ≡ p = grind (arith, nat_tests) in n (sym f ∙ z)) in omega arith) a n)
     split more false e =
         go-on s (Answered p m s) (Gathered p s) (asks-one p m (grind (arith, nat_tests)) s h node (omega arith) ready coll) (λ u r.
-        let same : u.cluster.world.count ≡ s.cluster.world.count = r.count in
+        let same : u.cluster.world.count ≡ s.cluster.world.count = r.0.count in
         let there : IsNode u.cluster p = (node.0, (let x : p ≤ s.cluster.world.count = node.1 in omega arith)) in
-        go-on u (Gathered p u) (Gathered p s) (more u r.orderly there r.ready (r.stage p ∙ coll) (omega arith)
-        (choose m (λ q _. m ≤ q → q ≤ u.cluster.world.count → q ≢ p → IsAll (u.cluster.told p q)) (λ _ _ _. r.whole) (λ q z g l n. let P : Option Collected → Type 0 = λ x. IsAll x in subst P (sym (r.told q z)) (all q (omega arith) (omega arith) n)))) (λ t v.
-        ([], tt, tt, record { orderly = v.orderly; count = v.count ∙ r.count; stage = λ x. v.stage x ∙ r.stage x; ready = v.ready; whole = v.whole })))
+        go-on u (Gathered p u) (Gathered p s) (more u r.0.orderly there r.0.ready (r.0.stage p ∙ coll) (omega arith)
+        (choose m (λ q _. m ≤ q → q ≤ u.cluster.world.count → q ≢ p → IsAll (u.cluster.told p q)) (λ _ _ _. r.1) (λ q z g l n. let P : Option Collected → Type 0 = λ x. IsAll x in subst P (sym (r.2 q z)) (all q (omega arith) (omega arith) n)))) (λ t v.
+        ([], tt, tt, (still-still s u t r.0 v.0, v.1))))
 
 -- p has recovered
 abbrev Recovered : ℕ → Telling → Cluster → Type 0
@@ -125,7 +118,7 @@ recover-all (suc m) s h l ready live = split (λ t. recover-all m t) (ready (suc
     split more (inr a) = more s h (omega arith) ready (choose (suc m) (λ q _. m < q → q ≤ s.cluster.world.count → s.cluster.stage q ≡ Live) (λ _ _. a.0) (λ q z b c. live q (omega arith) c))
     split more (inl coll) =
         go-on s (Gathered (suc m) s) (λ t. Orderly t × AllAwake t.cluster) (gather (suc m) (suc s.cluster.world.count) s h (omega arith, l) ready coll (omega arith) (λ q a b n. absurd (omega arith))) (λ u r.
-        let same : u.cluster.world.count ≡ s.cluster.world.count = r.count in
-        go-on u (λ t. Orderly t × Recovered (suc m) u t.cluster) (λ t. Orderly t × AllAwake t.cluster) (recovers (suc m) u r.orderly (omega arith, omega arith) r.ready (r.stage (suc m) ∙ coll) r.whole) (λ t v.
+        let same : u.cluster.world.count ≡ s.cluster.world.count = r.0.count in
+        go-on u (λ t. Orderly t × Recovered (suc m) u t.cluster) (λ t. Orderly t × AllAwake t.cluster) (recovers (suc m) u r.0.orderly (omega arith, omega arith) r.0.ready (r.0.stage (suc m) ∙ coll) r.1) (λ t v.
         let again : t.cluster.world.count ≡ u.cluster.world.count = v.1.count in
-        more t v.0 (omega arith) v.1.ready (choose (suc m) (λ q _. m < q → q ≤ t.cluster.world.count → t.cluster.stage q ≡ Live) (λ _ _. v.1.live) (λ q z b c. v.1.stage q z ∙ r.stage q ∙ live q (omega arith) (omega arith)))))
+        more t v.0 (omega arith) v.1.ready (choose (suc m) (λ q _. m < q → q ≤ t.cluster.world.count → t.cluster.stage q ≡ Live) (λ _ _. v.1.live) (λ q z b c. v.1.stage q z ∙ r.0.stage q ∙ live q (omega arith) (omega arith)))))
