@@ -1,6 +1,6 @@
 -- Runs in which both nodes die at once and their recoveries meet: in one a message is lost, and a node says so; in the other both are
 -- durable
-use Rattle.std.specs.Prelude.{◌≡◌, ℕ, List, [], ◌∷◌, ◌++◌, None, Bool, true, false}
+use Rattle.std.specs.Prelude.{◌≡◌, ℕ, List, [], ◌∷◌, ◌++◌, None, Bool, true, false, map}
 use Rattle.world.specs.declared.message.Message.{Message}
 use Rattle.world.specs.History.{Payload}
 use Rattle.theorems.specs.WorkedOverlap.{passing}
@@ -15,8 +15,7 @@ use Rattle.cluster.specs.Exact.{starts, Steps, after_steps}
 
 -- acts, if all packets say that nothing is lost
 abbrev pub taken : List Act → List Event
-taken [] = []
-taken (a ∷ acts) = Acts true false a ∷ taken acts
+taken acts = map (Acts true false) acts
 
 -- node 1 forwards a message of the gateway as soon as its checkpoint covers it; node 2 works on it
 abbrev pub passed_on : Payload → List Act
