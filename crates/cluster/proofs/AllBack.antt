@@ -1,6 +1,7 @@
 -- All nodes come back, those whose lives began last first: whoever isn't up told the others of a loss, or its life began after theirs
 use Rattle.std.proofs.Common.{◌≡◌, ◌≢◌, inl, inr, ℕ, zero, suc, ◌<◌, ◌≤◌, List, [], ◌∷◌, Bool, true, false, refl, sym, ap, ◌∙◌, arith}
 use Rattle.std.specs.Prelude.{◌==◌}
+use Rattle.std.specs.List.{list_all}
 use Rattle.std.proofs.lemmas.Bool.Decides.{nat_tests}
 use Rattle.theorems.proofs.Changes.{choose}
 use Rattle.cluster.specs.Cluster.{Cluster, runs, is_well}
@@ -8,7 +9,7 @@ use Rattle.cluster.specs.Rules.{IsNode}
 use Rattle.cluster.proofs.Facts.{true-not-false}
 use Rattle.cluster.specs.Overlap.{Event}
 use Rattle.cluster.specs.Exact.{Telling, starts, step, after_steps}
-use Rattle.cluster.specs.Return.{AllQuiet, AllUp, AllComeBack}
+use Rattle.cluster.specs.Return.{is_quiet, AllUp, AllComeBack}
 use Rattle.cluster.proofs.Ages.{is_some, at_stage, has_told, Aged}
 use Rattle.cluster.proofs.Births.{Orderly, always-orderly}
 use Rattle.cluster.proofs.WakeUps.{Calm, Goes, go-on, IsAwake, AllReady, rouse-all}
@@ -98,9 +99,9 @@ orderly-back s h =
     go-on t (λ t. Orderly t × AllAwake t.cluster) Ends (recover-all t.cluster.world.count t u.0 (omega arith) u.1 (λ q a b. absurd (omega arith))) (λ v w.
     latest-first w.0.0 w.0.1 w.0.1 v w.0.2 w.1 (λ q a e. w.0.2.past q)))
 
-calm-quiet : (s : Telling) (es : List Event) → Calm s es → AllQuiet es
-calm-quiet s [] c = tt
-calm-quiet s (e ∷ es) c = (c.0.0, calm-quiet (step s e) es c.1)
+calm-quiet : (s : Telling) (es : List Event) → Calm s es → list_all is_quiet es ≡ true
+calm-quiet s [] c = refl
+calm-quiet s (e ∷ es) c = rw (c.0.0, calm-quiet (step s e) es c.1) refl
 
 pub all-come-back : AllComeBack
 all-come-back n f durable es r = let t = orderly-back (after_steps (starts n f durable) es) (always-orderly n f durable es r) in (t.0, t.1, calm-quiet (after_steps (starts n f durable) es) t.0 t.2, t.3)

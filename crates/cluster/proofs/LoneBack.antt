@@ -92,11 +92,11 @@ alone-act c p a n may o q l ne = let same : (does c a).world.count ≡ c.world.c
 
 -- and calm events are acts
 alone-run : (p : ℕ) (es : List Event) (s : Telling) (P : Cluster → Type 0) → Orderly s → AllBut p s.cluster → Steps s es → Calm s es → P (after_steps s es).cluster → CanReach s.cluster P
-alone-run p [] s P h o r c x = ([], tt, tt, x)
+alone-run p [] s P h o r c x = ([], tt, refl, x)
 alone-run p (Acts exact lost a ∷ es) s P h o r c x =
     let n = lives exact lost a c.0.0 in
     let t = alone-run p es (step s (Acts exact lost a)) P (orderly-step s (Acts exact lost a) h r.0) (alone-act s.cluster p a n r.0.0.0 o) r.1 c.1 x in
-    (a ∷ t.0, (r.0.0.0, t.1), (n, t.2), t.3)
+    (a ∷ t.0, (r.0.0.0, t.1), (rw (n, t.2) refl), t.3)
 alone-run p (e ∷ es) s P h o r c x = absurd (let z : false ≡ true = c.0.1 p o in cc)
 
 pub lone-comes-back : LoneComesBack

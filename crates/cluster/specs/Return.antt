@@ -1,5 +1,6 @@
 -- Nodes come back: one that dies alone, and all of them, whatever failed
-use Rattle.std.specs.Prelude.{◌≡◌, ℕ, ◌≤◌, List, [], ◌∷◌, Bool, true, false}
+use Rattle.std.specs.Prelude.{◌≡◌, ℕ, ◌≤◌, List, Bool, true, false}
+use Rattle.std.specs.List.{list_all, list_any}
 use Rattle.std.proofs.Common.{◌≢◌}
 use Rattle.world.specs.Handlers.{Handlers}
 use Rattle.cluster.specs.Cluster.{Cluster, opening, is_well}
@@ -12,14 +13,9 @@ abbrev pub is_death : Act → Bool
 is_death (Dies p) = true
 is_death a = false
 
--- no node dies in these acts
-abbrev pub NobodyDies : List Act → Type 0
-NobodyDies [] = Unit {0}
-NobodyDies (a ∷ acts) = (is_death a ≡ false) × NobodyDies acts
-
 -- the cluster can go on, without a death, to one for which this holds
 abbrev pub CanReach : Cluster → (Cluster → Type 0) → Type 0
-CanReach c P = (acts : List Act) × Run c acts × NobodyDies acts × P (after_run c acts)
+CanReach c P = (acts : List Act) × Run c acts × (list_any is_death acts ≡ false) × P (after_run c acts)
 
 -- every process is up, and so is the gateway
 abbrev pub AllUp : Cluster → Type 0
@@ -39,14 +35,9 @@ is_quiet (Acts exact lost (Dies p)) = false
 is_quiet (Acts exact lost (Input d x)) = false
 is_quiet e = true
 
--- all of these events are such
-abbrev pub AllQuiet : List Event → Type 0
-AllQuiet [] = Unit {0}
-AllQuiet (e ∷ es) = (is_quiet e ≡ true) × AllQuiet es
-
 -- by such events alone the nodes can go on to where this holds
 abbrev pub CanGo : Telling → (Telling → Type 0) → Type 0
-CanGo s P = (es : List Event) × Steps s es × AllQuiet es × P (after_steps s es)
+CanGo s P = (es : List Event) × Steps s es × (list_all is_quiet es ≡ true) × P (after_steps s es)
 
 -- after any run of the whole rules, whatever failed, with any number of nodes down or recovering and any packets on the way: the nodes can
 -- go on until all are up
