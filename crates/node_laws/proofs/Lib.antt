@@ -26,7 +26,6 @@ pub mod Durability
 pub mod Durable
 pub mod Preservation
 pub mod Turns
-pub mod Outputs
 pub mod WorkedMessages
 pub mod Chains
 pub mod Stages
@@ -39,7 +38,7 @@ pub mod Views
 pub mod HostSteps
 pub mod Lists
 pub mod Promised
-pub mod HostOutputs
+pub mod Outputs
 pub mod HostBack
 pub mod CopyingLemmas
 pub mod Worked

@@ -16,15 +16,13 @@ use Rattle.gateway.specs.Gateway.{TheGateway, happens}
 use Rattle.gateway.specs.Calls.{is_next}
 use Rattle.gateway.specs.Calls as outside
 use Rattle.gateway.specs.Stands.{shown_as}
-use Rattle.node.specs.Runs.{Answering}
+use Rattle.verifier.specs.declared.any_image.AnyImage.{AnyImage}
 use Rattle.node.specs.Stands.{Each, InOrderFrom}
 use Rattle.node.proofs.Lists.{count-append}
 use Rattle.node.proofs.Numbers.{InOrderFrom-push}
 use Rattle.recovery.proofs.Lists.{each-append}
-use Rattle.node_laws.specs.Inside.System.{System, Call, GaveOut, HandedOut, DidOut, StoredOut, StoredBut, RevivedOut, DoesIt, after_call}
-use Rattle.node_laws.specs.HostSystem.{handed_out, untaken}
-use Rattle.node_laws.specs.Inside.Durable.{shown_by}
-use Rattle.node_laws.specs.Inside.Outputs.{LivesOn}
+use Rattle.node_laws.specs.HostSystem.{System, HostCall, GaveOut, HandedOut, DidOut, StoredOut, StoredBut, RevivedOut, DoesIt, after_call, handed_out, untaken}
+use Rattle.node_laws.specs.HostLaws.{shown_by, LivesOn}
 use Rattle.node_laws.proofs.HeldGateway.{OfGateway, Steady, output, hands, puts, ticks, tells}
 use Rattle.node_laws.proofs.Untaken.{IsQuietDeal, DealsSo, deals-so, deals-alike, handed-alike, handing-so}
 
@@ -175,7 +173,7 @@ pub record UpTo (c d : ℕ → ℕ) (s : System) : Type 0 where
   pub leads : (p : ℕ) → c p ≡ passed d s.taken p
 
 -- after a call these are others
-pub record Turns (c d : ℕ → ℕ) (s : System) (k : Call) : Type 0 where
+pub record Turns (c d : ℕ → ℕ) (s : System) (k : HostCall) : Type 0 where
   pub from : ℕ → ℕ
   pub kept : ℕ → ℕ
   pub up : UpTo from kept (after_call s k)
@@ -185,7 +183,7 @@ pub record Turns (c d : ℕ → ℕ) (s : System) (k : Call) : Type 0 where
 
 module _ (c d : ℕ → ℕ) (s : System) (a : UpTo c d s) where
   -- nothing of it changes
-  rests : (k : Call) → UpTo c d (after_call s k) → shown_by s k ≡ [] → Turns c d s k
+  rests : (k : HostCall) → UpTo c d (after_call s k) → shown_by s k ≡ [] → Turns c d s k
   rests k u n = record { from = c; kept = d; up = u; leads = inl (inl (n, refl)); on = λ l. inl (n, refl); kept_is = inl refl }
 
   gives-out : (x : NodePacket) (new : TheGateway) → s.gateway ≡ record new { out = x ∷ new.out } → Turns c d s (GaveOut x new)
@@ -282,13 +280,13 @@ module _ (c d : ℕ → ℕ) (s : System) (a : UpTo c d s) where
         kept_is = inr (λ p. (passed-grows d first p, subst (λ z. passed d first p ≤ z) (sym (on p)) (passed-grows (passed d first) rest p)));
       }
 
-  pub turns : (f : Answering) (n : ℕ) (k : Call) → DoesIt f n s k → Turns c d s k
-  turns f n (GaveOut x new) m = gives-out x new m.1.0
-  turns f n (HandedOut x new) m = hears-out x new m.1.0
-  turns f n (DidOut new) m = does-out new (deals-so s.gateway new m.0)
-  turns f n StoredOut m = stores-out
-  turns f n (StoredBut k) m = stores-but k
-  turns f n (RevivedOut new) m =
+  pub turns : (images : ℕ → AnyImage) (n : ℕ) (k : HostCall) → DoesIt images n s k → Turns c d s k
+  turns images n (GaveOut x new) m = gives-out x new m.1.0
+  turns images n (HandedOut x new) m = hears-out x new m.1.0
+  turns images n (DidOut new) m = does-out new (deals-so s.gateway new m.0)
+  turns images n StoredOut m = stores-out
+  turns images n (StoredBut k) m = stores-but k
+  turns images n (RevivedOut new) m =
       let goes : OfGateway (InTurn d) new = subst (OfGateway (InTurn d)) (sym m.0) (record { out = tt; store = a.durable.store }) in
       record { from = d; kept = d; up = record { gateway = goes; durable = goes; shadow = goes; leads = λ p. refl }; leads = inr (inl (refl, refl)); on = λ l. absurd l; kept_is = inl refl }
-  turns f n other m = rests other (record { gateway = a.gateway; durable = a.durable; shadow = a.shadow; leads = a.leads }) refl
+  turns images n other m = rests other (record { gateway = a.gateway; durable = a.durable; shadow = a.shadow; leads = a.leads }) refl
