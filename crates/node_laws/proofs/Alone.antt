@@ -26,12 +26,12 @@ use Rattle.recovery.specs.RestorationStands.{StandsRestoring}
 use Rattle.recovery.proofs.Fits.{pages-fit}
 use Rattle.gateway.specs.Gateway.{TheGateway}
 use Rattle.node_laws.specs.HostProcess.{IsFirst}
-use Rattle.node_laws.specs.Inside.Process.{Process, Up, Covered, Collects, Restores, Killed, StandsAs, IsKilled, IsStoredOf, ComesFrom, covered}
-use Rattle.node_laws.specs.Inside.System.{System, AreStoredOf, Call, Gave, Handed, Worked, Did, Stored, Saved, Resumed, Died, Revived, GaveOut, HandedOut, DidOut, RevivedOut, DoesIt, after_call, Calls, AreExact, StayExact, Living, start}
-use Rattle.node_laws.specs.Inside.Alone.{is_up, FailsAlone, OneAtATime, LoneFailuresStayExact}
+use Rattle.node_laws.specs.Inside.Process.{Process, Up, Covered, Collects, Restores, Killed, StandsAs, IsKilled, IsStoredOf, ComesFrom, covered, is_up, stage_of}
+use Rattle.node_laws.specs.Inside.System.{System, AreStoredOf, Call, Gave, Handed, Worked, Did, Stored, Saved, Resumed, Died, Revived, GaveOut, HandedOut, DidOut, RevivedOut, DoesIt, after_call, after_calls, Along, FailsAlone, view}
+use Rattle.node_laws.specs.HostSystem.{Hosting, start}
+use Rattle.node_laws.proofs.HostStep.{IsPart}
 use Rattle.node_laws.proofs.Lives.{WasPut}
-use Rattle.node_laws.proofs.Lives as runs
-use Rattle.node_laws.proofs.Back.{Reached, GoesOn, goes-on}
+use Rattle.node_laws.proofs.Back.{Reached, GoesOn, none-on, joined, one-on}
 use Rattle.node_laws.proofs.Sound.{IsSound, AreSound, raised-here}
 use Rattle.node_laws.proofs.OwnSound.{IsAlone, of-other}
 use Rattle.node_laws.proofs.CollectingSound as collecting
@@ -168,20 +168,25 @@ module _ (f : Answering) (states : ℕ → List ℕ) (n : ℕ) (s : System) (act
       with-out n s.processes s.lives s.given s.gateway.out new.out out h
   call-alone other m a = h
 
--- ---- lists of calls
+-- ---- parts of a call of a host
 
-stays-alone : (f : Answering) (states : ℕ → List ℕ) (n : ℕ) (s : System) (acts : List Act) (ks : List Call) → Reached (handlers_of f states) n s acts → IsLone n s → Calls f n s ks → OneAtATime n s ks → StayExact n s ks
-stays-alone f states n s acts [] r h m a = tt
-stays-alone f states n s acts (k ∷ ks) r h m a =
-    let after : IsLone n (after_call s k) = call-alone f states n s acts r h k m.0 a.0 in
-    let exact : AreExact n (after_call s k) = λ p first. (after.good p first).exact in
-    let on : GoesOn (handlers_of f states) n (after_call s k) acts = goes-on f states n s acts (k ∷ []) r (m.0, tt) (exact, tt) in
-    (exact, stays-alone f states n (after_call s k) (acts ++ on.more) ks on.reached after m.1 a.1)
+pub alone-go : (f : Answering) (states : ℕ → List ℕ) (n : ℕ) (X A : Type 0) (E : ℕ → Type 0) → A → (s : System) (acts : List Act) (ks : List Call) → Reached (handlers_of f states) n s acts → IsLone n s → Along (IsPart f n X A E) s ks → GoesOn (handlers_of f states) n (after_calls s ks) acts × IsLone n (after_calls s ks)
+alone-go f states n X A E a s acts [] r h m = (none-on (handlers_of f states) n s acts r, h)
+alone-go f states n X A E a s acts (k ∷ ks) r h m =
+    let lone : IsLone n (after_call s k) = call-alone f states n s acts r h k m.0.does (m.0.alone a) in
+    let on : GoesOn (handlers_of f states) n (after_call s k) acts = one-on f states n s acts k r m.0.does (λ p first. (lone.good p first).exact) in
+    let rest = alone-go f states n X A E a (after_call s k) (acts ++ on.more) ks on.reached lone m.1 in
+    (joined (handlers_of f states) n (after_calls (after_call s k) ks) acts on.more rest.0, rest.1)
 
 -- at the opening all are up
-begins-alone : (l : Living) → IsLone l.n (start l)
-begins-alone l = record { outside = refl; alone = λ p q a b apart e. refl; good = λ p first. record { exact = refl; life = refl; knows = tt; out = tt }; given = tt; out = tt }
-
-pub lone-failures-stay-exact : LoneFailuresStayExact
-lone-failures-stay-exact l calls few m a =
-    stays-alone l.f l.states l.n (start l) [] calls (record { run = tt; holds = runs.begins l few }) (begins-alone l) m a
+pub begins-alone : (h : Hosting) → IsLone h.n (view (start h))
+begins-alone h =
+    let s : System = view (start h) in
+    let up : (p : ℕ) → IsFirst h.n p → is_up (s.processes p) ≡ true = λ p l. ap (λ c. is_up (stage_of c)) (h.opens.opened p l).lifecycle_is in
+    record {
+      outside = refl;
+      alone = λ p q a b apart e. up q b;
+      good = λ p l. subst (λ c. Good (λ q. 1) (Back h.n s.processes) h.n p (stage_of c)) (sym (h.opens.opened p l).lifecycle_is) (record { exact = refl; life = refl; knows = tt; out = tt });
+      given = tt;
+      out = tt;
+    }

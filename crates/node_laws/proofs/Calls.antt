@@ -25,10 +25,9 @@ use Rattle.process.specs.Process.{is_settled, state_of}
 use Rattle.process.specs.Calls.{IsHanded, Ticks, Takes, Freezes, FreezesAs, Thaws, is_storable}
 use Rattle.process.specs.Checkpoints.{IsSavable, Keeps}
 use Rattle.process.specs.Work.{job_as, job_at, answer_to, given_of, TakesIn}
-use Rattle.node_laws.specs.Inside.Process.{Process, AreOf, Gives, Hears, Works, IsTold}
+use Rattle.node_laws.specs.Inside.Process.{Process, AreOf, Gives, Hears, Works, IsTold, stage_of, seen}
 use Rattle.node_laws.specs.Inside.Process as lives
 use Rattle.node_laws.specs.HostProcess.{Checkpoint, Absent, Pending, Durable}
-use Rattle.node_laws.specs.Inside.Hosted.{stage_of, seen}
 use Rattle.node_laws.specs.HostReplies.{who_of, answer_of, answering}
 use Rattle.node_laws.proofs.Chains.{Chain, ticked-exact, froze-exact, asked-exact, restores-exact}
 use Rattle.node_laws.proofs.Stages.{unsettled, Fits, GoesOn, on}
@@ -88,11 +87,11 @@ ticked-rests : (n : TheNode) → n.frozen ≡ true → ticked n ≡ n
 ticked-rests n e = rw e refl
 
 pub ticks-is : (w : Checkpoint) (c d : Lifecycle) → is_settled c ≡ true → Fits w c → Ticks c d → GoesOn w c d
-ticks-is Absent (Up n) (Up m) s f g = (refl, (tt, (lives.Up m ∷ [], ((m, (refl, (inl g.0, g.1))), (tt, (ap (λ (z : TheNode). z.exact) g.0 ∙ ticked-exact n, refl))))))
-ticks-is Absent (Collecting n) (Collecting m) s f g = (refl, (tt, (lives.Collects m ∷ [], (inl (m, (refl, g)), (tt, (ap (λ (z : TheCollecting). z.own.exact) g.0 ∙ asked-exact n, refl))))))
+ticks-is Absent (Up n) (Up m) s f g = (refl, (tt, (lives.Up m ∷ [], ((m, (refl, (inl g.0, g.1))), (ap (λ (z : TheNode). z.exact) g.0 ∙ ticked-exact n, refl)))))
+ticks-is Absent (Collecting n) (Collecting m) s f g = (refl, (tt, (lives.Collects m ∷ [], (inl (m, (refl, g)), (ap (λ (z : TheCollecting). z.own.exact) g.0 ∙ asked-exact n, refl)))))
 ticks-is Absent (Replaying n) d s f g = on Absent (Replaying n) d s f g
 ticks-is Absent (Replayed n) d s f g = on Absent (Replayed n) d s f g
-ticks-is Absent (Restoring n) (Restoring m) s f g = (refl, (tt, (lives.Restores m ∷ [], (inl (m, (refl, g)), (tt, (ap (λ (z : TheRestoring). z.own.exact) g.0 ∙ restores-exact n, refl))))))
+ticks-is Absent (Restoring n) (Restoring m) s f g = (refl, (tt, (lives.Restores m ∷ [], (inl (m, (refl, g)), (ap (λ (z : TheRestoring). z.own.exact) g.0 ∙ restores-exact n, refl)))))
 ticks-is Absent Passing d s f g = unsettled s
 ticks-is Absent c d s f g = absurd g
 ticks-is (Pending bytes) (Up n) (Up m) s f g = on (Pending bytes) (Up n) (Up m) s f (ap Up (g.0 ∙ ticked-rests n f.0))
@@ -177,7 +176,7 @@ froze-is bytes Absent (Up n) (Up m) f may keeps g =
     let can = both (may_freeze n) (is_storable n) may.may in
     let made = subst (λ b. FreezesAs b n m) can.1 g in
     let is : m ≡ record n { frozen = true } = made.0 ∙ frozen-now n can.0 in
-    (refl, (subst (λ (z : TheNode). (z.frozen ≡ true) × AreOf bytes z) (sym is) (refl, keeps), (lives.Up m ∷ [], ((m, (refl, (inr made.0, made.1))), (tt, (ap (λ (z : TheNode). z.exact) made.0 ∙ froze-exact n, refl))))))
+    (refl, (subst (λ (z : TheNode). (z.frozen ≡ true) × AreOf bytes z) (sym is) (refl, keeps), (lives.Up m ∷ [], ((m, (refl, (inr made.0, made.1))), (ap (λ (z : TheNode). z.exact) made.0 ∙ froze-exact n, refl)))))
 froze-is bytes Absent (Up n) other f may keeps g = absurd g
 froze-is bytes Absent c d f may keeps g = absurd keeps
 froze-is bytes (Pending others) (Up n) d f may keeps g = not-frozen n.frozen (is_none n.working) (both (may_freeze n) (is_storable n) may.may).0 f.0
@@ -189,7 +188,7 @@ froze-rests : (n : TheNode) → n.frozen ≡ true → froze n ≡ n
 froze-rests n e = rw e refl
 
 pauses-as : (b : Bool) (n m : TheNode) → FreezesAs b n m → GoesOn Absent (Up n) (Up m)
-pauses-as true n m g = (refl, (tt, (lives.Up m ∷ [], ((m, (refl, (inr g.0, g.1))), (tt, (ap (λ (z : TheNode). z.exact) g.0 ∙ froze-exact n, refl))))))
+pauses-as true n m g = (refl, (tt, (lives.Up m ∷ [], ((m, (refl, (inr g.0, g.1))), (ap (λ (z : TheNode). z.exact) g.0 ∙ froze-exact n, refl)))))
 pauses-as false n m g = on Absent (Up n) (Up m) refl tt (ap Up g)
 
 rests-as : (b : Bool) (n m : TheNode) → n.frozen ≡ true → FreezesAs b n m → m ≡ n

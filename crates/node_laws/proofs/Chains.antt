@@ -16,16 +16,15 @@ use Rattle.recovery.specs.Replayed.{TheReplayed}
 use Rattle.recovery.specs.Restoration.{TheRestoring, has_answered, begun}
 use Rattle.recovery.specs.Restoration as restores
 use Rattle.node_laws.specs.Inside.Process.{Process, Acts, is_exact}
-use Rattle.node_laws.specs.Inside.Durable.{ReplaysAll}
 use Rattle.node_laws.proofs.NodeSound.{ticks, freezes}
 
 abbrev pub Chain : Process → List Process → Process → Type 0
 Chain old [] new = new ≡ old
-Chain old (next ∷ rest) new = Acts old next × (ReplaysAll old next × ((is_exact next ≡ is_exact old) × Chain next rest new))
+Chain old (next ∷ rest) new = Acts old next × ((is_exact next ≡ is_exact old) × Chain next rest new)
 
 pub chain-append : (a : Process) (ps : List Process) (b : Process) (qs : List Process) (c : Process) → Chain a ps b → Chain b qs c → Chain a (ps ++ qs) c
 chain-append a [] b qs c e h = subst (λ z. Chain z qs c) e h
-chain-append a (p ∷ ps) b qs c g h = (g.0, (g.1.0, (g.1.1.0, chain-append p ps b qs c g.1.1.1 h)))
+chain-append a (p ∷ ps) b qs c g h = (g.0, (g.1.0, chain-append p ps b qs c g.1.1 h))
 
 -- ---- what keeps a process as exact
 

@@ -32,7 +32,6 @@ use Rattle.recovery.specs.StandsAtReplay.{replayed_of}
 use Rattle.recovery.specs.Restoration.{TheRestoring}
 use Rattle.node_laws.specs.Inside.Process.{Process, Up, Covered, Collects, Replays, Replayed, Restores, Killed, Gives, Hears, Works, Acts, WaitsFor, covered, IsTold, Wakes, ComesFrom}
 use Rattle.node_laws.specs.Durable.{IsAfter}
-use Rattle.node_laws.specs.Inside.Durable.{ReplaysAll}
 use Rattle.recovery.specs.Plan.{IsCovered, Plans, told_under}
 use Rattle.node_laws.proofs.Taken.{IsFair, IsSent, IsIn, HasTaken, sender_of, taken-plan, told-good, taken-more}
 use Rattle.node_laws.proofs.HeldNode as nodes
@@ -186,32 +185,31 @@ module _ (f : Answering) (states : ℕ → List ℕ) (top p : ℕ) (durable tell
       (taken-plan D In top p (told_under n.told n.own.count) h h n.own.covered [] (map job_of plan) good (plans h covers).follows own.taken)
 
   -- it acts, or goes on to its next stage
-  pub acting : (h : List Message) (old new : Process) → Acts old new → ReplaysAll old new → IsFor h old → IsFor h new
-  acting h (Up n) new g all s = subst (IsFor h) (sym g.1.0) (by_act g.1.1.0)
+  pub acting : (h : List Message) (old new : Process) → Acts old new → IsFor h old → IsFor h new
+  acting h (Up n) new g s = subst (IsFor h) (sym g.1.0) (by_act g.1.1.0)
     where
       by_act : (g.0 ≡ ticked n) ⊎ (g.0 ≡ froze n) → IsFor h (Up g.0)
       by_act (inl e) = subst (λ z. IsFor h (Up z)) (sym e) (s.0, nodes.ticking top F gr p durable tells D In h s.0 n s.1)
       by_act (inr e) = subst (λ z. IsFor h (Up z)) (sym e) (s.0, nodes.freezing top F gr p durable tells D In h s.0 n s.1)
-  acting h (Covered n) new g all s = subst (IsFor h) (sym (g.1.0 ∙ ap Covered (rests g.1.1))) s
+  acting h (Covered n) new g s = subst (IsFor h) (sym (g.1.0 ∙ ap Covered (rests g.1.1))) s
     where
       rests : (g.0 ≡ ticked n) ⊎ (g.0 ≡ froze n) → g.0 ≡ n
       rests (inl e) = e ∙ ticked-rests n s.1.1
       rests (inr e) = e ∙ froze-rests n s.1.1
-  acting h (Collects n) new (inl g) all s = subst (IsFor h) (sym (g.1.0 ∙ ap Collects g.1.1.0)) (owns.asks-all top F p durable tells D In h [] h h n s)
-  acting h (Collects n) new (inr g) all s =
+  acting h (Collects n) new (inl g) s = subst (IsFor h) (sym (g.1.0 ∙ ap Collects g.1.1.0)) (owns.asks-all top F p durable tells D In h [] h h n s)
+  acting h (Collects n) new (inr g) s =
       let r : TheReplaying = g.0 in
       let none : h ≡ h ++ map job_of (take r.done r.plan) = sym (append-nil h) ∙ ap (λ k. h ++ map job_of (take k r.plan)) (sym g.1.1.is.none) in
       let w : List Message = h ++ map job_of r.plan in
       let own : Own w (receipts_of r.plan).senders h h n.own = planning top F p durable tells D In h w [] (receipts_of r.plan).senders h h n.own s.0 (recovered h n r.plan s g.1.1.is.plans) in
       subst (IsFor h) (sym g.1.0) (subst (λ z. Own w (receipts_of r.plan).senders h z r.own) none (subst (Own w (receipts_of r.plan).senders h h) (sym g.1.1.is.own) own))
-  acting h (Replays n) new g all s =
-      let over : is_over n ≡ true = subst (ReplaysAll (Replays n)) g.1.0 all in
-      subst (IsFor h) (sym (g.1.0 ∙ ap Replayed g.1.1.0)) (ended h n over s)
-  acting h (Replayed n) new g all s =
+  acting h (Replays n) new g s =
+      subst (IsFor h) (sym (g.1.0 ∙ ap Replayed g.1.1.0)) (ended h n g.1.1.1.1 s)
+  acting h (Replayed n) new g s =
       subst (IsFor h) (sym (g.1.0 ∙ ap Restores g.1.1.0)) (s.0, (n.receipts.senders, owns.begin top F p durable tells D In s.0 n.receipts.senders h s.0 n (s.1.0, (s.1.1, (refl, refl)))))
-  acting h (Restores n) new (inl g) all s = subst (IsFor h) (sym (g.1.0 ∙ ap Restores g.1.1.0)) (s.0, (s.1.0, owns.resumes-all top F p durable tells D In s.0 s.1.0 h s.0 n s.1.1))
-  acting h (Restores n) new (inr g) all s = subst (IsFor h) (sym (g.1.0 ∙ ap Up g.1.1.0)) (s.0, owns.rising top F p durable tells D In s.0 s.1.0 h s.0 n s.1.1)
-  acting h Killed new g all s = absurd g
+  acting h (Restores n) new (inl g) s = subst (IsFor h) (sym (g.1.0 ∙ ap Restores g.1.1.0)) (s.0, (s.1.0, owns.resumes-all top F p durable tells D In s.0 s.1.0 h s.0 n s.1.1))
+  acting h (Restores n) new (inr g) s = subst (IsFor h) (sym (g.1.0 ∙ ap Up g.1.1.0)) (s.0, owns.rising top F p durable tells D In s.0 s.1.0 h s.0 n s.1.1)
+  acting h Killed new g s = absurd g
 
   -- its checkpoint is durable
   pub storing : (h : List Message) (bytes : List ℕ) (old : Process) → WaitsFor bytes old → IsFor h old → (to : List Message) × (Begins h to × (IsStored top F p D In to bytes × IsFor to (covered old)))

@@ -6,9 +6,8 @@ use Rattle.world.specs.World.{put}
 use Rattle.packets.specs.declared.packet.NodePacket.{NodePacket}
 use Rattle.cluster.specs.Cluster.{Cluster}
 use Rattle.node_laws.specs.HostProcess.{IsFirst}
-use Rattle.node_laws.specs.Inside.Process.{Process, Up, Covered, Collects, Replays, Replayed, Restores, Killed, StandsAs, is_exact}
+use Rattle.node_laws.specs.Inside.Process.{Process, Up, Covered, Collects, Replays, Replayed, Restores, Killed, StandsAs, is_exact, is_up}
 use Rattle.node_laws.specs.Inside.System.{System}
-use Rattle.node_laws.specs.Inside.Alone.{is_up}
 use Rattle.node_laws.proofs.Lives.{at-each}
 use Rattle.node_laws.proofs.Sound.{AreSound, sound-still, sound-anew, raised-other}
 use Rattle.node_laws.proofs.OwnSound.{HasHeard}

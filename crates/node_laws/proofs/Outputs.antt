@@ -1,5 +1,5 @@
 -- Outputs in order, whatever fails and meets
-use Rattle.std.proofs.Common.{◌≡◌, inl, inr, ℕ, zero, suc, ◌+◌, ◌-◌, ◌<◌, ◌≤◌, List, [], ◌∷◌, ◌++◌, map, Bool, true, false, refl, sym, ap, ◌∙◌, subst, arith, append_assoc, append-nil}
+use Rattle.std.proofs.Common.{◌≡◌, inl, inr, ℕ, zero, suc, ◌-◌, ◌<◌, ◌≤◌, List, [], ◌∷◌, ◌++◌, map, Bool, true, false, refl, sym, ap, ◌∙◌, subst, arith, append_assoc, append-nil}
 use Rattle.std.specs.Prelude.{◌⊎◌, Some, slice_index_or, replicate, nat_le, ◌==◌, if◌then◌else◌}
 use Rattle.std.proofs.lemmas.Bool.Decides.{nat_tests}
 use Rattle.theorems.proofs.Changes.{at-itself}
@@ -15,7 +15,7 @@ use Rattle.node.specs.Stands.{Each, InOrderFrom}
 use Rattle.node.proofs.Lists.{all-more}
 use Rattle.node_laws.specs.HostSystem.{System, HostCall, after_call, AreCalls, after_calls, Hosting, start, after, handlers, Makes}
 use Rattle.node_laws.specs.HostLaws.{shown_by, outputs_of, OneLife, HostedInOrder, HostedWithoutGap, HostedStayOut, HostedAgree}
-use Rattle.node_laws.specs.Outputs.{IsOut, AllOut, LeavesNoGap, AreBehind, SayTheSame}
+use Rattle.node_laws.specs.Outputs.{IsOut, AllOut, LeavesNoGap, AreBehind}
 use Rattle.node_laws.proofs.Promised.{after-more, calls-split, hosted-keep}
 use Rattle.node_laws.proofs.Preservation.{IsShown}
 use Rattle.node_laws.proofs.HeldGateway.{OfGateway}

@@ -178,7 +178,7 @@ module _ (c : Cluster) (p : ℕ) (bytes : List ℕ) (life : ℕ) (low : c.stored
       let P : ℕ → Type 0 = λ q. GoesTo q (λ d. StandsReplaying g.0 d q) c in
       let ordered : IsInOrder c n.own.me = (received-once-node c h.beside h.agrees h.lawful).next n.own.me in
       becomes p (Replays g.0) new bytes life c g.1.0 (own (Replays g.0) are.0 (λ k d z. z) are.1 (subst P s.own.me (g.1.1.acts c (subst (StandsCollecting n c) (sym s.own.me) s) ordered)))
-  acting (Replays n) new g h s are = becomes p (Replayed g.0) new bytes life c g.1.0 (moves-none p (Replayed g.0) bytes life c (g.1.1.1 c p s) are low)
+  acting (Replays n) new g h s are = becomes p (Replayed g.0) new bytes life c g.1.0 (moves-none p (Replayed g.0) bytes life c (g.1.1.1.0 c p s) are low)
   acting (Replayed n) new g h s are =
       let P : ℕ → Type 0 = λ q. GoesTo q (λ d. StandsRestoring g.0 d q) c in
       becomes p (Restores g.0) new bytes life c g.1.0 (own (Restores g.0) are.0 (λ k d z. z) are.1 (subst P s.own.me (g.1.1.1 c (subst (StandsReplayed n c) (sym s.own.me) s))))
