@@ -159,9 +159,9 @@ module _ (f : Answering) (states : ℕ → List ℕ) (n : ℕ) (s : System) (act
       let out : AreSound s.lives back (x ∷ new.out) = subst P m.1.0 h.out in
       with-given n s.processes s.lives s.given new.out x out.0 (with-out n s.processes s.lives s.given s.gateway.out new.out out.1 h)
   call-alone (HandedOut x new) m a =
-      let k : gateways.Keeps s.lives back s.gateway new = subst (gateways.Keeps s.lives back s.gateway) (sym m.1.0) (gateways.hands s.lives back x s.gateway h.outside (sound-given x m.0)) in
-      with-out n s.processes s.lives s.given s.gateway.out new.out (k.out h.out) h
-  call-alone (DidOut new) m a = let k = gateways.deals s.lives back s.gateway new m.0 in with-out n s.processes s.lives s.given s.gateway.out new.out (k.out h.out) h
+      let P : TheGateway → Type 0 = λ z. AreSound s.lives back z.out in
+      with-out n s.processes s.lives s.given s.gateway.out new.out (subst P (sym m.1.0) (gateways.hands s.lives back x s.gateway h.outside (sound-given x m.0) h.out)) h
+  call-alone (DidOut new) m a = with-out n s.processes s.lives s.given s.gateway.out new.out (gateways.deals s.lives back s.gateway new m.0 h.out) h
   call-alone (RevivedOut new) m a =
       let P : TheGateway → Type 0 = λ z. AreSound s.lives back z.out in
       let out : AreSound s.lives back new.out = subst P (sym m.0) tt in

@@ -23,8 +23,9 @@ use Rattle.node.proofs.Numbers.{InOrderFrom-push}
 use Rattle.recovery.proofs.Lists.{each-append}
 use Rattle.node_laws.specs.HostSystem.{System, HostCall, GaveOut, HandedOut, DidOut, StoredOut, StoredBut, RevivedOut, DoesIt, after_call, handed_out, untaken}
 use Rattle.node_laws.specs.HostLaws.{shown_by, LivesOn}
-use Rattle.node_laws.proofs.HeldGateway.{OfGateway, Steady, output, hands, puts, ticks, tells}
-use Rattle.node_laws.proofs.Untaken.{IsQuietDeal, DealsSo, deals-so, deals-alike, handed-alike, handing-so}
+use Rattle.node_laws.proofs.HeldGateway.{IsOwn, OfGateway, own-plain, own-hands, IsQuietDeal, DealsSo, deals-so, Steady, output}
+use Rattle.node_laws.proofs.HeldGateway as held
+use Rattle.node_laws.proofs.Untaken.{deals-alike, handed-alike, handing-so}
 
 -- ---- the store
 
@@ -195,7 +196,7 @@ module _ (c d : ℕ → ℕ) (s : System) (a : UpTo c d s) where
 
   -- a packet comes
   hears : (e : ℕ → ℕ) (x : NodePacket) (g : TheGateway) → OfGateway (InTurn e) g → OfGateway (InTurn e) (outside.handed x g)
-  hears e x g o = hands (InTurn e) (steady e) x g (λ to of i ssn y is next t. shown-turn e (output x.from ssn y) g.store of (numbered ssn y next) t) o
+  hears e x g o = own-hands (InTurn e) (steady e) x g (λ to of i ssn y is next t. shown-turn e (output x.from ssn y) g.store of (numbered ssn y next) t) o
     where
       numbered : (ssn : ℕ) (y : List ℕ) → is_next (output x.from ssn y) g ≡ true → ssn ≡ suc (peer_at x.from g.store).shown
       numbered ssn y next = let h : (ssn == (peer_at x.from g.store).shown + 1) ≡ true = next in grind (arith, nat_tests)
@@ -207,10 +208,7 @@ module _ (c d : ℕ → ℕ) (s : System) (a : UpTo c d s) where
 
   -- its host lets it do something
   quiet : (e : ℕ → ℕ) (g new : TheGateway) → (new ≡ g) ⊎ IsQuietDeal g new → OfGateway (InTurn e) g → OfGateway (InTurn e) new
-  quiet e g new (inl same) o = subst (OfGateway (InTurn e)) (sym same) o
-  quiet e g new (inr (inl put)) o = puts (InTurn e) (steady e) g new put o
-  quiet e g new (inr (inr (inl is))) o = ticks (InTurn e) (steady e) g new is o
-  quiet e g new (inr (inr (inr is))) o = tells (InTurn e) (steady e) g new is o
+  quiet e g new q o = held.quiet IsOwn own-plain (InTurn e) (steady e) g new q o
 
   quiet-alike : (new : TheGateway) → (new ≡ s.gateway) ⊎ IsQuietDeal s.gateway new → (untaken s.taken new ≡ untaken s.taken s.gateway) ⊎ IsQuietDeal (untaken s.taken s.gateway) (untaken s.taken new)
   quiet-alike new (inl same) = inl (ap (untaken s.taken) same)
