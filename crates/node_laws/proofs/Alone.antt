@@ -1,5 +1,5 @@
 -- Where failures come one at a time each process stays exact
-use Rattle.std.proofs.Common.{◌≡◌, ℕ, ◌<◌, List, [], ◌∷◌, ◌++◌, Bool, true, false, refl, sym, ap, ◌∙◌, subst, arith}
+use Rattle.std.proofs.Common.{◌≡◌, ℕ, ◌<◌, List, [], ◌∷◌, ◌++◌, true, false, refl, sym, ap, ◌∙◌, subst, arith}
 use Rattle.std.specs.Prelude.{not, ◌&&◌, ◌==◌, nat_le, slice_index_or}
 use Rattle.std.proofs.lemmas.Bool.Decides.{nat_tests}
 use Rattle.theorems.proofs.Tests.{both}
@@ -33,17 +33,13 @@ use Rattle.node_laws.proofs.HostStep.{IsPart}
 use Rattle.node_laws.proofs.Lives.{WasPut}
 use Rattle.node_laws.proofs.Back.{Reached, GoesOn, none-on, joined, one-on}
 use Rattle.node_laws.proofs.Sound.{IsSound, AreSound, raised-here}
-use Rattle.node_laws.proofs.OwnSound.{IsAlone, of-other}
+use Rattle.node_laws.proofs.OwnSound.{IsAlone, off, of-other}
 use Rattle.node_laws.proofs.CollectingSound as collecting
 use Rattle.node_laws.proofs.GatewaySound as gateways
 use Rattle.node_laws.proofs.Lone.{Returns, IsOf, stands-of, Good, Goes, Back, Lone, IsLone, is-alone, process-goes, process-dies, only-comes, process-comes}
 use Rattle.node_laws.proofs.LoneCalls.{Fits, giving, hearing, working, acting, storing, telling, waking}
 
 -- ---- no page tells of more than was sent
-
-closed : (b : Bool) → not b ≡ true → b ≡ false
-closed true e = absurd (let z : false ≡ true = e in cc (z))
-closed false e = refl
 
 module _ (f : Answering) (states : ℕ → List ℕ) (n : ℕ) (s : System) (acts : List Act) (r : Reached (handlers_of f states) n s acts) where
   abbrev g : Handlers
@@ -70,7 +66,7 @@ module _ (f : Answering) (states : ℕ → List ℕ) (n : ℕ) (s : System) (act
       let R : ℕ → Type 0 = λ z. P (Restored z j k a flags pairs) in
       let said : R m.own.life = subst R now (subst P e (subst Q q.0 (was (ap is_loss e)).said)) in
       let S : ℕ → Type 0 = λ z. in_range (Restored z j k a flags pairs) ≡ true in
-      let fit = pages-fit n g acts m x.from j k a flags pairs h.few (grows f states) r.run here q.1.0 (closed (has_answered x.from m) v.1) (subst S now range) said in
+      let fit = pages-fit n g acts m x.from j k a flags pairs h.few (grows f states) r.run here q.1.0 (off (has_answered x.from m) v.1) (subst S now range) said in
       let one : nat_le k (sent_to x.from m.own) ≡ true = (let l = fit.0 in grind (arith, nat_tests)) in
       let two : nat_le (last_ssn 0 pairs) (sent_to x.from m.own) ≡ true = (let l = fit.1 in grind (arith, nat_tests)) in
       rw (reply, one, two) refl

@@ -11,7 +11,6 @@ use Rattle.node.specs.declared.job.OpenJob.{OpenJob}
 use Rattle.theorems.proofs.Tests.{both}
 use Rattle.node.specs.Node.{TheNode}
 use Rattle.node.specs.Calls.{handed}
-use Rattle.node.specs.Transmission.{ticked}
 use Rattle.node.specs.Checkpoints.{froze, may_freeze}
 use Rattle.node.specs.Stands.{job_of}
 use Rattle.node.specs.Runs.{Answer}
@@ -30,6 +29,7 @@ use Rattle.node_laws.specs.Inside.Process as lives
 use Rattle.node_laws.specs.HostProcess.{Checkpoint, Absent, Pending, Durable}
 use Rattle.node_laws.specs.HostReplies.{who_of, answer_of, answering}
 use Rattle.node_laws.proofs.Chains.{Chain, ticked-exact, froze-exact, asked-exact, restores-exact}
+use Rattle.node_laws.proofs.Losses.{handed-rests, ticked-rests, froze-rests}
 use Rattle.node_laws.proofs.Stages.{unsettled, Fits, GoesOn, on}
 
 -- a call that is one in all lives, of the process as it is seen
@@ -46,9 +46,6 @@ handed-absent x (Replayed n) (Replayed m) s g = (refl, (tt, (m, (refl, g))))
 handed-absent x (Restoring n) (Restoring m) s g = (refl, (tt, (m, (refl, g))))
 handed-absent x Passing d s g = unsettled s
 handed-absent x other d s g = absurd g
-
-handed-rests : (x : NodePacket) (n : TheNode) → n.frozen ≡ true → handed x n ≡ n
-handed-rests x n e = rw e refl
 
 handed-frozen : (x : NodePacket) (n m : TheNode) → n.frozen ≡ true → m ≡ handed x n → m ≡ n
 handed-frozen x n m f e = e ∙ handed-rests x n f
@@ -82,9 +79,6 @@ taken-is x Durable (Up n) other s f g = absurd g
 taken-is x w c d s f g = absurd f
 
 -- ---- what isn't answered is sent again
-
-ticked-rests : (n : TheNode) → n.frozen ≡ true → ticked n ≡ n
-ticked-rests n e = rw e refl
 
 pub ticks-is : (w : Checkpoint) (c d : Lifecycle) → is_settled c ≡ true → Fits w c → Ticks c d → GoesOn w c d
 ticks-is Absent (Up n) (Up m) s f g = (refl, (tt, (lives.Up m ∷ [], ((m, (refl, (inl g.0, g.1))), (ap (λ (z : TheNode). z.exact) g.0 ∙ ticked-exact n, refl)))))
@@ -184,9 +178,6 @@ froze-is bytes Durable (Up n) d f may keeps g = not-frozen n.frozen (is_none n.w
 froze-is bytes w c d f may keeps g = absurd f
 
 -- it waits, and its host has no bytes of it
-froze-rests : (n : TheNode) → n.frozen ≡ true → froze n ≡ n
-froze-rests n e = rw e refl
-
 pauses-as : (b : Bool) (n m : TheNode) → FreezesAs b n m → GoesOn Absent (Up n) (Up m)
 pauses-as true n m g = (refl, (tt, (lives.Up m ∷ [], ((m, (refl, (inr g.0, g.1))), (ap (λ (z : TheNode). z.exact) g.0 ∙ froze-exact n, refl)))))
 pauses-as false n m g = on Absent (Up n) (Up m) refl tt (ap Up g)

@@ -1,6 +1,6 @@
 -- What a process holds in each stage, and what its calls make of that
-use Rattle.std.proofs.Common.{◌≡◌, ◌≢◌, inl, inr, ℕ, zero, suc, ◌+◌, ◌≤◌, List, [], ◌∷◌, ◌++◌, length, map, take, Bool, true, refl, sym, ap, ◌∙◌, subst, arith, append_assoc, append-nil}
-use Rattle.std.specs.Prelude.{◌⊎◌, Option, Some, None, nat_le, ◌==◌}
+use Rattle.std.proofs.Common.{◌≡◌, ◌≢◌, inl, inr, ℕ, suc, ◌+◌, ◌≤◌, List, [], ◌∷◌, ◌++◌, length, map, take, Bool, true, refl, sym, ap, ◌∙◌, subst, arith, append_assoc, append-nil}
+use Rattle.std.specs.Prelude.{◌⊎◌, Option, Some, None, nat_le}
 use Rattle.std.proofs.lemmas.Bool.Decides.{nat_tests}
 use Rattle.std.proofs.lemmas.List.{length-append, length-map, take_all}
 use Rattle.theorems.specs.Growth.{Begins, Grows}
@@ -15,7 +15,7 @@ use Rattle.packets.proofs.KeptLemmas.{one_kept}
 use Rattle.node.specs.declared.limit.Limits.{Limits}
 use Rattle.node.specs.declared.job.OpenJob.{OpenJob}
 use Rattle.node.specs.Node.{TheNode}
-use Rattle.node.specs.Calls.{handed, did_work}
+use Rattle.node.specs.Calls.{did_work}
 use Rattle.node.specs.Transmission.{ticked}
 use Rattle.node.specs.Checkpoints.{froze}
 use Rattle.node.specs.Suspension.{woken}
@@ -23,10 +23,9 @@ use Rattle.node.specs.Kept.{kept_of, with_own}
 use Rattle.node.specs.Stands.{Each, job_of, payloads_to}
 use Rattle.node.specs.Runs.{Answer, Answering, handlers_of, state_from, sends_from}
 use Rattle.node.proofs.Runs.{grows, state-more, sends-more}
-use Rattle.gateway.proofs.Steps.{by-if}
 use Rattle.recovery.specs.Own.{TheOwn}
 use Rattle.recovery.specs.Overlap as meeting
-use Rattle.recovery.specs.Collection.{TheCollecting, begins, revived, asks, asks_below}
+use Rattle.recovery.specs.Collection.{TheCollecting, begins, revived}
 use Rattle.recovery.specs.Replays.{TheReplaying, next_job, next_number, did_replay, is_over, receipts_of}
 use Rattle.recovery.specs.StandsAtReplay.{replayed_of}
 use Rattle.recovery.specs.Restoration.{TheRestoring}
@@ -34,19 +33,12 @@ use Rattle.node_laws.specs.Inside.Process.{Process, Up, Covered, Collects, Repla
 use Rattle.node_laws.specs.Durable.{IsAfter}
 use Rattle.recovery.specs.Plan.{IsCovered, Plans, told_under}
 use Rattle.node_laws.proofs.Taken.{IsFair, IsSent, IsIn, HasTaken, sender_of, taken-plan, told-good, taken-more}
+use Rattle.node_laws.proofs.Chains.{revived-limits}
+use Rattle.node_laws.proofs.Losses.{handed-rests, ticked-rests, froze-rests}
 use Rattle.node_laws.proofs.HeldNode as nodes
 use Rattle.node_laws.proofs.HeldState.{IsGiven, OfNode, given-still, node-more}
 use Rattle.node_laws.proofs.HeldOwn as owns
 use Rattle.node_laws.proofs.HeldOwn.{OfOwn, OnCollecting, OnRestoring, planning, own-more, told-later, none-were-told}
-
-handed-rests : (x : NodePacket) (n : TheNode) → n.frozen ≡ true → handed x n ≡ n
-handed-rests x n e = rw e refl
-
-ticked-rests : (n : TheNode) → n.frozen ≡ true → ticked n ≡ n
-ticked-rests n e = rw e refl
-
-froze-rests : (n : TheNode) → n.frozen ≡ true → froze n ≡ n
-froze-rests n e = rw e refl
 
 -- these bytes are what it has after these messages, which it received so
 abbrev pub IsStored : ℕ → Handlers → ℕ → (ℕ → Bool) → (ℕ → List Payload) → List Message → List ℕ → Type 0
@@ -234,15 +226,6 @@ module _ (f : Answering) (states : ℕ → List ℕ) (top p : ℕ) (durable tell
   waking h limits (Up n) new g lasting s = subst (IsFor h) (sym (g.1.1.0 ∙ ap Up g.1.1.1)) (s.0, woken-on h s.0 limits n lasting s.1)
   waking h limits other new g lasting s = absurd g
 
--- the limits of one that comes back are those that it was given
-limits-below : (me d : ℕ) (n : TheCollecting) → (asks_below me d n).own.limits ≡ n.own.limits
-limits-below me zero n = refl
-limits-below me (suc d) n =
-    let m : TheCollecting = asks_below me d n in
-    let here : m.own.limits ≡ n.own.limits = limits-below me d n in
-    let P : TheCollecting → Type 0 = λ z. z.own.limits ≡ n.own.limits in
-    by-if P (d == me) m (asks d m) (λ e. here) (λ e. by-if P _ m _ (λ g. here) (λ g. here))
-
 module _ (f : Answering) (states : ℕ → List ℕ) (top p : ℕ) (durable tells : Bool) (D : ℕ → Bool) (In : ℕ → List Payload) (low : p ≤ top) where
   -- it comes back
   pub reviving : (h : List Message) (bytes : List ℕ) (life : ℕ) (n : TheCollecting) → ComesFrom bytes life n → (durable ≡ true → n.own.limits.durable ≡ true) → IsStored top (handlers_of f states) p D In h bytes
@@ -253,7 +236,7 @@ module _ (f : Answering) (states : ℕ → List ℕ) (top p : ℕ) (durable tell
       let is : n ≡ revived limits from.0 life = from.1.1.0.1 in
       let one : are.0 ≡ from.0 = one_kept are.0 from.0 bytes are.1.0 from.1.0 in
       let begun : TheCollecting = begins limits from.0 life in
-      let same : n.own.limits ≡ limits = ap (λ (z : TheCollecting). z.own.limits) is ∙ limits-below begun.own.me (begun.own.count + 1) begun in
+      let same : n.own.limits ≡ limits = ap (λ (z : TheCollecting). z.own.limits) is ∙ revived-limits limits from.0 life in
       let both_are = subst (λ (z : Kept). IsAfter top f2 p h z × HasTaken D In top p h h (with_own 0 z.me z.counts) []) one are.1.1 in
       let own = owns.coming top f2 p durable tells D In h limits from.0 life bytes from.1.0 both_are.0 both_are.1 (λ t. sym (ap (λ (z : Limits). z.durable) same) ∙ lasting t) in
       let none = λ (q : ℕ). none-were-told (from.0.count + 1) q from.0.length in

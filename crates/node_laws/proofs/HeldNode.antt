@@ -34,7 +34,8 @@ use Rattle.recovery.proofs.Preservation.{each-take, each-drop}
 use Rattle.node_laws.specs.Durable.{IsRest, IsAfter}
 use Rattle.node_laws.proofs.Held.{Holds, payload-sent, held-recorded, held-forgotten, held-released, held-dropped, given-held, held-covered}
 use Rattle.node_laws.proofs.Taken.{IsSent, IsLow, IsFair, HasTaken, page-sent, pairs-low, taken-many, taken-next, taken-covered}
-use Rattle.node_laws.proofs.HeldState.{grown, IsGiven, given-still, IsJob, relogs, OfNode, at-next, off, none-is}
+use Rattle.node_laws.proofs.OwnSound.{off}
+use Rattle.node_laws.proofs.HeldState.{grown, IsGiven, given-still, IsJob, relogs, OfNode, at-next, none-is}
 
 by-number : (q : TheQueue) (sent : List Payload) {tells : Bool} → (tells ≡ true → (i : ℕ) → length sent ≤ q.dropped + i → slice_index_or q.numbers i None ≡ None) → (i m : ℕ) → slice_index_or q.numbers i None ≡ Some m → tells ≡ true → (b : Bool)
     → nat_le (length sent) (q.dropped + i) ≡ b → q.dropped + i < length sent

@@ -1,10 +1,8 @@
 -- What a process gives that comes back, and what it holds
 use Rattle.std.proofs.Common.{◌≡◌, ◌≢◌, ℕ, zero, suc, ◌+◌, ◌<◌, ◌≤◌, List, [], ◌∷◌, ◌++◌, length, map, take, drop, Bool, true, false, refl, sym, ap, ◌∙◌, subst, arith, append-nil}
-use Rattle.std.specs.Prelude.{Option, Some, None, not, ◌&&◌, ◌==◌, nat_lt, nat_le, slice_get, slice_index_or, slice_set, replicate, if◌then◌else◌}
-use Rattle.std.proofs.lemmas.Bool.Decides.{nat_tests}
+use Rattle.std.specs.Prelude.{Option, Some, None, ◌&&◌, ◌==◌, nat_lt, slice_get, slice_index_or, slice_set, replicate, if◌then◌else◌}
 use Rattle.std.proofs.lemmas.List.{length-set, length-map}
 use Rattle.theorems.specs.Growth.{Begins}
-use Rattle.theorems.proofs.Tests.{both}
 use Rattle.theorems.proofs.ListLemmas.{take-next, nth-prefix}
 use Rattle.world.specs.declared.message.Message.{Message}
 use Rattle.world.specs.History.{Payload}
@@ -44,7 +42,8 @@ use Rattle.recovery.specs.Restoration.{TheRestoring, replayed_of, above_of, has_
 use Rattle.recovery.specs.Restoration as restores
 use Rattle.node_laws.specs.Durable.{IsRest, IsAfter}
 use Rattle.node_laws.proofs.Held.{Holds, rest-many, held-forgotten, held-noted, held-dropped, held-again, given-held}
-use Rattle.node_laws.proofs.HeldState.{IsGiven, IsAt, Logs, OfNode, relogs, gave-more, at-next, off}
+use Rattle.node_laws.proofs.HeldState.{IsGiven, IsAt, Logs, OfNode, relogs, gave-more, at-next}
+use Rattle.node_laws.proofs.OwnSound.{of-other}
 use Rattle.node_laws.proofs.Taken.{IsSent, IsLow, IsFair, HasTaken, taken-more, set-holds}
 
 -- the process p of so many has what it has after the messages g, of which its checkpoint covers the first, h
@@ -165,12 +164,7 @@ module _ (top : ℕ) (f : Handlers) (p : ℕ) (durable tells : Bool) (D : ℕ �
 
   -- whom a packet is of, and to
   from-other : (x : NodePacket) (o : TheOwn) → On o → is_for o x ≡ true → (x.to ≡ p) × (x.from ≢ p)
-  from-other x o s e =
-      let a = both ((x.count == o.count) && (x.to == o.me) && nat_le x.from o.count) (not (x.from == o.me)) e in
-      let b = both ((x.count == o.count) && (x.to == o.me)) (nat_le x.from o.count) a.0 in
-      let here : x.to ≡ o.me = (let z : (x.to == o.me) ≡ true = (both (x.count == o.count) (x.to == o.me) b.0).1 in grind (arith, nat_tests)) in
-      let apart : x.from ≢ o.me = (let z : (x.from == o.me) ≡ false = off (x.from == o.me) a.1 in grind (arith, nat_tests)) in
-      (here ∙ s.me, λ z. apart (z ∙ sym s.me))
+  from-other x o s e = let t = of-other o x e in (t.0 ∙ s.me, λ z. t.1.1 (z ∙ sym s.me))
 
   abbrev pub Fair : NodePacket → Type 0
   Fair x = x.to ≡ p → IsFair (D x.from) (D x.from) (In x.from) tells (f.sends p h x.from) x.body

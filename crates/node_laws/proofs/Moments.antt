@@ -1,5 +1,5 @@
 -- The moment of recovery among the acts of one call
-use Rattle.std.proofs.Common.{◌≡◌, inl, inr, ℕ, zero, suc, ◌+◌, ◌-◌, ◌≤◌, List, [], ◌∷◌, ◌++◌, length, map, Bool, true, false, refl, sym, ap, ◌∙◌, subst, arith}
+use Rattle.std.proofs.Common.{◌≡◌, inl, inr, ℕ, ◌+◌, ◌-◌, ◌≤◌, List, [], ◌∷◌, ◌++◌, length, map, Bool, true, false, refl, sym, ap, ◌∙◌, subst, arith}
 use Rattle.std.specs.Prelude.{◌⊎◌}
 use Rattle.std.proofs.lemmas.Bool.Decides.{nat_tests}
 use Rattle.std.proofs.lemmas.List.{length-map}
@@ -7,14 +7,12 @@ use Rattle.node.specs.declared.job.OpenJob.{OpenJob}
 use Rattle.node.specs.Node.{TheNode}
 use Rattle.node.specs.Transmission.{ticked}
 use Rattle.node.specs.Checkpoints.{froze, may_freeze}
-use Rattle.packets.specs.declared.packet.Body.TheVariants.{Resume}
 use Rattle.gateway.proofs.Steps.{by-if}
-use Rattle.recovery.specs.Own.{posts}
-use Rattle.recovery.specs.Intake.{keeps as keeps_of}
+use Rattle.recovery.proofs.RestorationInquiries.{only-below}
 use Rattle.recovery.specs.Collection.{TheCollecting}
 use Rattle.recovery.specs.Replays.{TheReplaying, is_over}
 use Rattle.recovery.specs.Replayed.{TheReplayed}
-use Rattle.recovery.specs.Restoration.{TheRestoring, has_answered}
+use Rattle.recovery.specs.Restoration.{TheRestoring}
 use Rattle.recovery.specs.Restoration as restores
 use Rattle.node_laws.specs.HostProcess.{Checkpoint, Durable}
 use Rattle.node_laws.specs.Inside.Process.{Process, Up, Covered, Collects, Replays, Replayed, Restores, Killed, covered, Acts, stage_of, seen}
@@ -80,16 +78,8 @@ froze-keeps n = by-if (λ (m : TheNode). length_of m ≡ length_of n) (may_freez
 abbrev long : TheRestoring → ℕ
 long n = n.own.base + length n.receipts.senders
 
-asks-keeps : (to : ℕ) (n : TheRestoring) → long (restores.asks to n) ≡ long n
-asks-keeps to n =
-    by-if (λ (z : TheRestoring). long z ≡ long n) (has_answered to n) n (record n { own = posts to (Resume n.own.life (keeps_of (restores.replayed_of n)) (restores.above_of to n)) n.own }) (λ e. refl) (λ e. refl)
-
-below-keeps : (d : ℕ) (n : TheRestoring) → long (restores.asks_below d n) ≡ long n
-below-keeps zero n = refl
-below-keeps (suc d) n = asks-keeps d (restores.asks_below d n) ∙ below-keeps d n
-
 asked-keeps : (n : TheRestoring) → long (restores.asked n) ≡ long n
-asked-keeps n = below-keeps (n.own.count + 1) n
+asked-keeps n = ap long (only-below n (n.own.count + 1))
 
 -- it is up, or has replayed all
 abbrev is_later : Process → Bool

@@ -1,8 +1,8 @@
 -- Outputs in order, whatever fails and meets
 use Rattle.std.proofs.Common.{◌≡◌, inl, inr, ℕ, zero, suc, ◌-◌, ◌<◌, ◌≤◌, List, [], ◌∷◌, ◌++◌, map, Bool, true, false, refl, sym, ap, ◌∙◌, subst, arith, append_assoc, append-nil}
-use Rattle.std.specs.Prelude.{◌⊎◌, Some, slice_index_or, replicate, nat_le, ◌==◌, if◌then◌else◌}
+use Rattle.std.specs.Prelude.{◌⊎◌, Some, slice_index_or, replicate, nat_le, if◌then◌else◌}
 use Rattle.std.proofs.lemmas.Bool.Decides.{nat_tests}
-use Rattle.theorems.proofs.Changes.{at-itself}
+use Rattle.theorems.proofs.Changes.{at-itself, choose}
 use Rattle.world.specs.declared.message.Message.{Message}
 use Rattle.world.specs.History.{nth}
 use Rattle.world.specs.Handlers.{Handlers}
@@ -43,25 +43,15 @@ within-more : (least : ℕ → ℕ) (before xs : List Output) (c : ℕ → ℕ) 
 within-more least before xs c w p = ((w p).0, all-out-more p (c p) before xs (w p).1)
 
 within-past : (least : ℕ → ℕ) (before : List Output) (o : Output) (c : ℕ → ℕ) → o.ssn ≡ suc (c o.process) → Within least before c → Within least (before ++ o ∷ []) (past c o.process)
-within-past least before o c n w p = split (p == o.process) refl
+within-past least before o c n w =
+    choose o.process (λ j b. (least j ≤ (if b then suc (c o.process) else c j)) × AllOut j (if b then suc (c o.process) else c j) (before ++ o ∷ []))
+    (let low : least o.process ≤ c o.process = (w o.process).0 in omega (arith, low), λ ssn some low. by ssn some low (nat_le ssn (c o.process)) refl) (λ j u. ((w j).0, all-out-more j (c j) before (o ∷ []) (w j).1))
   where
-    split : (b : Bool) → (p == o.process) ≡ b → (least p ≤ (if b then suc (c o.process) else c p)) × AllOut p (if b then suc (c o.process) else c p) (before ++ o ∷ [])
-    split true e =
-        let same : o.process ≡ p = grind (arith, nat_tests) in
-        let at : c p ≡ c o.process = ap c (sym same) in
-        let low : least p ≤ c p = (w p).0 in
-        (omega (arith, at, low), last same at)
-      where
-        last : o.process ≡ p → c p ≡ c o.process → AllOut p (suc (c o.process)) (before ++ o ∷ [])
-        last same at ssn some low = by (nat_le ssn (c p)) refl
-          where
-            by : (b : Bool) → nat_le ssn (c p) ≡ b → IsOut p ssn (before ++ o ∷ [])
-            by true f = let under : ssn ≤ c p = grind (arith, nat_tests) in out-more p ssn before (o ∷ []) ((w p).1 ssn some under)
-            by false f =
-                let over : c p < ssn = grind (arith, nat_tests) in
-                let is : o.ssn ≡ ssn = omega (arith, over, n, low, at) in
-                out-last p ssn before o same is
-    split false e = ((w p).0, all-out-more p (c p) before (o ∷ []) (w p).1)
+    by : (ssn : ℕ) → 0 < ssn → ssn ≤ suc (c o.process) → (b : Bool) → nat_le ssn (c o.process) ≡ b → IsOut o.process ssn (before ++ o ∷ [])
+    by ssn some low true f = let under : ssn ≤ c o.process = grind (arith, nat_tests) in out-more o.process ssn before (o ∷ []) ((w o.process).1 ssn some under)
+    by ssn some low false f =
+        let over : c o.process < ssn = grind (arith, nat_tests) in
+        out-last o.process ssn before o refl (omega (arith, over, n, low))
 
 -- behind these each is past the least, and leaves none out
 abbrev pub Behind : (ℕ → ℕ) → List Output → List Output → Type 0

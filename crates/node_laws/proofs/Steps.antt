@@ -41,18 +41,9 @@ use Rattle.recovery.specs.RestorationStands.{StandsRestoring}
 use Rattle.node_laws.specs.Inside.Process.{Process, Up, Covered, Collects, Replays, Replayed, Restores, Killed, StandsAs, is_exact, Gives, Hears, Works, Acts, WaitsFor, covered, IsTold, Wakes, IsKilled, ComesFrom, IsAnswerAgain}
 use Rattle.node_laws.specs.Inside.System.{AreStoredOf}
 use Rattle.node_laws.proofs.Moves.{Moves, IsPlain, moves-own, moves-none}
-use Rattle.node_laws.proofs.Losses.{loss-is-dropped}
+use Rattle.node_laws.proofs.Losses.{loss-is-dropped, handed-rests, ticked-rests, froze-rests}
 
 -- ---- a node that waits for its checkpoint is as it was
-
-handed-rests : (x : NodePacket) (n : TheNode) → n.frozen ≡ true → handed x n ≡ n
-handed-rests x n e = rw e refl
-
-ticked-rests : (n : TheNode) → n.frozen ≡ true → ticked n ≡ n
-ticked-rests n e = rw e refl
-
-froze-rests : (n : TheNode) → n.frozen ≡ true → froze n ≡ n
-froze-rests n e = rw e refl
 
 -- it works on nothing
 idle : (o : Option OpenJob) → phase_of o ≡ phases.Up → o ≡ None

@@ -3,7 +3,7 @@ use Rattle.std.proofs.Common.{◌≡◌, ◌≢◌, inl, inr, ℕ, zero, suc, �
 use Rattle.std.specs.Prelude.{◌⊎◌, slice_index_or, slice_set, ◌==◌, if◌then◌else◌}
 use Rattle.std.proofs.lemmas.Bool.Decides.{nat_tests}
 use Rattle.std.proofs.lemmas.List.{map-append, take-append-drop}
-use Rattle.theorems.proofs.Changes.{at-itself}
+use Rattle.theorems.proofs.Changes.{at-itself, choose}
 use Rattle.world.specs.History.{count_of}
 use Rattle.world.specs.World.{put}
 use Rattle.packets.specs.declared.packet.NodePacket.{NodePacket}
@@ -89,19 +89,9 @@ shown-turn c o s of next t =
 
 -- one that was waiting is past
 past-one : (c : ℕ → ℕ) (x q k : ℕ) → c q + (tally (x == q) + k) ≡ past c x q + k
-past-one c x q k = split (q == x) refl
-  where
-    split : (b : Bool) → (q == x) ≡ b → c q + (tally (x == q) + k) ≡ (if b then suc (c x) else c q) + k
-    split true e =
-        let same : q ≡ x = grind (arith, nat_tests) in
-        let on : (x == q) ≡ true = grind (arith, nat_tests) in
-        let one : tally (x == q) ≡ 1 = ap tally on in
-        let at : c q ≡ c x = ap c same in
-        omega (arith, one, at)
-    split false e =
-        let off : (x == q) ≡ false = grind (arith, nat_tests) in
-        let none : tally (x == q) ≡ 0 = ap tally off in
-        omega (arith, none)
+past-one c x q k =
+    choose x (λ j b. c j + (tally (x == j) + k) ≡ (if b then suc (c x) else c j) + k) (let one : tally (x == x) ≡ 1 = at-itself x (λ b. tally b ≡ 1) refl in omega (arith, one))
+    (λ j o. let off : (x == j) ≡ false = grind (arith, nat_tests) in let none : tally (x == j) ≡ 0 = ap tally off in omega (arith, none)) q
 
 -- the first that waits is taken
 taken-turn : (c : ℕ → ℕ) (o : Output) (os : List Output) (s : TheStore) → s.outputs ≡ o ∷ os → InTurn c s → (o.ssn ≡ suc (c o.process)) × InTurn (past c o.process) (applied (changes.Taken 1) s)
@@ -130,11 +120,7 @@ passed-rest : (c : ℕ → ℕ) (k : ℕ) (outputs : List Output) → passed (pa
 passed-rest c k outputs = sym (passed-append c (take k outputs) (drop k outputs)) ∙ ap (passed c) (take-append-drop k outputs)
 
 pub past-grows : (c : ℕ → ℕ) (x p : ℕ) → c p ≤ past c x p
-past-grows c x p = split (p == x) refl
-  where
-    split : (b : Bool) → (p == x) ≡ b → c p ≤ (if b then suc (c x) else c p)
-    split true e = let at : c p ≡ c x = ap c (let same : p ≡ x = grind (arith, nat_tests) in same) in omega (arith, at)
-    split false e = omega arith
+past-grows c x p = choose x (λ j b. c j ≤ (if b then suc (c x) else c j)) (omega arith) (λ j o. omega arith) p
 
 pub passed-grows : (c : ℕ → ℕ) (os : List Output) (p : ℕ) → c p ≤ passed c os p
 passed-grows c [] p = omega arith
@@ -145,11 +131,7 @@ passed-grows c (o ∷ os) p =
 
 -- as they are alike, so are these
 past-alike : (c d : ℕ → ℕ) (x p : ℕ) → ((q : ℕ) → c q ≡ d q) → past c x p ≡ past d x p
-past-alike c d x p e = split (p == x)
-  where
-    split : (b : Bool) → (if b then suc (c x) else c p) ≡ (if b then suc (d x) else d p)
-    split true = ap suc (e x)
-    split false = e p
+past-alike c d x p e = choose x (λ j b. (if b then suc (c x) else c j) ≡ (if b then suc (d x) else d j)) (ap suc (e x)) (λ j o. e j) p
 
 -- the first that wait are taken
 taken-all : (c : ℕ → ℕ) (xs : List Output) (s : TheStore) (rest : List Output) → InTurn c (record s { outputs = xs ++ rest }) → InTurn (passed c xs) (record s { outputs = rest })
