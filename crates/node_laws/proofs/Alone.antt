@@ -33,7 +33,9 @@ use Rattle.node_laws.proofs.HostStep.{IsPart}
 use Rattle.node_laws.proofs.Lives.{WasPut}
 use Rattle.node_laws.proofs.Back.{Reached, GoesOn, none-on, joined, one-on}
 use Rattle.node_laws.proofs.Sound.{IsSound, AreSound, raised-here}
-use Rattle.node_laws.proofs.OwnSound.{IsAlone, off, of-other}
+use Rattle.recovery.proofs.Posts.{for-own}
+use Rattle.process.proofs.Bounds.{not-true}
+use Rattle.node_laws.proofs.OwnSound.{IsAlone}
 use Rattle.node_laws.proofs.CollectingSound as collecting
 use Rattle.node_laws.proofs.GatewaySound as gateways
 use Rattle.node_laws.proofs.Lone.{Returns, IsOf, stands-of, Good, Goes, Back, Lone, IsLone, is-alone, process-goes, process-dies, only-comes, process-comes}
@@ -54,7 +56,7 @@ module _ (f : Answering) (states : ℕ → List ℕ) (n : ℕ) (s : System) (act
 
   page-fits : (x : NodePacket) (m : TheRestoring) (p : ℕ) → WasPut c x → StandsRestoring m c p → Fits x (Restores m)
   page-fits x m p was st mine i j k a flags pairs e range reply =
-      let q = of-other m.own x mine in
+      let q = for-own m.own x mine in
       let u = both ((i == m.own.life) && nat_le (slice_index_or m.own.heard x.from 0) j && not (has_answered x.from m)) (a == above_of x.from m) reply in
       let v = both ((i == m.own.life) && nat_le (slice_index_or m.own.heard x.from 0) j) (not (has_answered x.from m)) u.0 in
       let w = both (i == m.own.life) (nat_le (slice_index_or m.own.heard x.from 0) j) v.0 in
@@ -66,7 +68,7 @@ module _ (f : Answering) (states : ℕ → List ℕ) (n : ℕ) (s : System) (act
       let R : ℕ → Type 0 = λ z. P (Restored z j k a flags pairs) in
       let said : R m.own.life = subst R now (subst P e (subst Q q.0 (was (ap is_loss e)).said)) in
       let S : ℕ → Type 0 = λ z. in_range (Restored z j k a flags pairs) ≡ true in
-      let fit = pages-fit n g acts m x.from j k a flags pairs h.few (grows f states) r.run here q.1.0 (off (has_answered x.from m) v.1) (subst S now range) said in
+      let fit = pages-fit n g acts m x.from j k a flags pairs h.few (grows f states) r.run here q.1.0 (not-true (has_answered x.from m) v.1) (subst S now range) said in
       let one : nat_le k (sent_to x.from m.own) ≡ true = (let l = fit.0 in grind (arith, nat_tests)) in
       let two : nat_le (last_ssn 0 pairs) (sent_to x.from m.own) ≡ true = (let l = fit.1 in grind (arith, nat_tests)) in
       rw (reply, one, two) refl

@@ -1,8 +1,7 @@
 -- What a process that collects says of lives, and hears of them
 use Rattle.node.specs.declared.limit.Limits.{Limits}
 use Rattle.std.proofs.Common.{◌≡◌, ◌≢◌, ℕ, zero, suc, ◌+◌, ◌<◌, ◌≤◌, List, [], ◌∷◌, length, true, false, refl, sym, ap, ◌∙◌, subst, arith}
-use Rattle.std.specs.Prelude.{not, ◌&&◌, ◌==◌, nat_lt, nat_le, slice_index_or, slice_set, replicate}
-use Rattle.std.proofs.lemmas.Bool.Decides.{nat_tests}
+use Rattle.std.specs.Prelude.{◌&&◌, ◌==◌, nat_lt, slice_index_or, slice_set, replicate}
 use Rattle.std.proofs.lemmas.List.{get_or-set_other, length-set, length-replicate}
 use Rattle.theorems.proofs.Tests.{both}
 use Rattle.packets.specs.declared.packet.Body as bodies
@@ -19,8 +18,10 @@ use Rattle.recovery.specs.Collected.{TheCollected, none_told, with_page}
 use Rattle.recovery.specs.Collection.{TheCollecting, told_of, asks, asks_below, asked, begins, answers, took_page, asks_anew, asked_by, heard, handed}
 use Rattle.recovery.specs.Plan.{has_all}
 use Rattle.recovery.proofs.Plans.{all-below}
+use Rattle.recovery.proofs.Reports.{is-answer}
+use Rattle.recovery.proofs.Posts.{for-own}
 use Rattle.node_laws.proofs.Sound.{Says, IsSound, set-at}
-use Rattle.node_laws.proofs.OwnSound.{Keeps, IsAlone, HasHeard, of-other, stays, onward, alone-still, posting, losing}
+use Rattle.node_laws.proofs.OwnSound.{Keeps, IsAlone, HasHeard, stays, onward, alone-still, posting, losing}
 
 -- of each other that has told all it heard of the life of now
 pub record Hears (lives : ℕ → ℕ) (top : ℕ) (n : TheCollecting) : Type 0 where
@@ -125,10 +126,7 @@ module _ (lives : ℕ → ℕ) (back : ℕ → Type 0) (top : ℕ) where
   says from to (packets.Told i j k flags entries) n a here low other s =
       by-if (On n) (in_range (packets.Told i j k flags entries) && answers from i j k n) (took_page from j flags entries n) n
       (λ e. let t = both (in_range (packets.Told i j k flags entries)) (answers from i j k n) e in
-      let u = both ((i == n.own.life) && nat_le (heard_of from n.own) j && not (told_of n.told from).done) (k == (told_of n.told from).cursor) t.1 in
-      let v = both ((i == n.own.life) && nat_le (heard_of from n.own) j) (not (told_of n.told from).done) u.0 in
-      let w = both (i == n.own.life) (nat_le (heard_of from n.own) j) v.0 in
-      let now : i ≡ n.own.life = (let z = w.0 in grind (arith, nat_tests)) in
+      let now : i ≡ n.own.life = (is-answer n from i j k t.1).life in
       let good = s.1 (subst back (sym here) a.here) (now ∙ a.life ∙ ap lives (sym here)) in
       page from j flags entries n a low good.0 good.1.0 good.1.1)
       (λ e. same n)
@@ -138,7 +136,7 @@ module _ (lives : ℕ → ℕ) (back : ℕ → Type 0) (top : ℕ) where
   pub hands : (x : NodePacket) (n : TheCollecting) → IsAlone lives back top n.own → IsSound lives back x → On n (handed x n)
   hands x n a s =
       by-if (On n) (is_for n.own x) (heard x.from x.body n) n
-      (λ e. let p = of-other n.own x e in
+      (λ e. let p = for-own n.own x e in
       says x.from x.to x.body n a p.0 (let l = p.1.0 in let c = a.count in omega (arith, l, c)) p.1.1 s)
       (λ e. same n)
 

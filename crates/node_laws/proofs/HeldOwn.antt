@@ -43,7 +43,7 @@ use Rattle.recovery.specs.Restoration as restores
 use Rattle.node_laws.specs.Durable.{IsRest, IsAfter}
 use Rattle.node_laws.proofs.Held.{Holds, rest-many, held-forgotten, held-noted, held-dropped, held-again, given-held}
 use Rattle.node_laws.proofs.HeldState.{IsGiven, IsAt, Logs, OfNode, relogs, gave-more, at-next}
-use Rattle.node_laws.proofs.OwnSound.{of-other}
+use Rattle.recovery.proofs.Posts.{for-own}
 use Rattle.node_laws.proofs.Taken.{IsSent, IsLow, IsFair, HasTaken, taken-more, set-holds}
 
 -- the process p of so many has what it has after the messages g, of which its checkpoint covers the first, h
@@ -164,7 +164,7 @@ module _ (top : ℕ) (f : Handlers) (p : ℕ) (durable tells : Bool) (D : ℕ �
 
   -- whom a packet is of, and to
   from-other : (x : NodePacket) (o : TheOwn) → On o → is_for o x ≡ true → (x.to ≡ p) × (x.from ≢ p)
-  from-other x o s e = let t = of-other o x e in (t.0 ∙ s.me, λ z. t.1.1 (z ∙ sym s.me))
+  from-other x o s e = let t = for-own o x e in (t.0 ∙ s.me, λ z. t.1.1 (z ∙ sym s.me))
 
   abbrev pub Fair : NodePacket → Type 0
   Fair x = x.to ≡ p → IsFair (D x.from) (D x.from) (In x.from) tells (f.sends p h x.from) x.body

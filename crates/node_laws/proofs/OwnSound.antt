@@ -1,6 +1,6 @@
 -- What a process that comes back says of lives
-use Rattle.std.proofs.Common.{◌≡◌, ◌≢◌, ℕ, ◌<◌, ◌≤◌, List, length, Bool, true, false, refl, sym, ap, ◌∙◌, subst, arith}
-use Rattle.std.specs.Prelude.{not, ◌&&◌, ◌==◌, nat_lt, nat_le, slice_index_or, slice_set, if◌then◌else◌}
+use Rattle.std.proofs.Common.{◌≡◌, ◌≢◌, ℕ, ◌<◌, ◌≤◌, List, length, true, refl, sym, ap, ◌∙◌, subst, arith}
+use Rattle.std.specs.Prelude.{◌&&◌, nat_lt, slice_index_or, slice_set, if◌then◌else◌}
 use Rattle.std.proofs.lemmas.Bool.Decides.{nat_tests}
 use Rattle.std.proofs.lemmas.List.{length-set}
 use Rattle.theorems.proofs.Tests.{both}
@@ -11,6 +11,7 @@ use Rattle.packets.specs.Packet.{in_range}
 use Rattle.node.proofs.Lists.{all-pushed}
 use Rattle.gateway.proofs.Steps.{by-if}
 use Rattle.recovery.specs.Own.{TheOwn, posts, packet_of, is_for}
+use Rattle.recovery.proofs.Posts.{for-own}
 use Rattle.recovery.specs.Overlap.{loss_of, tells_loss, heard_of, meets, asked_by, heard, handed}
 use Rattle.node_laws.proofs.Sound.{Says, IsSound, AreSound, set-at}
 
@@ -33,19 +34,6 @@ pub record IsAlone (lives : ℕ → ℕ) (back : ℕ → Type 0) (top : ℕ) (o 
 pub record HasHeard (lives : ℕ → ℕ) (top : ℕ) (o : TheOwn) : Type 0 where
   pub wide : top < length o.heard
   pub all : (q : ℕ) → q ≤ top → q ≢ o.me → lives q ≤ heard_of q o
-
-pub off : (b : Bool) → not b ≡ true → b ≡ false
-off true e = absurd (cc (e))
-off false e = refl
-
--- a packet for it is of another
-pub of-other : (o : TheOwn) (x : NodePacket) → is_for o x ≡ true → (x.to ≡ o.me) × ((x.from ≤ o.count) × (x.from ≢ o.me))
-of-other o x e =
-    let a = both ((x.count == o.count) && (x.to == o.me) && nat_le x.from o.count) (not (x.from == o.me)) e in
-    let b = both ((x.count == o.count) && (x.to == o.me)) (nat_le x.from o.count) a.0 in
-    let c = both (x.count == o.count) (x.to == o.me) b.0 in
-    let apart : (x.from == o.me) ≡ false = off (x.from == o.me) a.1 in
-    ((let u = c.1 in grind (arith, nat_tests)), ((let u = b.1 in grind (arith, nat_tests)), grind (arith, nat_tests)))
 
 -- it hears of the life of now of one
 pub hears-now : (lives : ℕ → ℕ) (top : ℕ) (o new : TheOwn) (q j : ℕ) → j ≡ lives q → q ≤ top → new.me ≡ o.me → new.heard ≡ slice_set o.heard q j → HasHeard lives top o → HasHeard lives top new
@@ -100,7 +88,7 @@ module _ (lives : ℕ → ℕ) (back : ℕ → Type 0) where
   hands top x o h known sound =
       by-if Q (is_for o x && in_range x.body) (heard x.from x.body o) o
       (λ e. let t = both (is_for o x) (in_range x.body) e in
-      let p = of-other o x t.0 in
+      let p = for-own o x t.0 in
       says x.from x.to x.body (let l = p.1.0 in let c = h.count in omega (arith, l, c)) p.1.1 sound)
       (λ e. (stays o, known))
     where
