@@ -53,9 +53,8 @@ handed-frozen x n m f e = e ∙ handed-rests x n f
 pub handed-is : (x : NodePacket) (w : Checkpoint) (c d : Lifecycle) → is_settled c ≡ true → Fits w c → IsHanded x c d → Is (Hears x) w c d
 handed-is x Absent c d s f g = handed-absent x c d s g
 handed-is x (Pending bytes) (Up n) (Up m) s f g = (refl, (subst (λ (z : TheNode). (z.frozen ≡ true) × AreOf bytes z) (sym (handed-frozen x n m f.0 g.0)) f, (m, (refl, g))))
-handed-is x (Pending bytes) (Up n) other s f g = absurd g
 handed-is x Durable (Up n) (Up m) s f g = (refl, (subst (λ (z : TheNode). z.frozen ≡ true) (sym (handed-frozen x n m f g.0)) f, (m, (refl, g.0))))
-handed-is x Durable (Up n) other s f g = absurd g
+handed-is x w (Up n) other s f g = absurd g
 handed-is x w c d s f g = absurd f
 
 -- ---- a packet is taken
@@ -73,9 +72,8 @@ taken-absent x other d s g = absurd g
 pub taken-is : (x : NodePacket) (w : Checkpoint) (c d : Lifecycle) → is_settled c ≡ true → Fits w c → Takes (Some x) c d → Is (Gives x) w c d
 taken-is x Absent c d s f g = taken-absent x c d s g
 taken-is x (Pending bytes) (Up n) (Up m) s f g = (refl, (subst (λ (z : TheNode). (z.frozen ≡ true) × AreOf bytes z) g.0 f, (m, (refl, g))))
-taken-is x (Pending bytes) (Up n) other s f g = absurd g
 taken-is x Durable (Up n) (Up m) s f g = (refl, (subst (λ (z : TheNode). z.frozen ≡ true) g.0 f, (m, (refl, g))))
-taken-is x Durable (Up n) other s f g = absurd g
+taken-is x w (Up n) other s f g = absurd g
 taken-is x w c d s f g = absurd f
 
 -- ---- what isn't answered is sent again
@@ -89,9 +87,8 @@ ticks-is Absent (Restoring n) (Restoring m) s f g = (refl, (tt, (lives.Restores 
 ticks-is Absent Passing d s f g = unsettled s
 ticks-is Absent c d s f g = absurd g
 ticks-is (Pending bytes) (Up n) (Up m) s f g = on (Pending bytes) (Up n) (Up m) s f (ap Up (g.0 ∙ ticked-rests n f.0))
-ticks-is (Pending bytes) (Up n) other s f g = absurd g
 ticks-is Durable (Up n) (Up m) s f g = on Durable (Up n) (Up m) s f (ap Up (g.0 ∙ ticked-rests n f))
-ticks-is Durable (Up n) other s f g = absurd g
+ticks-is w (Up n) other s f g = absurd g
 ticks-is w c d s f g = absurd f
 
 -- ---- its handler runs
@@ -188,13 +185,11 @@ rests-as false n m f g = g
 
 pub paused-is : (w : Checkpoint) (c d : Lifecycle) → is_settled c ≡ true → Fits w c → Freezes c d → GoesOn w c d
 paused-is Absent (Up n) (Up m) s f g = pauses-as (is_storable n) n m g
-paused-is Absent (Up n) other s f g = absurd g
+paused-is (Pending bytes) (Up n) (Up m) s f g = on (Pending bytes) (Up n) (Up m) s f (ap Up (rests-as (is_storable n) n m f.0 g))
+paused-is Durable (Up n) (Up m) s f g = on Durable (Up n) (Up m) s f (ap Up (rests-as (is_storable n) n m f g))
+paused-is w (Up n) other s f g = absurd g
 paused-is Absent Passing d s f g = unsettled s
 paused-is Absent c d s f g = on Absent c d s f g
-paused-is (Pending bytes) (Up n) (Up m) s f g = on (Pending bytes) (Up n) (Up m) s f (ap Up (rests-as (is_storable n) n m f.0 g))
-paused-is (Pending bytes) (Up n) other s f g = absurd g
-paused-is Durable (Up n) (Up m) s f g = on Durable (Up n) (Up m) s f (ap Up (rests-as (is_storable n) n m f g))
-paused-is Durable (Up n) other s f g = absurd g
 paused-is w c d s f g = absurd f
 
 -- what is pending is stored

@@ -20,7 +20,7 @@ use Rattle.recovery.specs.Plan.{has_all}
 use Rattle.recovery.proofs.Plans.{all-below}
 use Rattle.recovery.proofs.Reports.{is-answer}
 use Rattle.recovery.proofs.Posts.{for-own}
-use Rattle.node_laws.proofs.Sound.{Says, IsSound, set-at}
+use Rattle.node_laws.proofs.Sound.{Says, IsSound, set-at, same-at}
 use Rattle.node_laws.proofs.OwnSound.{Keeps, IsAlone, HasHeard, stays, onward, alone-still, posting, losing}
 
 -- of each other that has told all it heard of the life of now
@@ -37,11 +37,6 @@ none-done : (told : List TheCollected) (q k : ℕ) → (told_of (slice_set told 
 none-done [] q k = refl
 none-done (t ∷ told) zero k = refl
 none-done (t ∷ told) (suc q) k = none-done told q k
-
-none-else : (m k q : ℕ) → (told_of (replicate m (none_told k)) q).done ≡ false
-none-else zero k q = refl
-none-else (suc m) k zero = refl
-none-else (suc m) k (suc q) = none-else m k q
 
 -- where all have told, it has heard of all
 pub heard-all : (lives : ℕ → ℕ) (top : ℕ) (n : TheCollecting) → n.own.count ≡ top → has_all n ≡ true → Hears lives top n → HasHeard lives top n.own
@@ -147,5 +142,5 @@ module _ (lives : ℕ → ℕ) (back : ℕ → Type 0) (top : ℕ) where
   begun limits k life count =
       record {
         wide = (let zeros : List ℕ = replicate (k.count + 1) 0 in let e : length (slice_set zeros 0 1) ≡ length zeros = length-set zeros 0 1 in let r : length zeros ≡ k.count + 1 = length-replicate (k.count + 1) 0 in omega (arith, e, r, count));
-        all = λ q inside other done. absurd (let z : true ≡ false = sym done ∙ none-else (k.count + 1) k.length q in cc (z));
+        all = λ q inside other done. absurd (let z : true ≡ false = sym done ∙ same-at (λ (t : TheCollected). t.done ≡ false) (k.count + 1) q (none_told k.length) (none_told 0) refl refl in cc (z));
       }

@@ -29,6 +29,8 @@ use Rattle.recovery.specs.Collection.{TheCollecting, begins, revived}
 use Rattle.recovery.specs.Replays.{TheReplaying, next_job, next_number, did_replay, is_over, receipts_of}
 use Rattle.recovery.specs.StandsAtReplay.{replayed_of}
 use Rattle.recovery.specs.Restoration.{TheRestoring}
+use Rattle.recovery.specs.Collected.{TheCollected, none_told}
+use Rattle.node_laws.proofs.Sound.{same-at}
 use Rattle.node_laws.specs.Inside.Process.{Process, Up, Covered, Collects, Replays, Replayed, Restores, Killed, Gives, Hears, Works, Acts, WaitsFor, covered, IsTold, Wakes, ComesFrom}
 use Rattle.node_laws.specs.Durable.{IsAfter}
 use Rattle.recovery.specs.Plan.{IsCovered, Plans, told_under}
@@ -38,7 +40,7 @@ use Rattle.node_laws.proofs.Losses.{handed-rests, ticked-rests, froze-rests}
 use Rattle.node_laws.proofs.HeldNode as nodes
 use Rattle.node_laws.proofs.HeldState.{IsGiven, OfNode, given-still, node-more}
 use Rattle.node_laws.proofs.HeldOwn as owns
-use Rattle.node_laws.proofs.HeldOwn.{OfOwn, OnCollecting, OnRestoring, planning, own-more, told-later, none-were-told}
+use Rattle.node_laws.proofs.HeldOwn.{OfOwn, OnCollecting, OnRestoring, planning, own-more, told-later}
 
 -- these bytes are what it has after these messages, which it received so
 abbrev pub IsStored : ℕ → Handlers → ℕ → (ℕ → Bool) → (ℕ → List Payload) → List Message → List ℕ → Type 0
@@ -239,7 +241,7 @@ module _ (f : Answering) (states : ℕ → List ℕ) (top p : ℕ) (durable tell
       let same : n.own.limits ≡ limits = ap (λ (z : TheCollecting). z.own.limits) is ∙ revived-limits limits from.0 life in
       let both_are = subst (λ (z : Kept). IsAfter top f2 p h z × HasTaken D In top p h h (with_own 0 z.me z.counts) []) one are.1.1 in
       let own = owns.coming top f2 p durable tells D In h limits from.0 life bytes from.1.0 both_are.0 both_are.1 (λ t. sym (ap (λ (z : Limits). z.durable) same) ∙ lasting t) in
-      let none = λ (q : ℕ). none-were-told (from.0.count + 1) q from.0.length in
+      let none = λ (q : ℕ). same-at (λ (t : TheCollected). t.entries ≡ []) (from.0.count + 1) q (none_told from.0.length) (none_told 0) refl refl in
       let all : OnCollecting top f2 p durable tells D In h [] h h begun = (own, (λ q d. subst (Each (IsSent (In q))) (sym (none q)) tt, none p)) in
       subst (OnCollecting top f2 p durable tells D In h [] h h) (sym is) (owns.asks-all top f2 p durable tells D In h [] h h begun all)
 

@@ -1,6 +1,6 @@
 -- What is stored of a process, and what it holds, call after call
-use Rattle.std.proofs.Common.{◌≡◌, ℕ, zero, suc, ◌+◌, ◌≤◌, List, [], Bool, true, false, refl, sym, subst, arith}
-use Rattle.std.specs.Prelude.{slice_index_or, replicate, ◌==◌}
+use Rattle.std.proofs.Common.{◌≡◌, ℕ, ◌+◌, ◌≤◌, List, [], Bool, true, false, refl, sym, subst, arith}
+use Rattle.std.specs.Prelude.{◌==◌}
 use Rattle.std.proofs.lemmas.Bool.Decides.{nat_tests}
 use Rattle.std.proofs.lemmas.List.{length-replicate}
 use Rattle.world.specs.declared.message.Message.{Message}
@@ -9,11 +9,12 @@ use Rattle.world.specs.Handlers.{Handlers}
 use Rattle.world.specs.World.{put}
 use Rattle.node.specs.declared.limit.Limits.{Limits}
 use Rattle.node.specs.Limit.{usual}
-use Rattle.node.specs.Queue.{no_queue}
-use Rattle.node.specs.Node.{TheNode, log_at, new_node}
+use Rattle.node.specs.Queue.{TheQueue, no_queue}
+use Rattle.node.specs.Node.{TheNode, new_node}
 use Rattle.node.specs.Kept.{kept_of}
 use Rattle.node.specs.Runs.{Answering, handlers_of}
 use Rattle.gateway.proofs.Steps.{by-if}
+use Rattle.node_laws.proofs.Sound.{same-at}
 use Rattle.node_laws.specs.HostProcess.{IsFirst}
 use Rattle.node_laws.specs.Inside.Process.{Process, Collects, Killed, Gives, Hears, Works, Acts, IsTold, Wakes, ComesFrom, stage_of}
 use Rattle.node_laws.specs.Inside.System.{System, Call, Gave, Handed, Worked, Did, Stored, Saved, Resumed, Died, Revived, DoesIt, after_call, KeepsDurable, view}
@@ -75,28 +76,15 @@ module _ (f : Answering) (states : ℕ → List ℕ) (top p : ℕ) (durable tell
 
 -- ---- the opening
 
-none-logged : (k d : ℕ) → log_at (replicate k no_queue) d ≡ no_queue
-none-logged zero d = refl
-none-logged (suc k) zero = refl
-none-logged (suc k) (suc d) = none-logged k d
-
-abbrev zeros : ℕ → List ℕ
-zeros k = replicate k 0
-
-none-counted : (k q : ℕ) → slice_index_or (zeros k) q 0 ≡ 0
-none-counted zero q = refl
-none-counted (suc k) zero = refl
-none-counted (suc k) (suc q) = none-counted k q
-
 opened : (f : Answering) (states : ℕ → List ℕ) (top p : ℕ) (durable tells : Bool) (D : ℕ → Bool) (In : ℕ → List Payload) (limits : Limits) → (durable ≡ true → limits.durable ≡ true) → OfNode top (handlers_of f states) p durable tells D In [] [] (new_node limits p top (states p))
 opened f states top p durable tells D In limits lasting =
     record {
       at = record { me = refl; count = refl; base = refl; more = []; begins = refl; state = refl; is_durable = lasting };
       many = omega arith;
-      taken = record { wide = omega (arith, length-replicate {A = ℕ} (top + 1) 0); counts = λ q l. none-counted (top + 1) q; more = []; begins = refl; are = refl; ordered = tt; none = refl; known = tt; few = λ q d. omega arith };
+      taken = record { wide = omega (arith, length-replicate {A = ℕ} (top + 1) 0); counts = λ q l. same-at (λ z. z ≡ 0) (top + 1) q 0 0 refl refl; more = []; begins = refl; are = refl; ordered = tt; none = refl; known = tt; few = λ q d. omega arith };
       job = tt;
       wide = omega (arith, length-replicate (top + 1) no_queue);
-      logs = λ d l o. subst (λ q. Holds durable tells 0 0 q []) (sym (none-logged (top + 1) d))
+      logs = λ d l o. subst (λ q. Holds durable tells 0 0 q []) (sym (same-at (λ (q : TheQueue). q ≡ no_queue) (top + 1) d no_queue no_queue refl refl))
           (record { rest = record { within = omega arith; rest = refl }; within = omega arith; shut = λ t. omega arith; numbered = λ t i l. refl });
       out = tt;
       rests = λ e. refl;

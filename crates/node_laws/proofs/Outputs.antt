@@ -1,18 +1,19 @@
 -- Outputs in order, whatever fails and meets
-use Rattle.std.proofs.Common.{◌≡◌, inl, inr, ℕ, zero, suc, ◌-◌, ◌<◌, ◌≤◌, List, [], ◌∷◌, ◌++◌, map, Bool, true, false, refl, sym, ap, ◌∙◌, subst, arith, append_assoc, append-nil}
-use Rattle.std.specs.Prelude.{◌⊎◌, Some, slice_index_or, replicate, nat_le, if◌then◌else◌}
+use Rattle.std.proofs.Common.{◌≡◌, inl, inr, ℕ, suc, ◌-◌, ◌<◌, ◌≤◌, List, [], ◌∷◌, ◌++◌, map, Bool, true, false, refl, sym, ap, ◌∙◌, subst, arith, append_assoc, append-nil}
+use Rattle.std.specs.Prelude.{◌⊎◌, Some, nat_le, if◌then◌else◌}
 use Rattle.std.proofs.lemmas.Bool.Decides.{nat_tests}
 use Rattle.theorems.proofs.Changes.{at-itself, choose}
 use Rattle.world.specs.declared.message.Message.{Message}
 use Rattle.world.specs.History.{nth}
 use Rattle.world.specs.Handlers.{Handlers}
 use Rattle.stores.specs.declared.change.Output.{Output}
-use Rattle.stores.specs.Peer.{no_peer}
+use Rattle.stores.specs.Peer.{ThePeer, no_peer}
 use Rattle.gateway.specs.Gateway.{new_gateway}
 use Rattle.gateway.specs.Stands.{shown_as}
 use Rattle.verifier.specs.declared.any_image.AnyImage.{AnyImage}
 use Rattle.node.specs.Stands.{Each, InOrderFrom}
 use Rattle.node.proofs.Lists.{all-more}
+use Rattle.node_laws.proofs.Sound.{same-at}
 use Rattle.node_laws.specs.HostSystem.{System, HostCall, after_call, AreCalls, after_calls, Hosting, start, after, handlers, Makes}
 use Rattle.node_laws.specs.HostLaws.{shown_by, outputs_of, OneLife, HostedInOrder, HostedWithoutGap, HostedStayOut, HostedAgree}
 use Rattle.node_laws.specs.Outputs.{IsOut, AllOut, LeavesNoGap, AreBehind}
@@ -154,14 +155,8 @@ ends images n least c d before s (k ∷ ks) a w v m =
 abbrev none : ℕ → ℕ
 none p = 0
 
--- nothing was shown of new processes
-shown-none : (n k : ℕ) → (slice_index_or (replicate n no_peer) k no_peer).shown ≡ 0
-shown-none zero k = refl
-shown-none (suc n) zero = refl
-shown-none (suc n) (suc k) = shown-none n k
-
 opened : (n page tick : ℕ) → OfGateway (InTurn none) (new_gateway n page tick)
-opened n page tick = record { out = tt; store = record { shown = λ p l. shown-none n (p - 1); ordered = tt; some = tt } }
+opened n page tick = record { out = tt; store = record { shown = λ p l. same-at (λ (y : ThePeer). y.shown ≡ 0) n (p - 1) no_peer no_peer refl refl; ordered = tt; some = tt } }
 
 within-none : Within none [] none
 within-none p = (omega arith, λ ssn some low. absurd (omega arith))

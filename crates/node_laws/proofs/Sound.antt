@@ -1,6 +1,6 @@
 -- What packets say of lives, where failures come one at a time
 use Rattle.std.proofs.Common.{◌≡◌, ◌≢◌, ℕ, zero, suc, ◌<◌, ◌≤◌, List, [], ◌∷◌, length, Bool, true, false, refl, ap, ◌∙◌, subst, arith}
-use Rattle.std.specs.Prelude.{◌==◌, if◌then◌else◌, slice_index_or, slice_set}
+use Rattle.std.specs.Prelude.{◌==◌, if◌then◌else◌, slice_index_or, slice_set, replicate}
 use Rattle.std.proofs.lemmas.Bool.Decides.{nat_tests}
 use Rattle.world.specs.World.{put}
 use Rattle.theorems.proofs.Changes.{at-itself, choose}
@@ -80,6 +80,12 @@ set-at P (y ∷ xs) zero x zero d l here there = here refl
 set-at P (y ∷ xs) zero x (suc q) d l here there = there (λ e. absurd (cc (e)))
 set-at P (y ∷ xs) (suc i) x zero d l here there = there (λ e. absurd (cc (e)))
 set-at P (y ∷ xs) (suc i) x (suc q) d l here there = set-at P xs i x q d (omega (arith, l)) (λ e. here (ap suc e)) (λ o. there (λ e. o (omega (arith, e))))
+
+-- and where all in it are the same
+pub same-at : {X : Type 0} (P : X → Type 0) (k i : ℕ) (x d : X) → P x → P d → P (slice_index_or (replicate k x) i d)
+same-at P zero i x d h e = e
+same-at P (suc k) zero x d h e = h
+same-at P (suc k) (suc i) x d h e = same-at P k i x d h e
 
 -- ---- what one that is exact answers
 

@@ -1,5 +1,5 @@
 -- What waits in the gateway's store, and what each call makes of it
-use Rattle.std.proofs.Common.{◌≡◌, ◌≢◌, inl, inr, ℕ, zero, suc, ◌+◌, ◌-◌, ◌<◌, ◌≤◌, List, [], ◌∷◌, ◌++◌, map, take, drop, Bool, true, false, refl, sym, ap, ◌∙◌, subst, arith, append_assoc, append-nil}
+use Rattle.std.proofs.Common.{◌≡◌, ◌≢◌, inl, inr, ℕ, suc, ◌+◌, ◌-◌, ◌<◌, ◌≤◌, List, [], ◌∷◌, ◌++◌, map, take, drop, Bool, true, false, refl, sym, ap, ◌∙◌, subst, arith, append_assoc, append-nil}
 use Rattle.std.specs.Prelude.{◌⊎◌, slice_index_or, slice_set, ◌==◌, if◌then◌else◌}
 use Rattle.std.proofs.lemmas.Bool.Decides.{nat_tests}
 use Rattle.std.proofs.lemmas.List.{map-append, take-append-drop}
@@ -21,6 +21,7 @@ use Rattle.node.specs.Stands.{Each, InOrderFrom}
 use Rattle.node.proofs.Lists.{count-append}
 use Rattle.node.proofs.Numbers.{InOrderFrom-push}
 use Rattle.recovery.proofs.Lists.{each-append}
+use Rattle.node_laws.proofs.Taken.{set-holds}
 use Rattle.node_laws.specs.HostSystem.{System, HostCall, GaveOut, HandedOut, DidOut, StoredOut, StoredBut, RevivedOut, DoesIt, after_call, handed_out, untaken}
 use Rattle.node_laws.specs.HostLaws.{shown_by, LivesOn}
 use Rattle.node_laws.proofs.HeldGateway.{IsOwn, OfGateway, own-plain, own-hands, IsQuietDeal, DealsSo, deals-so, Steady, output}
@@ -45,11 +46,8 @@ past c x = put c x (suc (c x))
 
 -- what changes of one process, but for what was shown of it, leaves what was shown of each
 shown-still : (xs : List ThePeer) (i k : ℕ) (new : ThePeer) → new.shown ≡ (slice_index_or xs i no_peer).shown → (slice_index_or (slice_set xs i new) k no_peer).shown ≡ (slice_index_or xs k no_peer).shown
-shown-still [] i k new e = refl
-shown-still (x ∷ xs) zero zero new e = e
-shown-still (x ∷ xs) zero (suc k) new e = refl
-shown-still (x ∷ xs) (suc i) zero new e = refl
-shown-still (x ∷ xs) (suc i) (suc k) new e = shown-still xs i k new e
+shown-still xs i k new e =
+    set-holds (λ (y : ThePeer). y.shown ≡ (slice_index_or xs k no_peer).shown) xs i new k no_peer (λ same. e ∙ ap (λ z. (slice_index_or xs z no_peer).shown) (sym same)) refl
 
 steady : (c : ℕ → ℕ) → Steady (InTurn c)
 steady c p new s e t = record { shown = λ q l. shown-still s.peers (p - 1) (q - 1) new e ∙ t.shown q l; ordered = t.ordered; some = t.some }
