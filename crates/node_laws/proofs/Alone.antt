@@ -1,5 +1,5 @@
 -- Where failures come one at a time each process stays exact
-use Rattle.std.proofs.Common.{◌≡◌, ℕ, ◌<◌, List, [], ◌∷◌, ◌++◌, Bool, true, false, refl, sym, ap, ◌∙◌, subst, arith}
+use Rattle.std.proofs.Common.{◌≡◌, ℕ, ◌<◌, List, [], ◌∷◌, ◌++◌, true, false, refl, sym, ap, ◌∙◌, subst, arith}
 use Rattle.std.specs.Prelude.{not, ◌&&◌, ◌==◌, nat_le, slice_index_or}
 use Rattle.std.proofs.lemmas.Bool.Decides.{nat_tests}
 use Rattle.theorems.proofs.Tests.{both}
@@ -26,24 +26,22 @@ use Rattle.recovery.specs.RestorationStands.{StandsRestoring}
 use Rattle.recovery.proofs.Fits.{pages-fit}
 use Rattle.gateway.specs.Gateway.{TheGateway}
 use Rattle.node_laws.specs.HostProcess.{IsFirst}
-use Rattle.node_laws.specs.Inside.Process.{Process, Up, Covered, Collects, Restores, Killed, StandsAs, IsKilled, IsStoredOf, ComesFrom, covered}
-use Rattle.node_laws.specs.Inside.System.{System, AreStoredOf, Call, Gave, Handed, Worked, Did, Stored, Saved, Resumed, Died, Revived, GaveOut, HandedOut, DidOut, RevivedOut, DoesIt, after_call, Calls, AreExact, StayExact, Living, start}
-use Rattle.node_laws.specs.Inside.Alone.{is_up, FailsAlone, OneAtATime, LoneFailuresStayExact}
+use Rattle.node_laws.specs.Inside.Process.{Process, Up, Covered, Collects, Restores, Killed, StandsAs, IsKilled, IsStoredOf, ComesFrom, covered, is_up, stage_of}
+use Rattle.node_laws.specs.Inside.System.{System, AreStoredOf, Call, Gave, Handed, Worked, Did, Stored, Saved, Resumed, Died, Revived, GaveOut, HandedOut, DidOut, RevivedOut, DoesIt, after_call, after_calls, Along, FailsAlone, view}
+use Rattle.node_laws.specs.HostSystem.{Hosting, start}
+use Rattle.node_laws.proofs.HostStep.{IsPart}
 use Rattle.node_laws.proofs.Lives.{WasPut}
-use Rattle.node_laws.proofs.Lives as runs
-use Rattle.node_laws.proofs.Back.{Reached, GoesOn, goes-on}
+use Rattle.node_laws.proofs.Back.{Reached, GoesOn, none-on, joined, one-on}
 use Rattle.node_laws.proofs.Sound.{IsSound, AreSound, raised-here}
-use Rattle.node_laws.proofs.OwnSound.{IsAlone, of-other}
+use Rattle.recovery.proofs.Posts.{for-own}
+use Rattle.process.proofs.Bounds.{not-true}
+use Rattle.node_laws.proofs.OwnSound.{IsAlone}
 use Rattle.node_laws.proofs.CollectingSound as collecting
 use Rattle.node_laws.proofs.GatewaySound as gateways
 use Rattle.node_laws.proofs.Lone.{Returns, IsOf, stands-of, Good, Goes, Back, Lone, IsLone, is-alone, process-goes, process-dies, only-comes, process-comes}
 use Rattle.node_laws.proofs.LoneCalls.{Fits, giving, hearing, working, acting, storing, telling, waking}
 
 -- ---- no page tells of more than was sent
-
-closed : (b : Bool) → not b ≡ true → b ≡ false
-closed true e = absurd (let z : false ≡ true = e in cc (z))
-closed false e = refl
 
 module _ (f : Answering) (states : ℕ → List ℕ) (n : ℕ) (s : System) (acts : List Act) (r : Reached (handlers_of f states) n s acts) where
   abbrev g : Handlers
@@ -58,7 +56,7 @@ module _ (f : Answering) (states : ℕ → List ℕ) (n : ℕ) (s : System) (act
 
   page-fits : (x : NodePacket) (m : TheRestoring) (p : ℕ) → WasPut c x → StandsRestoring m c p → Fits x (Restores m)
   page-fits x m p was st mine i j k a flags pairs e range reply =
-      let q = of-other m.own x mine in
+      let q = for-own m.own x mine in
       let u = both ((i == m.own.life) && nat_le (slice_index_or m.own.heard x.from 0) j && not (has_answered x.from m)) (a == above_of x.from m) reply in
       let v = both ((i == m.own.life) && nat_le (slice_index_or m.own.heard x.from 0) j) (not (has_answered x.from m)) u.0 in
       let w = both (i == m.own.life) (nat_le (slice_index_or m.own.heard x.from 0) j) v.0 in
@@ -70,7 +68,7 @@ module _ (f : Answering) (states : ℕ → List ℕ) (n : ℕ) (s : System) (act
       let R : ℕ → Type 0 = λ z. P (Restored z j k a flags pairs) in
       let said : R m.own.life = subst R now (subst P e (subst Q q.0 (was (ap is_loss e)).said)) in
       let S : ℕ → Type 0 = λ z. in_range (Restored z j k a flags pairs) ≡ true in
-      let fit = pages-fit n g acts m x.from j k a flags pairs h.few (grows f states) r.run here q.1.0 (closed (has_answered x.from m) v.1) (subst S now range) said in
+      let fit = pages-fit n g acts m x.from j k a flags pairs h.few (grows f states) r.run here q.1.0 (not-true (has_answered x.from m) v.1) (subst S now range) said in
       let one : nat_le k (sent_to x.from m.own) ≡ true = (let l = fit.0 in grind (arith, nat_tests)) in
       let two : nat_le (last_ssn 0 pairs) (sent_to x.from m.own) ≡ true = (let l = fit.1 in grind (arith, nat_tests)) in
       rw (reply, one, two) refl
@@ -159,29 +157,34 @@ module _ (f : Answering) (states : ℕ → List ℕ) (n : ℕ) (s : System) (act
       let out : AreSound s.lives back (x ∷ new.out) = subst P m.1.0 h.out in
       with-given n s.processes s.lives s.given new.out x out.0 (with-out n s.processes s.lives s.given s.gateway.out new.out out.1 h)
   call-alone (HandedOut x new) m a =
-      let k : gateways.Keeps s.lives back s.gateway new = subst (gateways.Keeps s.lives back s.gateway) (sym m.1.0) (gateways.hands s.lives back x s.gateway h.outside (sound-given x m.0)) in
-      with-out n s.processes s.lives s.given s.gateway.out new.out (k.out h.out) h
-  call-alone (DidOut new) m a = let k = gateways.deals s.lives back s.gateway new m.0 in with-out n s.processes s.lives s.given s.gateway.out new.out (k.out h.out) h
+      let P : TheGateway → Type 0 = λ z. AreSound s.lives back z.out in
+      with-out n s.processes s.lives s.given s.gateway.out new.out (subst P (sym m.1.0) (gateways.hands s.lives back x s.gateway h.outside (sound-given x m.0) h.out)) h
+  call-alone (DidOut new) m a = with-out n s.processes s.lives s.given s.gateway.out new.out (gateways.deals s.lives back s.gateway new m.0 h.out) h
   call-alone (RevivedOut new) m a =
       let P : TheGateway → Type 0 = λ z. AreSound s.lives back z.out in
       let out : AreSound s.lives back new.out = subst P (sym m.0) tt in
       with-out n s.processes s.lives s.given s.gateway.out new.out out h
   call-alone other m a = h
 
--- ---- lists of calls
+-- ---- parts of a call of a host
 
-stays-alone : (f : Answering) (states : ℕ → List ℕ) (n : ℕ) (s : System) (acts : List Act) (ks : List Call) → Reached (handlers_of f states) n s acts → IsLone n s → Calls f n s ks → OneAtATime n s ks → StayExact n s ks
-stays-alone f states n s acts [] r h m a = tt
-stays-alone f states n s acts (k ∷ ks) r h m a =
-    let after : IsLone n (after_call s k) = call-alone f states n s acts r h k m.0 a.0 in
-    let exact : AreExact n (after_call s k) = λ p first. (after.good p first).exact in
-    let on : GoesOn (handlers_of f states) n (after_call s k) acts = goes-on f states n s acts (k ∷ []) r (m.0, tt) (exact, tt) in
-    (exact, stays-alone f states n (after_call s k) (acts ++ on.more) ks on.reached after m.1 a.1)
+pub alone-go : (f : Answering) (states : ℕ → List ℕ) (n : ℕ) (X A : Type 0) (E : ℕ → Type 0) → A → (s : System) (acts : List Act) (ks : List Call) → Reached (handlers_of f states) n s acts → IsLone n s → Along (IsPart f n X A E) s ks → GoesOn (handlers_of f states) n (after_calls s ks) acts × IsLone n (after_calls s ks)
+alone-go f states n X A E a s acts [] r h m = (none-on (handlers_of f states) n s acts r, h)
+alone-go f states n X A E a s acts (k ∷ ks) r h m =
+    let lone : IsLone n (after_call s k) = call-alone f states n s acts r h k m.0.does (m.0.alone a) in
+    let on : GoesOn (handlers_of f states) n (after_call s k) acts = one-on f states n s acts k r m.0.does (λ p first. (lone.good p first).exact) in
+    let rest = alone-go f states n X A E a (after_call s k) (acts ++ on.more) ks on.reached lone m.1 in
+    (joined (handlers_of f states) n (after_calls (after_call s k) ks) acts on.more rest.0, rest.1)
 
 -- at the opening all are up
-begins-alone : (l : Living) → IsLone l.n (start l)
-begins-alone l = record { outside = refl; alone = λ p q a b apart e. refl; good = λ p first. record { exact = refl; life = refl; knows = tt; out = tt }; given = tt; out = tt }
-
-pub lone-failures-stay-exact : LoneFailuresStayExact
-lone-failures-stay-exact l calls few m a =
-    stays-alone l.f l.states l.n (start l) [] calls (record { run = tt; holds = runs.begins l few }) (begins-alone l) m a
+pub begins-alone : (h : Hosting) → IsLone h.n (view (start h))
+begins-alone h =
+    let s : System = view (start h) in
+    let up : (p : ℕ) → IsFirst h.n p → is_up (s.processes p) ≡ true = λ p l. ap (λ c. is_up (stage_of c)) (h.opens.opened p l).lifecycle_is in
+    record {
+      outside = refl;
+      alone = λ p q a b apart e. up q b;
+      good = λ p l. subst (λ c. Good (λ q. 1) (Back h.n s.processes) h.n p (stage_of c)) (sym (h.opens.opened p l).lifecycle_is) (record { exact = refl; life = refl; knows = tt; out = tt });
+      given = tt;
+      out = tt;
+    }

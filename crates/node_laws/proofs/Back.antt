@@ -1,5 +1,5 @@
 -- What comes back of a process is what was lost
-use Rattle.std.proofs.Common.{◌≡◌, inl, inr, ℕ, zero, suc, ◌+◌, ◌<◌, ◌≤◌, List, [], ◌∷◌, ◌++◌, length, take, drop, Bool, true, false, refl, sym, ap, ◌∙◌, subst, arith, append_assoc}
+use Rattle.std.proofs.Common.{◌≡◌, inl, inr, ℕ, zero, suc, ◌+◌, ◌<◌, ◌≤◌, List, [], ◌∷◌, ◌++◌, length, take, drop, Bool, true, false, refl, sym, ap, ◌∙◌, subst, arith, append_assoc, append-nil}
 use Rattle.std.specs.Prelude.{nat_lt, slice_index_or, if◌then◌else◌, ◌-◌}
 use Rattle.std.proofs.lemmas.Bool.Decides.{nat_tests}
 use Rattle.std.proofs.lemmas.List.{length-take, take_all, take-append-drop}
@@ -27,11 +27,18 @@ use Rattle.recovery.specs.Moment.{HadReceived}
 use Rattle.recovery.proofs.Had.{keeps-what-it-had}
 use Rattle.recovery.proofs.ReplayLemmas as replays
 use Rattle.node_laws.specs.HostProcess.{IsFirst}
-use Rattle.node_laws.specs.Inside.Process.{Process, Up, Covered, IsUp, Collects, Replays, StandsAs, Recovers, Acts}
-use Rattle.node_laws.specs.Inside.System.{System, Call, Did, Calls, after_call, after_calls, StayExact, AllStand, start, handlers}
-use Rattle.node_laws.specs.Back.{length_of, HasBack}
-use Rattle.node_laws.specs.Inside.Back.{NothingIsLost, kept_of, RecoversExactly}
-use Rattle.node_laws.proofs.Lives.{Holds, Onward, calls-go, begins, all-stand}
+use Rattle.verifier.specs.declared.any_image.AnyImage.{AnyImage}
+use Rattle.node_laws.specs.HostProcess.{Hosted, IsUp}
+use Rattle.node_laws.specs.HostSystem as hosts
+use Rattle.node_laws.specs.Agreement.{AllStand}
+use Rattle.node_laws.specs.Inside.Process as lives
+use Rattle.node_laws.specs.Inside.Process.{Process, Up, Covered, Collects, Replays, StandsAs, Recovers, Acts, as_process}
+use Rattle.node_laws.specs.Inside.System.{System, Call, Did, DoesIt, after_call, after_calls, Along, AreExact, view}
+use Rattle.node_laws.specs.Back.{length_of, received, HasBack}
+use Rattle.node_laws.proofs.HostStep.{IsPart}
+use Rattle.node_laws.proofs.Moments.{kept_of}
+use Rattle.node_laws.proofs.Views.{AreGood, is-up}
+use Rattle.node_laws.proofs.Lives.{Holds, Onward, call-goes, all-stand}
 
 -- a run of the cluster leads to where all of a system stand
 pub record Reached (f : Handlers) (n : ℕ) (s : System) (acts : List Act) : Type 0 where
@@ -43,27 +50,25 @@ pub record GoesOn (f : Handlers) (n : ℕ) (s : System) (acts : List Act) : Type
   pub more : List Act
   pub reached : Reached f n s (acts ++ more)
 
--- calls behind others
-pub after-append : (s : System) (ks ls : List Call) → after_calls s (ks ++ ls) ≡ after_calls (after_calls s ks) ls
-after-append s [] ls = refl
-after-append s (k ∷ ks) ls = after-append (after_call s k) ks ls
+pub none-on : (f : Handlers) (n : ℕ) (s : System) (acts : List Act) → Reached f n s acts → GoesOn f n s acts
+none-on f n s acts r = record { more = []; reached = subst (Reached f n s) (sym (append-nil acts)) r }
 
--- calls of two parts, taken apart
-pub calls-parts : (f : Answering) (n : ℕ) (s : System) (ks ls : List Call) → Calls f n s (ks ++ ls) → Calls f n s ks × (Calls f n (after_calls s ks) ls × (after_calls s (ks ++ ls) ≡ after_calls (after_calls s ks) ls))
-calls-parts f n s [] ls m = (tt, (m, refl))
-calls-parts f n s (k ∷ ks) ls m = let t = calls-parts f n (after_call s k) ks ls m.1 in ((m.0, t.0), (t.1.0, t.1.1))
+pub joined : (f : Handlers) (n : ℕ) (s : System) (acts more : List Act) → GoesOn f n s (acts ++ more) → GoesOn f n s acts
+joined f n s acts more b = record { more = more ++ b.more; reached = subst (Reached f n s) (append_assoc acts more b.more) b.reached }
 
--- and where each stays exact
-exact-parts : (n : ℕ) (s : System) (ks ls : List Call) → StayExact n s (ks ++ ls) → StayExact n s ks × StayExact n (after_calls s ks) ls
-exact-parts n s [] ls e = (tt, e)
-exact-parts n s (k ∷ ks) ls e = let t = exact-parts n (after_call s k) ks ls e.1 in ((e.0, t.0), t.1)
-
-pub goes-on : (f : Answering) (states : ℕ → List ℕ) (n : ℕ) (s : System) (acts : List Act) (ks : List Call) → Reached (handlers_of f states) n s acts → Calls f n s ks → StayExact n s ks → GoesOn (handlers_of f states) n (after_calls s ks) acts
-goes-on f states n s acts ks r m exact =
+-- by a call, and by parts of a call of a host
+pub one-on : (f : Answering) (states : ℕ → List ℕ) (n : ℕ) (s : System) (acts : List Act) (k : Call) → Reached (handlers_of f states) n s acts → DoesIt f n s k → AreExact n (after_call s k) → GoesOn (handlers_of f states) n (after_call s k) acts
+one-on f states n s acts k r does exact =
     let g : Handlers = handlers_of f states in
-    let all : Onward g n (after_run (opening n g) acts) (after_calls s ks) = calls-go f states n s (after_run (opening n g) acts) ks r.holds m exact in
-    let both = run-on (opening n g) acts all.acts r.run all.run in
-    record { more = all.acts; reached = record { run = both.0; holds = subst (Holds g n (after_calls s ks)) (sym both.1) all.holds } }
+    let one : Onward g n (after_run (opening n g) acts) (after_call s k) = call-goes f states n s (after_run (opening n g) acts) k r.holds does exact in
+    let both = run-on (opening n g) acts one.acts r.run one.run in
+    record { more = one.acts; reached = record { run = both.0; holds = subst (Holds g n (after_call s k)) (sym both.1) one.holds } }
+
+pub goes-on : (f : Answering) (states : ℕ → List ℕ) (n : ℕ) (X A : Type 0) (E : ℕ → Type 0) → X → (s : System) (acts : List Act) (ks : List Call) → Reached (handlers_of f states) n s acts → Along (IsPart f n X A E) s ks → GoesOn (handlers_of f states) n (after_calls s ks) acts
+goes-on f states n X A E x s acts [] r m = none-on (handlers_of f states) n s acts r
+goes-on f states n X A E x s acts (k ∷ ks) r m =
+    let one = one-on f states n s acts k r m.0.does (m.0.exact x) in
+    joined (handlers_of f states) n (after_calls (after_call s k) ks) acts one.more (goes-on f states n X A E x (after_call s k) (acts ++ one.more) ks one.reached m.1)
 
 -- ---- what is acknowledged
 
@@ -97,7 +102,7 @@ acknowledged-run n c p s =
 
 -- ---- nothing is lost
 
-module _ (n : ℕ) (f : Handlers) (x y : System) (p : ℕ) (a b : TheNode) (acts more : List Act) (run : Run (opening n f) (acts ++ more)) (before : AllStand n x (after_run (opening n f) acts)) (after : AllStand n y (after_run (opening n f) (acts ++ more)))
+module _ (n : ℕ) (f : Handlers) (x y : hosts.System) (p : ℕ) (a b : TheNode) (acts more : List Act) (run : Run (opening n f) (acts ++ more)) (before : AllStand n x (after_run (opening n f) acts)) (after : AllStand n y (after_run (opening n f) (acts ++ more)))
     (s : Stands a (after_run (opening n f) acts) p) (t : Stands b (after_run (opening n f) (acts ++ more)) p) (same_was : (after_run (opening n f) acts).world.handlers ≡ f) (same_is : (after_run (opening n f) (acts ++ more)).world.handlers ≡ f)
     (k : take (run_at a) ((after_run (opening n f) (acts ++ more)).world.history p) ≡ take (run_at a) ((after_run (opening n f) acts).world.history p)) where
   abbrev c : Cluster
@@ -147,26 +152,25 @@ stands-known : (f : Handlers) (n : ℕ) (s : System) (c : Cluster) (p : ℕ) (pr
 stands-known f n s c p process h first e = subst (λ z. StandsAs z c p) e (h.processes p first)
 
 -- so one that is up, and its node
-stands-up : (m : TheNode) (process : Process) (c : Cluster) (p : ℕ) → IsUp m process → StandsAs process c p → Stands m c p
-stands-up m (Up n) c p e s = subst (λ z. Stands z c p) e s
-stands-up m (Covered n) c p e s = subst (λ z. Stands z c p) e s.1
-stands-up m other c p e s = absurd e
+stands-node : (m : TheNode) (process : Process) (c : Cluster) (p : ℕ) → lives.IsUp m process → StandsAs process c p → Stands m c p
+stands-node m (Up n) c p e s = subst (λ z. Stands z c p) e s
+stands-node m (Covered n) c p e s = subst (λ z. Stands z c p) e s.1
+stands-node m other c p e s = absurd e
 
-pub nothing-is-lost : NothingIsLost
-nothing-is-lost l calls more p a b few first m exact is_a is_b =
-    let g : Handlers = handlers l in
-    let o : System = start l in
-    let parts = calls-parts l.f l.n o calls more m in
-    let sure = exact-parts l.n o calls more exact in
-    let one = goes-on l.f l.states l.n o [] calls (record { run = tt; holds = begins l few }) parts.0 sure.0 in
-    let two = goes-on l.f l.states l.n (after_calls o calls) one.more more one.reached parts.1.0 sure.1 in
-    let c : Cluster = after_run (opening l.n g) one.more in
-    let d : Cluster = after_run (opening l.n g) (one.more ++ two.more) in
-    let s : Stands a c p = stands-up a ((after_calls o calls).processes p) c p is_a (one.reached.holds.processes p first) in
-    let t : Stands b d p = stands-up b ((after_calls (after_calls o calls) more).processes p) d p (subst (λ (z : System). IsUp b (z.processes p)) parts.1.1 is_b) (two.reached.holds.processes p first) in
-    has-back l.n g (after_calls o calls) (after_calls o (calls ++ more)) p a b one.more two.more two.reached.run (all-stand g l.n (after_calls o calls) c one.reached.holds)
-    (subst (λ z. AllStand l.n z d) (sym parts.1.1) (all-stand g l.n (after_calls (after_calls o calls) more) d two.reached.holds)) s t one.reached.holds.handlers two.reached.holds.handlers
-    (acknowledged-stay l.n g one.more two.more p (run_at a) few (grows l.f l.states) two.reached.run (acknowledged-run a c p s))
+stands-up : (m : TheNode) (h : Hosted) (c : Cluster) (p : ℕ) → IsUp m h → StandsAs (as_process h) c p → Stands m c p
+stands-up m h c p u s = stands-node m (as_process h) c p (is-up m h u) s
+
+-- p is up in one system, and in a later one
+pub nothing-is-lost : (images : ℕ → AnyImage) (f : Answering) (states : ℕ → List ℕ) (n : ℕ) → n ≤ 15 → (s t : hosts.System) (acts : List Act) → AreGood images n s → AreGood images n t → Reached (handlers_of f states) n (view s) acts → (two : GoesOn (handlers_of f states) n (view t) acts)
+    → (p : ℕ) (a b : TheNode) → IsFirst n p → IsUp a (s.processes p) → IsUp b (t.processes p) → HasBack n (handlers_of f states) (AllStand n s) (AllStand n t) p a b
+nothing-is-lost images f states n few s t acts good_s good_t one two p a b first is_a is_b =
+    let g : Handlers = handlers_of f states in
+    let c : Cluster = after_run (opening n g) acts in
+    let d : Cluster = after_run (opening n g) (acts ++ two.more) in
+    let last = two.reached in
+    let up_a : Stands a c p = stands-up a (s.processes p) c p is_a (one.holds.processes p first) in
+    has-back n g s t p a b acts two.more last.run (all-stand images g n s c good_s one.holds) (all-stand images g n t d good_t last.holds) up_a (stands-up b (t.processes p) d p is_b (last.holds.processes p first)) one.holds.handlers last.holds.handlers
+    (acknowledged-stay n g acts two.more p (run_at a) few (grows f states) last.run (acknowledged-run a c p up_a))
 
 -- ---- what recovers
 
@@ -221,43 +225,40 @@ recovery-is : (old : TheCollecting) (new : TheReplaying) → Acts (Collects old)
 recovery-is old new (inl g) = let e : Replays new ≡ Collects g.0 = g.1.0 in absurd (cc (e))
 recovery-is old new (inr g) = let e : new ≡ g.0 = (let z : Replays new ≡ Replays g.0 = g.1.0 in cc (z)) in subst (Recovers old) (sym e) g.1.1
 
-pub recovers-exactly : RecoversExactly
-recovers-exactly l calls more p old new few m exact is_old =
-    let g : Handlers = handlers l in
-    let o : System = start l in
+-- it went on from acts: it had received what it keeps, and these stay its first messages; and when it is up with just these, its state is
+-- the one that it had after them
+pub record IsBack (n : ℕ) (f : Handlers) (s : hosts.System) (p : ℕ) (old : TheCollecting) (new : TheReplaying) (acts : List Act) : Type 0 where
+  pub more : List Act
+  pub reached : Reached f n (view s) (acts ++ more)
+  pub had : HadReceived (after_run (opening n f) acts) p old.own.base new.plan
+  pub stays : take (kept_of old new) (received n f p (acts ++ more)) ≡ take (kept_of old new) (received n f p acts)
+  pub back : (m : TheNode) → IsUp m (s.processes p) → length_of m ≡ kept_of old new → f.state p (take (kept_of old new) (received n f p acts)) ≡ m.state
+
+pub recovers-exactly : (f : Answering) (states : ℕ → List ℕ) (n : ℕ) → n ≤ 15 → (s : System) (t : hosts.System) (p : ℕ) (old : TheCollecting) (new : TheReplaying) (acts : List Act) → Reached (handlers_of f states) n s acts → s.processes p ≡ Collects old
+    → DoesIt f n s (Did p (Replays new)) → (two : GoesOn (handlers_of f states) n (after_call s (Did p (Replays new))) acts) → GoesOn (handlers_of f states) n (view t) (acts ++ two.more) → IsBack n (handlers_of f states) t p old new acts
+recovers-exactly f states n few s t p old new acts one is_old does two three =
+    let g : Handlers = handlers_of f states in
     let k : Call = Did p (Replays new) in
-    let s : System = after_calls o calls in
-    let parts = calls-parts l.f l.n o calls (k ∷ more) m in
-    let sure = exact-parts l.n o calls (k ∷ more) exact in
-    let first : IsFirst l.n p = parts.1.0.0.0 in
-    let one = goes-on l.f l.states l.n o [] calls (record { run = tt; holds = begins l few }) parts.0 sure.0 in
-    let two = goes-on l.f l.states l.n s one.more (k ∷ []) one.reached (parts.1.0.0, tt) (sure.1.0, tt) in
-    let three = goes-on l.f l.states l.n (after_call s k) (one.more ++ two.more) more two.reached parts.1.0.1 sure.1.1 in
-    let c : Cluster = after_run (opening l.n g) one.more in
-    let b : Cluster = after_run (opening l.n g) (one.more ++ two.more) in
-    let collects : StandsCollecting old c p = stands-known g l.n s c p (Collects old) one.reached.holds first is_old in
-    let replays_so : StandsReplaying new b p = stands-known g l.n (after_call s k) b p (Replays new) two.reached.holds first (at-itself p (λ t. (if t then Replays new else s.processes p) ≡ Replays new) refl) in
-    let recovers : Recovers old new = recovery-is old new (subst (λ z. Acts z (Replays new)) is_old parts.1.0.0.1) in
+    let first : IsFirst n p = does.0 in
+    let c : Cluster = after_run (opening n g) acts in
+    let b : Cluster = after_run (opening n g) (acts ++ two.more) in
+    let collects : StandsCollecting old c p = stands-known g n s c p (Collects old) one.holds first is_old in
+    let replays_so : StandsReplaying new b p = stands-known g n (after_call s k) b p (Replays new) two.reached.holds first (at-itself p (λ t. (if t then Replays new else s.processes p) ≡ Replays new) refl) in
+    let recovers : Recovers old new = recovery-is old new (subst (λ z. Acts z (Replays new)) is_old does.1) in
     let P : ℕ → Type 0 = λ q. HadReceived c q old.own.base new.plan in
-    let had : HadReceived c p old.own.base new.plan = subst P collects.own.me (keeps-what-it-had l.n g one.more old new few (grows l.f l.states) one.reached.run (subst (StandsCollecting old c) (sym collects.own.me) collects) recovers.all recovers.is) in
-    let first_same : take old.own.base (b.world.history p) ≡ take old.own.base (c.world.history p) = acknowledged-stay l.n g one.more two.more p old.own.base few (grows l.f l.states) two.reached.run (acknowledged-covered g l.n s c p old one.reached.holds collects) in
+    let had : HadReceived c p old.own.base new.plan = subst P collects.own.me (keeps-what-it-had n g acts old new few (grows f states) one.run (subst (StandsCollecting old c) (sym collects.own.me) collects) recovers.all recovers.is) in
+    let first_same : take old.own.base (b.world.history p) ≡ take old.own.base (c.world.history p) = acknowledged-stay n g acts two.more p old.own.base few (grows f states) two.reached.run (acknowledged-covered g n s c p old one.holds collects) in
     let many : length (b.world.history p) ≡ kept_of old new = (let long = replays.long new b p replays_so in let e : new.own.base ≡ old.own.base = ap (λ z. z.base) recovers.is.own in omega (arith, long, e)) in
-    let assoc : (one.more ++ two.more) ++ three.more ≡ one.more ++ (two.more ++ three.more) = append_assoc one.more two.more three.more in
-    let last : Reached g l.n (after_calls (after_call s k) more) (one.more ++ (two.more ++ three.more)) = subst (λ xs. Reached g l.n (after_calls (after_call s k) more) xs) assoc three.reached in
-    let d : Cluster = after_run (opening l.n g) (one.more ++ (two.more ++ three.more)) in
+    let assoc : (acts ++ two.more) ++ three.more ≡ acts ++ (two.more ++ three.more) = append_assoc acts two.more three.more in
+    let last : Reached g n (view t) (acts ++ (two.more ++ three.more)) = subst (λ xs. Reached g n (view t) xs) assoc three.reached in
+    let d : Cluster = after_run (opening n g) (acts ++ (two.more ++ three.more)) in
     let all_same : take (kept_of old new) (d.world.history p) ≡ take (kept_of old new) (b.world.history p) =
-    subst (λ xs. take (kept_of old new) ((after_run (opening l.n g) xs).world.history p) ≡ take (kept_of old new) (b.world.history p)) assoc
-    (acknowledged-stay l.n g (one.more ++ two.more) three.more p (kept_of old new) few (grows l.f l.states) three.reached.run (acknowledged-kept new b p (kept_of old new) replays_so many)) in
-    let end : after_calls o (calls ++ k ∷ more) ≡ after_calls (after_call s k) more = parts.1.1 in
+    subst (λ xs. take (kept_of old new) ((after_run (opening n g) xs).world.history p) ≡ take (kept_of old new) (b.world.history p)) assoc
+    (acknowledged-stay n g (acts ++ two.more) three.more p (kept_of old new) few (grows f states) three.reached.run (acknowledged-kept new b p (kept_of old new) replays_so many)) in
     record {
-      acts = one.more;
       more = two.more ++ three.more;
-      run = last.run;
-      before = all-stand g l.n s c one.reached.holds;
-      after = subst (λ z. AllStand l.n z d) (sym end) (all-stand g l.n (after_calls (after_call s k) more) d last.holds);
+      reached = last;
       had = had;
-      stays = stays-so l.n g p old new c b d had recovers.is.own replays_so first_same all_same;
-      back = λ x is_x as_many.
-          is-as-it-was l.n g p old new c b d had recovers.is.own replays_so first_same all_same x
-          (stands-up x ((after_calls (after_call s k) more).processes p) d p (subst (λ (z : System). IsUp x (z.processes p)) end is_x) (last.holds.processes p first)) last.holds.handlers as_many;
+      stays = stays-so n g p old new c b d had recovers.is.own replays_so first_same all_same;
+      back = λ x is_x as_many. is-as-it-was n g p old new c b d had recovers.is.own replays_so first_same all_same x (stands-up x (t.processes p) d p is_x (last.holds.processes p first)) last.holds.handlers as_many;
     }

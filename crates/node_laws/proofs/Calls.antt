@@ -11,7 +11,6 @@ use Rattle.node.specs.declared.job.OpenJob.{OpenJob}
 use Rattle.theorems.proofs.Tests.{both}
 use Rattle.node.specs.Node.{TheNode}
 use Rattle.node.specs.Calls.{handed}
-use Rattle.node.specs.Transmission.{ticked}
 use Rattle.node.specs.Checkpoints.{froze, may_freeze}
 use Rattle.node.specs.Stands.{job_of}
 use Rattle.node.specs.Runs.{Answer}
@@ -25,12 +24,12 @@ use Rattle.process.specs.Process.{is_settled, state_of}
 use Rattle.process.specs.Calls.{IsHanded, Ticks, Takes, Freezes, FreezesAs, Thaws, is_storable}
 use Rattle.process.specs.Checkpoints.{IsSavable, Keeps}
 use Rattle.process.specs.Work.{job_as, job_at, answer_to, given_of, TakesIn}
-use Rattle.node_laws.specs.Inside.Process.{Process, AreOf, Gives, Hears, Works, IsTold}
+use Rattle.node_laws.specs.Inside.Process.{Process, AreOf, Gives, Hears, Works, IsTold, stage_of, seen}
 use Rattle.node_laws.specs.Inside.Process as lives
 use Rattle.node_laws.specs.HostProcess.{Checkpoint, Absent, Pending, Durable}
-use Rattle.node_laws.specs.Inside.Hosted.{stage_of, seen}
 use Rattle.node_laws.specs.HostReplies.{who_of, answer_of, answering}
 use Rattle.node_laws.proofs.Chains.{Chain, ticked-exact, froze-exact, asked-exact, restores-exact}
+use Rattle.node_laws.proofs.Losses.{handed-rests, ticked-rests, froze-rests}
 use Rattle.node_laws.proofs.Stages.{unsettled, Fits, GoesOn, on}
 
 -- a call that is one in all lives, of the process as it is seen
@@ -48,18 +47,14 @@ handed-absent x (Restoring n) (Restoring m) s g = (refl, (tt, (m, (refl, g))))
 handed-absent x Passing d s g = unsettled s
 handed-absent x other d s g = absurd g
 
-handed-rests : (x : NodePacket) (n : TheNode) → n.frozen ≡ true → handed x n ≡ n
-handed-rests x n e = rw e refl
-
 handed-frozen : (x : NodePacket) (n m : TheNode) → n.frozen ≡ true → m ≡ handed x n → m ≡ n
 handed-frozen x n m f e = e ∙ handed-rests x n f
 
 pub handed-is : (x : NodePacket) (w : Checkpoint) (c d : Lifecycle) → is_settled c ≡ true → Fits w c → IsHanded x c d → Is (Hears x) w c d
 handed-is x Absent c d s f g = handed-absent x c d s g
 handed-is x (Pending bytes) (Up n) (Up m) s f g = (refl, (subst (λ (z : TheNode). (z.frozen ≡ true) × AreOf bytes z) (sym (handed-frozen x n m f.0 g.0)) f, (m, (refl, g))))
-handed-is x (Pending bytes) (Up n) other s f g = absurd g
 handed-is x Durable (Up n) (Up m) s f g = (refl, (subst (λ (z : TheNode). z.frozen ≡ true) (sym (handed-frozen x n m f g.0)) f, (m, (refl, g.0))))
-handed-is x Durable (Up n) other s f g = absurd g
+handed-is x w (Up n) other s f g = absurd g
 handed-is x w c d s f g = absurd f
 
 -- ---- a packet is taken
@@ -77,28 +72,23 @@ taken-absent x other d s g = absurd g
 pub taken-is : (x : NodePacket) (w : Checkpoint) (c d : Lifecycle) → is_settled c ≡ true → Fits w c → Takes (Some x) c d → Is (Gives x) w c d
 taken-is x Absent c d s f g = taken-absent x c d s g
 taken-is x (Pending bytes) (Up n) (Up m) s f g = (refl, (subst (λ (z : TheNode). (z.frozen ≡ true) × AreOf bytes z) g.0 f, (m, (refl, g))))
-taken-is x (Pending bytes) (Up n) other s f g = absurd g
 taken-is x Durable (Up n) (Up m) s f g = (refl, (subst (λ (z : TheNode). z.frozen ≡ true) g.0 f, (m, (refl, g))))
-taken-is x Durable (Up n) other s f g = absurd g
+taken-is x w (Up n) other s f g = absurd g
 taken-is x w c d s f g = absurd f
 
 -- ---- what isn't answered is sent again
 
-ticked-rests : (n : TheNode) → n.frozen ≡ true → ticked n ≡ n
-ticked-rests n e = rw e refl
-
 pub ticks-is : (w : Checkpoint) (c d : Lifecycle) → is_settled c ≡ true → Fits w c → Ticks c d → GoesOn w c d
-ticks-is Absent (Up n) (Up m) s f g = (refl, (tt, (lives.Up m ∷ [], ((m, (refl, (inl g.0, g.1))), (tt, (ap (λ (z : TheNode). z.exact) g.0 ∙ ticked-exact n, refl))))))
-ticks-is Absent (Collecting n) (Collecting m) s f g = (refl, (tt, (lives.Collects m ∷ [], (inl (m, (refl, g)), (tt, (ap (λ (z : TheCollecting). z.own.exact) g.0 ∙ asked-exact n, refl))))))
+ticks-is Absent (Up n) (Up m) s f g = (refl, (tt, (lives.Up m ∷ [], ((m, (refl, (inl g.0, g.1))), (ap (λ (z : TheNode). z.exact) g.0 ∙ ticked-exact n, refl)))))
+ticks-is Absent (Collecting n) (Collecting m) s f g = (refl, (tt, (lives.Collects m ∷ [], (inl (m, (refl, g)), (ap (λ (z : TheCollecting). z.own.exact) g.0 ∙ asked-exact n, refl)))))
 ticks-is Absent (Replaying n) d s f g = on Absent (Replaying n) d s f g
 ticks-is Absent (Replayed n) d s f g = on Absent (Replayed n) d s f g
-ticks-is Absent (Restoring n) (Restoring m) s f g = (refl, (tt, (lives.Restores m ∷ [], (inl (m, (refl, g)), (tt, (ap (λ (z : TheRestoring). z.own.exact) g.0 ∙ restores-exact n, refl))))))
+ticks-is Absent (Restoring n) (Restoring m) s f g = (refl, (tt, (lives.Restores m ∷ [], (inl (m, (refl, g)), (ap (λ (z : TheRestoring). z.own.exact) g.0 ∙ restores-exact n, refl)))))
 ticks-is Absent Passing d s f g = unsettled s
 ticks-is Absent c d s f g = absurd g
 ticks-is (Pending bytes) (Up n) (Up m) s f g = on (Pending bytes) (Up n) (Up m) s f (ap Up (g.0 ∙ ticked-rests n f.0))
-ticks-is (Pending bytes) (Up n) other s f g = absurd g
 ticks-is Durable (Up n) (Up m) s f g = on Durable (Up n) (Up m) s f (ap Up (g.0 ∙ ticked-rests n f))
-ticks-is Durable (Up n) other s f g = absurd g
+ticks-is w (Up n) other s f g = absurd g
 ticks-is w c d s f g = absurd f
 
 -- ---- its handler runs
@@ -177,7 +167,7 @@ froze-is bytes Absent (Up n) (Up m) f may keeps g =
     let can = both (may_freeze n) (is_storable n) may.may in
     let made = subst (λ b. FreezesAs b n m) can.1 g in
     let is : m ≡ record n { frozen = true } = made.0 ∙ frozen-now n can.0 in
-    (refl, (subst (λ (z : TheNode). (z.frozen ≡ true) × AreOf bytes z) (sym is) (refl, keeps), (lives.Up m ∷ [], ((m, (refl, (inr made.0, made.1))), (tt, (ap (λ (z : TheNode). z.exact) made.0 ∙ froze-exact n, refl))))))
+    (refl, (subst (λ (z : TheNode). (z.frozen ≡ true) × AreOf bytes z) (sym is) (refl, keeps), (lives.Up m ∷ [], ((m, (refl, (inr made.0, made.1))), (ap (λ (z : TheNode). z.exact) made.0 ∙ froze-exact n, refl)))))
 froze-is bytes Absent (Up n) other f may keeps g = absurd g
 froze-is bytes Absent c d f may keeps g = absurd keeps
 froze-is bytes (Pending others) (Up n) d f may keeps g = not-frozen n.frozen (is_none n.working) (both (may_freeze n) (is_storable n) may.may).0 f.0
@@ -185,11 +175,8 @@ froze-is bytes Durable (Up n) d f may keeps g = not-frozen n.frozen (is_none n.w
 froze-is bytes w c d f may keeps g = absurd f
 
 -- it waits, and its host has no bytes of it
-froze-rests : (n : TheNode) → n.frozen ≡ true → froze n ≡ n
-froze-rests n e = rw e refl
-
 pauses-as : (b : Bool) (n m : TheNode) → FreezesAs b n m → GoesOn Absent (Up n) (Up m)
-pauses-as true n m g = (refl, (tt, (lives.Up m ∷ [], ((m, (refl, (inr g.0, g.1))), (tt, (ap (λ (z : TheNode). z.exact) g.0 ∙ froze-exact n, refl))))))
+pauses-as true n m g = (refl, (tt, (lives.Up m ∷ [], ((m, (refl, (inr g.0, g.1))), (ap (λ (z : TheNode). z.exact) g.0 ∙ froze-exact n, refl)))))
 pauses-as false n m g = on Absent (Up n) (Up m) refl tt (ap Up g)
 
 rests-as : (b : Bool) (n m : TheNode) → n.frozen ≡ true → FreezesAs b n m → m ≡ n
@@ -198,13 +185,11 @@ rests-as false n m f g = g
 
 pub paused-is : (w : Checkpoint) (c d : Lifecycle) → is_settled c ≡ true → Fits w c → Freezes c d → GoesOn w c d
 paused-is Absent (Up n) (Up m) s f g = pauses-as (is_storable n) n m g
-paused-is Absent (Up n) other s f g = absurd g
+paused-is (Pending bytes) (Up n) (Up m) s f g = on (Pending bytes) (Up n) (Up m) s f (ap Up (rests-as (is_storable n) n m f.0 g))
+paused-is Durable (Up n) (Up m) s f g = on Durable (Up n) (Up m) s f (ap Up (rests-as (is_storable n) n m f g))
+paused-is w (Up n) other s f g = absurd g
 paused-is Absent Passing d s f g = unsettled s
 paused-is Absent c d s f g = on Absent c d s f g
-paused-is (Pending bytes) (Up n) (Up m) s f g = on (Pending bytes) (Up n) (Up m) s f (ap Up (rests-as (is_storable n) n m f.0 g))
-paused-is (Pending bytes) (Up n) other s f g = absurd g
-paused-is Durable (Up n) (Up m) s f g = on Durable (Up n) (Up m) s f (ap Up (rests-as (is_storable n) n m f g))
-paused-is Durable (Up n) other s f g = absurd g
 paused-is w c d s f g = absurd f
 
 -- what is pending is stored

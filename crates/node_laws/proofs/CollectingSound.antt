@@ -1,8 +1,7 @@
 -- What a process that collects says of lives, and hears of them
 use Rattle.node.specs.declared.limit.Limits.{Limits}
-use Rattle.std.proofs.Common.{◌≡◌, ◌≢◌, ℕ, zero, suc, ◌+◌, ◌<◌, ◌≤◌, List, [], ◌∷◌, length, Bool, true, false, refl, sym, ap, ◌∙◌, subst, arith}
-use Rattle.std.specs.Prelude.{not, ◌&&◌, ◌==◌, nat_lt, nat_le, slice_index_or, slice_set, replicate}
-use Rattle.std.proofs.lemmas.Bool.Decides.{nat_tests}
+use Rattle.std.proofs.Common.{◌≡◌, ◌≢◌, ℕ, zero, suc, ◌+◌, ◌<◌, ◌≤◌, List, [], ◌∷◌, length, true, false, refl, sym, ap, ◌∙◌, subst, arith}
+use Rattle.std.specs.Prelude.{◌&&◌, ◌==◌, nat_lt, slice_index_or, slice_set, replicate}
 use Rattle.std.proofs.lemmas.List.{get_or-set_other, length-set, length-replicate}
 use Rattle.theorems.proofs.Tests.{both}
 use Rattle.packets.specs.declared.packet.Body as bodies
@@ -13,14 +12,16 @@ use Rattle.packets.specs.declared.page.Flags.{Flags}
 use Rattle.packets.specs.declared.kept.Kept.{Kept}
 use Rattle.packets.specs.Packet.{in_range, is_done, is_lost, is_exact}
 use Rattle.gateway.proofs.Steps.{by-if}
-use Rattle.recovery.specs.Own.{posts, is_for, hears, learns}
+use Rattle.recovery.specs.Own.{TheOwn, posts, is_for, hears, learns}
 use Rattle.recovery.specs.Overlap.{heard_of, tells_loss}
 use Rattle.recovery.specs.Collected.{TheCollected, none_told, with_page}
 use Rattle.recovery.specs.Collection.{TheCollecting, told_of, asks, asks_below, asked, begins, answers, took_page, asks_anew, asked_by, heard, handed}
 use Rattle.recovery.specs.Plan.{has_all}
 use Rattle.recovery.proofs.Plans.{all-below}
-use Rattle.node_laws.proofs.Sound.{Says, IsSound}
-use Rattle.node_laws.proofs.OwnSound.{Keeps, IsAlone, HasHeard, of-other, heard-same, heard-other, stays, onward, alone-still, posting, losing}
+use Rattle.recovery.proofs.Reports.{is-answer}
+use Rattle.recovery.proofs.Posts.{for-own}
+use Rattle.node_laws.proofs.Sound.{Says, IsSound, set-at, same-at}
+use Rattle.node_laws.proofs.OwnSound.{Keeps, IsAlone, HasHeard, stays, onward, alone-still, posting, losing}
 
 -- of each other that has told all it heard of the life of now
 pub record Hears (lives : ℕ → ℕ) (top : ℕ) (n : TheCollecting) : Type 0 where
@@ -36,11 +37,6 @@ none-done : (told : List TheCollected) (q k : ℕ) → (told_of (slice_set told 
 none-done [] q k = refl
 none-done (t ∷ told) zero k = refl
 none-done (t ∷ told) (suc q) k = none-done told q k
-
-none-else : (m k q : ℕ) → (told_of (replicate m (none_told k)) q).done ≡ false
-none-else zero k q = refl
-none-else (suc m) k zero = refl
-none-else (suc m) k (suc q) = none-else m k q
 
 -- where all have told, it has heard of all
 pub heard-all : (lives : ℕ → ℕ) (top : ℕ) (n : TheCollecting) → n.own.count ≡ top → has_all n ≡ true → Hears lives top n → HasHeard lives top n.own
@@ -75,38 +71,25 @@ module _ (lives : ℕ → ℕ) (back : ℕ → Type 0) (top : ℕ) where
   pub asks-all : (n : TheCollecting) → IsAlone lives back top n.own → On n (asked n)
   asks-all n a = asks-each n.own.me (n.own.count + 1) n a
 
+  -- what it heard and what was told are changed at one place
+  hears-set : (n : TheCollecting) (o : TheOwn) (q j : ℕ) (t : TheCollected) → o.me ≡ n.own.me → o.heard ≡ slice_set n.own.heard q j → ((told_of (slice_set n.told q t) q).done ≡ true → j ≡ lives q) → Hears lives top n → Hears lives top (record { own = o; told = slice_set n.told q t })
+  hears-set n o q j t me same now h =
+      record {
+        wide = (let e : length o.heard ≡ length n.own.heard = ap length same ∙ length-set n.own.heard q j in let w = h.wide in omega (arith, e, w));
+        all = λ r inside other done. subst (λ (xs : List ℕ). lives r ≤ slice_index_or xs r 0) (sym same)
+            (set-at (λ z. lives r ≤ z) n.own.heard q j r 0 (let w = h.wide in omega (arith, w, inside))
+            (λ e. let at : lives r ≡ lives q = ap lives e in let is : j ≡ lives q = now (subst (λ z. (told_of (slice_set n.told q t) z).done ≡ true) e done) in omega (arith, at, is))
+            (λ o. h.all r inside (λ e. other (e ∙ sym me)) (ap (λ (z : TheCollected). z.done) (sym (get_or-set_other n.told q r t (none_told 0) o)) ∙ done)));
+      }
+
   -- ---- a page comes
 
   page : (from j : ℕ) (flags : Flags) (entries : List LoggedMessage) (n : TheCollecting) → IsAlone lives back top n.own → from ≤ top → is_lost flags ≡ false → is_exact flags ≡ true → j ≡ lives from → On n (took_page from j flags entries n)
   page from j flags entries n a low lost exact now =
       let m : TheCollecting = record { own = learns from j flags n.own; told = slice_set n.told from (with_page (is_done flags) entries (told_of n.told from)) } in
       let own : Keeps lives back n.own m.own = record { me = refl; count = refl; life = refl; exact = λ e. rw (e, lost, exact) refl; out = λ o. o } in
-      let here : On n m = record { own = own; hears = λ h. hears-page h } in
+      let here : On n m = record { own = own; hears = λ h. hears-set n m.own from j (with_page (is_done flags) entries (told_of n.told from)) refl refl (λ d. now) h } in
       next n m (asks from m) here (asks-one from m (alone-still lives back top n.own m.own own a))
-    where
-      told : List TheCollected
-      told = slice_set n.told from (with_page (is_done flags) entries (told_of n.told from))
-
-      hears-page : Hears lives top n → Hears lives top (record { own = learns from j flags n.own; told = slice_set n.told from (with_page (is_done flags) entries (told_of n.told from)) })
-      hears-page h =
-          record {
-            wide = (let e : length (slice_set n.own.heard from j) ≡ length n.own.heard = length-set n.own.heard from j in let w = h.wide in omega (arith, e, w));
-            all = λ q inside other done. split q inside other done (q == from) refl;
-          }
-        where
-          split : (q : ℕ) → q ≤ top → q ≢ n.own.me → (told_of (slice_set n.told from (with_page (is_done flags) entries (told_of n.told from))) q).done ≡ true → (b : Bool) → (q == from) ≡ b → lives q ≤ slice_index_or (slice_set n.own.heard from j) q 0
-          split q inside other done true e =
-              let here : q ≡ from = grind (arith, nat_tests) in
-              let P : ℕ → Type 0 = λ z. lives z ≤ slice_index_or (slice_set n.own.heard from j) z 0 in
-              let w = h.wide in
-              let k : slice_index_or (slice_set n.own.heard from j) from 0 ≡ j = heard-same n.own.heard from j (omega (arith, w, low)) in
-              subst P (sym here) (let l : lives from ≤ slice_index_or (slice_set n.own.heard from j) from 0 = omega (arith, k, now) in l)
-          split q inside other done false e =
-              let apart : q ≢ from = grind (arith, nat_tests) in
-              let t : told_of (slice_set n.told from (with_page (is_done flags) entries (told_of n.told from))) q ≡ told_of n.told q = get_or-set_other n.told from q (with_page (is_done flags) entries (told_of n.told from)) (none_told 0) apart in
-              let l : lives q ≤ slice_index_or n.own.heard q 0 = h.all q inside other (ap (λ (z : TheCollected). z.done) (sym t) ∙ done) in
-              let k : slice_index_or (slice_set n.own.heard from j) q 0 ≡ slice_index_or n.own.heard q 0 = heard-other n.own.heard from q j apart in
-              omega (arith, k, l)
 
   -- ---- an Ask comes
 
@@ -114,28 +97,8 @@ module _ (lives : ℕ → ℕ) (back : ℕ → Type 0) (top : ℕ) where
   anew q i n a =
       let m : TheCollecting = record { own = record (hears q i n.own) { lost = slice_set n.own.lost q false }; told = slice_set n.told q (none_told n.own.base) } in
       let own : Keeps lives back n.own m.own = record { me = refl; count = refl; life = refl; exact = λ e. e; out = λ o. o } in
-      let here : On n m = record { own = own; hears = λ h. hears-anew h } in
+      let here : On n m = record { own = own; hears = λ h. hears-set n m.own q i (none_told n.own.base) refl refl (λ d. absurd (let z : true ≡ false = sym d ∙ none-done n.told q n.own.base in cc (z))) h } in
       next n m (asks q m) here (asks-one q m (alone-still lives back top n.own m.own own a))
-    where
-      hears-anew : Hears lives top n → Hears lives top (record { own = record (hears q i n.own) { lost = slice_set n.own.lost q false }; told = slice_set n.told q (none_told n.own.base) })
-      hears-anew h =
-          record {
-            wide = (let e : length (slice_set n.own.heard q i) ≡ length n.own.heard = length-set n.own.heard q i in let w = h.wide in omega (arith, e, w));
-            all = λ r inside other done. split r inside other done (r == q) refl;
-          }
-        where
-          split : (r : ℕ) → r ≤ top → r ≢ n.own.me → (told_of (slice_set n.told q (none_told n.own.base)) r).done ≡ true → (b : Bool) → (r == q) ≡ b → lives r ≤ slice_index_or (slice_set n.own.heard q i) r 0
-          split r inside other done true e =
-              let here : r ≡ q = grind (arith, nat_tests) in
-              let P : ℕ → Type 0 = λ z. (told_of (slice_set n.told q (none_told n.own.base)) z).done ≡ true in
-              let t : (told_of (slice_set n.told q (none_told n.own.base)) q).done ≡ true = subst P here done in
-              absurd (let z : true ≡ false = sym t ∙ none-done n.told q n.own.base in cc (z))
-          split r inside other done false e =
-              let apart : r ≢ q = grind (arith, nat_tests) in
-              let t : told_of (slice_set n.told q (none_told n.own.base)) r ≡ told_of n.told r = get_or-set_other n.told q r (none_told n.own.base) (none_told 0) apart in
-              let l : lives r ≤ slice_index_or n.own.heard r 0 = h.all r inside other (ap (λ (z : TheCollected). z.done) (sym t) ∙ done) in
-              let k : slice_index_or (slice_set n.own.heard q i) r 0 ≡ slice_index_or n.own.heard r 0 = heard-other n.own.heard q r i apart in
-              omega (arith, k, l)
 
   -- it tells that one, which is up, that all is lost
   loses : (q i k : ℕ) (n : TheCollecting) → IsAlone lives back top n.own → q ≢ n.own.me → i ≤ lives q → On n (record n { own = tells_loss q i k n.own })
@@ -158,10 +121,7 @@ module _ (lives : ℕ → ℕ) (back : ℕ → Type 0) (top : ℕ) where
   says from to (packets.Told i j k flags entries) n a here low other s =
       by-if (On n) (in_range (packets.Told i j k flags entries) && answers from i j k n) (took_page from j flags entries n) n
       (λ e. let t = both (in_range (packets.Told i j k flags entries)) (answers from i j k n) e in
-      let u = both ((i == n.own.life) && nat_le (heard_of from n.own) j && not (told_of n.told from).done) (k == (told_of n.told from).cursor) t.1 in
-      let v = both ((i == n.own.life) && nat_le (heard_of from n.own) j) (not (told_of n.told from).done) u.0 in
-      let w = both (i == n.own.life) (nat_le (heard_of from n.own) j) v.0 in
-      let now : i ≡ n.own.life = (let z = w.0 in grind (arith, nat_tests)) in
+      let now : i ≡ n.own.life = (is-answer n from i j k t.1).life in
       let good = s.1 (subst back (sym here) a.here) (now ∙ a.life ∙ ap lives (sym here)) in
       page from j flags entries n a low good.0 good.1.0 good.1.1)
       (λ e. same n)
@@ -171,7 +131,7 @@ module _ (lives : ℕ → ℕ) (back : ℕ → Type 0) (top : ℕ) where
   pub hands : (x : NodePacket) (n : TheCollecting) → IsAlone lives back top n.own → IsSound lives back x → On n (handed x n)
   hands x n a s =
       by-if (On n) (is_for n.own x) (heard x.from x.body n) n
-      (λ e. let p = of-other n.own x e in
+      (λ e. let p = for-own n.own x e in
       says x.from x.to x.body n a p.0 (let l = p.1.0 in let c = a.count in omega (arith, l, c)) p.1.1 s)
       (λ e. same n)
 
@@ -182,5 +142,5 @@ module _ (lives : ℕ → ℕ) (back : ℕ → Type 0) (top : ℕ) where
   begun limits k life count =
       record {
         wide = (let zeros : List ℕ = replicate (k.count + 1) 0 in let e : length (slice_set zeros 0 1) ≡ length zeros = length-set zeros 0 1 in let r : length zeros ≡ k.count + 1 = length-replicate (k.count + 1) 0 in omega (arith, e, r, count));
-        all = λ q inside other done. absurd (let z : true ≡ false = sym done ∙ none-else (k.count + 1) k.length q in cc (z));
+        all = λ q inside other done. absurd (let z : true ≡ false = sym done ∙ same-at (λ (t : TheCollected). t.done ≡ false) (k.count + 1) q (none_told k.length) (none_told 0) refl refl in cc (z));
       }

@@ -1,6 +1,6 @@
 -- What a process holds in each stage, and what its calls make of that
-use Rattle.std.proofs.Common.{◌≡◌, ◌≢◌, inl, inr, ℕ, zero, suc, ◌+◌, ◌≤◌, List, [], ◌∷◌, ◌++◌, length, map, take, Bool, true, refl, sym, ap, ◌∙◌, subst, arith, append_assoc, append-nil}
-use Rattle.std.specs.Prelude.{◌⊎◌, Option, Some, None, nat_le, ◌==◌}
+use Rattle.std.proofs.Common.{◌≡◌, ◌≢◌, inl, inr, ℕ, suc, ◌+◌, ◌≤◌, List, [], ◌∷◌, ◌++◌, length, map, take, Bool, true, refl, sym, ap, ◌∙◌, subst, arith, append_assoc, append-nil}
+use Rattle.std.specs.Prelude.{◌⊎◌, Option, Some, None, nat_le}
 use Rattle.std.proofs.lemmas.Bool.Decides.{nat_tests}
 use Rattle.std.proofs.lemmas.List.{length-append, length-map, take_all}
 use Rattle.theorems.specs.Growth.{Begins, Grows}
@@ -15,7 +15,7 @@ use Rattle.packets.proofs.KeptLemmas.{one_kept}
 use Rattle.node.specs.declared.limit.Limits.{Limits}
 use Rattle.node.specs.declared.job.OpenJob.{OpenJob}
 use Rattle.node.specs.Node.{TheNode}
-use Rattle.node.specs.Calls.{handed, did_work}
+use Rattle.node.specs.Calls.{did_work}
 use Rattle.node.specs.Transmission.{ticked}
 use Rattle.node.specs.Checkpoints.{froze}
 use Rattle.node.specs.Suspension.{woken}
@@ -23,31 +23,24 @@ use Rattle.node.specs.Kept.{kept_of, with_own}
 use Rattle.node.specs.Stands.{Each, job_of, payloads_to}
 use Rattle.node.specs.Runs.{Answer, Answering, handlers_of, state_from, sends_from}
 use Rattle.node.proofs.Runs.{grows, state-more, sends-more}
-use Rattle.gateway.proofs.Steps.{by-if}
 use Rattle.recovery.specs.Own.{TheOwn}
 use Rattle.recovery.specs.Overlap as meeting
-use Rattle.recovery.specs.Collection.{TheCollecting, begins, revived, asks, asks_below}
+use Rattle.recovery.specs.Collection.{TheCollecting, begins, revived}
 use Rattle.recovery.specs.Replays.{TheReplaying, next_job, next_number, did_replay, is_over, receipts_of}
 use Rattle.recovery.specs.StandsAtReplay.{replayed_of}
 use Rattle.recovery.specs.Restoration.{TheRestoring}
+use Rattle.recovery.specs.Collected.{TheCollected, none_told}
+use Rattle.node_laws.proofs.Sound.{same-at}
 use Rattle.node_laws.specs.Inside.Process.{Process, Up, Covered, Collects, Replays, Replayed, Restores, Killed, Gives, Hears, Works, Acts, WaitsFor, covered, IsTold, Wakes, ComesFrom}
 use Rattle.node_laws.specs.Durable.{IsAfter}
-use Rattle.node_laws.specs.Inside.Durable.{ReplaysAll}
 use Rattle.recovery.specs.Plan.{IsCovered, Plans, told_under}
 use Rattle.node_laws.proofs.Taken.{IsFair, IsSent, IsIn, HasTaken, sender_of, taken-plan, told-good, taken-more}
+use Rattle.node_laws.proofs.Chains.{revived-limits}
+use Rattle.node_laws.proofs.Losses.{handed-rests, ticked-rests, froze-rests}
 use Rattle.node_laws.proofs.HeldNode as nodes
 use Rattle.node_laws.proofs.HeldState.{IsGiven, OfNode, given-still, node-more}
 use Rattle.node_laws.proofs.HeldOwn as owns
-use Rattle.node_laws.proofs.HeldOwn.{OfOwn, OnCollecting, OnRestoring, planning, own-more, told-later, none-were-told}
-
-handed-rests : (x : NodePacket) (n : TheNode) → n.frozen ≡ true → handed x n ≡ n
-handed-rests x n e = rw e refl
-
-ticked-rests : (n : TheNode) → n.frozen ≡ true → ticked n ≡ n
-ticked-rests n e = rw e refl
-
-froze-rests : (n : TheNode) → n.frozen ≡ true → froze n ≡ n
-froze-rests n e = rw e refl
+use Rattle.node_laws.proofs.HeldOwn.{OfOwn, OnCollecting, OnRestoring, planning, own-more, told-later}
 
 -- these bytes are what it has after these messages, which it received so
 abbrev pub IsStored : ℕ → Handlers → ℕ → (ℕ → Bool) → (ℕ → List Payload) → List Message → List ℕ → Type 0
@@ -186,32 +179,31 @@ module _ (f : Answering) (states : ℕ → List ℕ) (top p : ℕ) (durable tell
       (taken-plan D In top p (told_under n.told n.own.count) h h n.own.covered [] (map job_of plan) good (plans h covers).follows own.taken)
 
   -- it acts, or goes on to its next stage
-  pub acting : (h : List Message) (old new : Process) → Acts old new → ReplaysAll old new → IsFor h old → IsFor h new
-  acting h (Up n) new g all s = subst (IsFor h) (sym g.1.0) (by_act g.1.1.0)
+  pub acting : (h : List Message) (old new : Process) → Acts old new → IsFor h old → IsFor h new
+  acting h (Up n) new g s = subst (IsFor h) (sym g.1.0) (by_act g.1.1.0)
     where
       by_act : (g.0 ≡ ticked n) ⊎ (g.0 ≡ froze n) → IsFor h (Up g.0)
       by_act (inl e) = subst (λ z. IsFor h (Up z)) (sym e) (s.0, nodes.ticking top F gr p durable tells D In h s.0 n s.1)
       by_act (inr e) = subst (λ z. IsFor h (Up z)) (sym e) (s.0, nodes.freezing top F gr p durable tells D In h s.0 n s.1)
-  acting h (Covered n) new g all s = subst (IsFor h) (sym (g.1.0 ∙ ap Covered (rests g.1.1))) s
+  acting h (Covered n) new g s = subst (IsFor h) (sym (g.1.0 ∙ ap Covered (rests g.1.1))) s
     where
       rests : (g.0 ≡ ticked n) ⊎ (g.0 ≡ froze n) → g.0 ≡ n
       rests (inl e) = e ∙ ticked-rests n s.1.1
       rests (inr e) = e ∙ froze-rests n s.1.1
-  acting h (Collects n) new (inl g) all s = subst (IsFor h) (sym (g.1.0 ∙ ap Collects g.1.1.0)) (owns.asks-all top F p durable tells D In h [] h h n s)
-  acting h (Collects n) new (inr g) all s =
+  acting h (Collects n) new (inl g) s = subst (IsFor h) (sym (g.1.0 ∙ ap Collects g.1.1.0)) (owns.asks-all top F p durable tells D In h [] h h n s)
+  acting h (Collects n) new (inr g) s =
       let r : TheReplaying = g.0 in
       let none : h ≡ h ++ map job_of (take r.done r.plan) = sym (append-nil h) ∙ ap (λ k. h ++ map job_of (take k r.plan)) (sym g.1.1.is.none) in
       let w : List Message = h ++ map job_of r.plan in
       let own : Own w (receipts_of r.plan).senders h h n.own = planning top F p durable tells D In h w [] (receipts_of r.plan).senders h h n.own s.0 (recovered h n r.plan s g.1.1.is.plans) in
       subst (IsFor h) (sym g.1.0) (subst (λ z. Own w (receipts_of r.plan).senders h z r.own) none (subst (Own w (receipts_of r.plan).senders h h) (sym g.1.1.is.own) own))
-  acting h (Replays n) new g all s =
-      let over : is_over n ≡ true = subst (ReplaysAll (Replays n)) g.1.0 all in
-      subst (IsFor h) (sym (g.1.0 ∙ ap Replayed g.1.1.0)) (ended h n over s)
-  acting h (Replayed n) new g all s =
+  acting h (Replays n) new g s =
+      subst (IsFor h) (sym (g.1.0 ∙ ap Replayed g.1.1.0)) (ended h n g.1.1.1.1 s)
+  acting h (Replayed n) new g s =
       subst (IsFor h) (sym (g.1.0 ∙ ap Restores g.1.1.0)) (s.0, (n.receipts.senders, owns.begin top F p durable tells D In s.0 n.receipts.senders h s.0 n (s.1.0, (s.1.1, (refl, refl)))))
-  acting h (Restores n) new (inl g) all s = subst (IsFor h) (sym (g.1.0 ∙ ap Restores g.1.1.0)) (s.0, (s.1.0, owns.resumes-all top F p durable tells D In s.0 s.1.0 h s.0 n s.1.1))
-  acting h (Restores n) new (inr g) all s = subst (IsFor h) (sym (g.1.0 ∙ ap Up g.1.1.0)) (s.0, owns.rising top F p durable tells D In s.0 s.1.0 h s.0 n s.1.1)
-  acting h Killed new g all s = absurd g
+  acting h (Restores n) new (inl g) s = subst (IsFor h) (sym (g.1.0 ∙ ap Restores g.1.1.0)) (s.0, (s.1.0, owns.resumes-all top F p durable tells D In s.0 s.1.0 h s.0 n s.1.1))
+  acting h (Restores n) new (inr g) s = subst (IsFor h) (sym (g.1.0 ∙ ap Up g.1.1.0)) (s.0, owns.rising top F p durable tells D In s.0 s.1.0 h s.0 n s.1.1)
+  acting h Killed new g s = absurd g
 
   -- its checkpoint is durable
   pub storing : (h : List Message) (bytes : List ℕ) (old : Process) → WaitsFor bytes old → IsFor h old → (to : List Message) × (Begins h to × (IsStored top F p D In to bytes × IsFor to (covered old)))
@@ -236,15 +228,6 @@ module _ (f : Answering) (states : ℕ → List ℕ) (top p : ℕ) (durable tell
   waking h limits (Up n) new g lasting s = subst (IsFor h) (sym (g.1.1.0 ∙ ap Up g.1.1.1)) (s.0, woken-on h s.0 limits n lasting s.1)
   waking h limits other new g lasting s = absurd g
 
--- the limits of one that comes back are those that it was given
-limits-below : (me d : ℕ) (n : TheCollecting) → (asks_below me d n).own.limits ≡ n.own.limits
-limits-below me zero n = refl
-limits-below me (suc d) n =
-    let m : TheCollecting = asks_below me d n in
-    let here : m.own.limits ≡ n.own.limits = limits-below me d n in
-    let P : TheCollecting → Type 0 = λ z. z.own.limits ≡ n.own.limits in
-    by-if P (d == me) m (asks d m) (λ e. here) (λ e. by-if P _ m _ (λ g. here) (λ g. here))
-
 module _ (f : Answering) (states : ℕ → List ℕ) (top p : ℕ) (durable tells : Bool) (D : ℕ → Bool) (In : ℕ → List Payload) (low : p ≤ top) where
   -- it comes back
   pub reviving : (h : List Message) (bytes : List ℕ) (life : ℕ) (n : TheCollecting) → ComesFrom bytes life n → (durable ≡ true → n.own.limits.durable ≡ true) → IsStored top (handlers_of f states) p D In h bytes
@@ -255,10 +238,10 @@ module _ (f : Answering) (states : ℕ → List ℕ) (top p : ℕ) (durable tell
       let is : n ≡ revived limits from.0 life = from.1.1.0.1 in
       let one : are.0 ≡ from.0 = one_kept are.0 from.0 bytes are.1.0 from.1.0 in
       let begun : TheCollecting = begins limits from.0 life in
-      let same : n.own.limits ≡ limits = ap (λ (z : TheCollecting). z.own.limits) is ∙ limits-below begun.own.me (begun.own.count + 1) begun in
+      let same : n.own.limits ≡ limits = ap (λ (z : TheCollecting). z.own.limits) is ∙ revived-limits limits from.0 life in
       let both_are = subst (λ (z : Kept). IsAfter top f2 p h z × HasTaken D In top p h h (with_own 0 z.me z.counts) []) one are.1.1 in
       let own = owns.coming top f2 p durable tells D In h limits from.0 life bytes from.1.0 both_are.0 both_are.1 (λ t. sym (ap (λ (z : Limits). z.durable) same) ∙ lasting t) in
-      let none = λ (q : ℕ). none-were-told (from.0.count + 1) q from.0.length in
+      let none = λ (q : ℕ). same-at (λ (t : TheCollected). t.entries ≡ []) (from.0.count + 1) q (none_told from.0.length) (none_told 0) refl refl in
       let all : OnCollecting top f2 p durable tells D In h [] h h begun = (own, (λ q d. subst (Each (IsSent (In q))) (sym (none q)) tt, none p)) in
       subst (OnCollecting top f2 p durable tells D In h [] h h) (sym is) (owns.asks-all top f2 p durable tells D In h [] h h begun all)
 

@@ -2,7 +2,7 @@
 use Rattle.std.proofs.Common.{◌≡◌, ◌≢◌, ℕ, zero, suc, ◌+◌, ◌-◌, ◌<◌, ◌≤◌, List, [], ◌∷◌, ◌++◌, length, drop, get_or, Bool, true, false, refl, sym, ap, ◌∙◌, subst, arith, append_assoc, append-nil}
 use Rattle.std.specs.Prelude.{Option, Some, None, map, slice_get, slice_index_or, slice_set, min, ◌==◌, if◌then◌else◌}
 use Rattle.std.proofs.lemmas.Bool.Decides.{nat_tests}
-use Rattle.std.proofs.lemmas.List.{get_or-set_same, get_or-set_other, get_or-drop, length-set, length-drop, drop-drop, drop-append-le}
+use Rattle.std.proofs.lemmas.List.{get_or-set_other, get_or-drop, length-set, length-drop, drop-drop, drop-append-le}
 use Rattle.world.specs.History.{Payload, nth}
 use Rattle.packets.specs.declared.page.Pair.{Pair}
 use Rattle.world.specs.Calls.{up_to}
@@ -13,6 +13,7 @@ use Rattle.node.specs.Stands.{Each, payloads_to}
 use Rattle.node.proofs.Logs.{length-push, leading-bound, leading-push, leading-none}
 use Rattle.recovery.specs.Intake.{noted, noted_from}
 use Rattle.node_laws.specs.Durable.{IsRest}
+use Rattle.node_laws.proofs.Sound.{set-at}
 use Rattle.node_laws.proofs.Taken.{IsLow, noted-none}
 
 -- it holds the rest of these messages. Where it is of a durable process, what it released and may release next is among the first of them
@@ -124,17 +125,7 @@ module _ (durable tells : Bool) (base most : ℕ) where
 
   -- where one log is changed
   pub changed-within : (P : TheQueue → Type 0) (logs : List TheQueue) (r : ℕ) (q : TheQueue) (d : ℕ) → d < length logs → (d ≡ r → P q) → (d ≢ r → P (log_at logs d)) → P (log_at (slice_set logs r q) d)
-  changed-within P logs r q d wide here there = split (d == r) refl
-    where
-      split : (b : Bool) → (d == r) ≡ b → P (log_at (slice_set logs r q) d)
-      split true e =
-          let same : d ≡ r = grind (arith, nat_tests) in
-          let inside : r < length logs = omega (arith, wide, same) in
-          let at : log_at (slice_set logs r q) d ≡ q = ap (log_at (slice_set logs r q)) same ∙ get_or-set_same logs r q no_queue inside in
-          subst P (sym at) (here same)
-      split false e =
-          let apart : d ≢ r = grind (arith, nat_tests) in
-          subst P (sym (get_or-set_other logs r d q no_queue apart)) (there apart)
+  changed-within P logs r q d wide here there = set-at P logs r q d no_queue wide here there
 
   -- what a handler gave is logged
   pub given-held : (k : ℕ) (given : List Given) (logs : List TheQueue) (d : ℕ) (xs : List Payload) → base < k → d < length logs → Has (log_at logs d) xs → Has (log_at (given_to k given logs) d) (xs ++ payloads_to d given)

@@ -25,12 +25,16 @@ IsQuiet (packets.Number i ssn k) = ⊥
 IsQuiet (packets.Restored i j n s flags pairs) = pairs ≡ []
 IsQuiet body = Unit {0}
 
-abbrev pub IsOwn : NodePacket → Type 0
-IsOwn x = (x.from ≡ 0) × IsQuiet x.body
+-- by itself it bears messages, says what was shown, and acknowledges
+abbrev pub IsPlain : bodies.Body → Type 0
+IsPlain (packets.Delivery i ssn x) = Unit {0}
+IsPlain (packets.Acknowledgement i k) = Unit {0}
+IsPlain (packets.Saved k) = Unit {0}
+IsPlain other = ⊥
 
--- what waits to be sent is its own; and of its store this holds
-pub record OfGateway (Q : TheStore → Type 0) (g : TheGateway) : Type 0 where
-  pub out : Each IsOwn g.out
+-- what waits to be sent is so; and of its store this holds
+pub record Held (Own : NodePacket → Type 0) (Q : TheStore → Type 0) (g : TheGateway) : Type 0 where
+  pub out : Each Own g.out
   pub store : Q g.store
 
 -- it does so whatever else changes of a process than how many of its outputs were shown
@@ -46,11 +50,6 @@ abbrev pub TakesOutput : (TheStore → Type 0) → NodePacket → TheGateway →
 TakesOutput Q x g =
     x.to ≡ 0 → IsOf x.from g.store → (i ssn : ℕ) (y : List ℕ) → x.body ≡ packets.Delivery i ssn y → is_next (output x.from ssn y) g ≡ true → Q g.store → Q (applied (changes.Shown (output x.from ssn y)) g.store)
 
--- by what its host lets it do the gateway hands out nothing, or the first output that waits
-abbrev pub HandsOne : (TheStore → Type 0) → TheGateway → TheGateway → Type 0
-HandsOne Q g new =
-    (OfGateway Q new × (handed_out g new ≡ [])) ⊎ ((o : Output) × ((os : List Output) × ((g.store.outputs ≡ o ∷ os) × ((new ≡ happens (changes.Taken 1) g) × (handed_out g new ≡ o ∷ [])))))
-
 -- what is sent again changes nothing in its store
 sent-each : (p : ℕ) (ss : List ℕ) (g : TheGateway) → (delivers_each p ss g).store ≡ g.store
 sent-each p [] g = refl
@@ -63,23 +62,65 @@ ticked-each (suc k) g =
     sent-each (suc k) (take m.tick (unnumbered (peer_of (suc k) m).dropped (peer_of (suc k) m).entries)) m ∙ ticked-each k g
 
 -- where as many outputs wait as before, none was handed out
-pub none-out : (g new : TheGateway) → new.store.outputs ≡ g.store.outputs → handed_out g new ≡ []
+none-out : (g new : TheGateway) → new.store.outputs ≡ g.store.outputs → handed_out g new ≡ []
 none-out g new e =
     let none : length g.store.outputs - length new.store.outputs ≡ 0 = omega (arith, ap length e) in
     ap (λ k. take k g.store.outputs) none
 
-pub ticked-outputs : (g new : TheGateway) → new ≡ ticked g → new.store.outputs ≡ g.store.outputs
+ticked-outputs : (g new : TheGateway) → new ≡ ticked g → new.store.outputs ≡ g.store.outputs
 ticked-outputs g new e = ap (λ (z : TheGateway). z.store.outputs) e ∙ ap (λ (z : TheStore). z.outputs) (ticked-each (length g.store.peers) g)
 
-module _ (Q : TheStore → Type 0) (steady : Steady Q) where
-  abbrev On : TheGateway → Type 0
-  On g = OfGateway Q g
+-- it hands out the first output, and no other
+pub record HandsOut (g new : TheGateway) : Type 0 where
+  pub output : Output
+  pub rest : List Output
+  pub waited : g.store.outputs ≡ output ∷ rest
+  pub is : new ≡ happens (changes.Taken 1) g
+  pub handed : handed_out g new ≡ output ∷ []
 
-  posting : (to : ℕ) (x : bodies.Body) (g : TheGateway) → IsQuiet x → On g → On (posts to x g)
-  posting to x g q s = record { out = all-pushed IsOwn g.out (packet_of g to x) s.out (refl, q); store = s.store }
+-- it hands out nothing: an input comes, it sends again what isn't answered, or it tells what happened
+abbrev pub IsQuietDeal : TheGateway → TheGateway → Type 0
+IsQuietDeal g new = PutIn g new ⊎ ((new ≡ ticked g) ⊎ (new ≡ record g { changes = [] }))
+
+-- it does one of these, or nothing
+abbrev pub DealsSo : TheGateway → TheGateway → Type 0
+DealsSo g new = HandsOut g new ⊎ ((handed_out g new ≡ []) × ((new ≡ g) ⊎ IsQuietDeal g new))
+
+hands-so : (g new : TheGateway) → new ≡ hands_out g → DealsSo g new
+hands-so g new e = split g.store.outputs refl
+  where
+    split : (outs : List Output) → g.store.outputs ≡ outs → DealsSo g new
+    split [] none =
+        let few : nat_lt 0 (length g.store.outputs) ≡ false = (let z : length g.store.outputs ≡ 0 = ap length none in grind (arith, nat_tests)) in
+        let same : new ≡ g = e ∙ ap (λ b. if b then happens (changes.Taken 1) g else g) few in
+        inr (none-out g new (ap (λ (z : TheGateway). z.store.outputs) same), inl same)
+    split (o ∷ os) some =
+        let many : nat_lt 0 (length g.store.outputs) ≡ true = (let z : length g.store.outputs ≡ suc (length os) = ap length some in grind (arith, nat_tests)) in
+        let is : new ≡ happens (changes.Taken 1) g = e ∙ ap (λ b. if b then happens (changes.Taken 1) g else g) many in
+        let left : new.store.outputs ≡ os = ap (λ (z : TheGateway). z.store.outputs) is ∙ ap (drop 1) some in
+        let one : length (o ∷ os) - length os ≡ 1 = omega arith in
+        let out : handed_out g new ≡ take (length (o ∷ os) - length os) (o ∷ os) =
+        ap (λ z. take (length g.store.outputs - length z) g.store.outputs) left ∙ ap (λ z. take (length z - length os) z) some in
+        inl (record { output = o; rest = os; waited = some; is = is; handed = out ∙ ap (λ k. take k (o ∷ os)) one })
+
+pub deals-so : (g new : TheGateway) → Deals g new → DealsSo g new
+deals-so g new (inl d) = inr (none-out g new (ap (λ (z : TheGateway). z.store.outputs) d.1.1.0), inr (inl d))
+deals-so g new (inr (inl e)) = hands-so g new e
+deals-so g new (inr (inr (inl e))) = inr (none-out g new (ticked-outputs g new e), inr (inr (inl e)))
+deals-so g new (inr (inr (inr e))) = inr (none-out g new (ap (λ (z : TheGateway). z.store.outputs) e), inr (inr (inr e)))
+
+module _ (Own : NodePacket → Type 0) (plain : (to : ℕ) (b : bodies.Body) (g : TheGateway) → IsPlain b → Own (packet_of g to b)) (Q : TheStore → Type 0) (steady : Steady Q) where
+  abbrev On : TheGateway → Type 0
+  On g = Held Own Q g
+
+  posting : (to : ℕ) (x : bodies.Body) (g : TheGateway) → Own (packet_of g to x) → On g → On (posts to x g)
+  posting to x g o s = record { out = all-pushed Own g.out (packet_of g to x) s.out o; store = s.store }
+
+  posting-plain : (to : ℕ) (x : bodies.Body) (g : TheGateway) → IsPlain x → On g → On (posts to x g)
+  posting-plain to x g p s = posting to x g (plain to x g p) s
 
   delivering : (p ssn : ℕ) (g : TheGateway) → On g → On (delivers p ssn g)
-  delivering p ssn g s = posting p (packets.Delivery 1 ssn (payload_of ssn (peer_of p g))) g tt s
+  delivering p ssn g s = posting-plain p (packets.Delivery 1 ssn (payload_of ssn (peer_of p g))) g tt s
 
   delivering-each : (p : ℕ) (ss : List ℕ) (g : TheGateway) → On g → On (delivers_each p ss g)
   delivering-each p [] g o = o
@@ -95,44 +136,27 @@ module _ (Q : TheStore → Type 0) (steady : Steady Q) where
   changing : (k : Change) (p : ℕ) (new : ThePeer) (g : TheGateway) → applied k g.store ≡ with_peer p new g.store → new.shown ≡ (peer_of p g).shown → On g → On (happens k g)
   changing k p new g is same s = record { out = s.out; store = subst Q (sym is) (steady p new g.store same s.store) }
 
-  -- what its host lets it do
-  hands-one : (g new : TheGateway) → new ≡ hands_out g → On g → HandsOne Q g new
-  hands-one g new e s = split g.store.outputs refl
-    where
-      split : (outs : List Output) → g.store.outputs ≡ outs → HandsOne Q g new
-      split [] none =
-          let few : nat_lt 0 (length g.store.outputs) ≡ false = (let e : length g.store.outputs ≡ 0 = ap length none in grind (arith, nat_tests)) in
-          let same : new ≡ g = e ∙ ap (λ b. if b then happens (changes.Taken 1) g else g) few in
-          inl (subst On (sym same) s, none-out g new (ap (λ (z : TheGateway). z.store.outputs) same))
-      split (o ∷ os) some =
-          let many : nat_lt 0 (length g.store.outputs) ≡ true = (let e : length g.store.outputs ≡ suc (length os) = ap length some in grind (arith, nat_tests)) in
-          let is : new ≡ happens (changes.Taken 1) g = e ∙ ap (λ b. if b then happens (changes.Taken 1) g else g) many in
-          let left : new.store.outputs ≡ os = ap (λ (z : TheGateway). z.store.outputs) is ∙ ap (drop 1) some in
-          let one : length (o ∷ os) - length os ≡ 1 = omega arith in
-          let out : handed_out g new ≡ take (length (o ∷ os) - length os) (o ∷ os) =
-          ap (λ z. take (length g.store.outputs - length z) g.store.outputs) left ∙ ap (λ z. take (length z - length os) z) some in
-          inr (o, (os, (some, (is, out ∙ ap (λ k. take k (o ∷ os)) one))))
-
   -- an input comes
-  pub puts : (g new : TheGateway) → PutIn g new → On g → On new
+  puts : (g new : TheGateway) → PutIn g new → On g → On new
   puts g new d s =
       let m : TheGateway = happens (changes.Input d.0 d.1.0) g in
       let goes : On (puts_in d.0 d.1.0 g) = delivering d.0 (last_of (peer_of d.0 g) + 1) m (changing (changes.Input d.0 d.1.0) d.0 (appended d.1.0 (peer_of d.0 g)) g refl refl s) in
       subst On (sym d.1.1.0) goes
 
   -- it sends again what isn't answered
-  pub ticks : (g new : TheGateway) → new ≡ ticked g → On g → On new
+  ticks : (g new : TheGateway) → new ≡ ticked g → On g → On new
   ticks g new e s = subst On (sym e) (ticking (length g.store.peers) g s)
 
   -- it tells what happened
-  pub tells : (g new : TheGateway) → new ≡ record g { changes = [] } → On g → On new
+  tells : (g new : TheGateway) → new ≡ record g { changes = [] } → On g → On new
   tells g new e s = let goes : On (record g { changes = [] }) = record { out = s.out; store = s.store } in subst On (sym e) goes
 
-  pub deals : (g new : TheGateway) → Deals g new → On g → HandsOne Q g new
-  deals g new (inl d) s = inl (puts g new d s, none-out g new (ap (λ (z : TheGateway). z.store.outputs) d.1.1.0))
-  deals g new (inr (inl e)) s = hands-one g new e s
-  deals g new (inr (inr (inl e))) s = inl (ticks g new e s, none-out g new (ticked-outputs g new e))
-  deals g new (inr (inr (inr e))) s = inl (tells g new e s, none-out g new (ap (λ (z : TheGateway). z.store.outputs) e))
+  -- it hands out nothing
+  pub quiet : (g new : TheGateway) → (new ≡ g) ⊎ IsQuietDeal g new → On g → On new
+  quiet g new (inl same) s = subst On (sym same) s
+  quiet g new (inr (inl put)) s = puts g new put s
+  quiet g new (inr (inr (inl is))) s = ticks g new is s
+  quiet g new (inr (inr (inr is))) s = tells g new is s
 
   -- ---- what a process says
 
@@ -141,13 +165,13 @@ module _ (Q : TheStore → Type 0) (steady : Steady Q) where
       let m : TheGateway = if is_next o g then happens (changes.Shown o) g else g in
       let here : On m = by-if On (is_next o g) (happens (changes.Shown o) g) g (λ e. record { out = s.out; store = good e s.store }) (λ e. s) in
       by-if On (not (i == (peer_of o.process g).heard) || nat_lt ((peer_of o.process g).shown + 1) o.ssn) g (says_shown o.process m) (λ e. s)
-      (λ e. posting o.process (packets.Saved (peer_of o.process m).shown) m tt here)
+      (λ e. posting-plain o.process (packets.Saved (peer_of o.process m).shown) m tt here)
 
   number : (p i ssn k : ℕ) (g : TheGateway) → On g → On (recorded_by p i ssn k g)
   number p i ssn k g s =
       let m : TheGateway = happens (changes.Numbered p ssn k) g in
       by-if On ((i == (peer_of p g).heard) && is_kept ssn (peer_of p g)) (posts p (packets.Acknowledgement i k) m) g
-      (λ e. posting p (packets.Acknowledgement i k) m tt (changing (changes.Numbered p ssn k) p (recorded ssn k (peer_of p g)) g refl refl s)) (λ e. s)
+      (λ e. posting-plain p (packets.Acknowledgement i k) m tt (changing (changes.Numbered p ssn k) p (recorded ssn k (peer_of p g)) g refl refl s)) (λ e. s)
 
   drops : (p k : ℕ) (g : TheGateway) → On g → On (dropped_by p k g)
   drops p k g s =
@@ -157,29 +181,35 @@ module _ (Q : TheStore → Type 0) (steady : Steady Q) where
   hearing : (p i : ℕ) (resumed : Bool) (g : TheGateway) → On g → On (happens (changes.Heard p i resumed) g)
   hearing p i resumed g s = changing (changes.Heard p i resumed) p (hears i resumed (peer_of p g)) g refl refl s
 
-  asking : (p i k : ℕ) (g : TheGateway) → On g → On (asked p i k g)
-  asking p i k g s =
+  asking : (p i k : ℕ) (g : TheGateway) → ((m : TheGateway) → Own (packet_of m p (told_of p i k g))) → On g → On (asked p i k g)
+  asking p i k g own s =
       let m : TheGateway = if i == (peer_of p g).heard then g else happens (changes.Heard p i false) g in
       let here : On m = by-if On (i == (peer_of p g).heard) g (happens (changes.Heard p i false) g) (λ e. s) (λ e. hearing p i false g s) in
-      by-if On (nat_lt i (peer_of p g).heard) g (posts p (told_of p i k g) m) (λ e. s) (λ e. posting p (told_of p i k g) m tt here)
+      by-if On (nat_lt i (peer_of p g).heard) g (posts p (told_of p i k g) m) (λ e. s) (λ e. posting p (told_of p i k g) m (own m) here)
 
-  resuming : (p i k r : ℕ) (g : TheGateway) → On g → On (resumed_by p i k r g)
-  resuming p i k r g s =
+  resuming : (p i k r : ℕ) (g : TheGateway) → ((m : TheGateway) → Own (packet_of m p (restored_of p i r m))) → On g → On (resumed_by p i k r g)
+  resuming p i k r g own s =
       let m : TheGateway = if (peer_of p g).resumed then g else obeyed p i k g in
       let here : On m = by-if On (peer_of p g).resumed g (obeyed p i k g) (λ e. s)
       (λ e. hearing p i true (happens (changes.Forgotten p k) g) (changing (changes.Forgotten p k) p (forgets k (peer_of p g)) g refl refl s)) in
-      by-if On (i == (peer_of p g).heard) (restores p i r m) g (λ e. posting p (restored_of p i r m) m refl here) (λ e. s)
+      by-if On (i == (peer_of p g).heard) (restores p i r m) g (λ e. posting p (restored_of p i r m) m (own m) here) (λ e. s)
 
-  told-on : (from : ℕ) (b : bodies.Body) (g : TheGateway) → ((i ssn : ℕ) (x : List ℕ) → b ≡ packets.Delivery i ssn x → is_next (output from ssn x) g ≡ true → Q g.store → Q (applied (changes.Shown (output from ssn x)) g.store)) → On g → On (told from b g)
-  told-on from (packets.Delivery i ssn x) g good s = delivery i (output from ssn x) g (good i ssn x refl) s
-  told-on from (packets.Number i ssn k) g good s = number from i ssn k g s
-  told-on from (packets.Saved k) g good s = drops from k g s
-  told-on from (packets.Ask i k) g good s = asking from i k g s
-  told-on from (packets.Resume i k r) g good s = resuming from i k r g s
-  told-on from other g good s = s
+  -- what it answers is so
+  abbrev pub AnswersSo : ℕ → bodies.Body → TheGateway → Type 0
+  AnswersSo p (packets.Ask i k) g = (m : TheGateway) → Own (packet_of m p (told_of p i k g))
+  AnswersSo p (packets.Resume i k r) g = (m : TheGateway) → Own (packet_of m p (restored_of p i r m))
+  AnswersSo p other g = Unit {0}
 
-  pub hands : (x : NodePacket) (g : TheGateway) → TakesOutput Q x g → On g → On (handed x g)
-  hands x g good s = by-if On (is_for g x) (told x.from x.body g) g (λ e. let h = here e in told-on x.from x.body g (good h.0 h.1) s) (λ e. s)
+  told-on : (from : ℕ) (b : bodies.Body) (g : TheGateway) → AnswersSo from b g → ((i ssn : ℕ) (x : List ℕ) → b ≡ packets.Delivery i ssn x → is_next (output from ssn x) g ≡ true → Q g.store → Q (applied (changes.Shown (output from ssn x)) g.store)) → On g → On (told from b g)
+  told-on from (packets.Delivery i ssn x) g own good s = delivery i (output from ssn x) g (good i ssn x refl) s
+  told-on from (packets.Number i ssn k) g own good s = number from i ssn k g s
+  told-on from (packets.Saved k) g own good s = drops from k g s
+  told-on from (packets.Ask i k) g own good s = asking from i k g own s
+  told-on from (packets.Resume i k r) g own good s = resuming from i k r g own s
+  told-on from other g own good s = s
+
+  pub hands : (x : NodePacket) (g : TheGateway) → AnswersSo x.from x.body g → TakesOutput Q x g → On g → On (handed x g)
+  hands x g own good s = by-if On (is_for g x) (told x.from x.body g) g (λ e. let h = here e in told-on x.from x.body g own (good h.0 h.1) s) (λ e. s)
     where
       here : is_for g x ≡ true → (x.to ≡ 0) × IsOf x.from g.store
       here e =
@@ -193,20 +223,42 @@ module _ (Q : TheStore → Type 0) (steady : Steady Q) where
           let low : nat_le x.from x.count ≡ true = b.1 in
           (grind (arith, nat_tests), record { some = grind (arith, nat_tests); low = grind (arith, nat_tests) })
 
+-- ---- what it gives is its own
+
+abbrev pub IsOwn : NodePacket → Type 0
+IsOwn x = (x.from ≡ 0) × IsQuiet x.body
+
+abbrev pub OfGateway : (TheStore → Type 0) → TheGateway → Type 0
+OfGateway = Held IsOwn
+
+pub own-plain : (to : ℕ) (b : bodies.Body) (g : TheGateway) → IsPlain b → IsOwn (packet_of g to b)
+own-plain to (packets.Delivery i ssn x) g p = (refl, tt)
+own-plain to (packets.Acknowledgement i k) g p = (refl, tt)
+own-plain to (packets.Saved k) g p = (refl, tt)
+own-plain to other g p = absurd p
+
+own-answers : (p : ℕ) (b : bodies.Body) (g : TheGateway) → AnswersSo IsOwn own-plain (λ s. Unit {0}) (λ p new s e a. a) p b g
+own-answers p (packets.Ask i k) g = λ m. (refl, tt)
+own-answers p (packets.Resume i k r) g = λ m. (refl, refl)
+own-answers p other g = tt
+
+pub own-hands : (Q : TheStore → Type 0) → Steady Q → (x : NodePacket) (g : TheGateway) → TakesOutput Q x g → OfGateway Q g → OfGateway Q (handed x g)
+own-hands Q steady x g good s = hands IsOwn own-plain Q steady x g (own-answers x.from x.body g) good s
+
 -- ---- what holds of each output that waits
 
 abbrev pub EachOutput : (Output → Type 0) → TheStore → Type 0
 EachOutput P s = Each P s.outputs
 
 pub each-deals : (P : Output → Type 0) (g new : TheGateway) → Deals g new → OfGateway (EachOutput P) g → OfGateway (EachOutput P) new × Each P (handed_out g new)
-each-deals P g new d s = split (deals (EachOutput P) (λ p z t e a. a) g new d s)
+each-deals P g new d s = by (deals-so g new d)
   where
-    split : HandsOne (EachOutput P) g new → OfGateway (EachOutput P) new × Each P (handed_out g new)
-    split (inl h) = (h.0, subst (Each P) (sym h.1) tt)
-    split (inr h) =
-        let all : Each P (h.0 ∷ h.1.0) = subst (Each P) h.1.1.0 s.store in
-        let goes : OfGateway (EachOutput P) (happens (changes.Taken 1) g) = record { out = s.out; store = subst (Each P) (sym (ap (drop 1) h.1.1.0)) all.1 } in
-        (subst (OfGateway (EachOutput P)) (sym h.1.1.1.0) goes, subst (Each P) (sym h.1.1.1.1) (all.0, tt))
+    by : DealsSo g new → OfGateway (EachOutput P) new × Each P (handed_out g new)
+    by (inr q) = (quiet IsOwn own-plain (EachOutput P) (λ p z t e a. a) g new q.1 s, subst (Each P) (sym q.0) tt)
+    by (inl h) =
+        let all : Each P (h.output ∷ h.rest) = subst (Each P) h.waited s.store in
+        let goes : OfGateway (EachOutput P) (happens (changes.Taken 1) g) = record { out = s.out; store = subst (Each P) (sym (ap (drop 1) h.waited)) all.1 } in
+        (subst (OfGateway (EachOutput P)) (sym h.is) goes, subst (Each P) (sym h.handed) (all.0, tt))
 
 pub each-hands : (P : Output → Type 0) (x : NodePacket) (g : TheGateway) → (x.to ≡ 0 → (i ssn : ℕ) (y : List ℕ) → x.body ≡ packets.Delivery i ssn y → P (output x.from ssn y)) → OfGateway (EachOutput P) g → OfGateway (EachOutput P) (handed x g)
-each-hands P x g good s = hands (EachOutput P) (λ p z t e a. a) x g (λ to of i ssn y is next a. all-push P g.store.outputs (output x.from ssn y) a (good to i ssn y is)) s
+each-hands P x g good s = own-hands (EachOutput P) (λ p z t e a. a) x g (λ to of i ssn y is next a. all-push P g.store.outputs (output x.from ssn y) a (good to i ssn y is)) s

@@ -18,7 +18,7 @@ use Rattle.packets.specs.declared.page.Pair.{Pair}
 use Rattle.node.specs.declared.job.OpenJob.{OpenJob}
 use Rattle.node.specs.declared.job.Given.{Given}
 use Rattle.node.specs.Queue.{TheQueue, no_queue, payload_of, number_of, is_kept, recorded, dropped_to, released_by, forgotten_above}
-use Rattle.node.specs.Node.{TheNode, log_at, given_to, posts, packet_of, worked, next_number, number_of as job_number, numbered, counted, tells as tells-number, covered_of}
+use Rattle.node.specs.Node.{TheNode, IsPeer, log_at, given_to, posts, packet_of, worked, next_number, number_of as job_number, numbered, counted, tells as tells-number, covered_of}
 use Rattle.node.specs.Pages.{told_page, told_of, restored_of, pairs_from, pairs_above, most_pairs}
 use Rattle.node.specs.Answers.{heard_of, hears, asked_by, works_for, obeys, resumed_by}
 use Rattle.node.specs.Transmission.{delivers, sends, first_to_send, many_to_send, freed, unlocked, released_to, released_below, released, resends, resent, is_told_at, renumbers, renumbered, ticked_below, ticked}
@@ -34,7 +34,8 @@ use Rattle.recovery.proofs.Preservation.{each-take, each-drop}
 use Rattle.node_laws.specs.Durable.{IsRest, IsAfter}
 use Rattle.node_laws.proofs.Held.{Holds, payload-sent, held-recorded, held-forgotten, held-released, held-dropped, given-held, held-covered}
 use Rattle.node_laws.proofs.Taken.{IsSent, IsLow, IsFair, HasTaken, page-sent, pairs-low, taken-many, taken-next, taken-covered}
-use Rattle.node_laws.proofs.HeldState.{grown, IsGiven, given-still, IsJob, relogs, OfNode, at-next, off, none-is}
+use Rattle.node.proofs.Handed.{is-peer, is-live}
+use Rattle.node_laws.proofs.HeldState.{grown, IsGiven, given-still, IsJob, relogs, OfNode, at-next, none-is}
 
 by-number : (q : TheQueue) (sent : List Payload) {tells : Bool} → (tells ≡ true → (i : ℕ) → length sent ≤ q.dropped + i → slice_index_or q.numbers i None ≡ None) → (i m : ℕ) → slice_index_or q.numbers i None ≡ Some m → tells ≡ true → (b : Bool)
     → nat_le (length sent) (q.dropped + i) ≡ b → q.dropped + i < length sent
@@ -291,11 +292,10 @@ module _ (top : ℕ) (f : Handlers) (gr : Grows f) (p : ℕ) (durable tells : Bo
           let b = both (not n.frozen && (x.count == n.count) && (x.to == n.me) && nat_le x.from n.count) (not (x.from == n.me)) a.0 in
           let c = both (not n.frozen && (x.count == n.count) && (x.to == n.me)) (nat_le x.from n.count) b.0 in
           let d = both (not n.frozen && (x.count == n.count)) (x.to == n.me) c.0 in
-          let live : n.frozen ≡ false = off n.frozen (both (not n.frozen) (x.count == n.count) d.0).0 in
           let here : x.to ≡ n.me = (let z : (x.to == n.me) ≡ true = d.1 in grind (arith, nat_tests)) in
-          let low : x.from ≤ n.count = (let z : nat_le x.from n.count ≡ true = c.1 in grind (arith, nat_tests)) in
-          let apart : x.from ≢ n.me = (let z : (x.from == n.me) ≡ false = off (x.from == n.me) b.1 in grind (arith, nat_tests)) in
-          told-on x.from x.body n live (omega (arith, low, s.count)) (λ z. apart (z ∙ sym s.me)) (fair (here ∙ s.me)) s
+          let peer : IsPeer n.me n.count x.from = is-peer x n e in
+          let low = peer.0 in
+          told-on x.from x.body n (is-live x n e) (omega (arith, low, s.count)) (λ z. peer.1 (z ∙ sym s.me)) (fair (here ∙ s.me)) s
 
   -- ---- the first packet is taken
 

@@ -1,10 +1,8 @@
 -- What a process gives that comes back, and what it holds
 use Rattle.std.proofs.Common.{◌≡◌, ◌≢◌, ℕ, zero, suc, ◌+◌, ◌<◌, ◌≤◌, List, [], ◌∷◌, ◌++◌, length, map, take, drop, Bool, true, false, refl, sym, ap, ◌∙◌, subst, arith, append-nil}
-use Rattle.std.specs.Prelude.{Option, Some, None, not, ◌&&◌, ◌==◌, nat_lt, nat_le, slice_get, slice_index_or, slice_set, replicate, if◌then◌else◌}
-use Rattle.std.proofs.lemmas.Bool.Decides.{nat_tests}
+use Rattle.std.specs.Prelude.{Option, Some, None, ◌&&◌, ◌==◌, nat_lt, slice_get, slice_index_or, slice_set, if◌then◌else◌}
 use Rattle.std.proofs.lemmas.List.{length-set, length-map}
 use Rattle.theorems.specs.Growth.{Begins}
-use Rattle.theorems.proofs.Tests.{both}
 use Rattle.theorems.proofs.ListLemmas.{take-next, nth-prefix}
 use Rattle.world.specs.declared.message.Message.{Message}
 use Rattle.world.specs.History.{Payload}
@@ -42,9 +40,11 @@ use Rattle.recovery.proofs.Preservation.{own-long, at-each, each-take, each-drop
 use Rattle.recovery.proofs.Lists.{each-append}
 use Rattle.recovery.specs.Restoration.{TheRestoring, replayed_of, above_of, has_answered, last_ssn, is_reply}
 use Rattle.recovery.specs.Restoration as restores
+use Rattle.node_laws.proofs.Sound.{same-at}
 use Rattle.node_laws.specs.Durable.{IsRest, IsAfter}
 use Rattle.node_laws.proofs.Held.{Holds, rest-many, held-forgotten, held-noted, held-dropped, held-again, given-held}
-use Rattle.node_laws.proofs.HeldState.{IsGiven, IsAt, Logs, OfNode, relogs, gave-more, at-next, off}
+use Rattle.node_laws.proofs.HeldState.{IsGiven, IsAt, Logs, OfNode, relogs, gave-more, at-next}
+use Rattle.recovery.proofs.Posts.{for-own}
 use Rattle.node_laws.proofs.Taken.{IsSent, IsLow, IsFair, HasTaken, taken-more, set-holds}
 
 -- the process p of so many has what it has after the messages g, of which its checkpoint covers the first, h
@@ -165,12 +165,7 @@ module _ (top : ℕ) (f : Handlers) (p : ℕ) (durable tells : Bool) (D : ℕ �
 
   -- whom a packet is of, and to
   from-other : (x : NodePacket) (o : TheOwn) → On o → is_for o x ≡ true → (x.to ≡ p) × (x.from ≢ p)
-  from-other x o s e =
-      let a = both ((x.count == o.count) && (x.to == o.me) && nat_le x.from o.count) (not (x.from == o.me)) e in
-      let b = both ((x.count == o.count) && (x.to == o.me)) (nat_le x.from o.count) a.0 in
-      let here : x.to ≡ o.me = (let z : (x.to == o.me) ≡ true = (both (x.count == o.count) (x.to == o.me) b.0).1 in grind (arith, nat_tests)) in
-      let apart : x.from ≢ o.me = (let z : (x.from == o.me) ≡ false = off (x.from == o.me) a.1 in grind (arith, nat_tests)) in
-      (here ∙ s.me, λ z. apart (z ∙ sym s.me))
+  from-other x o s e = let t = for-own o x e in (t.0 ∙ s.me, λ z. t.1.1 (z ∙ sym s.me))
 
   abbrev pub Fair : NodePacket → Type 0
   Fair x = x.to ≡ p → IsFair (D x.from) (D x.from) (In x.from) tells (f.sends p h x.from) x.body
@@ -310,14 +305,9 @@ plan-next plan done j e = ap (map job_of) (take-next plan done j e) ∙ mapped (
 abbrev IsFree : TheQueue → Type 0
 IsFree q = (q.released ≡ q.dropped + length q.payloads) × ((q.held ≡ []) × ((i : ℕ) → slice_index_or q.numbers i None ≡ None))
 
-none-numbered : (k i : ℕ) → slice_index_or {A = Option ℕ} (replicate k None) i None ≡ None
-none-numbered zero i = refl
-none-numbered (suc k) zero = refl
-none-numbered (suc k) (suc i) = none-numbered k i
-
 free-kept : (ls : List KeptLog) → Each IsFree (map queue_of ls)
 free-kept [] = tt
-free-kept (l ∷ ls) = ((refl, (refl, none-numbered (length l.payloads))), free-kept ls)
+free-kept (l ∷ ls) = ((refl, (refl, λ i. same-at (λ (z : Option ℕ). z ≡ None) (length l.payloads) i None None refl refl)), free-kept ls)
 
 free-at : (me : ℕ) (ls : List KeptLog) (d : ℕ) → IsFree (log_at (with_own no_queue me (map queue_of ls)) d)
 free-at me ls d =
@@ -354,12 +344,6 @@ coming top f p durable tells D In h limits k life bytes is a taken lasting =
 
     inside : k.me ≤ length (map queue_of k.logs)
     inside = omega (arith, many, a.count, is.fits.own)
-
--- nothing was told
-pub none-were-told : (k d base : ℕ) → (told_of (replicate k (none_told base)) d).entries ≡ []
-none-were-told zero d base = refl
-none-were-told (suc k) zero base = refl
-none-were-told (suc k) (suc d) base = none-were-told k d base
 
 pub told-later : (p : ℕ) (D : ℕ → Bool) (In In2 : ℕ → List Payload) (told : List TheCollected) → ((q : ℕ) → Begins (In q) (In2 q)) → ((q : ℕ) → D q ≡ true → Each (IsSent (In q)) (told_of told q).entries) → (q : ℕ) → D q ≡ true
     → Each (IsSent (In2 q)) (told_of told q).entries

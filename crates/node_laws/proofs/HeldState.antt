@@ -1,6 +1,6 @@
 -- What a node has and gives, as its messages make it
-use Rattle.std.proofs.Common.{◌≡◌, ◌≢◌, ℕ, suc, ◌+◌, ◌-◌, ◌≤◌, List, [], ◌∷◌, ◌++◌, length, Bool, true, false, refl, sym, ap, ◌∙◌, subst, arith, append_assoc, append-nil}
-use Rattle.std.specs.Prelude.{Option, Some, None, is_none, not, slice_set}
+use Rattle.std.proofs.Common.{◌≡◌, ◌≢◌, ℕ, suc, ◌+◌, ◌≤◌, List, [], ◌∷◌, ◌++◌, length, Bool, true, refl, sym, ap, ◌∙◌, subst, arith, append_assoc, append-nil}
+use Rattle.std.specs.Prelude.{Option, Some, None, is_none, slice_set}
 use Rattle.theorems.specs.Growth.{Begins, Grows}
 use Rattle.theorems.proofs.ListLemmas.{begins-self, begins-trans}
 use Rattle.world.specs.declared.message.Message.{Message}
@@ -16,10 +16,6 @@ use Rattle.node_laws.proofs.Held.{Holds, changed-within}
 use Rattle.node_laws.proofs.Taken.{IsFair, IsIn, HasTaken, fair-more, in-more, taken-more}
 
 -- ---- tests
-
-pub off : (b : Bool) → not b ≡ true → b ≡ false
-off true e = absurd (cc (e))
-off false e = refl
 
 pub none-is : (o : Option OpenJob) → is_none o ≡ true → o ≡ None
 none-is None e = refl

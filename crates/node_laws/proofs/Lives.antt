@@ -3,15 +3,15 @@ use Rattle.std.proofs.Common.{◌≡◌, ◌≢◌, ℕ, ◌≤◌, List, [], �
 use Rattle.std.specs.Prelude.{Some, ◌==◌, if◌then◌else◌}
 use Rattle.std.proofs.lemmas.Bool.Decides.{nat_tests}
 use Rattle.std.proofs.lemmas.List.{take-append-drop}
-use Rattle.theorems.proofs.Changes.{at-itself}
+use Rattle.theorems.proofs.Changes.{at-itself, choose}
 use Rattle.world.specs.Handlers.{Handlers}
 use Rattle.world.specs.World.{put}
 use Rattle.packets.specs.declared.packet.NodePacket.{NodePacket}
+use Rattle.verifier.specs.declared.any_image.AnyImage.{AnyImage}
 use Rattle.cluster.specs.Parcels.{parcel}
 use Rattle.cluster.specs.Cluster.{Cluster, opening}
 use Rattle.cluster.specs.Rules.{Act, Run, does, after_run}
 use Rattle.cluster.proofs.Runs as worlds
-use Rattle.cluster.proofs.Promised.{nodes-keep}
 use Rattle.node.specs.Limit.{usual, AreAllowed}
 use Rattle.node.specs.Node.{new_node}
 use Rattle.node.specs.Kept.{kept_of}
@@ -24,7 +24,6 @@ use Rattle.node.proofs.Opened.{kept-opened}
 use Rattle.recovery.specs.Overlap.{is_loss}
 use Rattle.recovery.specs.Stands.{IsSent}
 use Rattle.recovery.proofs.Posts.{sent-still}
-use Rattle.node.proofs.Steps.{run-on}
 use Rattle.node.proofs.Runs.{grows, parcels-stay, one-was}
 use Rattle.stores.specs.declared.change.Output.{Output}
 use Rattle.stores.specs.Store.{TheStore}
@@ -36,9 +35,14 @@ use Rattle.gateway.proofs.Steps.{stays}
 use Rattle.gateway.proofs.Views.{takes-so}
 use Rattle.node_laws.specs.HostProcess.{IsFirst}
 use Rattle.node_laws.proofs.JointGateways.{gateway-stands, all-by-gateway}
-use Rattle.node_laws.specs.Inside.Process.{Process, Collects, Killed, StandsAs, is_exact, covered}
-use Rattle.node_laws.specs.Inside.System.{System, Call, Gave, Handed, Worked, Did, Stored, Saved, Resumed, Died, Revived, GaveOut, HandedOut, DidOut, StoredOut, StoredBut, RevivedOut, DoesIt, after_call, Calls, after_calls, AreStoredOf, AreExact, StayExact, AllStand, LivesRun, Living, start, after, handlers}
-use Rattle.node_laws.specs.HostSystem.{handed_out, untaken}
+use Rattle.node_laws.specs.Inside.Process.{Process, Collects, Killed, StandsAs, IsStoredOf, is_exact, covered, stage_of}
+use Rattle.node_laws.specs.Inside.System.{System, Call, Gave, Handed, Worked, Did, Stored, Saved, Resumed, Died, Revived, GaveOut, HandedOut, DidOut, StoredOut, StoredBut, RevivedOut, DoesIt, after_call, AreStoredOf, AreExact, view}
+use Rattle.node_laws.specs.HostReplies.{answering}
+use Rattle.node_laws.specs.HostSystem as hosts
+use Rattle.node_laws.specs.HostSystem.{handed_out, untaken, Hosting, start, handlers}
+use Rattle.node_laws.specs.Agreement.{AllStand}
+use Rattle.node_laws.proofs.Durable.{are-stored}
+use Rattle.node_laws.proofs.Views.{AreGood, stands-as as host-stands, stored-as}
 use Rattle.node_laws.proofs.Moves.{Moves, stands-still, stored-still, lives-still}
 use Rattle.node_laws.proofs.Steps.{giving, hearing, working, acting, storing, telling, waking, dying, reviving}
 use Rattle.node_laws.proofs.Losses.{loss-is-dropped}
@@ -78,11 +82,7 @@ given-still c ran xs h = all-more (WasPut c) (WasPut (after_run c ran)) xs (λ x
 
 -- of a function that is changed at p, what holds at each place
 pub at-each : {X : Type 0} (P : ℕ → X → Type 0) (f : ℕ → X) (p q : ℕ) (x : X) → (q ≢ p → P q (f q)) → P p x → P q (put f p x q)
-at-each {X} P f p q x others here = split (q == p) refl
-  where
-    split : (b : Bool) → (q == p) ≡ b → P q (if b then x else f q)
-    split true e = let same : p ≡ q = grind (arith, nat_tests) in subst (λ k. P k x) same here
-    split false e = others (let apart : q ≢ p = grind (arith, nat_tests) in apart)
+at-each P f p q x others here = choose p (λ j b. (j ≢ p → P j (f j)) → P j (if b then x else f j)) (λ o. here) (λ j o w. w o) q others
 
 module _ (f : Handlers) (n : ℕ) (s : System) (c : Cluster) (h : Holds f n s c) where
   small : c.world.count ≤ 15
@@ -246,62 +246,36 @@ call-goes f states n s c (StoredBut k) h m exact =
 call-goes f states n s c (RevivedOut new) h m exact =
     gateway-goes (handlers_of f states) n s c h new [] (record { acts = []; run = tt; by = tt; stands = (m.1 s.durable refl).0 c h.durable })
 
-pub calls-go : (f : Answering) (states : ℕ → List ℕ) (n : ℕ) (s : System) (c : Cluster) (ks : List Call) → Holds (handlers_of f states) n s c → Calls f n s ks → StayExact n s ks → Onward (handlers_of f states) n c (after_calls s ks)
-calls-go f states n s c [] h m exact = record { acts = []; run = tt; holds = h }
-calls-go f states n s c (k ∷ ks) h m exact =
-    let one = call-goes f states n s c k h m.0 exact.0 in
-    let rest = calls-go f states n (after_call s k) (after_run c one.acts) ks one.holds m.1 exact.1 in
-    let both = run-on c one.acts rest.acts one.run rest.run in
-    record {
-      acts = one.acts ++ rest.acts;
-      run = both.0;
-      holds = subst (Holds (handlers_of f states) n (after_calls (after_call s k) ks)) (sym both.1) rest.holds;
-    }
-
 -- the usual limits are in their ranges
 pub usual-allowed : AreAllowed usual
 usual-allowed = record { page = (omega arith, omega arith); tick = omega arith; numbers = (omega arith, omega arith); receipts = (omega arith, omega arith) }
 
 -- at the opening all stand
-pub begins : (l : Living) → l.n ≤ 15 → Holds (handlers l) l.n (start l) (opening l.n (handlers l))
-begins l few =
-    let g : Handlers = handlers l in
-    let begin : (p : ℕ) → BeginsWith g p (l.states p) = λ p. record { state_is = refl; sends_are = λ d. refl } in
+pub begins : (h : Hosting) → h.n ≤ 15 → Holds (handlers h) h.n (view (start h)) (opening h.n (handlers h))
+begins h few =
+    let g : Handlers = handlers h in
+    let begin : (p : ℕ) → BeginsWith g p (h.states p) = λ p. record { state_is = refl; sends_are = λ d. refl } in
     record {
       count = refl;
       few = few;
-      believed = worlds.opens-holds l.n g (grows l.f l.states);
-      processes = λ p low. stands-opened (l.limits p) p l.n (l.states p) g low.0 low.1 (begin p);
-      stored = λ p low. (kept_of (new_node usual p l.n (l.states p)), (l.stored p low, kept-opened usual p l.n (l.states p) usual-allowed low.0 low.1 few g (begin p)));
+      believed = worlds.opens-holds h.n g (grows (answering h.n h.images) h.states);
+      processes = λ p low. subst (λ z. StandsAs (stage_of z) (opening h.n g) p) (sym (h.opens.opened p low).lifecycle_is) (stands-opened (h.limits p) p h.n (h.states p) g low.0 low.1 (begin p));
+      stored = λ p low. (kept_of (new_node usual p h.n (h.states p)), (are-stored h p low, subst (λ z. IsStoredOf (kept_of (new_node usual p h.n (h.states p))) (stage_of z) (opening h.n g) p) (sym (h.opens.opened p low).lifecycle_is) (kept-opened usual p h.n (h.states p) usual-allowed low.0 low.1 few g (begin p))));
       lives = λ p low. (let e : 1 ≤ 1 = omega arith in e);
-      durable = gateway_opening.stands-opened l.n l.page l.tick g;
-      ahead = ahead-none (new_gateway l.n l.page l.tick) (opening l.n g);
+      durable = gateway_opening.stands-opened h.n h.page h.tick g;
+      ahead = ahead-none (new_gateway h.n h.page h.tick) (opening h.n g);
       given = tt;
       handlers = refl;
     }
 
 -- where all hold, all stand
-pub all-stand : (f : Handlers) (n : ℕ) (s : System) (c : Cluster) → Holds f n s c → AllStand n s c
-all-stand f n s c h =
+pub all-stand : (images : ℕ → AnyImage) (f : Handlers) (n : ℕ) (s : hosts.System) (c : Cluster) → AreGood images n s → Holds f n (view s) c → AllStand n s c
+all-stand images f n s c good h =
     record {
-      processes = h.processes;
-      stored = h.stored;
+      processes = λ p l. host-stands (images p) (s.processes p) c p (good p l) (h.processes p l);
+      stored = λ p l. stored-as (s.stored p) (images p) (s.processes p) c p (good p l) (h.stored p l);
       lives = h.lives;
       durable = h.durable;
       gateway = goes-taken-out s.taken s.gateway c (h.ahead c h.durable (λ x i. i));
       shown = λ p first. h.durable.shown p (first.0, subst (λ k. p ≤ k) (sym h.count) first.1);
-    }
-
-pub lives-run : LivesRun
-lives-run l calls few m exact =
-    let g : Handlers = handlers l in
-    let all = calls-go l.f l.states l.n (start l) (opening l.n g) calls (begins l few) m exact in
-    let keeps = nodes-keep l.n g all.acts few (grows l.f l.states) all.run in
-    record {
-      acts = all.acts;
-      run = all.run;
-      stand = all-stand g l.n (after l calls) (after_run (opening l.n g) all.acts) all.holds;
-      no_orphan = keeps.0;
-      output_once = keeps.1;
-      received_once = keeps.2;
     }

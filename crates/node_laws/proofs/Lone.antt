@@ -6,9 +6,9 @@ use Rattle.world.specs.World.{put}
 use Rattle.packets.specs.declared.packet.NodePacket.{NodePacket}
 use Rattle.cluster.specs.Cluster.{Cluster}
 use Rattle.node_laws.specs.HostProcess.{IsFirst}
-use Rattle.node_laws.specs.Inside.Process.{Process, Up, Covered, Collects, Replays, Replayed, Restores, Killed, StandsAs, is_exact}
+use Rattle.node_laws.specs.Inside.Process.{Process, Up, Covered, Collects, Replays, Replayed, Restores, Killed, StandsAs, is_exact, is_up}
 use Rattle.node_laws.specs.Inside.System.{System}
-use Rattle.node_laws.specs.Inside.Alone.{is_up}
+use Rattle.theorems.proofs.Changes.{choose}
 use Rattle.node_laws.proofs.Lives.{at-each}
 use Rattle.node_laws.proofs.Sound.{AreSound, sound-still, sound-anew, raised-other}
 use Rattle.node_laws.proofs.OwnSound.{HasHeard}
@@ -127,21 +127,10 @@ pub record Goes (lives : ℕ → ℕ) (back : ℕ → Type 0) (top p : ℕ) (old
 
 -- of two places of a function that is changed at p
 at-two : {X : Type 0} (P : ℕ → ℕ → X → X → Type 0) (f : ℕ → X) (p : ℕ) (x : X) (q r : ℕ) → q ≢ r → (q ≢ p → r ≢ p → P q r (f q) (f r)) → (r ≢ p → P p r x (f r)) → (q ≢ p → P q p (f q) x) → P q r (put f p x q) (put f p x r)
-at-two {X} P f p x q r apart neither first second = split (q == p) (r == p) refl refl
-  where
-    split : (a b : Bool) → (q == p) ≡ a → (r == p) ≡ b → P q r (if a then x else f q) (if b then x else f r)
-    split true true e d = absurd (let u : q ≡ p = grind (arith, nat_tests) in let v : r ≡ p = grind (arith, nat_tests) in apart (u ∙ sym v))
-    split true false e d =
-        let u : q ≡ p = grind (arith, nat_tests) in
-        let v : r ≢ p = grind (arith, nat_tests) in
-        let Q : ℕ → Type 0 = λ z. P z r x (f r) in
-        subst Q (sym u) (first v)
-    split false true e d =
-        let u : q ≢ p = grind (arith, nat_tests) in
-        let v : r ≡ p = grind (arith, nat_tests) in
-        let Q : ℕ → Type 0 = λ z. P q z (f q) x in
-        subst Q (sym v) (second u)
-    split false false e d = neither (let u : q ≢ p = grind (arith, nat_tests) in u) (let v : r ≢ p = grind (arith, nat_tests) in v)
+at-two P f p x q r apart neither first second =
+    choose p (λ j b. j ≢ r → (j ≢ p → r ≢ p → P j r (f j) (f r)) → (j ≢ p → P j p (f j) x) → P j r (if b then x else f j) (put f p x r))
+    (λ o n s. at-each (λ k z. p ≢ k → P p k x z) f p r x (λ u w. first u) (λ w. absurd (w refl)) o)
+    (λ j u o n s. at-each (λ k z. P j k (f j) z) f p r x (n u) (s u)) q apart neither second
 
 module _ (n : ℕ) (processes : ℕ → Process) (lives : ℕ → ℕ) (given out : List NodePacket) (h : Lone n processes lives given out) (p : ℕ) (first : IsFirst n p) (new : Process) where
   abbrev changed : ℕ → Process

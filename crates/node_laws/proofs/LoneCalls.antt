@@ -71,74 +71,39 @@ module _ (lives : ℕ → ℕ) (back : ℕ → Type 0) (top p : ℕ) where
 
   pub giving : (x : NodePacket) (old new : Process) → Gives x old new → IsGood old → IsSound lives back x × On old new
   giving x (Up n) new g h =
-      let m : TheNode = g.0 in
-      let e : n ≡ record m { out = x ∷ m.out } = g.1.1.0 in
-      let P : TheNode → Type 0 = λ z. AreSound lives back z.out in
-      let out : AreSound lives back (x ∷ m.out) = subst P e h.out in
-      (out.0, becomes (Up n) (Up m) new g.1.0 (record { good = record { exact = sym (ap (λ (z : TheNode). z.exact) e) ∙ h.exact; life = sym (ap (λ (z : TheNode). z.life) e) ∙ h.life; knows = tt; out = out.1 }; up = λ f. f; returns = λ r. r }))
+      let k : IsGood (Up (record g.0 { out = x ∷ g.0.out })) = subst (λ z. IsGood (Up z)) g.1.1.0 h in
+      (k.out.0, becomes (Up n) (Up g.0) new g.1.0 (record { good = record { exact = k.exact; life = k.life; knows = tt; out = k.out.1 }; up = λ f. f; returns = λ r. r }))
   giving x (Covered n) new g h =
-      let m : TheNode = g.0 in
-      let e : n ≡ record m { out = x ∷ m.out } = g.1.1.0 in
-      let P : TheNode → Type 0 = λ z. AreSound lives back z.out in
-      let out : AreSound lives back (x ∷ m.out) = subst P e h.out in
-      (out.0, becomes (Covered n) (Covered m) new g.1.0 (record { good = record { exact = sym (ap (λ (z : TheNode). z.exact) e) ∙ h.exact; life = sym (ap (λ (z : TheNode). z.life) e) ∙ h.life; knows = tt; out = out.1 }; up = λ f. f; returns = λ r. r }))
+      let k : IsGood (Covered (record g.0 { out = x ∷ g.0.out })) = subst (λ z. IsGood (Covered z)) g.1.1.0 h in
+      (k.out.0, becomes (Covered n) (Covered g.0) new g.1.0 (record { good = record { exact = k.exact; life = k.life; knows = tt; out = k.out.1 }; up = λ f. f; returns = λ r. r }))
   giving x (Collects n) new g h =
-      let m : TheCollecting = g.0 in
-      let mid : TheCollecting = record m { own = record m.own { out = x ∷ m.own.out } } in
-      let P : TheCollecting → Type 0 = λ z. IsGood (Collects z) in
-      let k : IsGood (Collects mid) = subst P g.1.1.0 h in
-      let out : AreSound lives back (x ∷ m.own.out) = k.out in
-      let known = k.knows in
-      (out.0, becomes (Collects n) (Collects m) new g.1.0 (record { good = record { exact = k.exact; life = k.life; knows = record { wide = known.wide; all = known.all }; out = out.1 }; up = λ f. refl; returns = λ r. tt }))
+      let k : IsGood (Collects (record g.0 { own = record g.0.own { out = x ∷ g.0.own.out } })) = subst (λ z. IsGood (Collects z)) g.1.1.0 h in
+      (k.out.0, becomes (Collects n) (Collects g.0) new g.1.0 (record { good = record { exact = k.exact; life = k.life; knows = record { wide = k.knows.wide; all = k.knows.all }; out = k.out.1 }; up = λ f. refl; returns = λ r. tt }))
   giving x (Replays n) new g h =
-      let m : TheReplaying = g.0 in
-      let mid : TheReplaying = record m { own = record m.own { out = x ∷ m.own.out } } in
-      let P : TheReplaying → Type 0 = λ z. IsGood (Replays z) in
-      let k : IsGood (Replays mid) = subst P g.1.1.0 h in
-      let out : AreSound lives back (x ∷ m.own.out) = k.out in
-      let known = k.knows in
-      (out.0, becomes (Replays n) (Replays m) new g.1.0 (record { good = record { exact = k.exact; life = k.life; knows = record { wide = known.wide; all = known.all }; out = out.1 }; up = λ f. refl; returns = λ r. tt }))
+      let k : IsGood (Replays (record g.0 { own = record g.0.own { out = x ∷ g.0.own.out } })) = subst (λ z. IsGood (Replays z)) g.1.1.0 h in
+      (k.out.0, becomes (Replays n) (Replays g.0) new g.1.0 (record { good = record { exact = k.exact; life = k.life; knows = record { wide = k.knows.wide; all = k.knows.all }; out = k.out.1 }; up = λ f. refl; returns = λ r. tt }))
   giving x (Replayed n) new g h =
-      let m : TheReplayed = g.0 in
-      let e : n.own.out ≡ x ∷ m.own.out = g.1.1.0 in
-      let out : AreSound lives back (x ∷ m.own.out) = subst (AreSound lives back) e h.out in
-      let mid : TheReplayed = record n { own = record n.own { out = m.own.out } } in
-      let known = h.knows in (
-        out.0,
-        becomes (Replayed n) (Replayed mid) new (g.1.0 ∙ ap Replayed g.1.1.1)
-            (record { good = record { exact = h.exact; life = h.life; knows = record { wide = known.wide; all = known.all }; out = out.1 }; up = λ f. refl; returns = λ r. tt }),
-      )
+      let out : AreSound lives back (x ∷ g.0.own.out) = subst (AreSound lives back) g.1.1.0 h.out in
+      let mid : TheReplayed = record n { own = record n.own { out = g.0.own.out } } in
+      (out.0, becomes (Replayed n) (Replayed mid) new (g.1.0 ∙ ap Replayed g.1.1.1) (record { good = record { exact = h.exact; life = h.life; knows = record { wide = h.knows.wide; all = h.knows.all }; out = out.1 }; up = λ f. refl; returns = λ r. tt }))
   giving x (Restores n) new g h =
-      let m : TheRestoring = g.0 in
-      let mid : TheRestoring = record m { own = record m.own { out = x ∷ m.own.out } } in
-      let P : TheRestoring → Type 0 = λ z. IsGood (Restores z) in
-      let k : IsGood (Restores mid) = subst P g.1.1.0 h in
-      let out : AreSound lives back (x ∷ m.own.out) = k.out in
-      let known = k.knows in
-      (out.0, becomes (Restores n) (Restores m) new g.1.0 (record { good = record { exact = k.exact; life = k.life; knows = record { wide = known.wide; all = known.all }; out = out.1 }; up = λ f. refl; returns = λ r. tt }))
+      let k : IsGood (Restores (record g.0 { own = record g.0.own { out = x ∷ g.0.own.out } })) = subst (λ z. IsGood (Restores z)) g.1.1.0 h in
+      (k.out.0, becomes (Restores n) (Restores g.0) new g.1.0 (record { good = record { exact = k.exact; life = k.life; knows = record { wide = k.knows.wide; all = k.knows.all }; out = k.out.1 }; up = λ f. refl; returns = λ r. tt }))
   giving x Killed new g h = absurd g
 
   -- ---- a packet comes
 
   pub hearing : (x : NodePacket) (old new : Process) → Hears x old new → IsSound lives back x → Fits x old → IsOf p top old → IsOnly old → IsGood old → On old new
-  hearing x (Up n) new g s fits is only h =
-      let k : nodes.Keeps lives back n g.0 = subst (nodes.Keeps lives back n) (sym g.1.1.0) (nodes.hands lives back x n h.exact (h.life ∙ ap lives (sym is)) s) in
-      becomes (Up n) (Up g.0) new g.1.0 (up-goes n g.0 k h)
-  hearing x (Covered n) new g s fits is only h =
-      let k : nodes.Keeps lives back n g.0 = subst (nodes.Keeps lives back n) (sym g.1.1) (nodes.hands lives back x n h.exact (h.life ∙ ap lives (sym is)) s) in
-      becomes (Covered n) (Covered g.0) new g.1.0 (covered-goes n g.0 k h)
-  hearing x (Collects n) new g s fits is only h =
-      let k : collecting.Goes lives back top n g.0 = subst (collecting.Goes lives back top n) (sym g.1.1.0) (collecting.hands lives back top x n (alone n.own is h.life (only tt)) s) in
-      becomes (Collects n) (Collects g.0) new g.1.0 (collects-goes n g.0 k h)
+  hearing x (Up n) new g s fits is only h = becomes (Up n) (Up _) new (g.1.0 ∙ ap Up g.1.1.0) (up-goes n _ (nodes.hands lives back x n h.exact (h.life ∙ ap lives (sym is)) s) h)
+  hearing x (Covered n) new g s fits is only h = becomes (Covered n) (Covered _) new (g.1.0 ∙ ap Covered g.1.1) (covered-goes n _ (nodes.hands lives back x n h.exact (h.life ∙ ap lives (sym is)) s) h)
+  hearing x (Collects n) new g s fits is only h = becomes (Collects n) (Collects _) new (g.1.0 ∙ ap Collects g.1.1.0) (collects-goes n _ (collecting.hands lives back top x n (alone n.own is h.life (only tt)) s) h)
   hearing x (Replays n) new g s fits is only h =
       let k = owns.hands lives back top x n.own (alone n.own is h.life (only tt)) h.knows s in
       becomes (Replays n) (Replays _) new (g.1.0 ∙ ap Replays g.1.1.0) (replays-goes n _ k.0 k.1 h)
   hearing x (Replayed n) new g s fits is only h =
       let k = owns.hands lives back top x n.own (alone n.own is h.life (only tt)) h.knows s in
       becomes (Replayed n) (Replayed _) new (g.1.0 ∙ ap Replayed g.1.1.0) (replayed-goes n _ k.0 k.1 h)
-  hearing x (Restores n) new g s fits is only h =
-      let k : restoring.Goes lives back top n g.0 = subst (restoring.Goes lives back top n) (sym g.1.1.0) (restoring.hands lives back top x n h.knows (alone n.own is h.life (only tt)) fits s) in
-      becomes (Restores n) (Restores g.0) new g.1.0 (restores-goes n g.0 k h)
+  hearing x (Restores n) new g s fits is only h = becomes (Restores n) (Restores _) new (g.1.0 ∙ ap Restores g.1.1.0) (restores-goes n _ (restoring.hands lives back top x n h.knows (alone n.own is h.life (only tt)) fits s) h)
   hearing x Killed new g s fits is only h = absurd g
 
   -- ---- its handler answered
@@ -148,12 +113,8 @@ module _ (lives : ℕ → ℕ) (back : ℕ → Type 0) (top p : ℕ) where
   replaying state given (Some j) n known = (record { me = refl; count = refl; life = refl; exact = λ e. e; out = λ o. o }, record { wide = known.wide; all = known.all })
 
   pub working : (f : Answering) (a : Answer) (old new : Process) → Works f p a old new → IsGood old → On old new
-  working f a (Up n) new g h =
-      let k : nodes.Keeps lives back n g.1.0 = subst (nodes.Keeps lives back n) (sym g.1.1.1.0) (nodes.works lives back a.state a.given n.working n) in
-      becomes (Up n) (Up g.1.0) new g.1.1.0 (up-goes n g.1.0 k h)
-  working f a (Covered n) new g h =
-      let k : nodes.Keeps lives back n g.0 = subst (nodes.Keeps lives back n) (sym g.1.1) (nodes.works lives back a.state a.given n.working n) in
-      becomes (Covered n) (Covered g.0) new g.1.0 (covered-goes n g.0 k h)
+  working f a (Up n) new g h = becomes (Up n) (Up _) new (g.1.1.0 ∙ ap Up g.1.1.1.0) (up-goes n _ (nodes.works lives back a.state a.given n.working n) h)
+  working f a (Covered n) new g h = becomes (Covered n) (Covered _) new (g.1.0 ∙ ap Covered g.1.1) (covered-goes n _ (nodes.works lives back a.state a.given n.working n) h)
   working f a (Replays n) new g h =
       let m : TheReplaying = did_replay a.state a.given (next_job n) n in
       let k = replaying a.state a.given (next_job n) n h.knows in
@@ -175,9 +136,7 @@ module _ (lives : ℕ → ℕ) (back : ℕ → Type 0) (top p : ℕ) where
   pub acting : (old new : Process) → Acts old new → IsOf p top old → IsOnly old → IsGood old → On old new
   acting (Up n) new g is only h = becomes (Up n) (Up g.0) new g.1.0 (up-goes n g.0 (node-acts n g.0 g.1.1.0) h)
   acting (Covered n) new g is only h = becomes (Covered n) (Covered g.0) new g.1.0 (covered-goes n g.0 (node-acts n g.0 g.1.1) h)
-  acting (Collects n) new (inl g) is only h =
-      let k : collecting.Goes lives back top n g.0 = subst (collecting.Goes lives back top n) (sym g.1.1.0) (collecting.asks-all lives back top n (alone n.own is h.life (only tt))) in
-      becomes (Collects n) (Collects g.0) new g.1.0 (collects-goes n g.0 k h)
+  acting (Collects n) new (inl g) is only h = becomes (Collects n) (Collects _) new (g.1.0 ∙ ap Collects g.1.1.0) (collects-goes n _ (collecting.asks-all lives back top n (alone n.own is h.life (only tt))) h)
   acting (Collects n) new (inr g) is only h = becomes (Collects n) (Replays g.0) new g.1.0 (recovers n g.0 g.1.1.is.own (collecting.heard-all lives top n is.1 g.1.1.all h.knows) h)
   acting (Replays n) new g is only h =
       becomes (Replays n) (Replayed _) new (g.1.0 ∙ ap Replayed g.1.1.0) (record { good = record { exact = h.exact; life = h.life; knows = h.knows; out = h.out }; up = λ e. refl; returns = λ r. tt })
@@ -185,9 +144,7 @@ module _ (lives : ℕ → ℕ) (back : ℕ → Type 0) (top p : ℕ) where
       let k = restoring.begin lives back top n (alone n.own is h.life (only tt)) in
       becomes (Replayed n) (Restores _) new (g.1.0 ∙ ap Restores g.1.1.0)
       (record { good = record { exact = k.own.exact h.exact; life = k.own.life ∙ h.life; knows = k.hears h.knows; out = k.own.out h.out }; up = λ e. refl; returns = λ r. tt })
-  acting (Restores n) new (inl g) is only h =
-      let k : restoring.Goes lives back top n g.0 = subst (restoring.Goes lives back top n) (sym g.1.1.0) (restoring.asks-all lives back top n (alone n.own is h.life (only tt))) in
-      becomes (Restores n) (Restores g.0) new g.1.0 (restores-goes n g.0 k h)
+  acting (Restores n) new (inl g) is only h = becomes (Restores n) (Restores _) new (g.1.0 ∙ ap Restores g.1.1.0) (restores-goes n _ (restoring.asks-all lives back top n (alone n.own is h.life (only tt))) h)
   acting (Restores n) new (inr g) is only h =
       becomes (Restores n) (Up _) new (g.1.0 ∙ ap Up g.1.1.0) (record { good = record { exact = h.exact; life = h.life; knows = tt; out = tt }; up = λ e. refl; returns = λ r. absurd r })
   acting Killed new g is only h = absurd g
@@ -202,8 +159,8 @@ module _ (lives : ℕ → ℕ) (back : ℕ → Type 0) (top p : ℕ) where
   pub telling : (old new : Process) → IsTold old new → IsGood old → On old new
   telling (Up n) new g h = becomes (Up n) (Up n) new (g.1.1.0 ∙ ap Up (g.1.1.1.0 g.0)) (record { good = h; up = λ e. e; returns = λ r. r })
   telling (Covered n) new g h =
-      let k : nodes.Keeps lives back n g.0 = subst (nodes.Keeps lives back n) (sym g.1.1.0) (nodes.saves lives back n) in
-      becomes (Covered n) (Up g.0) new g.1.0 (record { good = record { exact = k.exact ∙ h.exact; life = k.life ∙ h.life; knows = tt; out = k.out h.out }; up = λ e. e; returns = λ r. r })
+      let k = nodes.saves lives back n in
+      becomes (Covered n) (Up _) new (g.1.0 ∙ ap Up g.1.1.0) (record { good = record { exact = k.exact ∙ h.exact; life = k.life ∙ h.life; knows = tt; out = k.out h.out }; up = λ e. e; returns = λ r. r })
   telling other new g h = absurd g
 
   -- it was suspended, and is resumed

@@ -1,5 +1,5 @@
 -- The moment of recovery among the acts of one call
-use Rattle.std.proofs.Common.{◌≡◌, inl, inr, ℕ, zero, suc, ◌+◌, ◌-◌, ◌≤◌, List, [], ◌∷◌, ◌++◌, length, map, Bool, true, false, refl, sym, ap, ◌∙◌, subst, arith}
+use Rattle.std.proofs.Common.{◌≡◌, inl, inr, ℕ, ◌+◌, ◌-◌, ◌≤◌, List, [], ◌∷◌, ◌++◌, length, map, Bool, true, false, refl, sym, ap, ◌∙◌, subst, arith}
 use Rattle.std.specs.Prelude.{◌⊎◌}
 use Rattle.std.proofs.lemmas.Bool.Decides.{nat_tests}
 use Rattle.std.proofs.lemmas.List.{length-map}
@@ -7,30 +7,21 @@ use Rattle.node.specs.declared.job.OpenJob.{OpenJob}
 use Rattle.node.specs.Node.{TheNode}
 use Rattle.node.specs.Transmission.{ticked}
 use Rattle.node.specs.Checkpoints.{froze, may_freeze}
-use Rattle.node.specs.Runs.{Answering}
-use Rattle.packets.specs.declared.packet.Body.TheVariants.{Resume}
 use Rattle.gateway.proofs.Steps.{by-if}
-use Rattle.recovery.specs.Own.{posts}
-use Rattle.recovery.specs.Intake.{keeps as keeps_of}
+use Rattle.recovery.proofs.RestorationInquiries.{only-below}
 use Rattle.recovery.specs.Collection.{TheCollecting}
 use Rattle.recovery.specs.Replays.{TheReplaying, is_over}
 use Rattle.recovery.specs.Replayed.{TheReplayed}
-use Rattle.recovery.specs.Restoration.{TheRestoring, has_answered}
+use Rattle.recovery.specs.Restoration.{TheRestoring}
 use Rattle.recovery.specs.Restoration as restores
-use Rattle.node_laws.specs.HostProcess.{IsFirst, Checkpoint, Durable}
-use Rattle.node_laws.specs.Inside.Process.{Process, Up, Covered, Collects, Replays, Replayed, Restores, Killed, covered, Acts}
-use Rattle.node_laws.specs.Inside.System.{System as Lived, Call, Did, after_call, after_calls}
+use Rattle.node_laws.specs.HostProcess.{Checkpoint, Durable}
+use Rattle.node_laws.specs.Inside.Process.{Process, Up, Covered, Collects, Replays, Replayed, Restores, Killed, covered, Acts, stage_of, seen}
 use Rattle.node_laws.specs.Back.{length_of}
-use Rattle.node_laws.specs.Inside.Back.{kept_of}
-use Rattle.node_laws.specs.Inside.Durable.{ReplaysAll}
 use Rattle.process.specs.declared.lifecycle.Lifecycle.{Lifecycle}
 use Rattle.process.specs.declared.lifecycle.Lifecycle.TheVariants as lifecycle
 use Rattle.process.proofs.Bounds.{ticked-stay}
-use Rattle.node_laws.specs.Inside.Hosted.{stage_of, seen}
-use Rattle.node_laws.specs.HostSystem.{System}
 use Rattle.node_laws.specs.HostBack.{has_recovered, plan_of, keeps}
 use Rattle.node_laws.proofs.Chains.{Chain}
-use Rattle.node_laws.proofs.Acts.{dids, dids-append, Ran, ran, Beside, beside-on}
 
 -- ---- what a host reads, of the process in all lives
 
@@ -87,16 +78,8 @@ froze-keeps n = by-if (λ (m : TheNode). length_of m ≡ length_of n) (may_freez
 abbrev long : TheRestoring → ℕ
 long n = n.own.base + length n.receipts.senders
 
-asks-keeps : (to : ℕ) (n : TheRestoring) → long (restores.asks to n) ≡ long n
-asks-keeps to n =
-    by-if (λ (z : TheRestoring). long z ≡ long n) (has_answered to n) n (record n { own = posts to (Resume n.own.life (keeps_of (restores.replayed_of n)) (restores.above_of to n)) n.own }) (λ e. refl) (λ e. refl)
-
-below-keeps : (d : ℕ) (n : TheRestoring) → long (restores.asks_below d n) ≡ long n
-below-keeps zero n = refl
-below-keeps (suc d) n = asks-keeps d (restores.asks_below d n) ∙ below-keeps d n
-
 asked-keeps : (n : TheRestoring) → long (restores.asked n) ≡ long n
-asked-keeps n = below-keeps (n.own.count + 1) n
+asked-keeps n = ap long (only-below n (n.own.count + 1))
 
 -- it is up, or has replayed all
 abbrev is_later : Process → Bool
@@ -133,7 +116,7 @@ later-end : (old : Process) (ps : List Process) (new : Process) → is_later old
 later-end old [] new l c = record { later = ap is_later c ∙ l; kept = ap keeps_in c }
 later-end old (next ∷ ps) new l c =
     let one : Later old next = act-keeps old next l c.0 in
-    let rest : Later next new = later-end next ps new one.later c.1.1.1 in
+    let rest : Later next new = later-end next ps new one.later c.1.1 in
     record { later = rest.later; kept = rest.kept ∙ one.kept }
 
 -- one that has replayed nothing yet: where it goes on, there is nothing
@@ -152,10 +135,9 @@ replays-end r [] new none c =
 replays-end r (next ∷ ps) new none c =
     let m : TheReplayed = c.0.0 in
     let is : next ≡ Replayed m = c.0.1.0 in
-    let over : is_over r ≡ true = subst (ReplaysAll (Replays r)) is c.1.0 in
-    let few : length r.plan ≤ r.done = (let e = over in grind (arith, nat_tests)) in
+    let few : length r.plan ≤ r.done = (let e : is_over r ≡ true = c.0.1.1.1.1 in grind (arith, nat_tests)) in
     let empty : r.plan ≡ [] = no-plan r.plan (omega arith) in
-    let rest : Later (Replayed m) new = later-end (Replayed m) ps new refl (subst (λ z. Chain z ps new) is c.1.1.1) in
+    let rest : Later (Replayed m) new = later-end (Replayed m) ps new refl (subst (λ z. Chain z ps new) is c.1.1) in
     let many : length (map (λ (j : OpenJob). j.sender) r.plan) ≡ length r.plan = length-map r.plan (λ (j : OpenJob). j.sender) in
     record {
       plan = later-plan new rest.later ∙ sym empty;
@@ -164,37 +146,41 @@ replays-end r (next ∷ ps) new none c =
 
 -- ---- the moment among acts
 
-record Cut (from : TheCollecting) (ps : List Process) (c : Lifecycle) : Type 0 where
-  before : List Process
-  behind : List Process
-  collected : TheCollecting
-  replays : TheReplaying
-  is : ps ≡ before ++ Replays replays ∷ behind
-  chain : Chain (Collects from) before (Collects collected)
-  plan : replays.plan ≡ plan_of c
-  kept : keeps c ≡ kept_of collected replays
+-- how many messages a process keeps that recovers
+abbrev pub kept_of : TheCollecting → TheReplaying → ℕ
+kept_of old new = old.own.base + length new.plan
 
-cut : (from : TheCollecting) (ps : List Process) (w : Checkpoint) (c : Lifecycle) → has_recovered c ≡ true → Chain (Collects from) ps (seen w c) → Cut from ps c
+pub record Cut (from : TheCollecting) (ps : List Process) (c : Lifecycle) : Type 0 where
+  pub before : List Process
+  pub behind : List Process
+  pub collected : TheCollecting
+  pub replays : TheReplaying
+  pub is : ps ≡ before ++ Replays replays ∷ behind
+  pub chain : Chain (Collects from) before (Collects collected)
+  pub plan : replays.plan ≡ plan_of c
+  pub kept : keeps c ≡ kept_of collected replays
+
+pub cut : (from : TheCollecting) (ps : List Process) (w : Checkpoint) (c : Lifecycle) → has_recovered c ≡ true → Chain (Collects from) ps (seen w c) → Cut from ps c
 cut from [] w c r e = not-collecting w c from e r
 cut from (next ∷ ps) w c r chain = by-act (λ m rest. cut m ps w c r rest) chain.0
   where
     by-act : ((m : TheCollecting) → Chain (Collects m) ps (seen w c) → Cut m ps c) → Acts (Collects from) next → Cut from (next ∷ ps) c
     by-act goes (inl a) =
-        let more : Cut a.0 ps c = goes a.0 (subst (λ z. Chain z ps (seen w c)) a.1.0 chain.1.1.1) in
+        let more : Cut a.0 ps c = goes a.0 (subst (λ z. Chain z ps (seen w c)) a.1.0 chain.1.1) in
         record {
           before = next ∷ more.before;
           behind = more.behind;
           collected = more.collected;
           replays = more.replays;
           is = ap (λ z. next ∷ z) more.is;
-          chain = (chain.0, (chain.1.0, (chain.1.1.0, subst (λ z. Chain z more.before (Collects more.collected)) (sym a.1.0) more.chain)));
+          chain = (chain.0, (chain.1.0, subst (λ z. Chain z more.before (Collects more.collected)) (sym a.1.0) more.chain));
           plan = more.plan;
           kept = more.kept;
         }
     by-act goes (inr a) =
         let new : TheReplaying = a.0 in
         let is = a.1.1.is in
-        let end : End new (seen w c) = replays-end new ps (seen w c) is.none (subst (λ z. Chain z ps (seen w c)) a.1.0 chain.1.1.1) in
+        let end : End new (seen w c) = replays-end new ps (seen w c) is.none (subst (λ z. Chain z ps (seen w c)) a.1.0 chain.1.1) in
         let read : Reads c (seen w c) = reads w c in
         record {
           before = [];
@@ -206,41 +192,6 @@ cut from (next ∷ ps) w c r chain = by-act (λ m rest. cut m ps w c r rest) cha
           plan = sym end.plan ∙ sym read.plan;
           kept = read.kept ∙ end.kept ∙ ap (λ o. o.base + length new.plan) is.own;
         }
-
--- ---- and among calls in all lives: all is then as in this system of hosts, but that p collects
-
-pub record Moment (n p : ℕ) (s : System) (t : Lived) (ks : List Call) (c : Lifecycle) : Type 0 where
-  pub before : List Call
-  pub behind : List Call
-  pub collected : TheCollecting
-  pub replays : TheReplaying
-  pub is : ks ≡ before ++ Did p (Replays replays) ∷ behind
-  pub here : (after_calls t before).processes p ≡ Collects collected
-  pub beside : Beside n p s (after_calls t before)
-  pub plan : replays.plan ≡ plan_of c
-  pub kept : keeps c ≡ kept_of collected replays
-
-pub of-acts : (f : Answering) (n p : ℕ) → IsFirst n p → (s : System) (t : Lived) (from : TheCollecting) (ps : List Process) (w : Checkpoint) (c : Lifecycle) → t.processes p ≡ Collects from → Beside n p s t → has_recovered c ≡ true
-    → Chain (Collects from) ps (seen w c) → Moment n p s t (dids p ps) c
-of-acts f n p l s t from ps w c is b r chain =
-    let k : Cut from ps c = cut from ps w c r chain in
-    let did : Ran f n p (Collects k.collected) t (dids p k.before) = ran f n p l (Collects from) k.before (Collects k.collected) t is k.chain in
-    record {
-      before = dids p k.before;
-      behind = dids p k.behind;
-      collected = k.collected;
-      replays = k.replays;
-      is = ap (dids p) k.is ∙ dids-append p k.before (Replays k.replays ∷ k.behind);
-      here = did.only.here;
-      beside = beside-on n p s (Collects k.collected) t (after_calls t (dids p k.before)) b did.only;
-      plan = k.plan;
-      kept = k.kept;
-    }
-
--- one call more, before these
-pub behind-one : (n p : ℕ) (s : System) (t : Lived) (one : Call) (ks : List Call) (c : Lifecycle) → Moment n p s (after_call t one) ks c → Moment n p s t (one ∷ ks) c
-behind-one n p s t one ks c m =
-    record { before = one ∷ m.before; behind = m.behind; collected = m.collected; replays = m.replays; is = ap (λ z. one ∷ z) m.is; here = m.here; beside = m.beside; plan = m.plan; kept = m.kept }
 
 -- one that was killed does nothing
 pub dead-end : {P : Type 0} (ps : List Process) (w : Checkpoint) (c : Lifecycle) → Chain Killed ps (seen w c) → has_recovered c ≡ true → P

@@ -1,26 +1,23 @@
 -- Outputs in order, whatever fails and meets
-use Rattle.std.proofs.Common.{◌≡◌, inl, inr, ℕ, zero, suc, ◌+◌, ◌-◌, ◌<◌, ◌≤◌, List, [], ◌∷◌, ◌++◌, map, Bool, true, false, refl, sym, ap, ◌∙◌, subst, arith, append_assoc, append-nil}
-use Rattle.std.specs.Prelude.{◌⊎◌, Some, slice_index_or, replicate, nat_le, ◌==◌, if◌then◌else◌}
+use Rattle.std.proofs.Common.{◌≡◌, inl, inr, ℕ, suc, ◌-◌, ◌<◌, ◌≤◌, List, [], ◌∷◌, ◌++◌, map, Bool, true, false, refl, sym, ap, ◌∙◌, subst, arith, append_assoc, append-nil}
+use Rattle.std.specs.Prelude.{◌⊎◌, Some, nat_le, if◌then◌else◌}
 use Rattle.std.proofs.lemmas.Bool.Decides.{nat_tests}
-use Rattle.theorems.proofs.Changes.{at-itself}
+use Rattle.theorems.proofs.Changes.{at-itself, choose}
 use Rattle.world.specs.declared.message.Message.{Message}
 use Rattle.world.specs.History.{nth}
 use Rattle.world.specs.Handlers.{Handlers}
 use Rattle.stores.specs.declared.change.Output.{Output}
-use Rattle.stores.specs.Peer.{no_peer}
+use Rattle.stores.specs.Peer.{ThePeer, no_peer}
 use Rattle.gateway.specs.Gateway.{new_gateway}
 use Rattle.gateway.specs.Stands.{shown_as}
-use Rattle.node.specs.Runs.{Answering}
+use Rattle.verifier.specs.declared.any_image.AnyImage.{AnyImage}
 use Rattle.node.specs.Stands.{Each, InOrderFrom}
 use Rattle.node.proofs.Lists.{all-more}
-use Rattle.node_laws.specs.Inside.System.{System, Call, after_call, Calls, after_calls, Living, start, Makes}
-use Rattle.node_laws.specs.Inside.Durable.{shown_by, outputs_of}
-use Rattle.packets.specs.declared.packet.NodePacket.{NodePacket}
-use Rattle.node.specs.Node.{TheNode}
-use Rattle.node_laws.specs.Durable.{Keep}
-use Rattle.node_laws.specs.Inside.Outputs.{OneLife, OutputsInOrder, OutputsWithoutGap, OutputsStayOut}
-use Rattle.node_laws.specs.Outputs.{IsOut, AllOut, LeavesNoGap, AreBehind, SayTheSame}
-use Rattle.node_laws.proofs.Back.{after-append, calls-parts}
+use Rattle.node_laws.proofs.Sound.{same-at}
+use Rattle.node_laws.specs.HostSystem.{System, HostCall, after_call, AreCalls, after_calls, Hosting, start, after, handlers, Makes}
+use Rattle.node_laws.specs.HostLaws.{shown_by, outputs_of, OneLife, HostedInOrder, HostedWithoutGap, HostedStayOut, HostedAgree}
+use Rattle.node_laws.specs.Outputs.{IsOut, AllOut, LeavesNoGap, AreBehind}
+use Rattle.node_laws.proofs.Promised.{after-more, calls-split, hosted-keep}
 use Rattle.node_laws.proofs.Preservation.{IsShown}
 use Rattle.node_laws.proofs.HeldGateway.{OfGateway}
 use Rattle.node_laws.proofs.Turns.{Between, InTurn, IsOfSome, Leads, Turns, UpTo, passed, passed-grows, past, past-grows, turns}
@@ -47,25 +44,15 @@ within-more : (least : ℕ → ℕ) (before xs : List Output) (c : ℕ → ℕ) 
 within-more least before xs c w p = ((w p).0, all-out-more p (c p) before xs (w p).1)
 
 within-past : (least : ℕ → ℕ) (before : List Output) (o : Output) (c : ℕ → ℕ) → o.ssn ≡ suc (c o.process) → Within least before c → Within least (before ++ o ∷ []) (past c o.process)
-within-past least before o c n w p = split (p == o.process) refl
+within-past least before o c n w =
+    choose o.process (λ j b. (least j ≤ (if b then suc (c o.process) else c j)) × AllOut j (if b then suc (c o.process) else c j) (before ++ o ∷ []))
+    (let low : least o.process ≤ c o.process = (w o.process).0 in omega (arith, low), λ ssn some low. by ssn some low (nat_le ssn (c o.process)) refl) (λ j u. ((w j).0, all-out-more j (c j) before (o ∷ []) (w j).1))
   where
-    split : (b : Bool) → (p == o.process) ≡ b → (least p ≤ (if b then suc (c o.process) else c p)) × AllOut p (if b then suc (c o.process) else c p) (before ++ o ∷ [])
-    split true e =
-        let same : o.process ≡ p = grind (arith, nat_tests) in
-        let at : c p ≡ c o.process = ap c (sym same) in
-        let low : least p ≤ c p = (w p).0 in
-        (omega (arith, at, low), last same at)
-      where
-        last : o.process ≡ p → c p ≡ c o.process → AllOut p (suc (c o.process)) (before ++ o ∷ [])
-        last same at ssn some low = by (nat_le ssn (c p)) refl
-          where
-            by : (b : Bool) → nat_le ssn (c p) ≡ b → IsOut p ssn (before ++ o ∷ [])
-            by true f = let under : ssn ≤ c p = grind (arith, nat_tests) in out-more p ssn before (o ∷ []) ((w p).1 ssn some under)
-            by false f =
-                let over : c p < ssn = grind (arith, nat_tests) in
-                let is : o.ssn ≡ ssn = omega (arith, over, n, low, at) in
-                out-last p ssn before o same is
-    split false e = ((w p).0, all-out-more p (c p) before (o ∷ []) (w p).1)
+    by : (ssn : ℕ) → 0 < ssn → ssn ≤ suc (c o.process) → (b : Bool) → nat_le ssn (c o.process) ≡ b → IsOut o.process ssn (before ++ o ∷ [])
+    by ssn some low true f = let under : ssn ≤ c o.process = grind (arith, nat_tests) in out-more o.process ssn before (o ∷ []) ((w o.process).1 ssn some under)
+    by ssn some low false f =
+        let over : c o.process < ssn = grind (arith, nat_tests) in
+        out-last o.process ssn before o refl (omega (arith, over, n, low))
 
 -- behind these each is past the least, and leaves none out
 abbrev pub Behind : (ℕ → ℕ) → List Output → List Output → Type 0
@@ -125,7 +112,7 @@ life-joined c from to xs ys (inr h) l =
 
 -- ---- call after call
 
-pub record Ends (least c : ℕ → ℕ) (before : List Output) (s : System) (ks : List Call) : Type 0 where
+pub record Ends (least c : ℕ → ℕ) (before : List Output) (s : System) (ks : List HostCall) : Type 0 where
   pub from : ℕ → ℕ
   pub kept : ℕ → ℕ
   pub up : UpTo from kept (after_calls s ks)
@@ -134,8 +121,8 @@ pub record Ends (least c : ℕ → ℕ) (before : List Output) (s : System) (ks 
   pub behind : Behind least before (outputs_of s ks)
   pub in_life : OneLife ks → InLife c from (outputs_of s ks)
 
-ends : (f : Answering) (n : ℕ) (least c d : ℕ → ℕ) (before : List Output) (s : System) (ks : List Call) → UpTo c d s → Within least before c → Within least before d → Calls f n s ks → Ends least c before s ks
-ends f n least c d before s [] a w v m =
+ends : (images : ℕ → AnyImage) (n : ℕ) (least c d : ℕ → ℕ) (before : List Output) (s : System) (ks : List HostCall) → UpTo c d s → Within least before c → Within least before d → AreCalls images n s ks → Ends least c before s ks
+ends images n least c d before s [] a w v m =
     record {
       from = c;
       kept = d;
@@ -145,13 +132,13 @@ ends f n least c d before s [] a w v m =
       behind = tt;
       in_life = λ l. record { grows = λ p. omega arith; ordered = tt; low = tt };
     }
-ends f n least c d before s (k ∷ ks) a w v m =
-    let one : Turns c d s k = turns c d s a f n k m.0 in
+ends images n least c d before s (k ∷ ks) a w v m =
+    let one : Turns c d s k = turns c d s a images n k m.0 in
     let xs : List Output = shown_by s k in
     let ys : List Output = outputs_of (after_call s k) ks in
     let moved : Within least (before ++ xs) one.from × Behind least before xs = leads-either least before xs c d one.from w v one.leads in
     let stays : Within least (before ++ xs) one.kept = kept-within least before xs d one.from one.kept v moved.0 one.kept_is in
-    let rest : Ends least one.from (before ++ xs) (after_call s k) ks = ends f n least one.from one.kept (before ++ xs) (after_call s k) ks one.up moved.0 stays m.1 in
+    let rest : Ends least one.from (before ++ xs) (after_call s k) ks = ends images n least one.from one.kept (before ++ xs) (after_call s k) ks one.up moved.0 stays m.1 in
     let all : (before ++ xs) ++ ys ≡ before ++ outputs_of s (k ∷ ks) = append_assoc before xs ys in
     record {
       from = rest.from;
@@ -168,40 +155,31 @@ ends f n least c d before s (k ∷ ks) a w v m =
 abbrev none : ℕ → ℕ
 none p = 0
 
--- nothing was shown of new processes
-shown-none : (n k : ℕ) → (slice_index_or (replicate n no_peer) k no_peer).shown ≡ 0
-shown-none zero k = refl
-shown-none (suc n) zero = refl
-shown-none (suc n) (suc k) = shown-none n k
-
 opened : (n page tick : ℕ) → OfGateway (InTurn none) (new_gateway n page tick)
-opened n page tick = record { out = tt; store = record { shown = λ p l. shown-none n (p - 1); ordered = tt; some = tt } }
+opened n page tick = record { out = tt; store = record { shown = λ p l. same-at (λ (y : ThePeer). y.shown ≡ 0) n (p - 1) no_peer no_peer refl refl; ordered = tt; some = tt } }
 
 within-none : Within none [] none
 within-none p = (omega arith, λ ssn some low. absurd (omega arith))
 
-from-opening : (l : Living) (ks : List Call) → Makes l ks → Ends none none [] (start l) ks
-from-opening l ks m =
-    let begins : UpTo none none (start l) = record { gateway = opened l.n l.page l.tick; durable = opened l.n l.page l.tick; shadow = opened l.n l.page l.tick; leads = λ p. refl } in
-    ends l.f l.n none none none [] (start l) ks begins within-none within-none m
+from-opening : (h : Hosting) (ks : List HostCall) → Makes h ks → Ends none none [] (start h) ks
+from-opening h ks m =
+    let begins : UpTo none none (start h) = record { gateway = opened h.n h.page h.tick; durable = opened h.n h.page h.tick; shadow = opened h.n h.page h.tick; leads = λ p. refl } in
+    ends h.images h.n none none none [] (start h) ks begins within-none within-none m
 
-pub outputs-in-order : OutputsInOrder
-outputs-in-order l calls life m one =
-    let s : System = start l in
-    let parts = calls-parts l.f l.n s calls life m in
-    let a : Ends none none [] s calls = from-opening l calls parts.0 in
-    let b = ends l.f l.n none a.from a.kept (outputs_of s calls) (after_calls s calls) life a.up a.from_within a.kept_within parts.1.0 in
+pub hosted-in-order : HostedInOrder
+hosted-in-order h calls life g one =
+    let s : System = start h in
+    let parts = calls-split h.images h.n s calls life g in
+    let a : Ends none none [] s calls = from-opening h calls parts.0 in
+    let b = ends h.images h.n none a.from a.kept (outputs_of s calls) (after h calls) life a.up a.from_within a.kept_within parts.1 in
     record { from = a.from; out = λ p. (a.from_within p).1; ordered = (b.in_life one).ordered }
 
 no-gap : (least : ℕ → ℕ) (first before after : List Output) (o : Output) → Behind least first (before ++ o ∷ after) → LeavesNoGap (first ++ before) o
 no-gap least first [] after o h = subst (λ z. LeavesNoGap z o) (sym (append-nil first)) h.1.0
 no-gap least first (x ∷ before) after o h = subst (λ z. LeavesNoGap z o) (append_assoc first (x ∷ []) before) (no-gap least (first ++ x ∷ []) before after o h.1.1)
 
-pub outputs-without-gap : OutputsWithoutGap
-outputs-without-gap l calls m before after o e =
-    let s : System = start l in
-    let a : Ends none none [] s calls = from-opening l calls m in
-    no-gap none [] before after o (subst (Behind none []) (sym e) a.behind)
+pub hosted-without-gap : HostedWithoutGap
+hosted-without-gap h calls g before after o e = no-gap none [] before after o (subst (Behind none []) (sym e) (from-opening h calls g).behind)
 
 -- those that are past the others
 are-behind : (least : ℕ → ℕ) (first before outputs : List Output) → Each (λ (o : Output). o.ssn ≤ least o.process) before → Behind least first outputs → AreBehind before outputs
@@ -229,22 +207,22 @@ up-alike c d s a lasts p = split s.taken refl
         let next : past d q q ≡ suc (d q) = at-itself q (λ b. (if b then suc (d q) else d q) ≡ suc (d q)) refl in
         absurd (omega (arith, one, two, led, more, next))
 
-pub outputs-stay-out : OutputsStayOut
-outputs-stay-out l calls life more m one lasts =
-    let s : System = start l in
-    let u : System = after_calls s calls in
+pub hosted-stay-out : HostedStayOut
+hosted-stay-out h calls life more g one lasts =
+    let s : System = start h in
+    let u : System = after h calls in
     let v : System = after_calls u life in
-    let parts = calls-parts l.f l.n s calls (life ++ more) m in
-    let later = calls-parts l.f l.n u life more parts.1.0 in
-    let a : Ends none none [] s calls = from-opening l calls parts.0 in
+    let parts = calls-split h.images h.n s calls (life ++ more) g in
+    let later = calls-split h.images h.n u life more parts.1 in
+    let a : Ends none none [] s calls = from-opening h calls parts.0 in
     let seen : List Output = outputs_of s calls ++ outputs_of u life in
-    let b : Ends none a.from (outputs_of s calls) u life = ends l.f l.n none a.from a.kept (outputs_of s calls) u life a.up a.from_within a.kept_within later.0 in
-    let is : after_calls s (calls ++ life) ≡ v = after-append s calls life in
+    let b : Ends none a.from (outputs_of s calls) u life = ends h.images h.n none a.from a.kept (outputs_of s calls) u life a.up a.from_within a.kept_within later.0 in
+    let is : after h (calls ++ life) ≡ v = after-more s calls life in
     let same : v.durable.store ≡ v.gateway.store = subst (λ (z : System). z.durable.store ≡ z.gateway.store) is lasts in
     let alike : (p : ℕ) → b.from p ≡ b.kept p = up-alike b.from b.kept v b.up same in
     let here : Within b.from seen b.from = λ p. (omega arith, (b.from_within p).1) in
     let kept : Within b.from seen b.kept = λ p. ((let e : b.from p ≡ b.kept p = alike p in omega (arith, e)), (b.kept_within p).1) in
-    let t : Ends b.from b.from seen v more = ends l.f l.n b.from b.from b.kept seen v more b.up here kept later.1.0 in
+    let t : Ends b.from b.from seen v more = ends h.images h.n b.from b.from b.kept seen v more b.up here kept later.1 in
     subst (λ z. AreBehind (outputs_of u life) (outputs_of z more)) (sym is) (are-behind b.from seen (outputs_of u life) (outputs_of v more) (b.in_life one).low t.behind)
 
 -- by their SSN they are what is stored to be sent
@@ -257,8 +235,10 @@ said-same f durable h a b x y d p i =
     let same : Some a.payload ≡ Some b.payload = sym there ∙ other in
     cc
 
-pub keep-same : (n : ℕ) (f : Handlers) (durable : ℕ → Bool) (bytes : ℕ → List ℕ) (Up : ℕ → TheNode → Type 0) (given : List NodePacket) (outputs : List Output) → Keep n f durable bytes Up given outputs → SayTheSame durable outputs
-keep-same n f durable bytes Up given outputs k =
+pub hosted-agree : HostedAgree
+hosted-agree h calls durable g d =
+    let k = hosted-keep h calls durable g d in
     let Same : Output → Output → Type 0 = λ a b. durable a.process ≡ true → a.process ≡ b.process → a.ssn ≡ b.ssn → a.payload ≡ b.payload in
-    let Sent : Output → Type 0 = IsShown f durable k.messages in
-    all-more Sent (λ a. Each (Same a) outputs) outputs (λ a x. all-more Sent (Same a) outputs (λ b y. said-same f durable k.messages a b x y) k.shown) k.shown
+    let Sent : Output → Type 0 = IsShown (handlers h) durable k.messages in
+    let outputs : List Output = outputs_of (start h) calls in
+    all-more Sent (λ a. Each (Same a) outputs) outputs (λ a x. all-more Sent (Same a) outputs (λ b y. said-same (handlers h) durable k.messages a b x y) k.shown) k.shown

@@ -1,8 +1,8 @@
 -- What a process that comes back says of lives
-use Rattle.std.proofs.Common.{◌≡◌, ◌≢◌, ℕ, ◌<◌, ◌≤◌, List, length, Bool, true, false, refl, sym, ap, ◌∙◌, subst, arith}
-use Rattle.std.specs.Prelude.{not, ◌&&◌, ◌==◌, nat_lt, nat_le, slice_index_or, slice_set, if◌then◌else◌}
+use Rattle.std.proofs.Common.{◌≡◌, ◌≢◌, ℕ, ◌<◌, ◌≤◌, List, length, true, refl, sym, ap, ◌∙◌, subst, arith}
+use Rattle.std.specs.Prelude.{◌&&◌, nat_lt, slice_index_or, slice_set, if◌then◌else◌}
 use Rattle.std.proofs.lemmas.Bool.Decides.{nat_tests}
-use Rattle.std.proofs.lemmas.List.{get_or-set_same, get_or-set_other, length-set}
+use Rattle.std.proofs.lemmas.List.{length-set}
 use Rattle.theorems.proofs.Tests.{both}
 use Rattle.packets.specs.declared.packet.Body as bodies
 use Rattle.packets.specs.declared.packet.Body.TheVariants as packets
@@ -11,8 +11,9 @@ use Rattle.packets.specs.Packet.{in_range}
 use Rattle.node.proofs.Lists.{all-pushed}
 use Rattle.gateway.proofs.Steps.{by-if}
 use Rattle.recovery.specs.Own.{TheOwn, posts, packet_of, is_for}
+use Rattle.recovery.proofs.Posts.{for-own}
 use Rattle.recovery.specs.Overlap.{loss_of, tells_loss, heard_of, meets, asked_by, heard, handed}
-use Rattle.node_laws.proofs.Sound.{Says, IsSound, AreSound}
+use Rattle.node_laws.proofs.Sound.{Says, IsSound, AreSound, set-at}
 
 -- it keeps its number, its life, and how many there are; it stays exact; and what waits to be sent is sound where it was
 pub record Keeps (lives : ℕ → ℕ) (back : ℕ → Type 0) (old new : TheOwn) : Type 0 where
@@ -34,46 +35,14 @@ pub record HasHeard (lives : ℕ → ℕ) (top : ℕ) (o : TheOwn) : Type 0 wher
   pub wide : top < length o.heard
   pub all : (q : ℕ) → q ≤ top → q ≢ o.me → lives q ≤ heard_of q o
 
-off : (b : Bool) → not b ≡ true → b ≡ false
-off true e = absurd (cc (e))
-off false e = refl
-
--- a packet for it is of another
-pub of-other : (o : TheOwn) (x : NodePacket) → is_for o x ≡ true → (x.to ≡ o.me) × ((x.from ≤ o.count) × (x.from ≢ o.me))
-of-other o x e =
-    let a = both ((x.count == o.count) && (x.to == o.me) && nat_le x.from o.count) (not (x.from == o.me)) e in
-    let b = both ((x.count == o.count) && (x.to == o.me)) (nat_le x.from o.count) a.0 in
-    let c = both (x.count == o.count) (x.to == o.me) b.0 in
-    let apart : (x.from == o.me) ≡ false = off (x.from == o.me) a.1 in
-    ((let u = c.1 in grind (arith, nat_tests)), ((let u = b.1 in grind (arith, nat_tests)), grind (arith, nat_tests)))
-
--- of a list that is changed at one place
-pub heard-same : (xs : List ℕ) (q j : ℕ) → q < length xs → slice_index_or (slice_set xs q j) q 0 ≡ j
-heard-same xs q j inside = get_or-set_same xs q j 0 inside
-
-pub heard-other : (xs : List ℕ) (q r j : ℕ) → r ≢ q → slice_index_or (slice_set xs q j) r 0 ≡ slice_index_or xs r 0
-heard-other xs q r j other = get_or-set_other xs q r j 0 other
-
 -- it hears of the life of now of one
 pub hears-now : (lives : ℕ → ℕ) (top : ℕ) (o new : TheOwn) (q j : ℕ) → j ≡ lives q → q ≤ top → new.me ≡ o.me → new.heard ≡ slice_set o.heard q j → HasHeard lives top o → HasHeard lives top new
 hears-now lives top o new q j now low me same h =
     record {
       wide = (let e : length new.heard ≡ length o.heard = ap length same ∙ length-set o.heard q j in let w = h.wide in omega (arith, e, w));
-      all = λ r inside other. subst (λ (xs : List ℕ). lives r ≤ slice_index_or xs r 0) (sym same) (split r inside (λ e. other (e ∙ sym me)) (r == q) refl);
+      all = λ r inside other. subst (λ (xs : List ℕ). lives r ≤ slice_index_or xs r 0) (sym same)
+          (set-at (λ z. lives r ≤ z) o.heard q j r 0 (let w = h.wide in omega (arith, w, inside)) (λ e. let at : lives r ≡ lives q = ap lives e in omega (arith, at, now)) (λ o. h.all r inside (λ e. other (e ∙ sym me))));
     }
-  where
-    split : (r : ℕ) → r ≤ top → r ≢ o.me → (b : Bool) → (r == q) ≡ b → lives r ≤ slice_index_or (slice_set o.heard q j) r 0
-    split r inside other true e =
-        let here : r ≡ q = grind (arith, nat_tests) in
-        let P : ℕ → Type 0 = λ z. lives z ≤ slice_index_or (slice_set o.heard q j) z 0 in
-        let w = h.wide in
-        let k : slice_index_or (slice_set o.heard q j) q 0 ≡ j = heard-same o.heard q j (omega (arith, w, low)) in
-        subst P (sym here) (let l : lives q ≤ slice_index_or (slice_set o.heard q j) q 0 = omega (arith, k, now) in l)
-    split r inside other false e =
-        let apart : r ≢ q = grind (arith, nat_tests) in
-        let k : slice_index_or (slice_set o.heard q j) r 0 ≡ slice_index_or o.heard r 0 = heard-other o.heard q r j apart in
-        let l : lives r ≤ slice_index_or o.heard r 0 = h.all r inside other in
-        omega (arith, k, l)
 
 module _ (lives : ℕ → ℕ) (back : ℕ → Type 0) where
   abbrev On : TheOwn → TheOwn → Type 0
@@ -119,7 +88,7 @@ module _ (lives : ℕ → ℕ) (back : ℕ → Type 0) where
   hands top x o h known sound =
       by-if Q (is_for o x && in_range x.body) (heard x.from x.body o) o
       (λ e. let t = both (is_for o x) (in_range x.body) e in
-      let p = of-other o x t.0 in
+      let p = for-own o x t.0 in
       says x.from x.to x.body (let l = p.1.0 in let c = h.count in omega (arith, l, c)) p.1.1 sound)
       (λ e. (stays o, known))
     where

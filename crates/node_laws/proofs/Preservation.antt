@@ -1,9 +1,8 @@
 -- What anyone has of a durable process is what is stored of it to be sent
-use Rattle.std.proofs.Common.{◌≡◌, ◌≢◌, ℕ, ◌≤◌, List, [], ◌∷◌, ◌++◌, length, drop, Bool, true, false, refl, sym, ap, ◌∙◌, subst, append-nil, arith}
-use Rattle.std.specs.Prelude.{Some, ◌==◌, if◌then◌else◌}
-use Rattle.std.proofs.lemmas.Bool.Decides.{nat_tests}
+use Rattle.std.proofs.Common.{◌≡◌, ℕ, ◌≤◌, List, [], ◌∷◌, ◌++◌, length, drop, Bool, true, false, refl, sym, ap, ◌∙◌, subst, append-nil, arith}
+use Rattle.std.specs.Prelude.{Some, if◌then◌else◌}
 use Rattle.theorems.specs.Growth.{Begins}
-use Rattle.theorems.proofs.Changes.{at-itself}
+use Rattle.theorems.proofs.Changes.{choose}
 use Rattle.theorems.proofs.ListLemmas.{begins-self, begins-trans, nth-prefix}
 use Rattle.world.specs.declared.message.Message.{Message}
 use Rattle.world.specs.History.{Payload, nth}
@@ -14,7 +13,7 @@ use Rattle.packets.specs.declared.packet.Body.TheVariants as packets
 use Rattle.packets.specs.declared.packet.NodePacket.{NodePacket}
 use Rattle.stores.specs.declared.change.Output.{Output}
 use Rattle.stores.specs.Store.{TheStore}
-use Rattle.gateway.specs.Gateway.{TheGateway, new_gateway}
+use Rattle.gateway.specs.Gateway.{TheGateway}
 use Rattle.node.specs.Node.{TheNode}
 use Rattle.node.specs.Runs.{Answering, handlers_of}
 use Rattle.node.specs.Stands.{Each}
@@ -24,15 +23,15 @@ use Rattle.recovery.proofs.Preservation.{each-drop}
 use Rattle.recovery.proofs.Lists.{each-append}
 use Rattle.node_laws.specs.HostProcess.{IsFirst}
 use Rattle.node_laws.specs.Inside.Process.{Process, Up, Covered, IsUp, Gives, WaitsFor, covered}
-use Rattle.node_laws.specs.Inside.System.{System, Call, Gave, Handed, Stored, GaveOut, HandedOut, DidOut, StoredOut, StoredBut, RevivedOut, DoesIt, after_call, Calls, after_calls, start, handlers}
-use Rattle.node_laws.specs.HostSystem.{handed_out, untaken}
-use Rattle.node_laws.specs.Inside.Durable.{ReplaysWhole, ReplayWhole, KeepsDurable, StaysDurable, outputs_of, DurableKeep}
-use Rattle.node_laws.specs.Durable.{HasAfter, IsSentBy, Knows}
-use Rattle.node_laws.proofs.Taken.{IsFair, fair-more, fair-of}
+use Rattle.node_laws.specs.Inside.System.{System, Call, Gave, Handed, Stored, GaveOut, HandedOut, DidOut, StoredOut, StoredBut, RevivedOut, DoesIt, after_call, after_calls, Along, KeepsDurable}
+use Rattle.node_laws.specs.HostSystem.{handed_out, untaken, Deals}
+use Rattle.node_laws.specs.Durable.{HasAfter, Knows}
+use Rattle.node_laws.proofs.HostStep.{IsPart}
+use Rattle.node_laws.proofs.Taken.{IsFair, fair-more}
 use Rattle.node_laws.proofs.HeldState.{grown}
 use Rattle.node_laws.proofs.HeldGateway.{IsQuiet, OfGateway, EachOutput, each-deals, each-hands}
 use Rattle.node_laws.proofs.Durability.{IsStored, IsFor, giving, storing, for-more, stored-more}
-use Rattle.node_laws.proofs.Durable.{Now, is_store, step, IsFairCall, at-place, begins-now, after-of}
+use Rattle.node_laws.proofs.Durable.{Now, is_store, step, IsFairCall}
 
 -- what q sends to p by the messages that are stored of it
 abbrev pub sent_to : Handlers → (ℕ → List Message) → ℕ → ℕ → List Payload
@@ -58,19 +57,11 @@ pub record All (f : Answering) (states : ℕ → List ℕ) (n : ℕ) (D : ℕ �
   pub durable : OfGateway (AreShown (handlers_of f states) D H) s.durable
   pub taken : Each (IsShown (handlers_of f states) D H) s.taken
 
--- after a call these or more do; and what it handed out these make their processes show
-pub record Goes (f : Answering) (states : ℕ → List ℕ) (n : ℕ) (D : ℕ → Bool) (H : ℕ → List Message) (s : System) (k : Call) : Type 0 where
+-- in a system these or more do
+pub record Ends (f : Answering) (states : ℕ → List ℕ) (n : ℕ) (D : ℕ → Bool) (H : ℕ → List Message) (s : System) : Type 0 where
   pub messages : ℕ → List Message
   pub later : (q : ℕ) → Begins (H q) (messages q)
-  pub all : All f states n D messages (after_call s k)
-  pub shows : (ks : List Call) (G : ℕ → List Message) → ((q : ℕ) → Begins (messages q) (G q)) → Each (IsShown (handlers_of f states) D G) (outputs_of (after_call s k) ks) → Each (IsShown (handlers_of f states) D G) (outputs_of s (k ∷ ks))
-
--- after some
-pub record Ends (f : Answering) (states : ℕ → List ℕ) (n : ℕ) (D : ℕ → Bool) (H : ℕ → List Message) (s : System) (ks : List Call) : Type 0 where
-  pub messages : ℕ → List Message
-  pub later : (q : ℕ) → Begins (H q) (messages q)
-  pub all : All f states n D messages (after_calls s ks)
-  pub shown : Each (IsShown (handlers_of f states) D messages) (outputs_of s ks)
+  pub all : All f states n D messages s
 
 module _ (f : Answering) (states : ℕ → List ℕ) (n : ℕ) (D : ℕ → Bool) (proper : (p : ℕ) → D p ≡ true → IsFirst n p) where
   abbrev F : Handlers
@@ -83,11 +74,11 @@ module _ (f : Answering) (states : ℕ → List ℕ) (n : ℕ) (D : ℕ → Bool
   sent-more : (H G : ℕ → List Message) → ((q : ℕ) → Begins (H q) (G q)) → (p q : ℕ) → Begins (In H p q) (In G p q)
   sent-more H G b p q = subst (λ z. Begins (F.sends q (H q) p) (F.sends q z p)) (b q).1 (grown F (grows f states) q p (H q) (b q).0)
 
-  true-more : (H G : ℕ → List Message) → ((q : ℕ) → Begins (H q) (G q)) → (x : NodePacket) → IsTrue F D H x → IsTrue F D G x
+  pub true-more : (H G : ℕ → List Message) → ((q : ℕ) → Begins (H q) (G q)) → (x : NodePacket) → IsTrue F D H x → IsTrue F D G x
   true-more H G b x o =
       fair-more (D x.from) (D x.from) (F.sends x.from (H x.from) x.to) (F.sends x.from (G x.from) x.to) (D x.to) (F.sends x.to (H x.to) x.from) (F.sends x.to (G x.to) x.from) x.body (sent-more H G b x.to x.from) (sent-more H G b x.from x.to) o
 
-  shown-more : (H G : ℕ → List Message) → ((q : ℕ) → Begins (H q) (G q)) → (xs : List Output) → Each (IsShown F D H) xs → Each (IsShown F D G) xs
+  pub shown-more : (H G : ℕ → List Message) → ((q : ℕ) → Begins (H q) (G q)) → (xs : List Output) → Each (IsShown F D H) xs → Each (IsShown F D G) xs
   shown-more H G b xs a = all-more (IsShown F D H) (IsShown F D G) xs (λ o t d. nth-prefix (In H 0 o.process) (In G 0 o.process) o.ssn o.payload (sent-more H G b 0 o.process) (t d)) a
 
   gateway-more : (H G : ℕ → List Message) → ((q : ℕ) → Begins (H q) (G q)) → (g : TheGateway) → OfGateway (AreShown F D H) g → OfGateway (AreShown F D G) g
@@ -146,113 +137,92 @@ module _ (f : Answering) (states : ℕ → List ℕ) (n : ℕ) (D : ℕ → Bool
     G = put H q found.0
 
     later : (p : ℕ) → Begins (H p) (G p)
-    later p = split (p == q) refl
-      where
-        split : (b : Bool) → (p == q) ≡ b → Begins (H p) (if b then found.0 else H p)
-        split true e = let same : q ≡ p = grind (arith, nat_tests) in subst (λ z. Begins (H z) found.0) same found.1.0
-        split false e = begins-self (H p)
+    later = choose q (λ j b. Begins (H j) (if b then found.0 else H j)) found.1.0 (λ j o. begins-self (H j))
 
-    stored-each : (p : ℕ) (k : IsFirst n p) → Now f states n p (D p) (D p) D (In G p) k.1 (G p) (after_call s (Stored q bytes))
-    stored-each p k = split (p == q) refl
-      where
-        more : (r : ℕ) → Begins (In H p r) (In G p r)
-        more r = sent-more H G later p r
+    -- p has this then
+    abbrev Both : (p : ℕ) → IsFirst n p → List Message → Process → List ℕ → Type 0
+    Both p k h process stored = IsFor f states n p (D p) (D p) D (In G p) k.1 h process × IsStored n F p D (In G p) h stored
 
-        there : List Message → Type 0
-        there h = Now f states n p (D p) (D p) D (In G p) k.1 h (after_call s (Stored q bytes))
+    more : (p : ℕ) (k : IsFirst n p) (h : List Message) (process : Process) (stored : List ℕ) → IsFor f states n p (D p) (D p) D (In H p) k.1 h process → IsStored n F p D (In H p) h stored → Both p k h process stored
+    more p k h process stored u v =
+        let b : (r : ℕ) → Begins (In H p r) (In G p r) = sent-more H G later p in
+        (for-more f states n p (D p) (D p) D (In H p) k.1 (In G p) b h process u, stored-more f states n p (D p) (D p) D (In H p) k.1 (In G p) b h stored v)
 
-        here : (h : List Message) → IsFor f states n p (D p) (D p) D (In H p) k.1 h (put s.processes q next p) → IsStored n F p D (In H p) h (put s.stored q bytes p) → Now f states n p (D p) (D p) D (In G p) k.1 h (after_call s (Stored q bytes))
-        here h u v =
-            record {
-              holds = for-more f states n p (D p) (D p) D (In H p) k.1 (In G p) more h (put s.processes q next p) u;
-              stored = stored-more f states n p (D p) (D p) D (In H p) k.1 (In G p) more h (put s.stored q bytes p) v;
-            }
+    both-each : (p : ℕ) (k : IsFirst n p) → Both p k (G p) (put s.processes q next p) (put s.stored q bytes p)
+    both-each = choose q (λ j b. (k : IsFirst n j) → Both j k (if b then found.0 else H j) (if b then next else s.processes j) (if b then bytes else s.stored j))
+        (λ k. more q k found.0 next bytes found.1.1.1 found.1.1.0) (λ j o k. more j k (H j) (s.processes j) (s.stored j) (a.each j k).holds (a.each j k).stored)
 
-        split : (b : Bool) → (p == q) ≡ b → Now f states n p (D p) (D p) D (In G p) k.1 (if b then found.0 else H p) (after_call s (Stored q bytes))
-        split true e =
-            let same : q ≡ p = grind (arith, nat_tests) in
-            let one : IsFor f states n q (D q) (D q) D (In H q) l.1 found.0 (put s.processes q next q) × IsStored n F q D (In H q) found.0 (put s.stored q bytes q) = (
-              at-itself q (λ b. IsFor f states n q (D q) (D q) D (In H q) l.1 found.0 (if b then next else s.processes q)) found.1.1.1,
-              at-itself q (λ b. IsStored n F q D (In H q) found.0 (if b then bytes else s.stored q)) found.1.1.0,
-            ) in
-            let Q : ℕ → Type 0 = λ z. (y : IsFirst n z) → IsFor f states n z (D z) (D z) D (In H z) y.1 found.0 (put s.processes q next z) × IsStored n F z D (In H z) found.0 (put s.stored q bytes z) in
-            let both : Q p = subst Q same (λ y. one) in
-            here found.0 (both k).0 (both k).1
-        split false e =
-            let apart : q ≢ p = grind (arith, nat_tests) in
-            here (H p) (at-place s.processes q p next (λ z. IsFor f states n p (D p) (D p) D (In H p) k.1 (H p) z) (λ o. (a.each p k).holds) (λ d. absurd (apart d)))
-            (at-place s.stored q p bytes (λ z. IsStored n F p D (In H p) (H p) z) (λ o. (a.each p k).stored) (λ d. absurd (apart d)))
-
-    stores : Goes f states n D H s (Stored q bytes)
+    stores : Ends f states n D H (after_call s (Stored q bytes))
     stores =
         record {
           messages = G;
           later = later;
           all = record {
-            each = stored-each;
+            each = λ p k. record { holds = (both-each p k).0; stored = (both-each p k).1 };
             given = all-more (IsTrue F D H) (IsTrue F D G) s.given (true-more H G later) a.given;
             gateway = gateway-more H G later s.gateway a.gateway;
             durable = gateway-more H G later s.durable a.durable;
             taken = shown-more H G later s.taken a.taken;
           };
-          shows = λ ks K b o. o;
         }
 
   -- ---- each call
 
-  -- where nothing is stored, a process has what it had
-  each-still : (H : ℕ → List Message) (s : System) (k : Call) → is_store k ≡ false → All f states n D H s → DoesIt f n s k → ReplaysWhole s k → ((p : ℕ) → D p ≡ true → KeepsDurable p s k)
-      → ((p : ℕ) (l : IsFirst n p) → IsFairCall f states n p (D p) (D p) D (In H p) l.1 (H p) k) → (p : ℕ) (l : IsFirst n p) → Now f states n p (D p) (D p) D (In H p) l.1 (H p) (after_call s k)
-  each-still H s k e a m v w fair p l =
-      let t = step f states n p (D p) (D p) D (In H p) l.1 (H p) s k (a.each p l) m v (w p) (fair p l) in
-      subst (λ z. Now f states n p (D p) (D p) D (In H p) l.1 z (after_call s k)) (t.still e) t.now
-
-  -- where what was given, and the gateway, are these
-  stays : (H : ℕ → List Message) (s : System) (k : Call) → is_store k ≡ false → All f states n D H s → DoesIt f n s k → ReplaysWhole s k → ((p : ℕ) → D p ≡ true → KeepsDurable p s k)
+  -- where nothing is stored, and what was given, and the gateway, are these
+  stays : (H : ℕ → List Message) (s : System) (k : Call) → is_store k ≡ false → All f states n D H s → DoesIt f n s k → ((p : ℕ) → D p ≡ true → KeepsDurable p k)
       → ((p : ℕ) (l : IsFirst n p) → IsFairCall f states n p (D p) (D p) D (In H p) l.1 (H p) k) → Each (IsTrue F D H) (after_call s k).given → OfGateway (AreShown F D H) (after_call s k).gateway → OfGateway (AreShown F D H) (after_call s k).durable
-      → Each (IsShown F D H) (after_call s k).taken → ((ks : List Call) (G : ℕ → List Message) → ((q : ℕ) → Begins (H q) (G q)) → Each (IsShown F D G) (outputs_of (after_call s k) ks) → Each (IsShown F D G) (outputs_of s (k ∷ ks))) → Goes f states n D H s k
-  stays H s k e a m v w fair given gateway durable taken shows =
+      → Each (IsShown F D H) (after_call s k).taken → Ends f states n D H (after_call s k)
+  stays H s k e a m w fair given gateway durable taken =
       record {
         messages = H;
         later = λ q. begins-self (H q);
-        all = record { each = each-still H s k e a m v w fair; given = given; gateway = gateway; durable = durable; taken = taken };
-        shows = shows;
+        all = record {
+          each = λ p l. step f states n p (D p) (D p) D (In H p) l.1 (H p) s k e (a.each p l) m (w p) (fair p l);
+          given = given;
+          gateway = gateway;
+          durable = durable;
+          taken = taken;
+        };
       }
 
-  pub goes : (H : ℕ → List Message) (s : System) (k : Call) → All f states n D H s → DoesIt f n s k → ReplaysWhole s k → ((p : ℕ) → D p ≡ true → KeepsDurable p s k) → Goes f states n D H s k
-  goes H s (Gave q x new) a m v w = stays H s (Gave q x new) refl a m v w (λ p l. tt) (gave-true H s q x new a m.0 m.1, a.given) a.gateway a.durable a.taken (λ ks G b o. o)
-  goes H s (Handed q x new) a m v w =
-      let t : IsTrue F D H x = one-was (IsTrue F D H) x s.given a.given m.1.0 in
-      stays H s (Handed q x new) refl a m v w (λ p l e. handed-true H x p t) a.given a.gateway a.durable a.taken (λ ks G b o. o)
-  goes H s (Stored q bytes) a m v w = stores H s q bytes a m.0 m.1
-  goes H s (GaveOut x new) a m v w =
-      let t = gave-out H x s.gateway new m.1.0 a.gateway in
-      stays H s (GaveOut x new) refl a m v w (λ p l. tt) (t.0, a.given) t.1 a.durable a.taken (λ ks G b o. o)
-  goes H s (HandedOut x new) a m v w =
-      let t : IsTrue F D H x = one-was (IsTrue F D H) x s.given a.given m.0 in
-      stays H s (HandedOut x new) refl a m v w (λ p l. tt) a.given (subst (OfGateway (AreShown F D H)) (sym m.1.0) (each-hands (IsShown F D H) x s.gateway (shown-true H x t) a.gateway)) a.durable a.taken (λ ks G b o. o)
-  goes H s (DidOut new) a m v w =
-      let t = each-deals (IsShown F D H) s.gateway new m.0 a.gateway in
-      stays H s (DidOut new) refl a m v w (λ p l. tt) a.given t.0 a.durable (each-append (IsShown F D H) s.taken (handed_out s.gateway new) a.taken t.1)
-      (λ ks G b o. each-append (IsShown F D G) (handed_out s.gateway new) (outputs_of (after_call s (DidOut new)) ks) (shown-more H G b (handed_out s.gateway new) t.1) o)
-  goes H s StoredOut a m v w = stays H s StoredOut refl a m v w (λ p l. tt) a.given a.gateway a.gateway tt (λ ks G b o. o)
-  goes H s (StoredBut k) a m v w =
-      let rest : Each (IsShown F D H) (drop k s.taken) = each-drop (IsShown F D H) k s.taken a.taken in
-      stays H s (StoredBut k) refl a m v w (λ p l. tt) a.given a.gateway (shown-untaken H (drop k s.taken) s.gateway rest a.gateway) rest (λ ks G b o. o)
-  goes H s (RevivedOut new) a m v w =
-      let t : OfGateway (AreShown F D H) new = subst (OfGateway (AreShown F D H)) (sym m.0) (record { out = tt; store = a.durable.store }) in
-      stays H s (RevivedOut new) refl a m v w (λ p l. tt) a.given t t tt (λ ks G b o. o)
-  goes H s other a m v w = stays H s other refl a m v w (λ p l. tt) a.given a.gateway a.durable a.taken (λ ks G b o. o)
+  -- what the gateway gives is to be shown
+  pub shows : (H : ℕ → List Message) (s : System) (new : TheGateway) → All f states n D H s → Deals s.gateway new → Each (IsShown F D H) (handed_out s.gateway new)
+  shows H s new a d = (each-deals (IsShown F D H) s.gateway new d a.gateway).1
 
-  pub goes-on : (H : ℕ → List Message) (s : System) (ks : List Call) → All f states n D H s → Calls f n s ks → ReplayWhole s ks → ((p : ℕ) → D p ≡ true → StaysDurable p s ks) → Ends f states n D H s ks
-  goes-on H s [] a m v w = record { messages = H; later = λ q. begins-self (H q); all = a; shown = tt }
-  goes-on H s (k ∷ ks) a m v w =
-      let one = goes H s k a m.0 v.0 (λ p d. (w p d).0) in
-      let rest = goes-on one.messages (after_call s k) ks one.all m.1 v.1 (λ p d. (w p d).1) in
-      record { messages = rest.messages; later = λ q. begins-trans (H q) (one.messages q) (rest.messages q) (one.later q) (rest.later q); all = rest.all; shown = one.shows ks rest.messages rest.later rest.shown }
+  pub goes : (H : ℕ → List Message) (s : System) (k : Call) → All f states n D H s → DoesIt f n s k → ((p : ℕ) → D p ≡ true → KeepsDurable p k) → Ends f states n D H (after_call s k)
+  goes H s (Gave q x new) a m w = stays H s (Gave q x new) refl a m w (λ p l. tt) (gave-true H s q x new a m.0 m.1, a.given) a.gateway a.durable a.taken
+  goes H s (Handed q x new) a m w =
+      let t : IsTrue F D H x = one-was (IsTrue F D H) x s.given a.given m.1.0 in
+      stays H s (Handed q x new) refl a m w (λ p l e. handed-true H x p t) a.given a.gateway a.durable a.taken
+  goes H s (Stored q bytes) a m w = stores H s q bytes a m.0 m.1
+  goes H s (GaveOut x new) a m w =
+      let t = gave-out H x s.gateway new m.1.0 a.gateway in
+      stays H s (GaveOut x new) refl a m w (λ p l. tt) (t.0, a.given) t.1 a.durable a.taken
+  goes H s (HandedOut x new) a m w =
+      let t : IsTrue F D H x = one-was (IsTrue F D H) x s.given a.given m.0 in
+      stays H s (HandedOut x new) refl a m w (λ p l. tt) a.given (subst (OfGateway (AreShown F D H)) (sym m.1.0) (each-hands (IsShown F D H) x s.gateway (shown-true H x t) a.gateway)) a.durable a.taken
+  goes H s (DidOut new) a m w =
+      let t = each-deals (IsShown F D H) s.gateway new m.0 a.gateway in
+      stays H s (DidOut new) refl a m w (λ p l. tt) a.given t.0 a.durable (each-append (IsShown F D H) s.taken (handed_out s.gateway new) a.taken t.1)
+  goes H s StoredOut a m w = stays H s StoredOut refl a m w (λ p l. tt) a.given a.gateway a.gateway tt
+  goes H s (StoredBut k) a m w =
+      let rest : Each (IsShown F D H) (drop k s.taken) = each-drop (IsShown F D H) k s.taken a.taken in
+      stays H s (StoredBut k) refl a m w (λ p l. tt) a.given a.gateway (shown-untaken H (drop k s.taken) s.gateway rest a.gateway) rest
+  goes H s (RevivedOut new) a m w =
+      let t : OfGateway (AreShown F D H) new = subst (OfGateway (AreShown F D H)) (sym m.0) (record { out = tt; store = a.durable.store }) in
+      stays H s (RevivedOut new) refl a m w (λ p l. tt) a.given t t tt
+  goes H s other a m w = stays H s other refl a m w (λ p l. tt) a.given a.gateway a.durable a.taken
+
+  -- so after parts of a call
+  pub goes-on : (X A : Type 0) (E : ℕ → Type 0) → ((p : ℕ) → D p ≡ true → E p) → (H : ℕ → List Message) (s : System) (ks : List Call) → All f states n D H s → Along (IsPart f n X A E) s ks → Ends f states n D H (after_calls s ks)
+  goes-on X A E w H s [] a m = record { messages = H; later = λ q. begins-self (H q); all = a }
+  goes-on X A E w H s (k ∷ ks) a m =
+      let one = goes H s k a m.0.does (λ p d. m.0.durable p (w p d)) in
+      let rest = goes-on X A E w one.messages (after_call s k) ks one.all m.1 in
+      record { messages = rest.messages; later = λ q. begins-trans (H q) (one.messages q) (rest.messages q) (one.later q) (rest.later q); all = rest.all }
 
   -- what a node that is up received
-  up-knows : (H : ℕ → List Message) (p : ℕ) (l : IsFirst n p) (process : Process) (m : TheNode) → IsFor f states n p (D p) (D p) D (In H p) l.1 (H p) process → IsUp m process → (has : HasAfter F p (H p) m) × Knows F D H p (H p ++ has.rest)
+  pub up-knows : (H : ℕ → List Message) (p : ℕ) (l : IsFirst n p) (process : Process) (m : TheNode) → IsFor f states n p (D p) (D p) D (In H p) l.1 (H p) process → IsUp m process → (has : HasAfter F p (H p) m) × Knows F D H p (H p ++ has.rest)
   up-knows H p l (Up k) m s e =
       subst (λ z. (has : HasAfter F p (H p) z) × Knows F D H p (H p ++ has.rest)) e (
         record { rest = s.1.more; many = ap length s.1.begins ∙ s.1.many; state = ap (F.state p) s.1.begins ∙ s.1.state },
@@ -264,30 +234,3 @@ module _ (f : Answering) (states : ℕ → List ℕ) (n : ℕ) (D : ℕ → Bool
         subst (Knows F D H p) (sym (append-nil (H p))) (record { ordered = s.1.0.taken.ordered; known = s.1.0.taken.known }),
       )
   up-knows H p l other m s e = absurd e
-
-pub durable-keep : DurableKeep
-durable-keep l calls durable lasting m v w =
-    let s : System = start l in
-    let proper : (p : ℕ) → durable p ≡ true → IsFirst l.n p = λ p d. (lasting p d).0 in
-    let none : OfGateway (AreShown (handlers l) durable (λ q. [])) (new_gateway l.n l.page l.tick) = record { out = tt; store = tt } in
-    let all : All l.f l.states l.n durable (λ p. []) s = record {
-      each = λ p low. begins-now l.f l.states l.n p l.page l.tick (durable p) (durable p) durable (sent_to (handlers l) (λ q. []) p) low.1 l.limits l.bytes l.stored low (λ d. (lasting p d).1);
-      given = tt;
-      gateway = none;
-      durable = none;
-      taken = tt;
-    } in
-    let t = goes-on l.f l.states l.n durable proper (λ p. []) s calls all m v w in
-    let end : System = after_calls s calls in
-    record {
-      messages = t.messages;
-      stored = λ p low. after-of l.n (handlers l) p durable (sent_to (handlers l) t.messages p) (t.messages p) (end.stored p) (t.all.each p low).stored;
-      received = λ p low. record { ordered = (t.all.each p low).stored.1.1.1.ordered; known = (t.all.each p low).stored.1.1.1.known };
-      up = λ p low node e. up-knows l.f l.states l.n durable proper t.messages p low (end.processes p) node (t.all.each p low).holds e;
-      given = all-more (IsTrue (handlers l) durable t.messages) (λ (x : NodePacket). durable x.from ≡ true → IsSentBy (handlers l) x.from (t.messages x.from) x) end.given (λ x o d. said (durable x.from) d (handlers l) x (durable x.to) t.messages o) t.all.given;
-      shown = t.shown;
-    }
-  where
-    said : (b : Bool) → b ≡ true → (F : Handlers) (x : NodePacket) (c : Bool) (H : ℕ → List Message) → IsFair b b (F.sends x.from (H x.from) x.to) c (F.sends x.to (H x.to) x.from) x.body → IsSentBy F x.from (H x.from) x
-    said true d F x c H o = fair-of true (F.sends x.from (H x.from) x.to) c (F.sends x.to (H x.to) x.from) x.body o
-    said false d F x c H o = absurd (cc (d))

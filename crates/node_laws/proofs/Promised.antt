@@ -1,58 +1,47 @@
 -- What holds of hosted processes
-use Rattle.std.proofs.Common.{◌≡◌, ℕ, ◌≤◌, List, [], ◌∷◌, ◌++◌, true, false, refl, sym, ap, ◌∙◌, subst, append_assoc}
-use Rattle.std.specs.Prelude.{Some}
-use Rattle.world.specs.History.{count_of, nth}
+use Rattle.std.proofs.Common.{◌≡◌, ℕ, ◌≤◌, List, [], ◌∷◌, ◌++◌, Bool, true, false, refl, sym, ap, ◌∙◌, subst, arith, append_assoc}
+use Rattle.std.specs.Prelude.{◌==◌, if◌then◌else◌}
+use Rattle.std.proofs.lemmas.Bool.Decides.{nat_tests}
+use Rattle.theorems.specs.Growth.{Begins}
+use Rattle.theorems.proofs.ListLemmas.{begins-self, begins-trans}
+use Rattle.theorems.proofs.Changes.{at-itself}
+use Rattle.world.specs.declared.message.Message.{Message}
+use Rattle.world.specs.Handlers.{Handlers}
 use Rattle.verifier.specs.declared.any_image.AnyImage.{AnyImage}
 use Rattle.interp.specs.Image.{as_image}
 use Rattle.packets.specs.declared.packet.NodePacket.{NodePacket}
-use Rattle.stores.specs.declared.change.Output.{Output}
-use Rattle.cluster.specs.Cluster.{Cluster, opening}
-use Rattle.cluster.specs.Rules.{after_run}
+use Rattle.cluster.specs.Cluster.{opening}
+use Rattle.cluster.specs.Rules.{Act, after_run}
+use Rattle.cluster.proofs.Promised.{nodes-keep}
 use Rattle.node.specs.Node.{TheNode}
+use Rattle.node.specs.Runs.{Answering, handlers_of}
 use Rattle.node.specs.Stands.{Each}
-use Rattle.gateway.specs.Gateway.{TheGateway, peer_of}
-use Rattle.gateway.specs.Stands as gateways
+use Rattle.node.proofs.Lists.{all-more}
+use Rattle.node.proofs.Runs.{grows}
+use Rattle.recovery.proofs.Lists.{each-append}
+use Rattle.gateway.specs.Gateway.{new_gateway}
 use Rattle.process.specs.Process.{is_settled}
-use Rattle.process.specs.Checkpoints.{Keeps}
 use Rattle.node_laws.specs.HostProcess.{IsFirst, IsUp}
 use Rattle.node_laws.specs.HostReplies.{answering}
-use Rattle.node_laws.specs.HostSystem.{System, Hosting, start, after, Makes, handlers, HostCall, AreCalls, after_call, after_calls}
-use Rattle.node_laws.specs.Agreement.{AllStand}
-use Rattle.node_laws.specs.Durable.{AreAfter, IsSentBy}
-use Rattle.node_laws.specs.HostLaws.{StayExact, StaysDurable, gave_by, given_by, HostedRun, HostedAlone, HostedRunAlone, HostedBack, HostedBackAlone, HostedStays, HostedLast, HostedKeep}
-use Rattle.node_laws.specs.Inside.Process as lives
-use Rattle.node_laws.specs.Inside.System as called
-use Rattle.node_laws.specs.Inside.System.{System as Lived, AreStored, Living}
-use Rattle.node_laws.specs.Inside.Durable.{ReplayWhole, given_by as lives_given}
-use Rattle.node_laws.specs.Inside.Hosted.{IsAs, stage_of, as_process}
-use Rattle.node_laws.proofs.Lives.{lives-run}
-use Rattle.node_laws.proofs.Back.{nothing-is-lost}
-use Rattle.node_laws.proofs.Alone.{lone-failures-stay-exact}
-use Rattle.node_laws.proofs.Durable.{nothing, begins-now, stored-stays, durable-last}
-use Rattle.node_laws.proofs.Preservation.{durable-keep}
-use Rattle.node_laws.proofs.Views.{is-up, stands-as, stored-as}
-use Rattle.node_laws.proofs.Lists.{State, Are, are-go, calls-append, whole-append, exact-append, durable-append, given-append, after-append}
-
--- ---- the opening
-
-pub are-stored : (h : Hosting) → AreStored h.n h.states h.bytes
-are-stored h p l = (subst (λ z. Keeps z (h.bytes p)) (h.opens.opened p l).lifecycle_is (h.opens.stored p l)).0
-
--- its opening in all lives
-abbrev pub living : Hosting → Living
-living h = record { f = answering h.n h.images; n = h.n; limits = h.limits; states = h.states; bytes = h.bytes; page = h.page; tick = h.tick; stored = are-stored h }
-
-abbrev pub lived : Hosting → Lived
-lived h = called.start (living h)
-
-pub opened : (h : Hosting) → State h.images h.n (start h) (lived h)
-opened h =
-    record {
-      states = h.states;
-      stand = record { processes = λ p l. sym (ap stage_of (h.opens.opened p l).lifecycle_is); stored = λ p l. refl; lives = λ p l. refl; gateway = refl; durable = refl; taken = refl; given = refl };
-      good = λ p l. (ap as_image (h.opens.opened p l).image_is, (ap is_settled (h.opens.opened p l).lifecycle_is, tt));
-      now = λ p l. ([], begins-now (answering h.n h.images) h.states h.n p h.page h.tick false false (λ q. false) nothing l.1 h.limits h.bytes (are-stored h) l (λ e. absurd (cc (e))));
-    }
+use Rattle.node_laws.specs.HostSystem.{System, Hosting, start, after, Makes, handlers, HostCall, DidOut, DoesIt, AreCalls, after_call, after_calls}
+use Rattle.node_laws.specs.Durable.{AreAfter, IsSentBy, HasAfter}
+use Rattle.node_laws.specs.Inside.Process.{as_process}
+use Rattle.node_laws.specs.HostLaws.{StayExact, OneAtATime, StaysDurable, KeepsDurable, gave_by, given_by, shown_by, outputs_of, HostedRun, HostedAlone, HostedRunAlone, HostedBack, HostedBackAlone, HostedStays, HostedLast, HostedKeep}
+use Rattle.node_laws.specs.HostLaws as laws
+use Rattle.node_laws.specs.HostSystem as hosts
+use Rattle.node_laws.specs.Inside.System.{view}
+use Rattle.node_laws.proofs.Lives.{begins, all-stand}
+use Rattle.node_laws.proofs.Back.{Reached, GoesOn, none-on, joined, goes-on, nothing-is-lost}
+use Rattle.node_laws.proofs.Lone.{IsLone}
+use Rattle.node_laws.proofs.Alone.{alone-go, begins-alone}
+use Rattle.node_laws.proofs.Taken.{IsFair, fair-of}
+use Rattle.node_laws.proofs.Durable.{begins-now, after-of}
+use Rattle.node_laws.proofs.Preservation.{All, Ends, IsTrue, IsShown, AreShown, sent_to, true-more, shown-more, shows, up-knows}
+use Rattle.node_laws.proofs.Preservation as durables
+use Rattle.node_laws.proofs.HeldGateway.{OfGateway}
+use Rattle.node_laws.proofs.Views.{AreGood, exact-here, is-up}
+use Rattle.node_laws.proofs.HostStep.{StepsBy}
+use Rattle.node_laws.proofs.HostSteps.{steps}
 
 -- ---- calls of hosts behind others
 
@@ -76,142 +65,242 @@ given-more : (p : ℕ) (ks more : List HostCall) → given_by p (ks ++ more) ≡
 given-more p [] more = refl
 given-more p (k ∷ ks) more = ap (λ z. gave_by p k ++ z) (given-more p ks more) ∙ sym (append_assoc (gave_by p k) (given_by p ks) (given_by p more))
 
--- ---- they are calls in all lives
+-- ---- what holds between two calls
 
-pub made : (h : Hosting) (calls : List HostCall) → Makes h calls → Are h.images h.n (start h) (lived h) calls
-made h calls g = are-go h.images h.n (start h) (lived h) calls (opened h) g
+pub record State (images : ℕ → AnyImage) (states : ℕ → List ℕ) (n : ℕ) (s : System) : Type 0 where
+  pub good : AreGood images n s
+  pub messages : ℕ → List Message
+  pub all : All (answering n images) states n (λ q. false) messages (view s)
 
--- so up to a moment and behind it
-pub record Parts (h : Hosting) (calls more : List HostCall) : Type 0 where
-  pub early : Are h.images h.n (start h) (lived h) calls
-  pub late : Are h.images h.n (after h calls) (called.after_calls (lived h) early.calls) more
-  pub are : called.Calls (answering h.n h.images) h.n (lived h) (early.calls ++ late.calls)
-  pub whole : ReplayWhole (lived h) (early.calls ++ late.calls)
-  pub end : State h.images h.n (after h (calls ++ more)) (called.after_calls (lived h) (early.calls ++ late.calls))
+module _ (images : ℕ → AnyImage) (states : ℕ → List ℕ) (n : ℕ) where
+  abbrev f : Answering
+  f = answering n images
 
-pub parts : (h : Hosting) (calls more : List HostCall) → Makes h (calls ++ more) → Parts h calls more
-parts h calls more g =
-    let both = calls-split h.images h.n (start h) calls more g in
-    let a : Are h.images h.n (start h) (lived h) calls = made h calls both.0 in
-    let u : Lived = called.after_calls (lived h) a.calls in
-    let b : Are h.images h.n (after h calls) u more = are-go h.images h.n (after h calls) u more a.state both.1 in
-    record {
-      early = a;
-      late = b;
-      are = calls-append (answering h.n h.images) h.n (lived h) a.calls b.calls a.are b.are;
-      whole = whole-append (lived h) a.calls b.calls a.whole b.whole;
-      end = subst (λ z. State h.images h.n z (called.after_calls (lived h) (a.calls ++ b.calls))) (sym (after-more (start h) calls more))
-          (subst (State h.images h.n (after_calls (after h calls) more)) (sym (after-append (lived h) a.calls b.calls)) b.state);
-    }
+  abbrev F : Handlers
+  F = handlers_of f states
 
--- ---- what holds of a system in all lives holds of that of hosts
+  -- each call is calls of a process by its stages
+  abbrev pub Trace : System → List HostCall → Type 0
+  Trace s [] = State images states n s
+  Trace s (k ∷ ks) = State images states n s × ((one : StepsBy images n s k) × Trace (after_call s k) ks)
 
-pub all-stand : (images : ℕ → AnyImage) (n : ℕ) (s : System) (t : Lived) (c : Cluster) → State images n s t → called.AllStand n t c → AllStand n s c
-all-stand images n s t c at a =
-    let st : IsAs n s t = at.stand in
-    record {
-      processes = λ p l. stands-as (images p) (s.processes p) c p (at.good p l) (subst (λ z. lives.StandsAs z c p) (st.processes p l) (a.processes p l));
-      stored = λ p l. stored-as (s.stored p) (images p) (s.processes p) c p (at.good p l)
-          (subst (λ z. called.AreStoredOf z (as_process (s.processes p)) c p) (st.stored p l) (subst (λ z. called.AreStoredOf (t.stored p) z c p) (st.processes p l) (a.stored p l)));
-      lives = λ p l. subst (λ z. c.stored p ≤ z) (st.lives p l) (a.lives p l);
-      durable = subst (λ z. gateways.Stands z c) st.durable a.durable;
-      gateway = subst (λ z. gateways.Goes z c) st.gateway a.gateway;
-      shown = λ p l. subst (λ (z : TheGateway). (peer_of p z).shown ≡ count_of p c.world.shown) st.durable (a.shown p l);
-    }
+  pub trace : (s : System) (ks : List HostCall) → State images states n s → AreCalls images n s ks → Trace s ks
+  trace s [] st g = st
+  trace s (k ∷ ks) st g =
+      let one : StepsBy images n s k = steps images states n s st.good st.messages st.all k g.0 in
+      let on = durables.goes-on f states n (λ q. false) (λ p e. absurd (cc (e))) _ _ (λ q. laws.KeepsDurable q k) (λ p e. absurd (cc (e))) st.messages (view s) one.calls st.all one.are in
+      (st, (one, trace (after_call s k) ks (record { good = one.good; messages = on.messages; all = subst (All f states n (λ q. false) on.messages) one.stand on.all }) g.1))
 
-pub up-in : (n : ℕ) (s : System) (t : Lived) (p : ℕ) (m : TheNode) → IsAs n s t → IsFirst n p → IsUp m (s.processes p) → lives.IsUp m (t.processes p)
-up-in n s t p m st l up = subst (lives.IsUp m) (sym (st.processes p l)) (is-up m (s.processes p) up)
+  pub at-end : (s : System) (ks : List HostCall) → Trace s ks → State images states n (after_calls s ks)
+  at-end s [] t = t
+  at-end s (k ∷ ks) t = at-end (after_call s k) ks t.1.1
 
--- ---- the laws
+  pub trace-split : (s : System) (ks more : List HostCall) → Trace s (ks ++ more) → Trace s ks × Trace (after_calls s ks) more
+  trace-split s [] [] t = (t, t)
+  trace-split s [] (k ∷ more) t = (t.0, t)
+  trace-split s (k ∷ ks) more t = let r = trace-split (after_call s k) ks more t.1.1 in ((t.0, (t.1.0, r.0)), r.1)
+
+  -- a cluster runs on
+  pub runs-on : (s : System) (acts : List Act) (ks : List HostCall) → Reached F n (view s) acts → Trace s ks → StayExact n s ks → GoesOn F n (view (after_calls s ks)) acts
+  runs-on s acts [] r t e = none-on F n (view s) acts r
+  runs-on s acts (k ∷ ks) r t e =
+      let one : StepsBy images n s k = t.1.0 in
+      let on : GoesOn F n (view (after_call s k)) acts = subst (λ z. GoesOn F n z acts) one.stand (goes-on f states n _ _ (λ q. laws.KeepsDurable q k) e.0 (view s) acts one.calls r one.are) in
+      joined F n (view (after_calls (after_call s k) ks)) acts on.more (runs-on (after_call s k) (acts ++ on.more) ks on.reached t.1.1 e.1)
+
+  -- so where processes fail one at a time, and all are exact then
+  stays-exact : (s : System) (acts : List Act) (ks : List HostCall) → Reached F n (view s) acts → IsLone n (view s) → Trace s ks → OneAtATime n s ks → StayExact n s ks
+  stays-exact s acts [] r h t a = tt
+  stays-exact s acts (k ∷ ks) r h t a =
+      let one : StepsBy images n s k = t.1.0 in
+      let on : GoesOn F n (view (after_call s k)) acts × IsLone n (view (after_call s k)) = subst (λ z. GoesOn F n z acts × IsLone n z) one.stand (alone-go f states n _ _ (λ q. laws.KeepsDurable q k) a.0 (view s) acts one.calls r h one.are) in
+      (exact-here n (after_call s k) (λ p l. (on.1.good p l).exact), stays-exact (after_call s k) (acts ++ on.0.more) ks on.0.reached on.1 t.1.1 a.1)
+
+  -- and what is stored bears out all that was given, and shown
+  module _ (D : ℕ → Bool) (proper : (p : ℕ) → D p ≡ true → IsFirst n p) where
+    -- p gave it
+    abbrev pub Gave : (ℕ → List Message) → ℕ → NodePacket → Type 0
+    Gave H p x = (x.from ≡ p) × IsTrue F D H x
+
+    pub record Kept (H : ℕ → List Message) (s : System) (ks : List HostCall) : Type 0 where
+      pub messages : ℕ → List Message
+      pub later : (q : ℕ) → Begins (H q) (messages q)
+      pub all : All f states n D messages (view (after_calls s ks))
+      pub shown : Each (IsShown F D messages) (outputs_of s ks)
+      pub gave : (p : ℕ) → Each (Gave messages p) (given_by p ks)
+
+    shown-in : (H : ℕ → List Message) (s : System) (k : HostCall) → All f states n D H (view s) → DoesIt images n s k → Each (IsShown F D H) (shown_by s k)
+    shown-in H s (DidOut new) a g = shows f states n D proper H (view s) new a g.0
+    shown-in H s other a g = tt
+
+    -- what a call gave is among all that was given
+    gave-one : (G : ℕ → List Message) (p : ℕ) (b : Bool) (x : NodePacket) → IsTrue F D G x → Each (λ (y : NodePacket). y.from ≡ p) (if b then x ∷ [] else []) → Each (Gave G p) (if b then x ∷ [] else [])
+    gave-one G p true x t o = ((o.0, t), tt)
+    gave-one G p false x t o = tt
+
+    gave-in : (H G : ℕ → List Message) (s : System) (p : ℕ) (k : HostCall) → ((x : NodePacket) → IsTrue F D H x → IsTrue F D G x) → Each (IsTrue F D H) (after_call s k).given → Each (λ (y : NodePacket). y.from ≡ p) (gave_by p k) → Each (Gave G p) (gave_by p k)
+    gave-in H G s p (hosts.Gave q x new) more given o = gave-one G p (q == p) x (more x given.0) o
+    gave-in H G s p (hosts.GaveBytes q x bytes new) more given o = gave-one G p (q == p) x (more x given.0) o
+    gave-in H G s p other more given o = tt
+
+    pub kept-on : (H : ℕ → List Message) (s : System) (ks : List HostCall) → All f states n D H (view s) → AreCalls images n s ks → Trace s ks → ((p : ℕ) → D p ≡ true → StaysDurable p ks) → Kept H s ks
+    kept-on H s [] a g t w = record { messages = H; later = λ q. begins-self (H q); all = a; shown = tt; gave = λ p. tt }
+    kept-on H s (k ∷ ks) a g t w =
+        let one : StepsBy images n s k = t.1.0 in
+        let on : Ends f states n D H (view (after_call s k)) = subst (Ends f states n D H) one.stand (durables.goes-on f states n D proper _ _ (λ q. laws.KeepsDurable q k) (λ p d. (w p d).0) H (view s) one.calls a one.are) in
+        let rest : Kept on.messages (after_call s k) ks = kept-on on.messages (after_call s k) ks on.all g.1 t.1.1 (λ p d. (w p d).1) in
+        let far : (q : ℕ) → Begins (H q) (rest.messages q) = λ q. begins-trans (H q) (on.messages q) (rest.messages q) (on.later q) (rest.later q) in
+        record {
+          messages = rest.messages;
+          later = far;
+          all = rest.all;
+          shown = each-append (IsShown F D rest.messages) (shown_by s k) (outputs_of (after_call s k) ks) (shown-more f states n D proper H rest.messages far (shown_by s k) (shown-in H s k a g.0)) rest.shown;
+          gave = λ p. each-append (Gave rest.messages p) (gave_by p k) (given_by p ks)
+              (gave-in on.messages rest.messages s p k (λ x e. true-more f states n D proper on.messages rest.messages rest.later x e) on.all.given (one.gave p)) (rest.gave p);
+        }
+
+-- ---- from the opening on
+
+opened-all : (h : Hosting) (D : ℕ → Bool) → ((p : ℕ) → D p ≡ true → (h.limits p).durable ≡ true) → All (answering h.n h.images) h.states h.n D (λ p. []) (view (start h))
+opened-all h D lasting =
+    let none : OfGateway (AreShown (handlers h) D (λ q. [])) (new_gateway h.n h.page h.tick) = record { out = tt; store = tt } in
+    record { each = λ p l. begins-now h p (D p) (D p) D (sent_to (handlers h) (λ q. []) p) l (lasting p); given = tt; gateway = none; durable = none; taken = tt }
+
+pub made : (h : Hosting) (calls : List HostCall) → Makes h calls → Trace h.images h.states h.n (start h) calls
+made h calls g =
+    trace h.images h.states h.n (start h) calls (record {
+      good = λ p l. (ap as_image (h.opens.opened p l).image_is, (ap is_settled (h.opens.opened p l).lifecycle_is, tt));
+      messages = λ p. [];
+      all = opened-all h (λ q. false) (λ p e. absurd (cc (e)));
+    }) g
+
+pub reached : (h : Hosting) → h.n ≤ 15 → Reached (handlers h) h.n (view (start h)) []
+reached h few = record { run = tt; holds = begins h few }
+
+-- ---- while failures come one at a time
 
 pub hosted-run : HostedRun
 hosted-run h calls few g e =
-    let a : Are h.images h.n (start h) (lived h) calls = made h calls g in
-    let r = lives-run (living h) a.calls few a.are (a.exact e) in
+    let t = made h calls g in
+    let on = runs-on h.images h.states h.n (start h) [] calls (reached h few) t e in
+    let keeps = nodes-keep h.n (handlers h) on.more few (grows (answering h.n h.images) h.states) on.reached.run in
     record {
-      acts = r.acts;
-      run = r.run;
-      stand = all-stand h.images h.n (after h calls) (called.after_calls (lived h) a.calls) (after_run (opening h.n (handlers h)) r.acts) a.state r.stand;
-      no_orphan = r.no_orphan;
-      output_once = r.output_once;
-      received_once = r.received_once;
+      acts = on.more;
+      run = on.reached.run;
+      stand = all-stand h.images (handlers h) h.n (after h calls) (after_run (opening h.n (handlers h)) on.more) (at-end h.images h.states h.n (start h) calls t).good on.reached.holds;
+      no_orphan = keeps.0;
+      output_once = keeps.1;
+      received_once = keeps.2;
     }
 
 pub hosted-alone : HostedAlone
-hosted-alone h calls few g one =
-    let a : Are h.images h.n (start h) (lived h) calls = made h calls g in
-    a.stays (λ p l. refl) (lone-failures-stay-exact (living h) a.calls few a.are (a.alone one))
+hosted-alone h calls few g one = stays-exact h.images h.states h.n (start h) [] calls (reached h few) (begins-alone h) (made h calls g) one
 
 pub hosted-run-alone : HostedRunAlone
 hosted-run-alone h calls few g one = hosted-run h calls few g (hosted-alone h calls few g one)
 
 pub hosted-back : HostedBack
 hosted-back h calls more few g e p a b l was is =
-    let t : Parts h calls more = parts h calls more g in
+    let all = made h (calls ++ more) g in
+    let t = trace-split h.images h.states h.n (start h) calls more all in
     let exact = exact-split h.n (start h) calls more e in
-    let u : Lived = called.after_calls (lived h) t.early.calls in
-    let v : Lived = called.after_calls (lived h) (t.early.calls ++ t.late.calls) in
-    let k = nothing-is-lost (living h) t.early.calls t.late.calls p a b few l t.are
-    (exact-append h.n (lived h) t.early.calls t.late.calls (t.early.exact exact.0) (t.late.exact exact.1))
-    (up-in h.n (after h calls) u p a t.early.state.stand l was) (up-in h.n (after h (calls ++ more)) v p b t.end.stand l is) in
-    record {
-      acts = k.acts;
-      more = k.more;
-      run = k.run;
-      before = all-stand h.images h.n (after h calls) u (after_run (opening h.n (handlers h)) k.acts) t.early.state k.before;
-      after = all-stand h.images h.n (after h (calls ++ more)) v (after_run (opening h.n (handlers h)) (k.acts ++ k.more)) t.end k.after;
-      many_was = k.many_was;
-      many_is = k.many_is;
-      state_was = k.state_was;
-      state_is = k.state_is;
-      acknowledged = k.acknowledged;
-      within = k.within;
-      same = k.same;
-      back = k.back;
-    }
+    let one = runs-on h.images h.states h.n (start h) [] calls (reached h few) t.0 exact.0 in
+    let two = runs-on h.images h.states h.n (after h calls) one.more more one.reached t.1 exact.1 in
+    nothing-is-lost h.images (answering h.n h.images) h.states h.n few (after h calls) (after h (calls ++ more)) one.more (at-end h.images h.states h.n (start h) calls t.0).good (at-end h.images h.states h.n (start h) (calls ++ more) all).good one.reached
+    (subst (λ z. GoesOn (handlers h) h.n (view z) one.more) (sym (after-more (start h) calls more)) two) p a b l was is
 
 pub hosted-back-alone : HostedBackAlone
 hosted-back-alone h calls more few g one = hosted-back h calls more few g (hosted-alone h (calls ++ more) few g one)
 
+-- ---- whatever fails
+
+-- what is kept up to a moment, and from there on
+record Both (h : Hosting) (calls more : List HostCall) (D : ℕ → Bool) (proper : (p : ℕ) → D p ≡ true → IsFirst h.n p) : Type 0 where
+  early : Kept h.images h.states h.n D proper (λ p. []) (start h) calls
+  late : Kept h.images h.states h.n D proper early.messages (after h calls) more
+
+both : (h : Hosting) (calls more : List HostCall) (D : ℕ → Bool) → (lasting : (p : ℕ) → D p ≡ true → IsFirst h.n p × (((h.limits p).durable ≡ true) × StaysDurable p (calls ++ more))) → Makes h (calls ++ more) → Both h calls more D (λ p d. (lasting p d).0)
+both h calls more D lasting g =
+    let proper : (p : ℕ) → D p ≡ true → IsFirst h.n p = λ p d. (lasting p d).0 in
+    let t = trace-split h.images h.states h.n (start h) calls more (made h (calls ++ more) g) in
+    let parts = calls-split h.images h.n (start h) calls more g in
+    let one = kept-on h.images h.states h.n D proper (λ p. []) (start h) calls (opened-all h D (λ p d. (lasting p d).1.0)) parts.0 t.0 (λ p d. (durable-split p calls more (lasting p d).1.1).0) in
+    record { early = one; late = kept-on h.images h.states h.n D proper one.messages (after h calls) more one.all parts.1 t.1 (λ p d. (durable-split p calls more (lasting p d).1.1).1) }
+
+module _ (h : Hosting) (calls more : List HostCall) (D : ℕ → Bool) (proper : (p : ℕ) → D p ≡ true → IsFirst h.n p) (b : Both h calls more D proper) (p : ℕ) (l : IsFirst h.n p) where
+  stored-was : AreAfter h.n (handlers h) p (b.early.messages p) ((after h calls).stored p)
+  stored-was = after-of h.n (handlers h) p D (sent_to (handlers h) b.early.messages p) (b.early.messages p) ((after h calls).stored p) (b.early.all.each p l).stored
+
+  -- the messages at the end are these and more
+  abbrev grown : List Message
+  grown = b.early.messages p ++ (b.late.later p).0
+
+  end-is : after_calls (after h calls) more ≡ after h (calls ++ more)
+  end-is = sym (after-more (start h) calls more)
+
+  stored-is : AreAfter h.n (handlers h) p grown ((after h (calls ++ more)).stored p)
+  stored-is =
+      let end : System = after_calls (after h calls) more in
+      subst (λ (z : System). AreAfter h.n (handlers h) p grown (z.stored p)) end-is (subst (λ z. AreAfter h.n (handlers h) p z (end.stored p)) (sym (b.late.later p).1) (after-of h.n (handlers h) p D (sent_to (handlers h) b.late.messages p) (b.late.messages p) (end.stored p) (b.late.all.each p l).stored))
+
+  up-at-end : (m : TheNode) → IsUp m ((after h (calls ++ more)).processes p) → HasAfter (handlers h) p grown m
+  up-at-end m e =
+      let end : System = after_calls (after h calls) more in
+      let up : IsUp m (end.processes p) = subst (λ (z : System). IsUp m (z.processes p)) (sym end-is) e in
+      subst (λ z. HasAfter (handlers h) p z m) (sym (b.late.later p).1) (up-knows (answering h.n h.images) h.states h.n D proper b.late.messages p l (as_process (end.processes p)) m (b.late.all.each p l).holds (is-up m (end.processes p) up)).0
+
 pub hosted-stays : HostedStays
 hosted-stays h calls more p g l =
-    let t : Parts h calls more = parts h calls more g in
-    let k = stored-stays (living h) t.early.calls t.late.calls p l t.are t.whole in
-    record {
-      was = k.was;
-      more = k.more;
-      stored_was = subst (AreAfter h.n (handlers h) p k.was) (t.early.state.stand.stored p l) k.stored_was;
-      stored_is = subst (AreAfter h.n (handlers h) p (k.was ++ k.more)) (t.end.stand.stored p l) k.stored_is;
-      up = λ m e. k.up m (up-in h.n (after h (calls ++ more)) (called.after_calls (lived h) (t.early.calls ++ t.late.calls)) p m t.end.stand l e);
-    }
+    let D : ℕ → Bool = λ q. false in
+    let lasting : (q : ℕ) → D q ≡ true → IsFirst h.n q × (((h.limits q).durable ≡ true) × StaysDurable q (calls ++ more)) = λ q e. absurd (cc (e)) in
+    let proper : (q : ℕ) → D q ≡ true → IsFirst h.n q = λ q d. (lasting q d).0 in
+    let b : Both h calls more D proper = both h calls more D lasting g in
+    record { was = b.early.messages p; more = (b.late.later p).0; stored_was = stored-was h calls more D proper b p l; stored_is = stored-is h calls more D proper b p l; up = up-at-end h calls more D proper b p l }
+
+-- what it gave that is durable, its messages send
+said : (b : Bool) → b ≡ true → (F : Handlers) (x : NodePacket) (c : Bool) (H : ℕ → List Message) → IsFair b b (F.sends x.from (H x.from) x.to) c (F.sends x.to (H x.to) x.from) x.body → IsSentBy F x.from (H x.from) x
+said true d F x c H o = fair-of true (F.sends x.from (H x.from) x.to) c (F.sends x.to (H x.to) x.from) x.body o
+said false d F x c H o = absurd (cc (d))
+
+all-said : (F : Handlers) (D : ℕ → Bool) (H : ℕ → List Message) (p : ℕ) → D p ≡ true → (xs : List NodePacket) → Each (λ (x : NodePacket). (x.from ≡ p) × IsTrue F D H x) xs → Each (IsSentBy F p (H p)) xs
+all-said F D H p d xs a = all-more (λ (x : NodePacket). (x.from ≡ p) × IsTrue F D H x) (IsSentBy F p (H p)) xs (λ x o. subst (λ q. D q ≡ true → IsSentBy F q (H q) x) o.0 (λ e. said (D x.from) e F x (D x.to) H o.1) d) a
 
 pub hosted-last : HostedLast
-hosted-last h calls more p g l durable d =
-    let t : Parts h calls more = parts h calls more g in
-    let lasting = durable-split p calls more d in
-    let gave : lives_given p (t.early.calls ++ t.late.calls) ≡ given_by p (calls ++ more) =
-    given-append p t.early.calls t.late.calls ∙ ap (λ z. z ++ lives_given p t.late.calls) (t.early.gave p) ∙ ap (λ z. given_by p calls ++ z) (t.late.gave p) ∙ sym (given-more p calls more) in
-    let k = durable-last (living h) t.early.calls t.late.calls p l durable t.are t.whole
-    (durable-append p (lived h) t.early.calls t.late.calls (t.early.durable p lasting.0) (t.late.durable p lasting.1)) in
+hosted-last h calls more p g l durable w =
+    let F : Handlers = handlers h in
+    let D : ℕ → Bool = λ q. q == p in
+    let Lasting : ℕ → Type 0 = λ q. IsFirst h.n q × (((h.limits q).durable ≡ true) × StaysDurable q (calls ++ more)) in
+    let lasting : (q : ℕ) → D q ≡ true → Lasting q = λ q e. let same : p ≡ q = grind (arith, nat_tests) in subst Lasting same (l, (durable, w)) in
+    let proper : (q : ℕ) → D q ≡ true → IsFirst h.n q = λ q d. (lasting q d).0 in
+    let b : Both h calls more D proper = both h calls more D lasting g in
+    let now : D p ≡ true = at-itself p (λ t. t ≡ true) refl in
+    let H : ℕ → List Message = b.early.messages in
+    let G : ℕ → List Message = b.late.messages in
+    let Was : NodePacket → Type 0 = λ x. (x.from ≡ p) × IsTrue F D H x in
+    let Is : NodePacket → Type 0 = λ x. (x.from ≡ p) × IsTrue F D G x in
+    let early : Each Is (given_by p calls) = all-more Was Is (given_by p calls) (λ x o. (o.0, true-more (answering h.n h.images) h.states h.n D proper H G b.late.later x o.1)) (b.early.gave p) in
+    let all : Each Is (given_by p (calls ++ more)) = subst (Each Is) (sym (given-more p calls more)) (each-append Is (given_by p calls) (given_by p more) early (b.late.gave p)) in
     record {
-      was = k.was;
-      more = k.more;
-      stored_was = subst (AreAfter h.n (handlers h) p k.was) (t.early.state.stand.stored p l) k.stored_was;
-      stored_is = subst (AreAfter h.n (handlers h) p (k.was ++ k.more)) (t.end.stand.stored p l) k.stored_is;
-      given_was = subst (Each (IsSentBy (handlers h) p k.was)) (t.early.gave p) k.given_was;
-      given_is = subst (Each (IsSentBy (handlers h) p (k.was ++ k.more))) gave k.given_is;
+      was = H p;
+      more = (b.late.later p).0;
+      stored_was = stored-was h calls more D proper b p l;
+      stored_is = stored-is h calls more D proper b p l;
+      given_was = all-said F D H p now (given_by p calls) (b.early.gave p);
+      given_is = subst (λ z. Each (IsSentBy F p z) (given_by p (calls ++ more))) (sym (b.late.later p).1) (all-said F D G p now (given_by p (calls ++ more)) all);
     }
 
 pub hosted-keep : HostedKeep
 hosted-keep h calls durable g lasting =
-    let a : Are h.images h.n (start h) (lived h) calls = made h calls g in
-    let st : IsAs h.n (after h calls) (called.after_calls (lived h) a.calls) = a.state.stand in
-    let k = durable-keep (living h) a.calls durable (λ p e. ((lasting p e).0, (lasting p e).1.0)) a.are a.whole (λ p e. a.durable p (lasting p e).1.1) in
+    let F : Handlers = handlers h in
+    let f : Answering = answering h.n h.images in
+    let s : System = after h calls in
+    let proper : (p : ℕ) → durable p ≡ true → IsFirst h.n p = λ p d. (lasting p d).0 in
+    let k = kept-on h.images h.states h.n durable proper (λ p. []) (start h) calls (opened-all h durable (λ p d. (lasting p d).1.0)) g (made h calls g) (λ p d. (lasting p d).1.1) in
     record {
       messages = k.messages;
-      stored = λ p l. subst (AreAfter h.n (handlers h) p (k.messages p)) (st.stored p l) (k.stored p l);
-      received = k.received;
-      up = λ p l m e. k.up p l m (up-in h.n (after h calls) (called.after_calls (lived h) a.calls) p m st l e);
-      given = subst (Each (λ (x : NodePacket). durable x.from ≡ true → IsSentBy (handlers h) x.from (k.messages x.from) x)) st.given k.given;
-      shown = subst (Each (λ (o : Output). durable o.process ≡ true → nth ((handlers h).sends o.process (k.messages o.process) 0) o.ssn ≡ Some o.payload)) a.outputs k.shown;
+      stored = λ p l. after-of h.n F p durable (sent_to F k.messages p) (k.messages p) (s.stored p) (k.all.each p l).stored;
+      received = λ p l. record { ordered = (k.all.each p l).stored.1.1.1.ordered; known = (k.all.each p l).stored.1.1.1.known };
+      up = λ p l m e. up-knows f h.states h.n durable proper k.messages p l (as_process (s.processes p)) m (k.all.each p l).holds (is-up m (s.processes p) e);
+      given = all-more (IsTrue F durable k.messages) (λ (x : NodePacket). durable x.from ≡ true → IsSentBy F x.from (k.messages x.from) x) s.given (λ x o d. said (durable x.from) d F x (durable x.to) k.messages o) k.all.given;
+      shown = k.shown;
     }

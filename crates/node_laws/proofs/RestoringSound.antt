@@ -14,8 +14,9 @@ use Rattle.recovery.specs.Own.{TheOwn, posts, is_for, hears}
 use Rattle.recovery.specs.Replayed.{TheReplayed}
 use Rattle.recovery.specs.Intake.{keeps, takes_in, trusts}
 use Rattle.recovery.specs.Restoration.{TheRestoring, replayed_of, above_of, has_answered, asks, asks_below, asked, begins, begun, last_ssn, is_reply, answers, told, greeted, page_of, doubted, asked_by, heard, handed}
+use Rattle.recovery.proofs.Posts.{for-own}
 use Rattle.node_laws.proofs.Sound.{Says, IsSound}
-use Rattle.node_laws.proofs.OwnSound.{Keeps, IsAlone, HasHeard, of-other, hears-now, stays, onward, alone-still, posting}
+use Rattle.node_laws.proofs.OwnSound.{Keeps, IsAlone, HasHeard, hears-now, stays, onward, alone-still, posting}
 use Rattle.node_laws.proofs.OwnSound as owns
 
 pub record Goes (lives : ℕ → ℕ) (back : ℕ → Type 0) (top : ℕ) (old new : TheRestoring) : Type 0 where
@@ -106,6 +107,6 @@ module _ (lives : ℕ → ℕ) (back : ℕ → Type 0) (top : ℕ) where
   pub hands : (x : NodePacket) (n : TheRestoring) → HasHeard lives top n.own → IsAlone lives back top n.own → Fits x n → IsSound lives back x → On n (handed x n)
   hands x n known a fits h =
       by-if (On n) (is_for n.own x) (heard x.from x.body n) n
-      (λ e. let p = of-other n.own x e in
+      (λ e. let p = for-own n.own x e in
       says x.from x.to x.body n known a p.0 (let l = p.1.0 in let c = a.count in omega (arith, l, c)) p.1.1 (fits e) h)
       (λ e. same n)

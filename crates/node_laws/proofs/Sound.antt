@@ -1,9 +1,9 @@
 -- What packets say of lives, where failures come one at a time
-use Rattle.std.proofs.Common.{◌≡◌, ◌≢◌, ℕ, ◌<◌, ◌≤◌, List, Bool, true, false, refl, sym, ◌∙◌, subst, arith}
-use Rattle.std.specs.Prelude.{◌==◌, if◌then◌else◌}
+use Rattle.std.proofs.Common.{◌≡◌, ◌≢◌, ℕ, zero, suc, ◌<◌, ◌≤◌, List, [], ◌∷◌, length, Bool, true, false, refl, ap, ◌∙◌, subst, arith}
+use Rattle.std.specs.Prelude.{◌==◌, if◌then◌else◌, slice_index_or, slice_set, replicate}
 use Rattle.std.proofs.lemmas.Bool.Decides.{nat_tests}
 use Rattle.world.specs.World.{put}
-use Rattle.theorems.proofs.Changes.{at-itself}
+use Rattle.theorems.proofs.Changes.{at-itself, choose}
 use Rattle.packets.specs.declared.packet.Body.{Body}
 use Rattle.packets.specs.declared.packet.Body.TheVariants.{Ask, Told, Resume, Restored}
 use Rattle.packets.specs.declared.packet.NodePacket.{NodePacket}
@@ -41,11 +41,7 @@ sound-still lives b d less xs h = all-more (IsSound lives b) (IsSound lives d) x
 
 -- no life gets less
 raised : (lives : ℕ → ℕ) (p life q : ℕ) → lives p < life → lives q ≤ put lives p life q
-raised lives p life q above = split (q == p) refl
-  where
-    split : (b : Bool) → (q == p) ≡ b → lives q ≤ (if b then life else lives q)
-    split true e = let same : q ≡ p = grind (arith, nat_tests) in let P : ℕ → Type 0 = λ z. lives z ≤ life in subst P (sym same) (let l : lives p ≤ life = omega (arith, above) in l)
-    split false e = omega arith
+raised lives p life q above = choose p (λ j b. lives j ≤ (if b then life else lives j)) (omega (arith, above)) (λ j o. omega arith) q
 
 -- what is stored of another is what it was
 pub raised-other : {X : Type 0} (f : ℕ → X) (p q : ℕ) (x : X) → q ≢ p → put f p x q ≡ f q
@@ -75,6 +71,21 @@ says-anew lives b d p life above only from to other h = tt
 
 pub sound-anew : (lives : ℕ → ℕ) (b d : ℕ → Type 0) (p life : ℕ) → lives p < life → ((q : ℕ) → d q → q ≡ p) → (xs : List NodePacket) → AreSound lives b xs → AreSound (put lives p life) d xs
 sound-anew lives b d p life above only xs h = all-more (IsSound lives b) (IsSound (put lives p life) d) xs (λ x s. says-anew lives b d p life above only x.from x.to x.body s) h
+
+-- ---- where a list is changed at one place
+
+pub set-at : {X : Type 0} (P : X → Type 0) (xs : List X) (i : ℕ) (x : X) (q : ℕ) (d : X) → q < length xs → (q ≡ i → P x) → (q ≢ i → P (slice_index_or xs q d)) → P (slice_index_or (slice_set xs i x) q d)
+set-at P [] i x q d l here there = absurd (omega (arith, l))
+set-at P (y ∷ xs) zero x zero d l here there = here refl
+set-at P (y ∷ xs) zero x (suc q) d l here there = there (λ e. absurd (cc (e)))
+set-at P (y ∷ xs) (suc i) x zero d l here there = there (λ e. absurd (cc (e)))
+set-at P (y ∷ xs) (suc i) x (suc q) d l here there = set-at P xs i x q d (omega (arith, l)) (λ e. here (ap suc e)) (λ o. there (λ e. o (omega (arith, e))))
+
+-- and where all in it are the same
+pub same-at : {X : Type 0} (P : X → Type 0) (k i : ℕ) (x d : X) → P x → P d → P (slice_index_or (replicate k x) i d)
+same-at P zero i x d h e = e
+same-at P (suc k) zero x d h e = h
+same-at P (suc k) (suc i) x d h e = same-at P k i x d h e
 
 -- ---- what one that is exact answers
 

@@ -7,10 +7,9 @@ use Rattle.process.specs.declared.lifecycle.Lifecycle.{Lifecycle}
 use Rattle.process.specs.declared.lifecycle.Lifecycle.TheVariants.{Up, Collecting, Replaying, Replayed, Restoring, Passing}
 use Rattle.process.specs.Process.{is_settled}
 use Rattle.process.specs.Transitions.{Recovers, Finishes, Begun, Returns, Passes}
-use Rattle.node_laws.specs.Inside.Process.{Process, WaitsFor}
+use Rattle.node_laws.specs.Inside.Process.{Process, WaitsFor, stage_of, seen}
 use Rattle.node_laws.specs.Inside.Process as lives
 use Rattle.node_laws.specs.HostProcess.{Checkpoint, Absent, Pending, Durable}
-use Rattle.node_laws.specs.Inside.Hosted.{stage_of, seen}
 use Rattle.node_laws.proofs.Chains.{Chain, chain-append, ticked-exact, begun-exact}
 
 -- by acts of its own it goes from one stage to another
@@ -27,18 +26,18 @@ pub unsettled : {P : Type 0} → is_settled Passing ≡ true → P
 unsettled {P} s = absurd (cc (s))
 
 recovers : (c d : Lifecycle) → is_settled c ≡ true → Recovers c d → Goes c d
-recovers (Collecting n) (Replaying m) s g = (refl, (lives.Replays m ∷ [], (inr (m, (refl, record { all = g.0; is = g.1; acts = g.2 })), (tt, (ap (λ z. z.exact) g.1.own, refl)))))
+recovers (Collecting n) (Replaying m) s g = (refl, (lives.Replays m ∷ [], (inr (m, (refl, record { all = g.0; is = g.1; acts = g.2 })), (ap (λ z. z.exact) g.1.own, refl))))
 recovers Passing d s g = unsettled s
 recovers other d s g = same other d s g
 
 finishes : (c d : Lifecycle) → is_settled c ≡ true → Finishes c d → Goes c d
-finishes (Replaying n) (Replayed m) s g = (refl, (lives.Replayed m ∷ [], ((m, (refl, (g.1, g.2))), (g.0, (ap (λ z. z.own.exact) g.1, refl)))))
+finishes (Replaying n) (Replayed m) s g = (refl, (lives.Replayed m ∷ [], ((m, (refl, (g.1, (g.2, g.0)))), (ap (λ z. z.own.exact) g.1, refl))))
 finishes Passing d s g = unsettled s
 finishes (Replaying n) other s g = same (Replaying n) other s g.1
 finishes other d s g = same other d s g
 
 begins : (c d : Lifecycle) → is_settled c ≡ true → Begun c d → Goes c d
-begins (Replayed n) (Restoring m) s g = (refl, (lives.Restores m ∷ [], ((m, (refl, g)), (tt, (ap (λ z. z.own.exact) g.0 ∙ begun-exact n, refl)))))
+begins (Replayed n) (Restoring m) s g = (refl, (lives.Restores m ∷ [], ((m, (refl, g)), (ap (λ z. z.own.exact) g.0 ∙ begun-exact n, refl))))
 begins Passing d s g = unsettled s
 begins other d s g = same other d s g
 
@@ -47,7 +46,7 @@ returns (Restoring n) (Up m) s g =
     let first : TheNode = g.1.0 in
     let is : first ≡ up n = g.1.1.0 in
     let ticks : m ≡ ticked first = g.1.1.2 in
-    (refl, (lives.Up first ∷ lives.Up m ∷ [], (inr (first, (refl, (is, g.1.1.1))), (tt, (ap (λ z. z.exact) is, ((m, (refl, (inl ticks, g.1.1.3))), (tt, (ap (λ z. z.exact) ticks ∙ ticked-exact first, refl))))))))
+    (refl, (lives.Up first ∷ lives.Up m ∷ [], (inr (first, (refl, (is, g.1.1.1))), (ap (λ z. z.exact) is, ((m, (refl, (inl ticks, g.1.1.3))), (ap (λ z. z.exact) ticks ∙ ticked-exact first, refl))))))
 returns Passing d s g = unsettled s
 returns (Restoring n) other s g = same (Restoring n) other s g.1
 returns other d s g = same other d s g

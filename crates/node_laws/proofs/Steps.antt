@@ -41,18 +41,9 @@ use Rattle.recovery.specs.RestorationStands.{StandsRestoring}
 use Rattle.node_laws.specs.Inside.Process.{Process, Up, Covered, Collects, Replays, Replayed, Restores, Killed, StandsAs, is_exact, Gives, Hears, Works, Acts, WaitsFor, covered, IsTold, Wakes, IsKilled, ComesFrom, IsAnswerAgain}
 use Rattle.node_laws.specs.Inside.System.{AreStoredOf}
 use Rattle.node_laws.proofs.Moves.{Moves, IsPlain, moves-own, moves-none}
-use Rattle.node_laws.proofs.Losses.{loss-is-dropped}
+use Rattle.node_laws.proofs.Losses.{loss-is-dropped, handed-rests, ticked-rests, froze-rests}
 
 -- ---- a node that waits for its checkpoint is as it was
-
-handed-rests : (x : NodePacket) (n : TheNode) → n.frozen ≡ true → handed x n ≡ n
-handed-rests x n e = rw e refl
-
-ticked-rests : (n : TheNode) → n.frozen ≡ true → ticked n ≡ n
-ticked-rests n e = rw e refl
-
-froze-rests : (n : TheNode) → n.frozen ≡ true → froze n ≡ n
-froze-rests n e = rw e refl
 
 -- it works on nothing
 idle : (o : Option OpenJob) → phase_of o ≡ phases.Up → o ≡ None
@@ -97,32 +88,38 @@ module _ (c : Cluster) (p : ℕ) (bytes : List ℕ) (life : ℕ) (low : c.stored
   own : (new : Process) (k : Kept) → IsPlain new p → IsKept k bytes × IsKeptOf k c p → GoesTo p (λ d. StandsAs new d p) c → Goes new
   own new k plain are g = moves-own p new bytes life c k plain are.0 are.1 low g
 
+  -- it is another, which stands, or goes on so
+  gone : (mid new : Process) → new ≡ mid → StandsAs mid c p → AreStoredOf bytes mid c p → Goes new
+  gone mid new e s are = becomes p mid new bytes life c e (moves-none p mid bytes life c s are low)
+
+  goes : (mid new : Process) (k : Kept) → new ≡ mid → IsPlain mid p → IsKept k bytes × IsKeptOf k c p → GoesTo p (λ d. StandsAs mid d p) c → Goes new
+  goes mid new k e plain are g = becomes p mid new bytes life c e (own mid k plain are g)
+
+  -- what its function says of its own number
+  at-me : (me : ℕ) (P Q : ℕ → Type 0) → me ≡ p → (P me → Q me) → P p → Q p
+  at-me me P Q e f s = subst Q e (f (subst P (sym e) s))
+
   -- a packet is taken
   pub giving : (x : NodePacket) (old new : Process) → Gives x old new → StandsAs old c p → AreStoredOf bytes old c p → IsSent c.world.count c.parcels p x × Goes new
   giving x (Up n) new g s are =
-      let P : ℕ → Type 0 = λ q. PutOut c.world.count c.parcels q x × Stands g.0 c q in
-      let took : P p = subst P s.me (g.1.1.1 c (subst (Stands n c) (sym s.me) s)) in
-      (λ e. took.0, becomes p (Up g.0) new bytes life c g.1.0 (moves-none p (Up g.0) bytes life c took.1 are low))
+      let took = at-me n.me (Stands n c) (λ q. PutOut c.world.count c.parcels q x × Stands g.0 c q) s.me (g.1.1.1 c) s in
+      (λ e. took.0, gone (Up g.0) new g.1.0 took.1 are)
   giving x (Covered n) new g s are =
-      let P : ℕ → Type 0 = λ q. PutOut c.world.count c.parcels q x × Stands g.0 c q in
-      let took : P p = subst P s.1.me (g.1.1.1 c (subst (Stands n c) (sym s.1.me) s.1)) in
+      let took = at-me n.me (Stands n c) (λ q. PutOut c.world.count c.parcels q x × Stands g.0 c q) s.1.me (g.1.1.1 c) s.1 in
       let waits : g.0.frozen ≡ true = sym (ap (λ (z : TheNode). z.frozen) g.1.1.0) ∙ s.0 in
-      (λ e. took.0, becomes p (Covered g.0) new bytes life c g.1.0 (moves-none p (Covered g.0) bytes life c (waits, took.1) are low))
+      (λ e. took.0, gone (Covered g.0) new g.1.0 (waits, took.1) are)
   giving x (Collects n) new g s are =
-      let P : ℕ → Type 0 = λ q. IsSent c.world.count c.parcels q x × StandsCollecting g.0 c q in
-      let took : P p = subst P s.own.me (g.1.1.1 c (subst (StandsCollecting n c) (sym s.own.me) s)) in
-      (took.0, becomes p (Collects g.0) new bytes life c g.1.0 (moves-none p (Collects g.0) bytes life c took.1 are low))
+      let took = at-me n.own.me (StandsCollecting n c) (λ q. IsSent c.world.count c.parcels q x × StandsCollecting g.0 c q) s.own.me (g.1.1.1 c) s in
+      (took.0, gone (Collects g.0) new g.1.0 took.1 are)
   giving x (Replays n) new g s are =
-      let P : ℕ → Type 0 = λ q. IsSent c.world.count c.parcels q x × StandsReplaying g.0 c q in
-      let took : P p = subst P s.own.me (g.1.1.1 c (subst (StandsReplaying n c) (sym s.own.me) s)) in
-      (took.0, becomes p (Replays g.0) new bytes life c g.1.0 (moves-none p (Replays g.0) bytes life c took.1 are low))
+      let took = at-me n.own.me (StandsReplaying n c) (λ q. IsSent c.world.count c.parcels q x × StandsReplaying g.0 c q) s.own.me (g.1.1.1 c) s in
+      (took.0, gone (Replays g.0) new g.1.0 took.1 are)
   giving x (Restores n) new g s are =
-      let P : ℕ → Type 0 = λ q. IsSent c.world.count c.parcels q x × StandsRestoring g.0 c q in
-      let took : P p = subst P s.own.me (g.1.1.1 c (subst (StandsRestoring n c) (sym s.own.me) s)) in
-      (took.0, becomes p (Restores g.0) new bytes life c g.1.0 (moves-none p (Restores g.0) bytes life c took.1 are low))
+      let took = at-me n.own.me (StandsRestoring n c) (λ q. IsSent c.world.count c.parcels q x × StandsRestoring g.0 c q) s.own.me (g.1.1.1 c) s in
+      (took.0, gone (Restores g.0) new g.1.0 took.1 are)
   giving x (Replayed n) new g s are =
       let out : Each (IsSent c.world.count c.parcels p) (x ∷ g.0.own.out) = subst (Each (IsSent c.world.count c.parcels p)) g.1.1.0 s.own.out in
-      (out.0, becomes p (Replayed g.0) new bytes life c g.1.0 (moves-none p (Replayed g.0) bytes life c (subst (λ z. StandsReplayed z c p) (sym g.1.1.1) (replayed-out n c p g.0.own.out out.1 s)) are low))
+      (out.0, gone (Replayed g.0) new g.1.0 (subst (λ z. StandsReplayed z c p) (sym g.1.1.1) (replayed-out n c p g.0.own.out out.1 s)) are)
   giving x Killed new g s are = absurd g
 
   -- a packet comes to a node that is up: it drops one that says that all is lost
@@ -132,59 +129,47 @@ module _ (c : Cluster) (p : ℕ) (bytes : List ℕ) (life : ℕ) (low : c.stored
 
   -- a packet comes, and the process stays exact
   pub hearing : (x : NodePacket) (old new : Process) → Hears x old new → is_exact new ≡ true → IsSaid c.parcels x.from x.to x.body → StandsAs old c p → AreStoredOf bytes old c p → Goes new
-  hearing x (Up n) new g exact said s are = becomes p (Up g.0) new bytes life c g.1.0 (own (Up g.0) are.0 (λ k d z. z) are.1 (hearing-up x n g.0 (is_loss x.body) refl g.1.1 said s))
+  hearing x (Up n) new g exact said s are = goes (Up g.0) new are.0 g.1.0 (λ k d z. z) are.1 (hearing-up x n g.0 (is_loss x.body) refl g.1.1 said s)
   hearing x (Covered n) new g exact said s are =
-      becomes p (Covered n) new bytes life c (g.1.0 ∙ ap Covered (g.1.1 ∙ handed-rests x n s.0)) (moves-none p (Covered n) bytes life c s are low)
+      gone (Covered n) new (g.1.0 ∙ ap Covered (g.1.1 ∙ handed-rests x n s.0)) s are
   hearing x (Collects n) new g exact said s are =
-      let P : ℕ → Type 0 = λ q. GoesTo q (λ d. StandsCollecting g.0 d q) c in
       let here : g.0.own.exact ≡ true = sym (ap is_exact g.1.0) ∙ exact in
-      becomes p (Collects g.0) new bytes life c g.1.0 (own (Collects g.0) are.0 (λ k d z. z) are.1 (subst P s.own.me (g.1.1.1 here c (subst (StandsCollecting n c) (sym s.own.me) s) said)))
+      goes (Collects g.0) new are.0 g.1.0 (λ k d z. z) are.1 (at-me n.own.me (StandsCollecting n c) (λ q. GoesTo q (λ d. StandsCollecting g.0 d q) c) s.own.me (λ z. g.1.1.1 here c z said) s)
   hearing x (Replays n) new g exact said s are =
       let here : g.0.own.exact ≡ true = sym (ap is_exact g.1.0) ∙ exact in
-      becomes p (Replays g.0) new bytes life c g.1.0 (moves-none p (Replays g.0) bytes life c (g.1.1.1 here c p s) are low)
+      gone (Replays g.0) new g.1.0 (g.1.1.1 here c p s) are
   hearing x (Replayed n) new g exact said s are =
       let here : g.0.own.exact ≡ true = sym (ap is_exact g.1.0) ∙ exact in
-      becomes p (Replayed g.0) new bytes life c g.1.0 (moves-none p (Replayed g.0) bytes life c (g.1.1.1 here c p s) are low)
+      gone (Replayed g.0) new g.1.0 (g.1.1.1 here c p s) are
   hearing x (Restores n) new g exact said s are =
-      let P : ℕ → Type 0 = λ q. GoesTo q (λ d. StandsRestoring g.0 d q) c in
       let here : g.0.own.exact ≡ true = sym (ap is_exact g.1.0) ∙ exact in
-      becomes p (Restores g.0) new bytes life c g.1.0 (own (Restores g.0) are.0 (λ k d z. z) are.1 (subst P s.own.me (g.1.1.1 here c (subst (StandsRestoring n c) (sym s.own.me) s) said)))
+      goes (Restores g.0) new are.0 g.1.0 (λ k d z. z) are.1 (at-me n.own.me (StandsRestoring n c) (λ q. GoesTo q (λ d. StandsRestoring g.0 d q) c) s.own.me (λ z. g.1.1.1 here c z said) s)
   hearing x Killed new g exact said s are = absurd g
 
   -- its handler answered
   pub working : (f : Answering) (states : ℕ → List ℕ) (a : Answer) (old new : Process) → Works f p a old new → c.world.handlers ≡ handlers_of f states → worlds.Holds c → StandsAs old c p → AreStoredOf bytes old c p → Goes new
   working f states a (Up n) new g handlers h s are =
-      becomes p (Up g.1.0) new bytes life c g.1.1.0 (own (Up g.1.0) are.0 (λ k d z. z) are.1 (owes-at (Handles a.state a.given n) n g.1.0 c p g.1.1.1.1 s (answers f states n c p a handlers s g.0)))
+      goes (Up g.1.0) new are.0 g.1.1.0 (λ k d z. z) are.1 (owes-at (Handles a.state a.given n) n g.1.0 c p g.1.1.1.1 s (answers f states n c p a handlers s g.0))
   working f states a (Covered n) new g handlers h s are =
-      becomes p (Covered n) new bytes life c (g.1.0 ∙ ap Covered (g.1.1 ∙ work-rests c p n a h s.0 s.1)) (moves-none p (Covered n) bytes life c s are low)
-  working f states a (Replays n) new g handlers h s are =
-      let P : ℕ → Type 0 = λ q. GoesTo q (λ d. StandsReplaying g.1.0 d q) c in
-      becomes p (Replays g.1.0) new bytes life c g.1.1.0
-      (own (Replays g.1.0) are.0 (λ k d z. z) are.1 (subst P s.own.me (g.1.1.1.1 c (subst (StandsReplaying n c) (sym s.own.me) s) (answers-again f states n c p a handlers s g.0))))
+      gone (Covered n) new (g.1.0 ∙ ap Covered (g.1.1 ∙ work-rests c p n a h s.0 s.1)) s are
+  working f states a (Replays n) new g handlers h s are = goes (Replays g.1.0) new are.0 g.1.1.0 (λ k d z. z) are.1 (at-me n.own.me (StandsReplaying n c) (λ q. GoesTo q (λ d. StandsReplaying g.1.0 d q) c) s.own.me (λ z. g.1.1.1.1 c z (answers-again f states n c p a handlers s g.0)) s)
   working f states a other new g handlers h s are = absurd g
 
   -- it acts, or goes on to its next stage
   pub acting : (old new : Process) → Acts old new → worlds.Holds c → StandsAs old c p → AreStoredOf bytes old c p → Goes new
-  acting (Up n) new g h s are = becomes p (Up g.0) new bytes life c g.1.0 (own (Up g.0) are.0 (λ k d z. z) are.1 (owes-at (λ d. Unit {0}) n g.0 c p g.1.1.1 s tt))
-  acting (Covered n) new g h s are = becomes p (Covered n) new bytes life c (g.1.0 ∙ ap Covered (rests g.1.1)) (moves-none p (Covered n) bytes life c s are low)
+  acting (Up n) new g h s are = goes (Up g.0) new are.0 g.1.0 (λ k d z. z) are.1 (owes-at (λ d. Unit {0}) n g.0 c p g.1.1.1 s tt)
+  acting (Covered n) new g h s are = gone (Covered n) new (g.1.0 ∙ ap Covered (rests g.1.1)) s are
     where
       rests : (g.0 ≡ ticked n) ⊎ (g.0 ≡ froze n) → g.0 ≡ n
       rests (inl e) = e ∙ ticked-rests n s.0
       rests (inr e) = e ∙ froze-rests n s.0
-  acting (Collects n) new (inl g) h s are =
-      let P : ℕ → Type 0 = λ q. GoesTo q (λ d. StandsCollecting g.0 d q) c in
-      becomes p (Collects g.0) new bytes life c g.1.0 (own (Collects g.0) are.0 (λ k d z. z) are.1 (subst P s.own.me (g.1.1.1 c (subst (StandsCollecting n c) (sym s.own.me) s) tt)))
+  acting (Collects n) new (inl g) h s are = goes (Collects g.0) new are.0 g.1.0 (λ k d z. z) are.1 (at-me n.own.me (StandsCollecting n c) (λ q. GoesTo q (λ d. StandsCollecting g.0 d q) c) s.own.me (λ z. g.1.1.1 c z tt) s)
   acting (Collects n) new (inr g) h s are =
-      let P : ℕ → Type 0 = λ q. GoesTo q (λ d. StandsReplaying g.0 d q) c in
       let ordered : IsInOrder c n.own.me = (received-once-node c h.beside h.agrees h.lawful).next n.own.me in
-      becomes p (Replays g.0) new bytes life c g.1.0 (own (Replays g.0) are.0 (λ k d z. z) are.1 (subst P s.own.me (g.1.1.acts c (subst (StandsCollecting n c) (sym s.own.me) s) ordered)))
-  acting (Replays n) new g h s are = becomes p (Replayed g.0) new bytes life c g.1.0 (moves-none p (Replayed g.0) bytes life c (g.1.1.1 c p s) are low)
-  acting (Replayed n) new g h s are =
-      let P : ℕ → Type 0 = λ q. GoesTo q (λ d. StandsRestoring g.0 d q) c in
-      becomes p (Restores g.0) new bytes life c g.1.0 (own (Restores g.0) are.0 (λ k d z. z) are.1 (subst P s.own.me (g.1.1.1 c (subst (StandsReplayed n c) (sym s.own.me) s))))
-  acting (Restores n) new (inl g) h s are =
-      let P : ℕ → Type 0 = λ q. GoesTo q (λ d. StandsRestoring g.0 d q) c in
-      becomes p (Restores g.0) new bytes life c g.1.0 (own (Restores g.0) are.0 (λ k d z. z) are.1 (subst P s.own.me (g.1.1.1 c (subst (StandsRestoring n c) (sym s.own.me) s) tt)))
+      goes (Replays g.0) new are.0 g.1.0 (λ k d z. z) are.1 (at-me n.own.me (StandsCollecting n c) (λ q. GoesTo q (λ d. StandsReplaying g.0 d q) c) s.own.me (λ z. g.1.1.acts c z ordered) s)
+  acting (Replays n) new g h s are = gone (Replayed g.0) new g.1.0 (g.1.1.1.0 c p s) are
+  acting (Replayed n) new g h s are = goes (Restores g.0) new are.0 g.1.0 (λ k d z. z) are.1 (at-me n.own.me (StandsReplayed n c) (λ q. GoesTo q (λ d. StandsRestoring g.0 d q) c) s.own.me (g.1.1.1 c) s)
+  acting (Restores n) new (inl g) h s are = goes (Restores g.0) new are.0 g.1.0 (λ k d z. z) are.1 (at-me n.own.me (StandsRestoring n c) (λ q. GoesTo q (λ d. StandsRestoring g.0 d q) c) s.own.me (λ z. g.1.1.1 c z tt) s)
   acting (Restores n) new (inr g) h s are =
       becomes p (Up g.0) new bytes life c g.1.0 (moves-none p (Up g.0) bytes life c (subst (Stands g.0 c) s.own.me (g.1.1.1 c (subst (StandsRestoring n c) (sym s.own.me) s))) are low)
   acting Killed new g h s are = absurd g
@@ -204,7 +189,7 @@ module _ (c : Cluster) (p : ℕ) (bytes : List ℕ) (life : ℕ) (low : c.stored
 
   -- and it was told so
   pub telling : (old new : Process) → IsTold old new → StandsAs old c p → AreStoredOf bytes old c p → Goes new
-  telling (Up n) new g s are = becomes p (Up n) new bytes life c (g.1.1.0 ∙ ap Up (g.1.1.1.0 g.0)) (moves-none p (Up n) bytes life c s are low)
+  telling (Up n) new g s are = gone (Up n) new (g.1.1.0 ∙ ap Up (g.1.1.1.0 g.0)) s are
   telling (Covered n) new g s are =
       let k = saves-at n g.0 c p g.1.1.1 s.0 s.1 in
       becomes p (Up g.0) new bytes life c g.1.0

@@ -11,7 +11,7 @@ use Rattle.world.specs.History.{Payload, nth, count_of}
 use Rattle.world.specs.Plan.{if_next, or_else}
 use Rattle.cluster.specs.Rules.{message}
 use Rattle.packets.specs.declared.packet.Body.{Body}
-use Rattle.packets.specs.declared.packet.Body.TheVariants.{Delivery, Number, Acknowledgement, Ask, Told, Resume, Restored, Saved}
+use Rattle.packets.specs.declared.packet.Body.TheVariants.{Delivery, Number, Told, Restored}
 use Rattle.packets.specs.declared.page.LoggedMessage.{LoggedMessage}
 use Rattle.packets.specs.declared.page.Pair.{Pair}
 use Rattle.packets.specs.Pages.{entry_at, before, entries_from, inserted, all_inserted, entries_above, entry_size, fitting, page_of}
@@ -52,14 +52,6 @@ fair-more a t sent sent2 u back back2 (Number i ssn k) b c h = λ e. let l = h e
 fair-more a t sent sent2 u back back2 (Told i j k flags entries) b c h = λ e. all-more (IsSent sent) (IsSent sent2) entries (λ x s. nth-prefix sent sent2 x.ssn x.payload b s) (h e)
 fair-more a t sent sent2 u back back2 (Restored i j n s flags pairs) b c h = λ e. all-more (IsLow (length back)) (IsLow (length back2)) pairs (λ x l. omega (arith, l, begins-length back back2 c)) (h e)
 fair-more a t sent sent2 u back back2 other b c h = tt
-
--- where nothing is asked
-pub fair-none : (sent back : List Payload) (x : Body) → IsFair false false sent false back x
-fair-none sent back (Acknowledgement i k) = tt
-fair-none sent back (Ask i k) = tt
-fair-none sent back (Resume i k s) = tt
-fair-none sent back (Saved k) = tt
-fair-none sent back other = λ e. absurd (cc (e))
 
 -- a message is what was sent
 pub fair-of : (t : Bool) (sent : List Payload) (u : Bool) (back : List Payload) (x : Body) → IsFair true t sent u back x → IsOf sent x

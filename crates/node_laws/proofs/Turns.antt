@@ -1,9 +1,9 @@
 -- What waits in the gateway's store, and what each call makes of it
-use Rattle.std.proofs.Common.{◌≡◌, ◌≢◌, inl, inr, ℕ, zero, suc, ◌+◌, ◌-◌, ◌<◌, ◌≤◌, List, [], ◌∷◌, ◌++◌, map, take, drop, Bool, true, false, refl, sym, ap, ◌∙◌, subst, arith, append_assoc, append-nil}
+use Rattle.std.proofs.Common.{◌≡◌, ◌≢◌, inl, inr, ℕ, suc, ◌+◌, ◌-◌, ◌<◌, ◌≤◌, List, [], ◌∷◌, ◌++◌, map, take, drop, Bool, true, false, refl, sym, ap, ◌∙◌, subst, arith, append_assoc, append-nil}
 use Rattle.std.specs.Prelude.{◌⊎◌, slice_index_or, slice_set, ◌==◌, if◌then◌else◌}
 use Rattle.std.proofs.lemmas.Bool.Decides.{nat_tests}
 use Rattle.std.proofs.lemmas.List.{map-append, take-append-drop}
-use Rattle.theorems.proofs.Changes.{at-itself}
+use Rattle.theorems.proofs.Changes.{at-itself, choose}
 use Rattle.world.specs.History.{count_of}
 use Rattle.world.specs.World.{put}
 use Rattle.packets.specs.declared.packet.NodePacket.{NodePacket}
@@ -16,17 +16,17 @@ use Rattle.gateway.specs.Gateway.{TheGateway, happens}
 use Rattle.gateway.specs.Calls.{is_next}
 use Rattle.gateway.specs.Calls as outside
 use Rattle.gateway.specs.Stands.{shown_as}
-use Rattle.node.specs.Runs.{Answering}
+use Rattle.verifier.specs.declared.any_image.AnyImage.{AnyImage}
 use Rattle.node.specs.Stands.{Each, InOrderFrom}
 use Rattle.node.proofs.Lists.{count-append}
 use Rattle.node.proofs.Numbers.{InOrderFrom-push}
 use Rattle.recovery.proofs.Lists.{each-append}
-use Rattle.node_laws.specs.Inside.System.{System, Call, GaveOut, HandedOut, DidOut, StoredOut, StoredBut, RevivedOut, DoesIt, after_call}
-use Rattle.node_laws.specs.HostSystem.{handed_out, untaken}
-use Rattle.node_laws.specs.Inside.Durable.{shown_by}
-use Rattle.node_laws.specs.Inside.Outputs.{LivesOn}
-use Rattle.node_laws.proofs.HeldGateway.{OfGateway, Steady, output, hands, puts, ticks, tells}
-use Rattle.node_laws.proofs.Untaken.{IsQuietDeal, DealsSo, deals-so, deals-alike, handed-alike, handing-so}
+use Rattle.node_laws.proofs.Taken.{set-holds}
+use Rattle.node_laws.specs.HostSystem.{System, HostCall, GaveOut, HandedOut, DidOut, StoredOut, StoredBut, RevivedOut, DoesIt, after_call, handed_out, untaken}
+use Rattle.node_laws.specs.HostLaws.{shown_by, LivesOn}
+use Rattle.node_laws.proofs.HeldGateway.{IsOwn, OfGateway, own-plain, own-hands, IsQuietDeal, DealsSo, deals-so, Steady, output}
+use Rattle.node_laws.proofs.HeldGateway as held
+use Rattle.node_laws.proofs.Untaken.{deals-alike, handed-alike, handing-so}
 
 -- ---- the store
 
@@ -46,11 +46,8 @@ past c x = put c x (suc (c x))
 
 -- what changes of one process, but for what was shown of it, leaves what was shown of each
 shown-still : (xs : List ThePeer) (i k : ℕ) (new : ThePeer) → new.shown ≡ (slice_index_or xs i no_peer).shown → (slice_index_or (slice_set xs i new) k no_peer).shown ≡ (slice_index_or xs k no_peer).shown
-shown-still [] i k new e = refl
-shown-still (x ∷ xs) zero zero new e = e
-shown-still (x ∷ xs) zero (suc k) new e = refl
-shown-still (x ∷ xs) (suc i) zero new e = refl
-shown-still (x ∷ xs) (suc i) (suc k) new e = shown-still xs i k new e
+shown-still xs i k new e =
+    set-holds (λ (y : ThePeer). y.shown ≡ (slice_index_or xs k no_peer).shown) xs i new k no_peer (λ same. e ∙ ap (λ z. (slice_index_or xs z no_peer).shown) (sym same)) refl
 
 steady : (c : ℕ → ℕ) → Steady (InTurn c)
 steady c p new s e t = record { shown = λ q l. shown-still s.peers (p - 1) (q - 1) new e ∙ t.shown q l; ordered = t.ordered; some = t.some }
@@ -90,19 +87,9 @@ shown-turn c o s of next t =
 
 -- one that was waiting is past
 past-one : (c : ℕ → ℕ) (x q k : ℕ) → c q + (tally (x == q) + k) ≡ past c x q + k
-past-one c x q k = split (q == x) refl
-  where
-    split : (b : Bool) → (q == x) ≡ b → c q + (tally (x == q) + k) ≡ (if b then suc (c x) else c q) + k
-    split true e =
-        let same : q ≡ x = grind (arith, nat_tests) in
-        let on : (x == q) ≡ true = grind (arith, nat_tests) in
-        let one : tally (x == q) ≡ 1 = ap tally on in
-        let at : c q ≡ c x = ap c same in
-        omega (arith, one, at)
-    split false e =
-        let off : (x == q) ≡ false = grind (arith, nat_tests) in
-        let none : tally (x == q) ≡ 0 = ap tally off in
-        omega (arith, none)
+past-one c x q k =
+    choose x (λ j b. c j + (tally (x == j) + k) ≡ (if b then suc (c x) else c j) + k) (let one : tally (x == x) ≡ 1 = at-itself x (λ b. tally b ≡ 1) refl in omega (arith, one))
+    (λ j o. let off : (x == j) ≡ false = grind (arith, nat_tests) in let none : tally (x == j) ≡ 0 = ap tally off in omega (arith, none)) q
 
 -- the first that waits is taken
 taken-turn : (c : ℕ → ℕ) (o : Output) (os : List Output) (s : TheStore) → s.outputs ≡ o ∷ os → InTurn c s → (o.ssn ≡ suc (c o.process)) × InTurn (past c o.process) (applied (changes.Taken 1) s)
@@ -131,11 +118,7 @@ passed-rest : (c : ℕ → ℕ) (k : ℕ) (outputs : List Output) → passed (pa
 passed-rest c k outputs = sym (passed-append c (take k outputs) (drop k outputs)) ∙ ap (passed c) (take-append-drop k outputs)
 
 pub past-grows : (c : ℕ → ℕ) (x p : ℕ) → c p ≤ past c x p
-past-grows c x p = split (p == x) refl
-  where
-    split : (b : Bool) → (p == x) ≡ b → c p ≤ (if b then suc (c x) else c p)
-    split true e = let at : c p ≡ c x = ap c (let same : p ≡ x = grind (arith, nat_tests) in same) in omega (arith, at)
-    split false e = omega arith
+past-grows c x p = choose x (λ j b. c j ≤ (if b then suc (c x) else c j)) (omega arith) (λ j o. omega arith) p
 
 pub passed-grows : (c : ℕ → ℕ) (os : List Output) (p : ℕ) → c p ≤ passed c os p
 passed-grows c [] p = omega arith
@@ -146,11 +129,7 @@ passed-grows c (o ∷ os) p =
 
 -- as they are alike, so are these
 past-alike : (c d : ℕ → ℕ) (x p : ℕ) → ((q : ℕ) → c q ≡ d q) → past c x p ≡ past d x p
-past-alike c d x p e = split (p == x)
-  where
-    split : (b : Bool) → (if b then suc (c x) else c p) ≡ (if b then suc (d x) else d p)
-    split true = ap suc (e x)
-    split false = e p
+past-alike c d x p e = choose x (λ j b. (if b then suc (c x) else c j) ≡ (if b then suc (d x) else d j)) (ap suc (e x)) (λ j o. e j) p
 
 -- the first that wait are taken
 taken-all : (c : ℕ → ℕ) (xs : List Output) (s : TheStore) (rest : List Output) → InTurn c (record s { outputs = xs ++ rest }) → InTurn (passed c xs) (record s { outputs = rest })
@@ -175,7 +154,7 @@ pub record UpTo (c d : ℕ → ℕ) (s : System) : Type 0 where
   pub leads : (p : ℕ) → c p ≡ passed d s.taken p
 
 -- after a call these are others
-pub record Turns (c d : ℕ → ℕ) (s : System) (k : Call) : Type 0 where
+pub record Turns (c d : ℕ → ℕ) (s : System) (k : HostCall) : Type 0 where
   pub from : ℕ → ℕ
   pub kept : ℕ → ℕ
   pub up : UpTo from kept (after_call s k)
@@ -185,7 +164,7 @@ pub record Turns (c d : ℕ → ℕ) (s : System) (k : Call) : Type 0 where
 
 module _ (c d : ℕ → ℕ) (s : System) (a : UpTo c d s) where
   -- nothing of it changes
-  rests : (k : Call) → UpTo c d (after_call s k) → shown_by s k ≡ [] → Turns c d s k
+  rests : (k : HostCall) → UpTo c d (after_call s k) → shown_by s k ≡ [] → Turns c d s k
   rests k u n = record { from = c; kept = d; up = u; leads = inl (inl (n, refl)); on = λ l. inl (n, refl); kept_is = inl refl }
 
   gives-out : (x : NodePacket) (new : TheGateway) → s.gateway ≡ record new { out = x ∷ new.out } → Turns c d s (GaveOut x new)
@@ -197,7 +176,7 @@ module _ (c d : ℕ → ℕ) (s : System) (a : UpTo c d s) where
 
   -- a packet comes
   hears : (e : ℕ → ℕ) (x : NodePacket) (g : TheGateway) → OfGateway (InTurn e) g → OfGateway (InTurn e) (outside.handed x g)
-  hears e x g o = hands (InTurn e) (steady e) x g (λ to of i ssn y is next t. shown-turn e (output x.from ssn y) g.store of (numbered ssn y next) t) o
+  hears e x g o = own-hands (InTurn e) (steady e) x g (λ to of i ssn y is next t. shown-turn e (output x.from ssn y) g.store of (numbered ssn y next) t) o
     where
       numbered : (ssn : ℕ) (y : List ℕ) → is_next (output x.from ssn y) g ≡ true → ssn ≡ suc (peer_at x.from g.store).shown
       numbered ssn y next = let h : (ssn == (peer_at x.from g.store).shown + 1) ≡ true = next in grind (arith, nat_tests)
@@ -209,10 +188,7 @@ module _ (c d : ℕ → ℕ) (s : System) (a : UpTo c d s) where
 
   -- its host lets it do something
   quiet : (e : ℕ → ℕ) (g new : TheGateway) → (new ≡ g) ⊎ IsQuietDeal g new → OfGateway (InTurn e) g → OfGateway (InTurn e) new
-  quiet e g new (inl same) o = subst (OfGateway (InTurn e)) (sym same) o
-  quiet e g new (inr (inl put)) o = puts (InTurn e) (steady e) g new put o
-  quiet e g new (inr (inr (inl is))) o = ticks (InTurn e) (steady e) g new is o
-  quiet e g new (inr (inr (inr is))) o = tells (InTurn e) (steady e) g new is o
+  quiet e g new q o = held.quiet IsOwn own-plain (InTurn e) (steady e) g new q o
 
   quiet-alike : (new : TheGateway) → (new ≡ s.gateway) ⊎ IsQuietDeal s.gateway new → (untaken s.taken new ≡ untaken s.taken s.gateway) ⊎ IsQuietDeal (untaken s.taken s.gateway) (untaken s.taken new)
   quiet-alike new (inl same) = inl (ap (untaken s.taken) same)
@@ -282,13 +258,13 @@ module _ (c d : ℕ → ℕ) (s : System) (a : UpTo c d s) where
         kept_is = inr (λ p. (passed-grows d first p, subst (λ z. passed d first p ≤ z) (sym (on p)) (passed-grows (passed d first) rest p)));
       }
 
-  pub turns : (f : Answering) (n : ℕ) (k : Call) → DoesIt f n s k → Turns c d s k
-  turns f n (GaveOut x new) m = gives-out x new m.1.0
-  turns f n (HandedOut x new) m = hears-out x new m.1.0
-  turns f n (DidOut new) m = does-out new (deals-so s.gateway new m.0)
-  turns f n StoredOut m = stores-out
-  turns f n (StoredBut k) m = stores-but k
-  turns f n (RevivedOut new) m =
+  pub turns : (images : ℕ → AnyImage) (n : ℕ) (k : HostCall) → DoesIt images n s k → Turns c d s k
+  turns images n (GaveOut x new) m = gives-out x new m.1.0
+  turns images n (HandedOut x new) m = hears-out x new m.1.0
+  turns images n (DidOut new) m = does-out new (deals-so s.gateway new m.0)
+  turns images n StoredOut m = stores-out
+  turns images n (StoredBut k) m = stores-but k
+  turns images n (RevivedOut new) m =
       let goes : OfGateway (InTurn d) new = subst (OfGateway (InTurn d)) (sym m.0) (record { out = tt; store = a.durable.store }) in
       record { from = d; kept = d; up = record { gateway = goes; durable = goes; shadow = goes; leads = λ p. refl }; leads = inr (inl (refl, refl)); on = λ l. absurd l; kept_is = inl refl }
-  turns f n other m = rests other (record { gateway = a.gateway; durable = a.durable; shadow = a.shadow; leads = a.leads }) refl
+  turns images n other m = rests other (record { gateway = a.gateway; durable = a.durable; shadow = a.shadow; leads = a.leads }) refl

@@ -1,7 +1,6 @@
 -- The gateway, had some of the outputs that it handed out not been taken: it goes on as the gateway does
-use Rattle.std.proofs.Common.{◌≡◌, inl, inr, ℕ, zero, suc, ◌+◌, ◌-◌, List, [], ◌∷◌, ◌++◌, length, map, take, drop, Bool, true, false, refl, sym, ap, ◌∙◌, subst, arith, append_assoc, append-nil}
+use Rattle.std.proofs.Common.{◌≡◌, inl, inr, ℕ, zero, suc, ◌+◌, List, [], ◌∷◌, ◌++◌, length, map, take, drop, Bool, true, false, refl, sym, ap, ◌∙◌, subst, append_assoc, append-nil}
 use Rattle.std.specs.Prelude.{◌⊎◌, not, ◌&&◌, ◌||◌, ◌==◌, nat_lt, nat_le, min, if◌then◌else◌}
-use Rattle.std.proofs.lemmas.Bool.Decides.{nat_tests}
 use Rattle.std.proofs.lemmas.List.{map-append}
 use Rattle.packets.specs.declared.packet.Body as bodies
 use Rattle.packets.specs.declared.packet.Body.TheVariants as packets
@@ -12,15 +11,15 @@ use Rattle.stores.specs.declared.change.Change.{Change}
 use Rattle.stores.specs.declared.change.Change.TheVariants as changes
 use Rattle.stores.specs.Peer.{last_of, is_kept}
 use Rattle.stores.specs.Store.{applied}
-use Rattle.gateway.specs.Gateway.{TheGateway, peer_of, posts, happens, delivers, hands_out, unnumbered, delivers_each, resent, ticked_to, ticked}
+use Rattle.gateway.specs.Gateway.{TheGateway, peer_of, posts, happens, delivers, unnumbered, delivers_each, resent, ticked_to}
 use Rattle.gateway.specs.Calls.{is_for, is_next, says_shown, arrived, recorded_by, dropped_by, told_of, asked, obeyed, restores, resumed_by, told, handed}
 use Rattle.gateway.specs.Stands.{Stands, Goes, Acts, IsHanded, shown_as}
 use Rattle.gateway.proofs.Changes.{goes-asked}
 use Rattle.gateway.proofs.Transmission.{putting-in, ticking}
 use Rattle.gateway.proofs.Steps.{stays, acts-self, stands-with, stands-waiting}
 use Rattle.gateway.proofs.Handover.{handed-so}
-use Rattle.node_laws.specs.HostSystem.{handed_out, untaken, PutIn, Deals}
-use Rattle.node_laws.proofs.HeldGateway.{none-out, ticked-outputs}
+use Rattle.node_laws.specs.HostSystem.{handed_out, untaken, Deals}
+use Rattle.node_laws.proofs.HeldGateway.{HandsOut, IsQuietDeal, DealsSo, deals-so}
 
 -- ---- it stands as the gateway does
 
@@ -44,47 +43,6 @@ goes-fewer xs ys g c w = record { acts = w.acts; run = w.run; by = w.by; stands 
 
 pub goes-taken-out : (outputs : List Output) (g : TheGateway) (c : Cluster) → Goes (untaken outputs g) c → Goes g c
 goes-taken-out outputs g c w = record { acts = w.acts; run = w.run; by = w.by; stands = stands-taken outputs g _ w.stands }
-
--- ---- what its host lets it do
-
--- it hands out the first output, and no other
-pub record HandsOut (g new : TheGateway) : Type 0 where
-  pub output : Output
-  pub rest : List Output
-  pub waited : g.store.outputs ≡ output ∷ rest
-  pub is : new ≡ happens (changes.Taken 1) g
-  pub handed : handed_out g new ≡ output ∷ []
-
--- it hands out nothing: an input comes, it sends again what isn't answered, or it tells what happened
-abbrev pub IsQuietDeal : TheGateway → TheGateway → Type 0
-IsQuietDeal g new = PutIn g new ⊎ ((new ≡ ticked g) ⊎ (new ≡ record g { changes = [] }))
-
--- it does one of these, or nothing
-abbrev pub DealsSo : TheGateway → TheGateway → Type 0
-DealsSo g new = HandsOut g new ⊎ ((handed_out g new ≡ []) × ((new ≡ g) ⊎ IsQuietDeal g new))
-
-hands-so : (g new : TheGateway) → new ≡ hands_out g → DealsSo g new
-hands-so g new e = split g.store.outputs refl
-  where
-    split : (outs : List Output) → g.store.outputs ≡ outs → DealsSo g new
-    split [] none =
-        let few : nat_lt 0 (length g.store.outputs) ≡ false = (let z : length g.store.outputs ≡ 0 = ap length none in grind (arith, nat_tests)) in
-        let same : new ≡ g = e ∙ ap (λ b. if b then happens (changes.Taken 1) g else g) few in
-        inr (none-out g new (ap (λ (z : TheGateway). z.store.outputs) same), inl same)
-    split (o ∷ os) some =
-        let many : nat_lt 0 (length g.store.outputs) ≡ true = (let z : length g.store.outputs ≡ suc (length os) = ap length some in grind (arith, nat_tests)) in
-        let is : new ≡ happens (changes.Taken 1) g = e ∙ ap (λ b. if b then happens (changes.Taken 1) g else g) many in
-        let left : new.store.outputs ≡ os = ap (λ (z : TheGateway). z.store.outputs) is ∙ ap (drop 1) some in
-        let one : length (o ∷ os) - length os ≡ 1 = omega arith in
-        let out : handed_out g new ≡ take (length (o ∷ os) - length os) (o ∷ os) =
-        ap (λ z. take (length g.store.outputs - length z) g.store.outputs) left ∙ ap (λ z. take (length z - length os) z) some in
-        inl (record { output = o; rest = os; waited = some; is = is; handed = out ∙ ap (λ k. take k (o ∷ os)) one })
-
-pub deals-so : (g new : TheGateway) → Deals g new → DealsSo g new
-deals-so g new (inl d) = inr (none-out g new (ap (λ (z : TheGateway). z.store.outputs) d.1.1.0), inr (inl d))
-deals-so g new (inr (inl e)) = hands-so g new e
-deals-so g new (inr (inr (inl e))) = inr (none-out g new (ticked-outputs g new e), inr (inr (inl e)))
-deals-so g new (inr (inr (inr e))) = inr (none-out g new (ap (λ (z : TheGateway). z.store.outputs) e), inr (inr (inr e)))
 
 -- ---- each of its calls is one of the gateway
 

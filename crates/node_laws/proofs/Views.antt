@@ -2,6 +2,7 @@
 use Rattle.std.proofs.Common.{◌≡◌, ℕ, List, true, refl, sym, ap, ◌∙◌, subst}
 use Rattle.cluster.specs.Cluster.{Cluster}
 use Rattle.verifier.specs.declared.any_image.AnyImage.{AnyImage}
+use Rattle.interp.specs.Image.{as_image}
 use Rattle.packets.specs.declared.kept.Kept.{Kept}
 use Rattle.node.specs.Node.{TheNode}
 use Rattle.node.specs.Kept.{IsKeptOf}
@@ -11,16 +12,25 @@ use Rattle.process.specs.declared.lifecycle.Lifecycle.TheVariants.{Up, Collectin
 use Rattle.process.specs.Process.{TheProcess, is_settled}
 use Rattle.process.specs.Calls.{standing_at, is_frozen}
 use Rattle.process.specs.Suspension.{Suspends}
-use Rattle.node_laws.specs.HostProcess.{Checkpoint, Durable, Hosted, Runs, Sleeps, Killed, Alive, is_exact, IsUp}
+use Rattle.node_laws.specs.HostProcess.{IsFirst, Checkpoint, Durable, Hosted, Runs, Sleeps, Killed, Alive, is_exact, IsUp}
 use Rattle.node_laws.specs.HostBack.{Collects}
 use Rattle.node_laws.specs.Agreement.{Stands, StandsAs, IsStoredOf, AreStoredOf}
 use Rattle.node_laws.specs.Inside.Process as lives
+use Rattle.node_laws.specs.HostSystem.{System}
+use Rattle.node_laws.specs.HostLaws as laws
 use Rattle.node_laws.specs.Inside.System as called
-use Rattle.node_laws.specs.Inside.Process.{covered}
-use Rattle.node_laws.specs.Inside.Alone as lone
-use Rattle.node_laws.specs.Inside.Hosted.{stage_of, seen, as_process}
+use Rattle.node_laws.specs.Inside.System.{view}
+use Rattle.node_laws.specs.Inside.Process.{covered, stage_of, seen, as_process}
 use Rattle.node_laws.proofs.Stages.{Fits, unsettled}
-use Rattle.node_laws.proofs.HostStep.{IsGood}
+
+-- it has such an image, is in some stage, and waits for what is pending; or it was suspended as its bytes say
+abbrev pub IsGood : AnyImage → Hosted → Type 0
+IsGood image (Runs old w) = (as_image old.image ≡ as_image image) × ((is_settled old.lifecycle ≡ true) × Fits w old.lifecycle)
+IsGood image (Sleeps old bytes) = Suspends old.lifecycle bytes
+IsGood image Killed = Unit {0}
+
+abbrev pub AreGood : (ℕ → AnyImage) → ℕ → System → Type 0
+AreGood images n s = (p : ℕ) → IsFirst n p → IsGood (images p) (s.processes p)
 
 -- ---- whether it is exact
 
@@ -32,11 +42,18 @@ exact-durable : (c : Lifecycle) → lives.is_exact (covered (stage_of c)) ≡ (s
 exact-durable Passing = refl
 exact-durable other = refl
 
-pub exact-as : (h : Hosted) → lives.is_exact (as_process h) ≡ is_exact h
+exact-as : (h : Hosted) → lives.is_exact (as_process h) ≡ is_exact h
 exact-as (Runs process Durable) = exact-durable process.lifecycle
 exact-as (Runs process checkpoint) = exact-stage process.lifecycle
 exact-as (Sleeps process bytes) = exact-stage process.lifecycle
 exact-as Killed = refl
+
+-- one system is as exact as the other
+pub exact-here : (n : ℕ) (s : System) → called.AreExact n (view s) → laws.AreExact n s
+exact-here n s e p l = sym (exact-as (s.processes p)) ∙ e p l
+
+pub exact-there : (n : ℕ) (s : System) → laws.AreExact n s → called.AreExact n (view s)
+exact-there n s e p l = exact-as (s.processes p) ∙ e p l
 
 -- ---- its stage
 
@@ -49,12 +66,12 @@ is-up m (Runs process w) u = subst (λ c. lives.IsUp m (seen w c)) (sym u) (up-s
 is-up m (Sleeps process bytes) u = subst (λ c. lives.IsUp m (stage_of c)) (sym u) refl
 is-up m Killed u = absurd u
 
-up-holds : (m : TheNode) (process : lives.Process) → lives.IsUp m process → lone.is_up process ≡ true
+up-holds : (m : TheNode) (process : lives.Process) → lives.IsUp m process → lives.is_up process ≡ true
 up-holds m (lives.Up n) u = refl
 up-holds m (lives.Covered n) u = refl
 up-holds m other u = absurd u
 
-pub up-so : (m : TheNode) (h : Hosted) → IsUp m h → lone.is_up (as_process h) ≡ true
+pub up-so : (m : TheNode) (h : Hosted) → IsUp m h → lives.is_up (as_process h) ≡ true
 up-so m h u = up-holds m (as_process h) (is-up m h u)
 
 pub collects : (h : Hosted) → Alive Collects h → (m : TheCollecting) × (as_process h ≡ lives.Collects m)

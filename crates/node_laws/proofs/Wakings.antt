@@ -10,10 +10,9 @@ use Rattle.process.specs.declared.lifecycle.Lifecycle.{Lifecycle}
 use Rattle.process.specs.declared.lifecycle.Lifecycle.TheVariants.{Up}
 use Rattle.process.specs.Process.{TheProcess}
 use Rattle.process.specs.Suspension.{Suspends, IsResumed}
-use Rattle.node_laws.specs.Inside.Process.{Wakes}
+use Rattle.node_laws.specs.Inside.Process.{Wakes, stage_of, seen}
 use Rattle.node_laws.specs.Inside.Process as stages
 use Rattle.node_laws.specs.HostProcess.{Checkpoint, Durable}
-use Rattle.node_laws.specs.Inside.Hosted.{stage_of, seen}
 use Rattle.node_laws.proofs.Stages.{Fits}
 
 -- one that can be suspended waits for no checkpoint

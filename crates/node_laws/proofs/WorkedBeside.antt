@@ -1,5 +1,5 @@
 -- The worked list of calls of hosts of two processes
-use Rattle.std.proofs.Common.{◌≡◌, inl, inr, ℕ, zero, suc, ◌+◌, ◌≤◌, List, [], ◌∷◌, length, Bool, true, false, refl, arith}
+use Rattle.std.proofs.Common.{◌≡◌, inl, inr, ℕ, ◌+◌, ◌≤◌, List, [], ◌∷◌, length, Bool, true, false, refl, arith}
 use Rattle.std.specs.Prelude.{Some, None, slice_index_or}
 use Rattle.packets.specs.Packet.{entries_in_range, pairs_in_range}
 use Rattle.rsn.specs.Receipts.{Received}
@@ -29,6 +29,7 @@ use Rattle.node.proofs.Sendings.{ticking}
 use Rattle.rsn.specs.declared.receipts.TheConstants.{LIMIT}
 use Rattle.process.specs.declared.lifecycle.Lifecycle.TheVariants.{Up, Collecting, Replaying, Replayed, Restoring}
 use Rattle.process.specs.Transitions.{Passes}
+use Rattle.recovery.proofs.Preservation.{at-each}
 use Rattle.node_laws.specs.HostProcess.{IsFirst}
 use Rattle.node_laws.specs.WorkedMessages.{gave, quiet, collects, restores}
 use Rattle.node_laws.specs.WorkedBeside.{ask, told, resume, restored, asked, resumed, other_asked, other_resumed, comes, hears, has_all, begins, enters, has_answers, Open, MayOpen, HostsComeBackBeside}
@@ -59,19 +60,13 @@ enters-still initial = record { wide = refl; answered_wide = refl; heard_wide = 
 
 -- what the other keeps, which received and sent nothing
 zero-at : (q : ℕ) → slice_index_or (0 ∷ 0 ∷ 0 ∷ []) q 0 ≤ 0
-zero-at zero = omega arith
-zero-at (suc zero) = omega arith
-zero-at (suc (suc zero)) = omega arith
-zero-at (suc (suc (suc q))) = omega arith
+zero-at q = at-each (λ z. z ≤ 0) (0 ∷ 0 ∷ 0 ∷ []) 0 (omega arith) (omega arith, (omega arith, (omega arith, tt))) q
 
 abbrev logs : List TheQueue
 logs = no_queue ∷ no_queue ∷ no_queue ∷ []
 
 none-at : (k d : ℕ) → (log_at logs d).dropped + length (log_at logs d).payloads ≤ k
-none-at k zero = omega arith
-none-at k (suc zero) = omega arith
-none-at k (suc (suc zero)) = omega arith
-none-at k (suc (suc (suc d))) = omega arith
+none-at k d = at-each (λ (q : TheQueue). q.dropped + length q.payloads ≤ k) logs no_queue (omega arith) (omega arith, (omega arith, (omega arith, tt))) d
 
 abbrev nothing : Received
 nothing = record { senders = []; acknowledged = [] }

@@ -1,5 +1,5 @@
 -- The process of the worked list, and the gateway
-use Rattle.std.proofs.Common.{◌≡◌, ℕ, zero, suc, ◌+◌, ◌<◌, ◌≤◌, List, [], ◌∷◌, ◌++◌, length, Bool, true, false, refl, sym, ap, ◌∙◌, arith, length-append}
+use Rattle.std.proofs.Common.{◌≡◌, ℕ, suc, ◌+◌, ◌<◌, ◌≤◌, List, [], ◌∷◌, ◌++◌, length, Bool, true, false, refl, sym, ap, ◌∙◌, arith, length-append}
 use Rattle.std.specs.Prelude.{Option, Some, None, is_some, slice_index_or, ◌==◌, if◌then◌else◌}
 use Rattle.std.specs.List.{AllByRecursion}
 use Rattle.std.proofs.lemmas.Bool.Decides.{nat_tests}
@@ -24,6 +24,7 @@ use Rattle.recovery.specs.Plan.{told_under, Plans}
 use Rattle.recovery.proofs.Moments.{comes-back}
 use Rattle.recovery.specs.Restoration.{IsRestoring}
 use Rattle.gateway.specs.Gateway.{TheGateway}
+use Rattle.recovery.proofs.Preservation.{at-each}
 use Rattle.node_laws.specs.HostProcess.{IsFirst}
 use Rattle.node_laws.specs.Inside.Process.{Recovers}
 use Rattle.node_laws.specs.WorkedMessages.{quiet, restores, n0, n1, n2, n4, n5, n6, n7, n8, n9, has_all, job, replays, begins}
@@ -35,14 +36,10 @@ abbrev logs : List TheQueue
 logs = no_queue ∷ no_queue ∷ []
 
 none-at : (k d : ℕ) → (log_at logs d).dropped + length (log_at logs d).payloads ≤ k
-none-at k zero = omega arith
-none-at k (suc zero) = omega arith
-none-at k (suc (suc d)) = omega arith
+none-at k d = at-each (λ (q : TheQueue). q.dropped + length q.payloads ≤ k) logs no_queue (omega arith) (omega arith, (omega arith, tt)) d
 
 at-most : (k q : ℕ) → slice_index_or (k ∷ 0 ∷ []) q 0 ≤ k
-at-most k zero = omega arith
-at-most k (suc zero) = omega arith
-at-most k (suc (suc q)) = omega arith
+at-most k q = at-each (λ z. z ≤ k) (k ∷ 0 ∷ []) 0 (omega arith) (omega arith, (omega arith, tt)) q
 
 -- one that received so many messages of the gateway behind its checkpoint, and works on the next or on none
 module _ (base : ℕ) (acknowledged : List Bool) (waiting : ℕ) (senders : List ℕ) (low : base ≤ 2) (few : length senders ≤ 2) (many : waiting ≤ length senders) (peers : AllByRecursion (IsPeer 1 1) senders) where

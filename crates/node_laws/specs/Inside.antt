@@ -1,8 +1,3 @@
--- Calls of processes in all their lives, which only the proofs need
+-- Calls of processes by their stages, which only the proofs need: a call of a host is one of them, and acts behind it
 pub mod Process
 pub mod System
-pub mod Alone
-pub mod Back
-pub mod Durable
-pub mod Outputs
-pub mod Hosted

@@ -18,7 +18,7 @@ use Rattle.node.specs.Stands as nodes
 use Rattle.node.specs.Runs.{Answer, Answering, IsAnswer}
 use Rattle.recovery.specs.Collection.{TheCollecting}
 use Rattle.recovery.specs.Collection as collects
-use Rattle.recovery.specs.Replays.{TheReplaying, next_job, did_replay}
+use Rattle.recovery.specs.Replays.{TheReplaying, next_job, did_replay, is_over}
 use Rattle.recovery.specs.Overlap as meeting
 use Rattle.recovery.specs.Replayed.{TheReplayed, StandsReplayed}
 use Rattle.recovery.specs.Replayed as replayed
@@ -30,6 +30,9 @@ use Rattle.recovery.specs.Moment.{Recovered}
 use Rattle.recovery.specs.Restoration.{TheRestoring, begun, up}
 use Rattle.recovery.specs.Restoration as restores
 use Rattle.recovery.specs.RestorationStands as restoring
+use Rattle.process.specs.declared.lifecycle.Lifecycle.{Lifecycle}
+use Rattle.process.specs.declared.lifecycle.Lifecycle.TheVariants as lifecycle
+use Rattle.node_laws.specs.HostProcess.{Checkpoint, Durable, Hosted, Runs, Sleeps}
 
 -- a process in its stage
 pub data Process : Type 0 where
@@ -127,7 +130,7 @@ abbrev pub Acts : Process → Process → Type 0
 Acts (Up n) new = Becomes Up new (λ m. ((m ≡ ticked n) ⊎ (m ≡ froze n)) × nodes.Acts n m)
 Acts (Covered n) new = Becomes Covered new (λ m. (m ≡ ticked n) ⊎ (m ≡ froze n))
 Acts (Collects n) new = Becomes Collects new (λ m. (m ≡ collects.asked n) × collecting.Acts n m) ⊎ Becomes Replays new (λ m. Recovers n m)
-Acts (Replays n) new = Becomes Replayed new (λ m. (m ≡ replayed_of n) × replaying.Ends n m)
+Acts (Replays n) new = Becomes Replayed new (λ m. (m ≡ replayed_of n) × (replaying.Ends n m × (is_over n ≡ true)))
 Acts (Replayed n) new = Becomes Restores new (λ m. (m ≡ begun n) × restoring.Begins n m)
 Acts (Restores n) new = Becomes Restores new (λ m. (m ≡ restores.asked n) × restoring.Acts n m)
     ⊎ Becomes Up new (λ m. (m ≡ up n) × restoring.IsUp n m)
@@ -168,3 +171,31 @@ IsKilled process = ⊥
 abbrev pub ComesFrom : List ℕ → ℕ → TheCollecting → Type 0
 ComesFrom bytes life n = (k : Kept)
     × (IsKept k bytes × (((limits : Limits) × (n ≡ collects.revived limits k life)) × collecting.Revives k life n))
+
+-- ---- which process one of a host is
+
+-- by its stage. It is between two stages only inside a call
+abbrev pub stage_of : Lifecycle → Process
+stage_of (lifecycle.Up n) = Up n
+stage_of (lifecycle.Collecting n) = Collects n
+stage_of (lifecycle.Replaying n) = Replays n
+stage_of (lifecycle.Replayed n) = Replayed n
+stage_of (lifecycle.Restoring n) = Restores n
+stage_of lifecycle.Passing = Killed
+
+-- and by its checkpoint
+abbrev pub seen : Checkpoint → Lifecycle → Process
+seen Durable c = covered (stage_of c)
+seen other c = stage_of c
+
+-- and by its host: one that was suspended is what it was
+abbrev pub as_process : Hosted → Process
+as_process (Runs process checkpoint) = seen checkpoint process.lifecycle
+as_process (Sleeps process bytes) = stage_of process.lifecycle
+as_process other = Killed
+
+-- whether it is up, also while it waits for its checkpoint
+abbrev pub is_up : Process → Bool
+is_up (Up n) = true
+is_up (Covered n) = true
+is_up process = false

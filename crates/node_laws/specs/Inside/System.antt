@@ -1,27 +1,22 @@
 -- Calls of processes in any stage, and of the gateway, one after another
-use Rattle.std.specs.Prelude.{◌≡◌, ℕ, ◌<◌, ◌≤◌, List, [], ◌∷◌, ◌++◌, drop, Some, true}
-use Rattle.world.specs.History.{count_of}
-use Rattle.world.specs.Handlers.{Handlers}
+use Rattle.std.specs.Prelude.{◌≡◌, ◌≢◌, ℕ, ◌<◌, List, [], ◌∷◌, ◌++◌, drop, Some, true}
 use Rattle.world.specs.World.{put}
 use Rattle.packets.specs.declared.packet.NodePacket.{NodePacket}
 use Rattle.packets.specs.declared.kept.Kept.{Kept}
 use Rattle.packets.specs.Kept.{IsKept}
 use Rattle.cluster.specs.Cluster.{Cluster}
-use Rattle.node.specs.Limit.{usual}
 use Rattle.node.specs.declared.limit.Limits.{Limits}
-use Rattle.node.specs.Node.{new_node}
-use Rattle.node.specs.Kept.{kept_of}
-use Rattle.node.specs.Runs.{Answer, Answering, handlers_of, IsOne}
+use Rattle.node.specs.Runs.{Answer, Answering, IsOne}
 use Rattle.recovery.specs.Collection.{TheCollecting}
 use Rattle.stores.specs.declared.change.Output.{Output}
-use Rattle.gateway.specs.Gateway.{TheGateway, new_gateway, peer_of}
+use Rattle.gateway.specs.Gateway.{TheGateway}
 use Rattle.gateway.specs.Calls as outside
 use Rattle.gateway.specs.Stands as gateways
 use Rattle.gateway.specs.Since.{revived, StandsFor}
 use Rattle.node_laws.specs.HostProcess.{IsFirst}
+use Rattle.node_laws.specs.HostSystem as hosts
 use Rattle.node_laws.specs.HostSystem.{handed_out, untaken, Deals}
-use Rattle.node_laws.specs.Agreement.{IsRunOf}
-use Rattle.node_laws.specs.Inside.Process.{Process, Up, Collects, Killed, StandsAs, IsStoredOf, is_exact, Gives, Hears, Works}
+use Rattle.node_laws.specs.Inside.Process.{Process, Collects, Killed, as_process, is_up, IsStoredOf, is_exact, Gives, Hears, Works}
 use Rattle.node_laws.specs.Inside.Process.{Acts, WaitsFor, covered, IsTold, Wakes, IsKilled, ComesFrom}
 
 -- the processes by number; for each the bytes that are stored, and the greatest incarnation; the gateway, and the gateway that its store
@@ -35,22 +30,18 @@ pub record System : Type 0 where
   pub taken : List Output
   pub given : List NodePacket
 
--- n new processes, each with its limits and its opening state, and their gateway
-abbrev pub new_system : ℕ → (ℕ → Limits) → (ℕ → List ℕ) → (ℕ → List ℕ) → ℕ → ℕ → System
-new_system n limits states bytes page tick =
+-- a system of hosts, with its processes in their stages
+abbrev pub view : hosts.System → System
+view s =
     record {
-      processes = λ p. Up (new_node (limits p) p n (states p));
-      stored = bytes;
-      lives = λ _. 1;
-      gateway = new_gateway n page tick;
-      durable = new_gateway n page tick;
-      taken = [];
-      given = [];
+      processes = λ p. as_process (s.processes p);
+      stored = s.stored;
+      lives = s.lives;
+      gateway = s.gateway;
+      durable = s.durable;
+      taken = s.taken;
+      given = s.given;
     }
-
--- before a process opens, its bytes are stored. They don't hold its limits
-abbrev pub AreStored : ℕ → (ℕ → List ℕ) → (ℕ → List ℕ) → Type 0
-AreStored n states bytes = (p : ℕ) → IsFirst n p → IsKept (kept_of (new_node usual p n (states p))) (bytes p)
 
 -- a call that isn't refused, and the process or the gateway after it; or something that happens to one of them
 pub data Call : Type 0 where
@@ -123,71 +114,33 @@ after_call s StoredOut = record s { durable = s.gateway; taken = [] }
 after_call s (StoredBut k) = record s { durable = untaken (drop k s.taken) s.gateway; taken = drop k s.taken }
 after_call s (RevivedOut new) = record s { gateway = new; durable = new; taken = [] }
 
--- calls, one after another
-abbrev pub Calls : Answering → ℕ → System → List Call → Type 0
-Calls f n s [] = Unit {0}
-Calls f n s (k ∷ ks) = DoesIt f n s k × Calls f n (after_call s k) ks
-
 -- the system after these calls
 abbrev pub after_calls : System → List Call → System
 after_calls s [] = s
 after_calls s (k ∷ ks) = after_calls (after_call s k) ks
 
+-- this holds of each of these calls, and of the system before it
+abbrev pub Along : (System → Call → Type 0) → System → List Call → Type 0
+Along P s [] = Unit {0}
+Along P s (k ∷ ks) = P s k × Along P (after_call s k) ks
+
+-- ---- what holds of a system, or of a call
+
 -- each process that is alive is exact
 abbrev pub AreExact : ℕ → System → Type 0
 AreExact n s = (p : ℕ) → IsFirst n p → is_exact (s.processes p) ≡ true
 
--- after each of these calls each process that is alive is exact
-abbrev pub StayExact : ℕ → System → List Call → Type 0
-StayExact n s [] = Unit {0}
-StayExact n s (k ∷ ks) = AreExact n (after_call s k) × StayExact n (after_call s k) ks
+-- a process is killed only while all others are up
+abbrev pub FailsAlone : ℕ → System → Call → Type 0
+FailsAlone n s (Died p) = (q : ℕ) → IsFirst n q → q ≢ p → is_up (s.processes q) ≡ true
+FailsAlone n s call = Unit {0}
+
+-- if p comes back or is resumed by this call, it is durable then
+abbrev pub KeepsDurable : ℕ → Call → Type 0
+KeepsDurable p (Revived q life new) = p ≡ q → new.own.limits.durable ≡ true
+KeepsDurable p (Resumed q limits new) = p ≡ q → limits.durable ≡ true
+KeepsDurable p call = Unit {0}
 
 -- these bytes of a process are what its checkpoint covers
 abbrev pub AreStoredOf : List ℕ → Process → Cluster → ℕ → Type 0
 AreStoredOf bytes process c p = (k : Kept) × (IsKept k bytes × IsStoredOf k process c p)
-
--- all these processes agree with a cluster of n, what is stored of each is what its checkpoint covers, and no incarnation above the stored
--- ones was opened; the gateway of the store agrees with it, and acts of its own make it the gateway of now
-pub record AllStand (n : ℕ) (s : System) (c : Cluster) : Type 0 where
-  pub processes : (p : ℕ) → IsFirst n p → StandsAs (s.processes p) c p
-  pub stored : (p : ℕ) → IsFirst n p → AreStoredOf (s.stored p) (s.processes p) c p
-  pub lives : (p : ℕ) → IsFirst n p → c.stored p ≤ s.lives p
-  pub durable : gateways.Stands s.durable c
-  pub gateway : gateways.Goes s.gateway c
-  -- the gateway counts as many outputs of a process as were shown of it
-  pub shown : (p : ℕ) → IsFirst n p → (peer_of p s.durable).shown ≡ count_of p c.world.shown
-
--- ---- from the opening on
-
--- so many processes with their answers, limits and opening states, and what is stored of them before they open; and the limits of the
--- gateway
-pub record Living : Type 0 where
-  pub f : Answering
-  pub n : ℕ
-  pub limits : ℕ → Limits
-  pub states : ℕ → List ℕ
-  pub bytes : ℕ → List ℕ
-  pub page : ℕ
-  pub tick : ℕ
-  pub stored : AreStored n states bytes
-
--- before the first call
-abbrev pub start : Living → System
-start l = new_system l.n l.limits l.states l.bytes l.page l.tick
-
--- after these calls
-abbrev pub after : Living → List Call → System
-after l calls = after_calls (start l) calls
-
--- these are calls from the opening on
-abbrev pub Makes : Living → List Call → Type 0
-Makes l calls = Calls l.f l.n (start l) calls
-
--- its handlers
-abbrev pub handlers : Living → Handlers
-handlers l = handlers_of l.f l.states
-
--- if each process that is alive stays exact, the calls are a run of a cluster
-abbrev pub LivesRun : Type 0
-LivesRun = (l : Living) (calls : List Call) → l.n ≤ 15 → Makes l calls → StayExact l.n (start l) calls
-    → IsRunOf l.n (handlers l) (AllStand l.n (after l calls))

@@ -1,4 +1,4 @@
-use Rattle.node_laws.proofs.HostOutputs.{hosted-stay-out}
+use Rattle.node_laws.proofs.Outputs.{hosted-stay-out}
 use Rattle.node_laws.proofs.host_laws.hosted_stay_out.Goals as goal
 
 pub returns : goal.returns
