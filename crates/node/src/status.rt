@@ -5,7 +5,7 @@ ghost use Rattle.std.specs.Prelude.{◌≡◌};
 use crate::node::Node;
 
 /// What a process is doing. A node that is up is in one of the first three stages.
-#[derive(Clone, Copy, Debug, PartialEq, Eq)]
+#[derive(Clone, Copy, PartialEq, Eq)]
 pub enum Stage {
     /// It takes messages.
     Up,
@@ -40,7 +40,7 @@ impl Stage {
 }
 
 /// The status of a node, for its host.
-#[derive(Clone, Copy, Debug, PartialEq, Eq)]
+#[derive(Clone, Copy)]
 pub struct Standing {
     /// How many messages it received, and how many of these its checkpoint covers.
     pub length: u64,

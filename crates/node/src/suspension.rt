@@ -9,7 +9,7 @@ ghost use Rattle.node.specs.Suspension.{flag_byte, codes_of, codes_bytes, rest_b
 use crate::node::Node;
 use crate::queue::KeptQueue;
 use limits::STATE_BYTES;
-use packets::{put_checksum, put_u64};
+use packets::{put_checksum, put_many, put_u64};
 use std::alloc::{AllocError, Global};
 use thiserror::Error;
 
@@ -112,12 +112,9 @@ fn are_sent(logs: &[KeptQueue]) -> bool
 /// Appends each number.
 fn put_numbers(out: &mut Vec<u8>, numbers: &[u64]) -> Result<(), AllocError>
     ensures value { OnOk result (out.new.items ≡ out.old.items ++ flat_map long_bytes numbers.now) }
-    ensures long { OnOk result (AllByRecursion IsLong numbers.now) }
+    ensures long { AllByRecursion IsLong numbers.now }
 {
-    for number in numbers {
-        put_u64(out, *number)?;
-    }
-    Ok(())
+    put_many(out, numbers)
 }
 
 /// Appends each flag.
