@@ -36,7 +36,7 @@ impl Node {
             return Ok(());
         };
         let behind = self.receipts.length() + 1;
-        let number = self.base + u64::from(behind);
+        let number = self.base + behind as u64;
         log(&mut self.logs, given, number)?;
         let Ok(_) = self.receipts.accept(job.sender) else {
             unlog(&mut self.logs, given);

@@ -11,25 +11,20 @@ use crate::queue::KeptQueue;
 use limits::STATE_BYTES;
 use packets::{put_checksum, put_many, put_u64};
 use std::alloc::{AllocError, Global};
-use thiserror::Error;
 
 /// `SBN2`, the first four bytes of a suspended node.
 pub const SUSPENSION_MAGIC: [u8; 4] = [0x53, 0x42, 0x4e, 0x32];
 
 /// Why a node isn't suspended.
-#[derive(Debug, Drop, PartialEq, Eq, Error)]
+#[derive(Drop)]
 pub enum Unsuspended {
     /// Memory ran out.
-    #[error("out of memory")]
     Memory,
     /// The node waits until its checkpoint is durable.
-    #[error("its checkpoint is not durable yet")]
     Frozen,
     /// A job is open.
-    #[error("a job is open")]
     Busy,
     /// Its checkpoint doesn't cover all that it received and sent.
-    #[error("its checkpoint does not cover all")]
     Uncovered,
 }
 

@@ -18,7 +18,7 @@ use Rattle.node.proofs.node.Node.finish.Goals as goal
 pub unlog-requires : goal.unlog-requires
 unlog-requires c =
     let given = c.args.given.now in
-    let number = c.self.inside.base + c.from.result in
+    let number = c.self.inside.base + (c.length-behind.result + 1) in
     let logs : c.log.new.logs.items ≡ given_to number given c.self.inside.logs.items = c.in_ok-log.ensures.ok in
     let many : length c.log.new.logs.items ≡ length c.self.inside.logs.items = ap length logs ∙ given-length number given c.self.inside.logs.items in
     record { to = λ i s e. omega (arith, many, c.self.invariant.logs_wide, (c.requires.others i s e).0, ap (λ (n : TheNode). n.count) c.self.view_is) }
@@ -29,7 +29,7 @@ invariant_of-self-2 c =
     let given = c.args.given.now in
     let old = c.self.inside in
     let job = c.in-Some.job in
-    let number = old.base + c.from.result in
+    let number = old.base + (c.length-behind.result + 1) in
     let logs : c.log.new.logs.items ≡ given_to number given old.logs.items = c.in_ok-log.ensures.ok in
     let many : length c.log.new.logs.items ≡ length old.logs.items = ap length logs ∙ given-length number given old.logs.items in
     let receipts : c.accept.new.self ≡ accepted job.sender old.receipts = first_of (search rules, grind (arith, common_steps)) in
@@ -67,8 +67,8 @@ invariant_of-self-2 c =
 room-for : (a b s : ℕ) → a + b ≤ MOST_GIVEN * s → s ≤ MOST_RECEIVED → a + b + MOST_GIVEN < 2 ^ 63
 room-for a b s l m = omega arith
 
-next-number : (base k l n : ℕ) → k ≡ l + 1 → l ≡ n → base + n ≤ MOST_RECEIVED → IsPositive (base + k)
-next-number base k l n e f g = (omega arith, omega arith)
+next-number : (base k n : ℕ) → k ≡ n → base + n ≤ MOST_RECEIVED → IsPositive (base + (k + 1))
+next-number base k n f g = (omega arith, omega arith)
 
 pub log-requires-clause-to : goal.log-requires-clause-to
 log-requires-clause-to c = λ i s e. has-place c.self.inside.logs.items (the_view c.self.inside) c.args.self.now s.to c.self.invariant.logs_wide c.self.view_is (c.requires.others i s e).0
@@ -88,6 +88,6 @@ pub put-requires : goal.put-requires
 put-requires c =
     let i = c.self.invariant in
     let own = c.self.inside in
-    let number = next-number own.base c.from.result c.length-behind.result (length own.receipts.senders) c.from.ensures c.length-behind.ensures.value i.young in
-    let fits = number-fits own.life c.in-Some.job.ssn (own.base + c.from.result) i.alive (subst HasSsn c.in-Some.is i.numbered) number in
+    let number = next-number own.base c.length-behind.result (length own.receipts.senders) c.length-behind.ensures.value i.young in
+    let fits = number-fits own.life c.in-Some.job.ssn (own.base + (c.length-behind.result + 1)) i.alive (subst HasSsn c.in-Some.is i.numbered) number in
     record { peer = subst (OfPeer own.me own.count) c.in-Some.is i.own; room = fits.0; range = fits.1 }
