@@ -85,9 +85,7 @@ impl Node {
 
     /// Appends what its kept state doesn't have.
     fn put_rest(&self, out: &mut Vec<u8>) -> Result<(), AllocError>
-        ensures value { OnOk result (out.new.items ≡ out.old.items ++ rest_bytes self.now) }
-        ensures heard { OnOk result (AllByRecursion IsLong self.now.heard) }
-        ensures logs { OnOk result (AllByRecursion IsWhole self.now.logs) }
+        ensures { OnOk result ((out.new.items ≡ out.old.items ++ rest_bytes self.now) × AllByRecursion IsLong self.now.heard × AllByRecursion IsWhole self.now.logs) }
     {
         put_u64(out, self.life)?;
         out.extend_from_slice(&[self.exact as u8])?;
@@ -101,7 +99,11 @@ impl Node {
 fn are_sent(logs: &[KeptQueue]) -> bool
     ensures { result ≡ list_all is_sent logs.now }
 {
-    logs.iter().all(|log| log.is_sent())
+    let mut sent = true;
+    for log in logs {
+        sent &= log.is_sent();
+    }
+    sent
 }
 
 /// Appends each number.
@@ -124,8 +126,7 @@ fn put_flags(out: &mut Vec<u8>, flags: &[bool]) -> Result<(), AllocError>
 
 /// Appends the codes of each log's RSNs.
 fn put_logs(out: &mut Vec<u8>, logs: &[KeptQueue]) -> Result<(), AllocError>
-    ensures value { OnOk result (out.new.items ≡ out.old.items ++ flat_map codes_bytes (map codes_of logs.now)) }
-    ensures whole { OnOk result (AllByRecursion IsWhole logs.now) }
+    ensures { OnOk result ((out.new.items ≡ out.old.items ++ flat_map codes_bytes (map codes_of logs.now)) × AllByRecursion IsWhole logs.now) }
 {
     for log in logs {
         log.put_codes(out)?;
