@@ -195,7 +195,9 @@ fn fill(
     count: u8,
 ) -> Result<(), AllocError>
     requires { (covered.old.items ≡ []) × (heard.old.items ≡ []) × (resumed.old.items ≡ []) × (logs.old.items ≡ []) }
-    ensures { OnOk result ((covered.new.items ≡ replicate (count + 1) 0) × (heard.new.items ≡ replicate (count + 1) 1) × (resumed.new.items ≡ replicate (count + 1) true) × (logs.new.items ≡ replicate (count + 1) no_queue)) }
+    ensures covered { OnOk result (covered.new.items ≡ replicate (count + 1) 0) }
+    ensures heard { OnOk result ((heard.new.items ≡ replicate (count + 1) 1) × (resumed.new.items ≡ replicate (count + 1) true)) }
+    ensures logs { OnOk result (logs.new.items ≡ replicate (count + 1) no_queue) }
 {
     let many = count as usize + 1;
     covered.resize(many, 0)?;

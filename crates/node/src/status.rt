@@ -41,7 +41,7 @@ impl Stage {
 }
 
 /// The status of a node, for its host.
-#[derive(Clone, Copy)]
+#[derive(Clone, Copy, PartialEq, Eq)]
 pub struct Standing {
     /// How many messages it received, and how many of these its checkpoint covers.
     pub length: u64,

@@ -16,7 +16,7 @@ use std::alloc::{AllocError, Global};
 pub const SUSPENSION_MAGIC: [u8; 4] = [0x53, 0x42, 0x4e, 0x32];
 
 /// Why a node isn't suspended.
-#[derive(Drop)]
+#[derive(Debug, Drop)]
 pub enum Unsuspended {
     /// Memory ran out.
     Memory,
@@ -85,7 +85,8 @@ impl Node {
 
     /// Appends what its kept state doesn't have.
     fn put_rest(&self, out: &mut Vec<u8>) -> Result<(), AllocError>
-        ensures { OnOk result ((out.new.items ≡ out.old.items ++ rest_bytes self.now) × AllByRecursion IsLong self.now.heard × AllByRecursion IsWhole self.now.logs) }
+        ensures value { OnOk result (out.new.items ≡ out.old.items ++ rest_bytes self.now) }
+        ensures fits { OnOk result (AllByRecursion IsLong self.now.heard × AllByRecursion IsWhole self.now.logs) }
     {
         put_u64(out, self.life)?;
         out.extend_from_slice(&[self.exact as u8])?;
@@ -126,7 +127,8 @@ fn put_flags(out: &mut Vec<u8>, flags: &[bool]) -> Result<(), AllocError>
 
 /// Appends the codes of each log's RSNs.
 fn put_logs(out: &mut Vec<u8>, logs: &[KeptQueue]) -> Result<(), AllocError>
-    ensures { OnOk result ((out.new.items ≡ out.old.items ++ flat_map codes_bytes (map codes_of logs.now)) × AllByRecursion IsWhole logs.now) }
+    ensures value { OnOk result (out.new.items ≡ out.old.items ++ flat_map codes_bytes (map codes_of logs.now)) }
+    ensures whole { OnOk result (AllByRecursion IsWhole logs.now) }
 {
     for log in logs {
         log.put_codes(out)?;

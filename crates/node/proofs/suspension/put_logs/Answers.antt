@@ -15,6 +15,6 @@ loop-log-preserved c =
     let more : take (c.loop-log.log-index + 1) logs ≡ first ++ log ∷ [] = take_more logs c.loop-log.log-index log c.loop-log-test.true ∙ ap (λ q. first ++ q ∷ []) (sym c.log-item.is) in
     record {
       value = c.in_ok-put_codes.ensures.value ∙ ap (λ bs. bs ++ codes_bytes (codes_of log)) c.loop-log.invariant.value ∙ flat_map_more codes_bytes before (map codes_of first) (codes_of log)
-        ∙ ap (λ qs. before ++ flat_map codes_bytes qs) (sym (map-append codes_of first (log ∷ []))) ∙ ap (λ qs. before ++ flat_map codes_bytes (map codes_of qs)) (sym more);
+          ∙ ap (λ qs. before ++ flat_map codes_bytes qs) (sym (map-append codes_of first (log ∷ []))) ∙ ap (λ qs. before ++ flat_map codes_bytes (map codes_of qs)) (sym more);
       whole = subst (AllByRecursion IsWhole) (sym more) (all-more IsWhole first log c.loop-log.invariant.whole c.in_ok-put_codes.ensures.whole);
     }
