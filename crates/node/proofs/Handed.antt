@@ -5,7 +5,7 @@ use Rattle.std.proofs.lemmas.Bool.Decides.{nat_tests}
 use Rattle.theorems.proofs.Tests.{both}
 use Rattle.packets.specs.declared.packet.NodePacket.{NodePacket}
 use Rattle.packets.specs.declared.packet.Body.{Body}
-use Rattle.packets.specs.declared.packet.Body.TheVariants.{Delivery, Number, Acknowledgement, Ask, Resume, Saved, Told, Restored}
+use Rattle.packets.specs.declared.packet.Body.TheVariants.{Delivery, Number, Acknowledgement, Ask, Resume, Saved}
 use Rattle.packets.specs.Packet.{in_range, is_positive, is_number}
 use Rattle.node.specs.Node.{TheNode, IsPeer, IsPositive}
 use Rattle.node.specs.Calls.{told, is_for, handed}

@@ -1,7 +1,7 @@
-use Rattle.std.proofs.Common.{◌≡◌, ℕ, ◌+◌, List, ◌++◌, [], ◌∷◌, ap, sym, ◌∙◌, take, length, map, subst, get_or}
+use Rattle.std.proofs.Common.{◌≡◌, ◌+◌, List, ◌++◌, [], ◌∷◌, ap, sym, ◌∙◌, take, map, subst}
 use Rattle.std.specs.List.{flat_map, AllByRecursion}
 use Rattle.std.proofs.lemmas.List.{flat_map_more, map-append, take_more}
-use Rattle.node.specs.Queue.{TheQueue, no_queue}
+use Rattle.node.specs.Queue.{TheQueue}
 use Rattle.node.specs.Suspension.{codes_of, codes_bytes, IsWhole}
 use Rattle.node.proofs.Counts.{all-more}
 use Rattle.node.proofs.suspension.put_logs.Goals as goal
