@@ -7,8 +7,8 @@ use Rattle.node.specs.Transmission.{released}
 use Rattle.node.specs.Calls.{acknowledged_by}
 use Rattle.node.proofs.Handed.{no-second}
 
-pub behind-in : (b k f l n : ℕ) → b < k → k ≤ b + f → f ≡ l → l ≡ n → (1 ≤ k - b) × (k - b ≤ n)
-behind-in b k f l n above low e g = (omega arith, omega arith)
+pub behind-in : (b k l n : ℕ) → b < k → k ≤ b + l → l ≡ n → (1 ≤ k - b) × (k - b ≤ n)
+behind-in b k l n above low e = (omega arith, omega arith)
 
 module _ (life k : ℕ) (m n : TheNode) (same : m ≡ n) where
   abbrev A : Bool
@@ -32,11 +32,11 @@ module _ (life k : ℕ) (m n : TheNode) (same : m ≡ n) where
   pub told-before : (b : Bool) → b ≡ slice_index_or m.receipts.acknowledged (k - m.base - 1) false → b ≡ true → n ≡ acknowledged_by life k n
   told-before b e f = let t : slice_index_or m.receipts.acknowledged (k - m.base - 1) false ≡ true = sym e ∙ f in passed (no-second (A && B && C) D (rw t refl))
 
-  pub counts-so : (f l : ℕ) (b : Bool) (s new : TheNode) → life ≡ m.life → m.base < k → k ≤ m.base + f → f ≡ l → l ≡ length m.receipts.senders → b ≡ slice_index_or m.receipts.acknowledged (k - m.base - 1) false → b ≡ false
+  pub counts-so : (l : ℕ) (b : Bool) (s new : TheNode) → life ≡ m.life → m.base < k → k ≤ m.base + l → l ≡ length m.receipts.senders → b ≡ slice_index_or m.receipts.acknowledged (k - m.base - 1) false → b ≡ false
       → s ≡ counted (k - m.base) n → new ≡ released s → new ≡ acknowledged_by life k n
-  counts-so f l b s new here above low g h e off count release =
+  counts-so l b s new here above low h e off count release =
       let t : slice_index_or m.receipts.acknowledged (k - m.base - 1) false ≡ false = sym e ∙ off in
-      let inside : k ≤ m.base + length m.receipts.senders = omega (arith, low, g, h) in
+      let inside : k ≤ m.base + length m.receipts.senders = omega (arith, low, h) in
       let x : A ≡ true = grind (arith, nat_tests) in
       let y : B ≡ true = grind (arith, nat_tests) in
       let z : C ≡ true = grind (arith, nat_tests) in

@@ -7,7 +7,7 @@ use Rattle.world.specs.Phases.{Replaying}
 use Rattle.world.specs.Calls.{peers}
 use Rattle.cluster.specs.Parcels.{Delivery, Number, Acknowledgement, Ask, Told, Resume, Restored, Saved, Parcel, In}
 use Rattle.cluster.specs.Cluster.{Cluster}
-use Rattle.cluster.specs.Rules.{Act, Input, Puts, Arrives, Works, Replays, Recovers, Freezes, Keeps, Thaws, Dies, Opens, does, after_run, goes_on, taken_back}
+use Rattle.cluster.specs.Rules.{Act, Input, Puts, Arrives, Works, Replays, Recovers, Keeps, Opens, does, after_run, goes_on, taken_back}
 use Rattle.node.specs.Node.{TheNode}
 use Rattle.node.specs.Stands.{Each, Stands, Goes, PutOut, actor}
 use Rattle.cluster.proofs.Settings.{does-count}

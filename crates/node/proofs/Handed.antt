@@ -5,7 +5,7 @@ use Rattle.std.proofs.lemmas.Bool.Decides.{nat_tests}
 use Rattle.theorems.proofs.Tests.{both}
 use Rattle.packets.specs.declared.packet.NodePacket.{NodePacket}
 use Rattle.packets.specs.declared.packet.Body.{Body}
-use Rattle.packets.specs.declared.packet.Body.TheVariants.{Delivery, Number, Acknowledgement, Ask, Resume, Saved, Told, Restored}
+use Rattle.packets.specs.declared.packet.Body.TheVariants.{Delivery, Number, Acknowledgement, Ask, Resume, Saved}
 use Rattle.packets.specs.Packet.{in_range, is_positive, is_number}
 use Rattle.node.specs.Node.{TheNode, IsPeer, IsPositive}
 use Rattle.node.specs.Calls.{told, is_for, handed}
@@ -15,8 +15,8 @@ use Rattle.node.specs.Calls.{told, is_for, handed}
 pub drops : (x : NodePacket) (n : TheNode) → is_for n x ≡ false → n ≡ handed x n
 drops x n e = rw e refl
 
-pub takes : (x : NodePacket) (n : TheNode) → is_for n x ≡ true → handed x n ≡ told x.from x.body n
-takes x n e = rw e refl
+pub takes : (x : NodePacket) (n : TheNode) {b : Body} → is_for n x ≡ true → x.body ≡ b → handed x n ≡ told x.from b n
+takes x n e is = rw e (ap (λ b. told x.from b n) is)
 
 pub no-second : (a b : Bool) → b ≡ false → (a && b) ≡ false
 no-second true b e = e

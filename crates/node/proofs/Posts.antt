@@ -17,11 +17,11 @@ posts-known a b to place last only l e = subst (λ (z : TheNode). place < length
     below : (i j k : ℕ) → i < j → j ≡ k → i < k
     below i j k f g = omega arith
 
-pub beyond-covered : (from res cov : ℕ) → res ≡ cov → cov < res + from + 1
-beyond-covered from res cov e = omega arith
+pub beyond-covered : (place res cov : ℕ) → res ≡ cov → cov < res + place + 1
+beyond-covered place res cov e = omega arith
 
-pub told-place : (res cov from place many : ℕ) → res ≡ cov → from ≡ place → place < many → res + from + 1 - cov - 1 < many
-told-place res cov from place many e f l = omega arith
+pub told-place : (res cov place many : ℕ) → res ≡ cov → place < many → res + place + 1 - cov - 1 < many
+told-place res cov place many e l = omega arith
 
 -- ---- the loops are over
 

@@ -36,7 +36,7 @@ use Rattle.node.proofs.Counts.{all-low, sum-without, counted-total, counted-own,
 
 -- ---- what holds of all of a list
 
-by-place : {X : Type 0} (P : X → Type 0) (xs : List X) (e : X) → ((d : ℕ) → P (slice_index_or xs d e)) → AllByRecursion P xs
+pub by-place : {X : Type 0} (P : X → Type 0) (xs : List X) (e : X) → ((d : ℕ) → P (slice_index_or xs d e)) → AllByRecursion P xs
 by-place P [] e h = tt
 by-place P (x ∷ xs) e h = (h 0, by-place P xs e (λ d. h (suc d)))
 

@@ -4,7 +4,7 @@ use Rattle.std.specs.Prelude.{Option, Some, None, slice_index_or, slice_set, ◌
 use Rattle.std.proofs.lemmas.Bool.Decides.{nat_tests}
 use Rattle.std.proofs.lemmas.List.{get_or-set_same, get_or-set_other, length-set, take_all, length-append}
 use Rattle.world.specs.History.{Payload}
-use Rattle.world.specs.Phases.{Phase, Up, Busy, Down, Replaying, Resync, is_up, is_down}
+use Rattle.world.specs.Phases.{Phase, Up, Busy, is_up, is_down}
 use Rattle.world.specs.World.{put}
 use Rattle.world.specs.Logs.{sent, length_of, is_entry}
 use Rattle.theorems.proofs.Changes.{at-itself}

@@ -20,15 +20,6 @@ impl Node {
         ensures value { self.new ≡ froze self.old }
         ensures acts { Acts self.old self.new }
     {
-        // For the proof: reading a field gives the invariant.
-        let _me = self.me;
-        self.freeze()
-    }
-
-    fn freeze(&mut self) -> bool
-        ensures made { result ≡ may_freeze self.old }
-        ensures value { self.new ≡ froze self.old }
-    {
         let may = !self.frozen && self.working.is_none();
         if may {
             self.frozen = true;
@@ -43,16 +34,6 @@ impl Node {
         ensures waited { IfOk result (λ b. b ≡ self.old.frozen) }
         ensures value { OnOk result (self.new ≡ saved self.old) }
         ensures acts { OnOk result (Saves self.old self.new) }
-        ensures err { OnErr result (self.new ≡ self.old) }
-    {
-        // For the proof: reading a field gives the invariant.
-        let _me = self.me;
-        self.thaw(alloc)
-    }
-
-    fn thaw(&mut self, alloc: Global) -> Result<bool, AllocError>
-        ensures waited { IfOk result (λ b. b ≡ self.old.frozen) }
-        ensures value { OnOk result (self.new ≡ saved self.old) }
         ensures err { OnErr result (self.new ≡ self.old) }
     {
         if !self.frozen {
@@ -72,7 +53,7 @@ impl Node {
     {
         let received = self.receipts.length();
         count(&mut self.covered, &self.receipts);
-        self.base += u64::from(received);
+        self.base += received as u64;
         self.receipts = none;
         self.waiting = 0;
         self.frozen = false;

@@ -22,21 +22,11 @@ impl Node {
         ensures acts { OnOk result (Owes (Handles state.items given.now self.old) self.old self.new) }
         ensures err { OnErr result (self.new ≡ self.old) }
     {
-        // For the proof: reading a field gives the invariant.
-        let _me = self.me;
-        self.finish(state, given)
-    }
-
-    fn finish(&mut self, state: Vec<u8>, given: &[Given]) -> Result<(), AllocError>
-        requires { MaySend self.old given.now }
-        ensures ok { OnOk result (self.new ≡ did_work state.items given.now self.old.working self.old) }
-        ensures err { OnErr result (self.new ≡ self.old) }
-    {
         let Some(job) = self.working else {
             return Ok(());
         };
         let behind = self.receipts.length() + 1;
-        let number = self.base + u64::from(behind);
+        let number = self.base + behind as u64;
         log(&mut self.logs, given, number)?;
         let Ok(_) = self.receipts.accept(job.sender) else {
             unlog(&mut self.logs, given);

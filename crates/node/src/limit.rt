@@ -14,7 +14,7 @@ pub const TICK: u32 = 8;
 
 /// The limits of a node for all its life. Kept state doesn't hold them: a process may come back
 /// with others.
-#[derive(Clone, Copy, Debug, PartialEq, Eq)]
+#[derive(Clone, Copy)]
 pub struct Limits {
     /// The size of its largest packet in bytes, at least [`LEAST_PAGE`].
     pub page: u16,

@@ -1,6 +1,6 @@
 //! The state of a node in memory.
 
-ghost use Rattle.std.specs.Prelude.{◌≡◌, ◌≤◌, replicate, true, IfOk};
+ghost use Rattle.std.specs.Prelude.{◌≡◌, ◌≤◌, ◌+◌, [], replicate, true, IfOk, OnOk};
 ghost use Rattle.node.specs.Limit.{AreAllowed};
 ghost use Rattle.node.specs.Queue.{no_queue};
 ghost use Rattle.node.specs.Node.{new_node, posts, CanSay};
@@ -103,14 +103,21 @@ impl Node {
         ensures value { IfOk result (λ n. n ≡ new_node limits me count state.now) }
         ensures stands { IfOk result (λ n. (f : Handlers) → BeginsWith f me state.now → Stands n (opening count f) me) }
     {
-        let wide = count as usize + 1;
         let state = Vec::from_slice(alloc, state)?;
-        let covered = numbers(alloc, wide, 0)?;
-        let heard = numbers(alloc, wide, 1)?;
-        let resumed = flags(alloc, wide)?;
-        let logs = queues(alloc, wide)?;
         let receipts = Receipts::new(alloc, &[])?;
         let out = PacketQueue::new(alloc)?;
+        let mut covered = Vec::new(alloc);
+        let mut heard = Vec::new(alloc);
+        let mut resumed = Vec::new(alloc);
+        let mut logs = Vec::new(alloc);
+        fill(
+            alloc,
+            &mut covered,
+            &mut heard,
+            &mut resumed,
+            &mut logs,
+            count,
+        )?;
         Ok(Node {
             limits,
             me,
@@ -178,31 +185,34 @@ fn zeros(alloc: Global, many: usize) -> Result<Vec<u8>, AllocError>
     Ok(bytes)
 }
 
-/// `many` times this number.
-fn numbers(alloc: Global, many: usize, number: u64) -> Result<Vec<u64>, AllocError>
-    ensures { IfOk result (λ v. v.items ≡ replicate many number) }
+/// Fills what a node that received nothing has by process.
+fn fill(
+    alloc: Global,
+    covered: &mut Vec<u64>,
+    heard: &mut Vec<u64>,
+    resumed: &mut Vec<bool>,
+    logs: &mut Vec<KeptQueue>,
+    count: u8,
+) -> Result<(), AllocError>
+    requires { (covered.old.items ≡ []) × (heard.old.items ≡ []) × (resumed.old.items ≡ []) × (logs.old.items ≡ []) }
+    ensures covered { OnOk result (covered.new.items ≡ replicate (count + 1) 0) }
+    ensures heard { OnOk result ((heard.new.items ≡ replicate (count + 1) 1) × (resumed.new.items ≡ replicate (count + 1) true)) }
+    ensures logs { OnOk result (logs.new.items ≡ replicate (count + 1) no_queue) }
 {
-    let mut numbers = Vec::new(alloc);
-    numbers.resize(many, number)?;
-    Ok(numbers)
+    let many = count as usize + 1;
+    covered.resize(many, 0)?;
+    heard.resize(many, 1)?;
+    resumed.resize(many, true)?;
+    add_queues(alloc, logs, many)
 }
 
-/// `many` flags that are set.
-fn flags(alloc: Global, many: usize) -> Result<Vec<bool>, AllocError>
-    ensures { IfOk result (λ v. v.items ≡ replicate many true) }
+/// Adds `many` empty queues to none.
+fn add_queues(alloc: Global, logs: &mut Vec<KeptQueue>, many: usize) -> Result<(), AllocError>
+    requires { logs.old.items ≡ [] }
+    ensures { OnOk result (logs.new.items ≡ replicate many no_queue) }
 {
-    let mut flags = Vec::new(alloc);
-    flags.resize(many, true)?;
-    Ok(flags)
-}
-
-/// `many` empty queues.
-fn queues(alloc: Global, many: usize) -> Result<Vec<KeptQueue>, AllocError>
-    ensures { IfOk result (λ v. v.items ≡ replicate many no_queue) }
-{
-    let mut queues = Vec::new(alloc);
     for made in 0..many {
-        queues.push(KeptQueue::new(alloc))?;
+        logs.push(KeptQueue::new(alloc))?;
     }
-    Ok(queues)
+    Ok(())
 }

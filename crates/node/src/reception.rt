@@ -110,7 +110,7 @@ impl Node {
         let behind = self.receipts.length();
         self.waiting < self.limits.numbers
             && behind < self.limits.receipts
-            && self.base + u64::from(behind) < MOST_RECEIVED
+            && self.base + (behind as u64) < MOST_RECEIVED
     }
 
     /// Tells a sender the RSN of its message, which came after the checkpoint.
@@ -121,7 +121,7 @@ impl Node {
         ensures { self.new ≡ tells to ssn self.old }
     {
         let place = ssn - self.covered[to as usize] - 1;
-        let number = self.base + u64::from(self.receipts.numbers(to)[place as usize]);
+        let number = self.base + self.receipts.numbers(to)[place as usize] as u64;
         let incarnation = self.life;
         self.put(
             to,
@@ -158,7 +158,7 @@ impl Node {
     fn receive_acknowledgement(&mut self, life: u64, rsn: u64)
         ensures { self.new ≡ acknowledged_by life rsn self.old }
     {
-        let last = self.base + u64::from(self.receipts.length());
+        let last = self.base + self.receipts.length() as u64;
         if life != self.life || rsn <= self.base || last < rsn {
             return;
         }

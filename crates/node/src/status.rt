@@ -3,9 +3,10 @@
 ghost use Rattle.std.specs.Prelude.{◌≡◌};
 
 use crate::node::Node;
+use crate::queries::entries;
 
 /// What a process is doing. A node that is up is in one of the first three stages.
-#[derive(Clone, Copy, Debug, PartialEq, Eq)]
+#[derive(Clone, Copy, PartialEq, Eq)]
 pub enum Stage {
     /// It takes messages.
     Up,
@@ -40,7 +41,7 @@ impl Stage {
 }
 
 /// The status of a node, for its host.
-#[derive(Clone, Copy, Debug, PartialEq, Eq)]
+#[derive(Clone, Copy, PartialEq, Eq)]
 pub struct Standing {
     /// How many messages it received, and how many of these its checkpoint covers.
     pub length: u64,
@@ -62,13 +63,13 @@ pub struct Standing {
 }
 
 impl Node {
-    ghost use Rattle.node.specs.Status.{standing_of, entries_kept, stage_at};
+    ghost use Rattle.node.specs.Status.{standing_of, stage_at};
 
     /// The status of the node. One that is up has nothing to replay, and waits for no peer.
     pub fn standing(&self) -> Standing
         ensures { result ≡ standing_of self.now }
     {
-        let receipts = u64::from(self.receipts.length());
+        let receipts = self.receipts.length() as u64;
         Standing {
             length: self.base + receipts,
             base: self.base,
@@ -76,7 +77,7 @@ impl Node {
             stage: self.stage(),
             exact: self.exact,
             receipts,
-            entries: self.entries(),
+            entries: entries(&self.logs),
             packets: self.out.len() as u64,
             replays: 0,
             waited_for: 0,
@@ -100,15 +101,5 @@ impl Node {
             Some(_) => Stage::Busy,
             None => Stage::Up,
         }
-    }
-
-    fn entries(&self) -> u64
-        ensures { result ≡ entries_kept self.now.logs }
-    {
-        let mut entries: u64 = 0;
-        for log in &self.logs {
-            entries = entries.saturating_add(log.len() as u64);
-        }
-        entries
     }
 }

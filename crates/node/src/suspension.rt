@@ -9,27 +9,22 @@ ghost use Rattle.node.specs.Suspension.{flag_byte, codes_of, codes_bytes, rest_b
 use crate::node::Node;
 use crate::queue::KeptQueue;
 use limits::STATE_BYTES;
-use packets::{put_checksum, put_u64};
+use packets::{put_checksum, put_many, put_u64};
 use std::alloc::{AllocError, Global};
-use thiserror::Error;
 
 /// `SBN2`, the first four bytes of a suspended node.
 pub const SUSPENSION_MAGIC: [u8; 4] = [0x53, 0x42, 0x4e, 0x32];
 
 /// Why a node isn't suspended.
-#[derive(Debug, Drop, PartialEq, Eq, Error)]
+#[derive(Debug, Drop)]
 pub enum Unsuspended {
     /// Memory ran out.
-    #[error("out of memory")]
     Memory,
     /// The node waits until its checkpoint is durable.
-    #[error("its checkpoint is not durable yet")]
     Frozen,
     /// A job is open.
-    #[error("a job is open")]
     Busy,
     /// Its checkpoint doesn't cover all that it received and sent.
-    #[error("its checkpoint does not cover all")]
     Uncovered,
 }
 
@@ -91,8 +86,7 @@ impl Node {
     /// Appends what its kept state doesn't have.
     fn put_rest(&self, out: &mut Vec<u8>) -> Result<(), AllocError>
         ensures value { OnOk result (out.new.items ≡ out.old.items ++ rest_bytes self.now) }
-        ensures heard { OnOk result (AllByRecursion IsLong self.now.heard) }
-        ensures logs { OnOk result (AllByRecursion IsWhole self.now.logs) }
+        ensures fits { OnOk result (AllByRecursion IsLong self.now.heard × AllByRecursion IsWhole self.now.logs) }
     {
         put_u64(out, self.life)?;
         out.extend_from_slice(&[self.exact as u8])?;
@@ -106,18 +100,19 @@ impl Node {
 fn are_sent(logs: &[KeptQueue]) -> bool
     ensures { result ≡ list_all is_sent logs.now }
 {
-    logs.iter().all(|log| log.is_sent())
+    let mut sent = true;
+    for log in logs {
+        sent &= log.is_sent();
+    }
+    sent
 }
 
 /// Appends each number.
 fn put_numbers(out: &mut Vec<u8>, numbers: &[u64]) -> Result<(), AllocError>
     ensures value { OnOk result (out.new.items ≡ out.old.items ++ flat_map long_bytes numbers.now) }
-    ensures long { OnOk result (AllByRecursion IsLong numbers.now) }
+    ensures long { AllByRecursion IsLong numbers.now }
 {
-    for number in numbers {
-        put_u64(out, *number)?;
-    }
-    Ok(())
+    put_many(out, numbers)
 }
 
 /// Appends each flag.

@@ -18,14 +18,6 @@ impl Node {
         ensures value { self.new ≡ ticked self.old }
         ensures acts { Acts self.old self.new }
     {
-        // For the proof: reading a field gives the invariant.
-        let _me = self.me;
-        self.send_again();
-    }
-
-    fn send_again(&mut self)
-        ensures { self.new ≡ ticked self.old }
-    {
         if self.frozen {
             return;
         }
@@ -78,7 +70,7 @@ impl Node {
         if self.limits.durable {
             return self.base;
         }
-        self.base + u64::from(self.receipts.run_length())
+        self.base + self.receipts.run_length() as u64
     }
 
     /// Sends the first released messages after this SSN.
@@ -102,7 +94,7 @@ impl Node {
     {
         let queue = &self.logs[to as usize];
         let first = queue.dropped().max(above);
-        let tick = u64::from(self.limits.tick);
+        let tick = self.limits.tick as u64;
         let many = queue.released().saturating_sub(first).min(tick);
         (first, many)
     }
@@ -178,7 +170,7 @@ impl Node {
                 return;
             }
             if !self.is_told_at(to, place) {
-                self.tell(to, covered + u64::from(place) + 1);
+                self.tell(to, covered + place as u64 + 1);
                 left -= 1;
             }
         }

@@ -18,7 +18,7 @@ invariant_of-self c =
     let counts : c.count.new.covered.items ≡ counts_from 0 old.receipts old.covered.items = c.count.ensures in
     let none : length c.args.none.senders ≡ 0 = ap (λ (r : Received). length r.senders) c.requires in
     let senders : c.args.none.senders ≡ [] = ap (λ (r : Received). r.senders) c.requires in
-    let many : c.from.result ≡ length old.receipts.senders = c.from.ensures ∙ c.length-received.ensures.value in
+    let many : c.length-received.result ≡ length old.receipts.senders = c.length-received.ensures.value in
     record {
       allowed = i.allowed;
       inside = i.inside;

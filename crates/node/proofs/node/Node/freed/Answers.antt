@@ -13,5 +13,5 @@ returns-then-self c =
 pub returns : goal.returns
 returns c =
     let m : TheNode = the_view c.self.inside in
-    let is : m.base + c.from.result ≡ freed m = rw c.if-self.false (ap (λ k. m.base + k) (c.from.ensures ∙ c.run_length.ensures)) in
+    let is : m.base + c.run_length.result ≡ freed m = rw c.if-self.false (ap (λ k. m.base + k) c.run_length.ensures) in
     is ∙ ap freed c.self.view_is

@@ -1,6 +1,4 @@
-use Rattle.std.proofs.Common.{◌≡◌, ◌∙◌, sym, ap}
-use Rattle.packets.specs.declared.packet.Body.TheVariants.{Delivery, Number, Acknowledgement, Ask, Resume, Saved}
-use Rattle.node.specs.Calls.{told, handed}
+use Rattle.std.proofs.Common.{◌∙◌, sym, refl}
 use Rattle.node.proofs.Views.{on-ok}
 use Rattle.node.proofs.Handed.{drops, takes, is-peer, is-live, is-ranged, nothing-told, number-range, ask-range, resume-range}
 use Rattle.node.proofs.node.Node.hand.Goals as goal
@@ -36,11 +34,7 @@ pub receive_ask-requires-clause-above : goal.receive_ask-requires-clause-above
 receive_ask-requires-clause-above c = (ask-range c.args.packet.now.body c.in-Ask.incarnation c.in-Ask.above c.in-Ask.is (is-ranged c.args.packet.now c.args.self.now (sym c.accepts.ensures ∙ c.if-not-accepts.false))).1
 
 pub returns-in-Ask-clause-value : goal.returns-in-Ask-clause-value
-returns-in-Ask-clause-value c =
-    let x = c.args.packet.now in
-    let n = c.args.self.now in
-    let is : handed x n ≡ told x.from (Ask c.in-Ask.incarnation c.in-Ask.above) n = takes x n (sym c.accepts.ensures ∙ c.if-not-accepts.false) ∙ ap (λ b. told x.from b n) c.in-Ask.is in
-    on-ok c.receive_ask.result _ _ (λ e. e ∙ sym is) c.receive_ask.ensures.ok
+returns-in-Ask-clause-value c = on-ok c.receive_ask.result _ _ (λ e. e ∙ sym (takes c.args.packet.now c.args.self.now (sym c.accepts.ensures ∙ c.if-not-accepts.false) c.in-Ask.is)) c.receive_ask.ensures.ok
 
 pub returns-in-Ask-clause-err : goal.returns-in-Ask-clause-err
 returns-in-Ask-clause-err c = c.receive_ask.ensures.err
@@ -55,47 +49,26 @@ pub receive_resume-requires-clause-above : goal.receive_resume-requires-clause-a
 receive_resume-requires-clause-above c = (resume-range c.args.packet.now.body c.in-Resume.incarnation c.in-Resume.kept c.in-Resume.above c.in-Resume.is (is-ranged c.args.packet.now c.args.self.now (sym c.accepts.ensures ∙ c.if-not-accepts.false))).1
 
 pub returns-in-Resume-clause-value : goal.returns-in-Resume-clause-value
-returns-in-Resume-clause-value c =
-    let x = c.args.packet.now in
-    let n = c.args.self.now in
-    let is : handed x n ≡ told x.from (Resume c.in-Resume.incarnation c.in-Resume.kept c.in-Resume.above) n = takes x n (sym c.accepts.ensures ∙ c.if-not-accepts.false) ∙ ap (λ b. told x.from b n) c.in-Resume.is in
-    on-ok c.receive_resume.result _ _ (λ e. e ∙ sym is) c.receive_resume.ensures.ok
+returns-in-Resume-clause-value c = on-ok c.receive_resume.result _ _ (λ e. e ∙ sym (takes c.args.packet.now c.args.self.now (sym c.accepts.ensures ∙ c.if-not-accepts.false) c.in-Resume.is)) c.receive_resume.ensures.ok
 
 pub returns-in-Resume-clause-err : goal.returns-in-Resume-clause-err
 returns-in-Resume-clause-err c = c.receive_resume.ensures.err
 
 pub returns-in-Delivery-clause-value : goal.returns-in-Delivery-clause-value
-returns-in-Delivery-clause-value c =
-    let x = c.args.packet.now in
-    let n = c.args.self.now in
-    let is : handed x n ≡ told x.from (Delivery c.in-Delivery.incarnation c.in-Delivery.ssn c.in-Delivery.payload) n = takes x n (sym c.accepts.ensures ∙ c.if-not-accepts.false) ∙ ap (λ b. told x.from b n) c.in-Delivery.is in
-    c.receive_delivery.ensures ∙ sym is
+returns-in-Delivery-clause-value c = c.receive_delivery.ensures ∙ sym (takes c.args.packet.now c.args.self.now (sym c.accepts.ensures ∙ c.if-not-accepts.false) c.in-Delivery.is)
 
 pub returns-in-Number-clause-value : goal.returns-in-Number-clause-value
-returns-in-Number-clause-value c =
-    let x = c.args.packet.now in
-    let n = c.args.self.now in
-    let is : handed x n ≡ told x.from (Number c.in-Number.incarnation c.in-Number.ssn c.in-Number.number) n = takes x n (sym c.accepts.ensures ∙ c.if-not-accepts.false) ∙ ap (λ b. told x.from b n) c.in-Number.is in
-    c.receive_number.ensures ∙ sym is
+returns-in-Number-clause-value c = c.receive_number.ensures ∙ sym (takes c.args.packet.now c.args.self.now (sym c.accepts.ensures ∙ c.if-not-accepts.false) c.in-Number.is)
 
 pub returns-in-Acknowledgement-clause-value : goal.returns-in-Acknowledgement-clause-value
-returns-in-Acknowledgement-clause-value c =
-    let x = c.args.packet.now in
-    let n = c.args.self.now in
-    let is : handed x n ≡ told x.from (Acknowledgement c.in-Acknowledgement.incarnation c.in-Acknowledgement.number) n = takes x n (sym c.accepts.ensures ∙ c.if-not-accepts.false) ∙ ap (λ b. told x.from b n) c.in-Acknowledgement.is in
-    c.receive_acknowledgement.ensures ∙ sym is
+returns-in-Acknowledgement-clause-value c = c.receive_acknowledgement.ensures ∙ sym (takes c.args.packet.now c.args.self.now (sym c.accepts.ensures ∙ c.if-not-accepts.false) c.in-Acknowledgement.is)
 
 pub returns-in-Saved-clause-value : goal.returns-in-Saved-clause-value
-returns-in-Saved-clause-value c =
-    let x = c.args.packet.now in
-    let n = c.args.self.now in
-    let is : handed x n ≡ told x.from (Saved c.in-Saved.covered) n = takes x n (sym c.accepts.ensures ∙ c.if-not-accepts.false) ∙ ap (λ b. told x.from b n) c.in-Saved.is in
-    c.receive_saved.ensures ∙ sym is
+returns-in-Saved-clause-value c = c.receive_saved.ensures ∙ sym (takes c.args.packet.now c.args.self.now (sym c.accepts.ensures ∙ c.if-not-accepts.false) c.in-Saved.is)
 
 pub returns-in_default-clause-value : goal.returns-in_default-clause-value
 returns-in_default-clause-value c =
     let x = c.args.packet.now in
     let n = c.args.self.now in
-    let is : handed x n ≡ told x.from x.body n = takes x n (sym c.accepts.ensures ∙ c.if-not-accepts.false) in
     let d = c.in_default in
-    sym (is ∙ nothing-told x.from x.body n d.not-Delivery d.not-Number d.not-Acknowledgement d.not-Ask d.not-Resume d.not-Saved)
+    sym (takes x n {b = x.body} (sym c.accepts.ensures ∙ c.if-not-accepts.false) refl ∙ nothing-told x.from x.body n d.not-Delivery d.not-Number d.not-Acknowledgement d.not-Ask d.not-Resume d.not-Saved)

@@ -8,13 +8,13 @@ use Rattle.node.proofs.node.Node.open_with.Goals as goal
 
 pub invariant_of-result : goal.invariant_of-result
 invariant_of-result c =
-    let all = same-begun c.args.limits c.args.me c.args.count c.args.state.now c.in_ok-state.state.items c.in_ok-covered.covered.items c.in_ok-heard.heard.items c.in_ok-resumed.resumed.items c.in_ok-logs.logs.items c.in_ok-receipts.receipts c.in_ok-out.out c.in_ok-state.ensures.items c.in_ok-covered.ensures c.in_ok-heard.ensures c.in_ok-resumed.ensures c.in_ok-logs.ensures c.in_ok-receipts.ensures c.in_ok-out.ensures in
+    let all = same-begun c.args.limits c.args.me c.args.count c.args.state.now c.in_ok-state.state.items c.fill.new.covered.items c.fill.new.heard.items c.fill.new.resumed.items c.fill.new.logs.items c.in_ok-receipts.receipts c.in_ok-out.out c.in_ok-state.ensures.items c.in_ok-fill.ensures.covered c.in_ok-fill.ensures.heard.0 c.in_ok-fill.ensures.heard.1 c.in_ok-fill.ensures.logs c.in_ok-receipts.ensures c.in_ok-out.ensures in
     subst Within (sym all) (within-begun c.args.limits c.args.me c.args.count c.args.state.now c.requires.limits c.requires.own.0 c.requires.own.1 c.requires.few)
 
 pub returns-clause-value : goal.returns-clause-value
-returns-clause-value c = same-begun c.args.limits c.args.me c.args.count c.args.state.now c.in_ok-state.state.items c.in_ok-covered.covered.items c.in_ok-heard.heard.items c.in_ok-resumed.resumed.items c.in_ok-logs.logs.items c.in_ok-receipts.receipts c.in_ok-out.out c.in_ok-state.ensures.items c.in_ok-covered.ensures c.in_ok-heard.ensures c.in_ok-resumed.ensures c.in_ok-logs.ensures c.in_ok-receipts.ensures c.in_ok-out.ensures
+returns-clause-value c = same-begun c.args.limits c.args.me c.args.count c.args.state.now c.in_ok-state.state.items c.fill.new.covered.items c.fill.new.heard.items c.fill.new.resumed.items c.fill.new.logs.items c.in_ok-receipts.receipts c.in_ok-out.out c.in_ok-state.ensures.items c.in_ok-fill.ensures.covered c.in_ok-fill.ensures.heard.0 c.in_ok-fill.ensures.heard.1 c.in_ok-fill.ensures.logs c.in_ok-receipts.ensures c.in_ok-out.ensures
 
 pub returns-clause-stands : goal.returns-clause-stands
 returns-clause-stands c f begins =
-    let all = same-begun c.args.limits c.args.me c.args.count c.args.state.now c.in_ok-state.state.items c.in_ok-covered.covered.items c.in_ok-heard.heard.items c.in_ok-resumed.resumed.items c.in_ok-logs.logs.items c.in_ok-receipts.receipts c.in_ok-out.out c.in_ok-state.ensures.items c.in_ok-covered.ensures c.in_ok-heard.ensures c.in_ok-resumed.ensures c.in_ok-logs.ensures c.in_ok-receipts.ensures c.in_ok-out.ensures in
+    let all = same-begun c.args.limits c.args.me c.args.count c.args.state.now c.in_ok-state.state.items c.fill.new.covered.items c.fill.new.heard.items c.fill.new.resumed.items c.fill.new.logs.items c.in_ok-receipts.receipts c.in_ok-out.out c.in_ok-state.ensures.items c.in_ok-fill.ensures.covered c.in_ok-fill.ensures.heard.0 c.in_ok-fill.ensures.heard.1 c.in_ok-fill.ensures.logs c.in_ok-receipts.ensures c.in_ok-out.ensures in
     subst (λ (n : TheNode). Stands n (opening c.args.count f) c.args.me) (sym all) (stands-opened c.args.limits c.args.me c.args.count c.args.state.now f c.requires.own.0 c.requires.own.1 begins)

@@ -5,12 +5,12 @@ use Rattle.node.proofs.Acknowledged.{behind-in, told-before, counts-so}
 use Rattle.node.proofs.node.Node.receive_acknowledgement.Goals as goal
 
 pub is_acknowledged-requires : goal.is_acknowledged-requires
-is_acknowledged-requires c = behind-in c.self.inside.base c.args.rsn c.from.result c.length.result (length c.self.inside.receipts.senders) c.if-rsn-self.false c.if-last-rsn.false c.from.ensures c.length.ensures.value
+is_acknowledged-requires c = behind-in c.self.inside.base c.args.rsn c.length.result (length c.self.inside.receipts.senders) c.if-rsn-self.false c.if-last-rsn.false c.length.ensures.value
 
 pub acknowledge-requires : goal.acknowledge-requires
 acknowledge-requires c =
     let base = c.self.inside.base in
-    subst (λ (z : TheNode). (1 ≤ c.args.rsn - base) × (c.args.rsn - base ≤ length z.receipts.senders)) c.self.view_is (behind-in base c.args.rsn c.from.result c.length.result (length c.self.inside.receipts.senders) c.if-rsn-self.false c.if-last-rsn.false c.from.ensures c.length.ensures.value)
+    subst (λ (z : TheNode). (1 ≤ c.args.rsn - base) × (c.args.rsn - base ≤ length z.receipts.senders)) c.self.view_is (behind-in base c.args.rsn c.length.result (length c.self.inside.receipts.senders) c.if-rsn-self.false c.if-last-rsn.false c.length.ensures.value)
 
 pub returns-then-not-is_acknowledged : goal.returns-then-not-is_acknowledged
 returns-then-not-is_acknowledged c =
@@ -18,7 +18,7 @@ returns-then-not-is_acknowledged c =
     let n = c.args.self.now in
     let life = c.args.life in
     let k = c.args.rsn in
-    counts-so life k m n c.self.view_is c.from.result c.length.result c.is_acknowledged.result c.acknowledge.new.self c.release.new.self (search rules) c.if-rsn-self.false c.if-last-rsn.false c.from.ensures c.length.ensures.value c.is_acknowledged.ensures c.if-not-is_acknowledged.true c.acknowledge.ensures c.release.ensures
+    counts-so life k m n c.self.view_is c.length.result c.is_acknowledged.result c.acknowledge.new.self c.release.new.self (search rules) c.if-rsn-self.false c.if-last-rsn.false c.length.ensures.value c.is_acknowledged.ensures c.if-not-is_acknowledged.true c.acknowledge.ensures c.release.ensures
 
 pub returns-else-not-is_acknowledged : goal.returns-else-not-is_acknowledged
 returns-else-not-is_acknowledged c =

@@ -1,5 +1,4 @@
-use Rattle.std.proofs.Common.{rules, ◌≡◌, ◌<◌, ◌+◌, ◌-◌, length, true, false, refl, sym, ap, ◌∙◌, subst, arith}
-use Rattle.std.proofs.lemmas.Grind.{common_steps}
+use Rattle.std.proofs.Common.{◌≡◌, ◌<◌, ◌+◌, ◌-◌, length, true, false, refl, sym, ap, ◌∙◌, subst, arith}
 use Rattle.node.specs.Node.{TheNode, tells, covered_of}
 use Rattle.node.specs.Transmission.{renumbers, is_told_at}
 use Rattle.node.proofs.Sendings.{OnlyPosts, only-then, renumbers-step}
@@ -16,13 +15,13 @@ loop-place-preserved c =
     let last = c.told_span-first.result.1 in
     let left = c.loop-place.left in
     let i = c.loop-place.invariant in
-    let inside : at < last = first_of (omega arith, search rules) in
-    let some : 0 < left = first_of (omega arith, search rules) in
+    let inside : at < last = omega arith in
+    let some : 0 < left = omega arith in
     elim c.if-not-is_told_at.branch [
       | then-not-is_told_at w ↦
-          let told : is_told_at to at s ≡ false = first_of (search rules, grind (arith, common_steps)) in
+          let told : is_told_at to at s ≡ false = sym c.is_told_at.ensures ∙ w.if-not-is_told_at.true in
           let covered : covered_of to s ≡ covered_of to c.args.self.now = ap (covered_of to) i.only in
-          let ssn : c.told_span-first.result.2 + w.from.result + 1 ≡ covered_of to s + at + 1 = (let e : w.from.result ≡ at = search rules in omega (arith, e, covered, c.told_span-first.ensures.covered)) in
+          let ssn : c.told_span-first.result.2 + at + 1 ≡ covered_of to s + at + 1 = omega (arith, covered, c.told_span-first.ensures.covered) in
           let new : c.if-not-is_told_at.self ≡ tells to (covered_of to s + at + 1) s = w.self-is ∙ w.tell.ensures ∙ ap (λ z. tells to z s) ssn in
           let fewer : c.if-not-is_told_at.left ≡ left - 1 = omega (arith, w.left-is) in
           let P : TheNode → Type 0 = λ z. OnlyPosts c.args.self.now z in
@@ -31,7 +30,7 @@ loop-place-preserved c =
             only = subst P (sym new) (only-then c.args.self.now s (tells to (covered_of to s + at + 1) s) i.only refl);
           }
       | else-not-is_told_at w ↦
-          let told : is_told_at to at s ≡ true = first_of (search rules, grind (arith, common_steps)) in
+          let told : is_told_at to at s ≡ true = sym c.is_told_at.ensures ∙ w.if-not-is_told_at.false in
           let same : c.if-not-is_told_at.self ≡ s = w.self-is in
           let as_many : c.if-not-is_told_at.left ≡ left = w.left-is in
           let P : TheNode → Type 0 = λ z. OnlyPosts c.args.self.now z in
@@ -52,13 +51,13 @@ tell-requires-clause-to c = posts-peer c.args.self.now c.loop-place.self c.args.
 
 pub tell-requires-clause-above : goal.tell-requires-clause-above
 tell-requires-clause-above c =
-    beyond-covered c.from.result c.told_span-first.result.2 (covered_of c.args.to c.loop-place.self) (posts-covered c.args.self.now c.loop-place.self c.args.to c.told_span-first.result.2 c.loop-place.invariant.only c.told_span-first.ensures.covered)
+    beyond-covered c.loop-place.place c.told_span-first.result.2 (covered_of c.args.to c.loop-place.self) (posts-covered c.args.self.now c.loop-place.self c.args.to c.told_span-first.result.2 c.loop-place.invariant.only c.told_span-first.ensures.covered)
 
 pub tell-requires-clause-known : goal.tell-requires-clause-known
 tell-requires-clause-known c =
     let s = c.loop-place.self in
     let to = c.args.to in
-    told-place c.told_span-first.result.2 (covered_of to s) c.from.result c.loop-place.place (length (numbers_of to s.receipts)) (posts-covered c.args.self.now s to c.told_span-first.result.2 c.loop-place.invariant.only c.told_span-first.ensures.covered) c.from.ensures
+    told-place c.told_span-first.result.2 (covered_of to s) c.loop-place.place (length (numbers_of to s.receipts)) (posts-covered c.args.self.now s to c.told_span-first.result.2 c.loop-place.invariant.only c.told_span-first.ensures.covered)
     (posts-known c.args.self.now s to c.loop-place.place c.told_span-first.result.1 c.loop-place.invariant.only c.loop-place-test.true c.told_span-first.ensures.last)
 
 pub returns-then-left-eq0 : goal.returns-then-left-eq0

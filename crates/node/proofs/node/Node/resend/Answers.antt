@@ -17,8 +17,8 @@ loop-before-preserved c =
     let last = c.released_span-first.result.1 in
     let left = c.loop-before.left in
     let i = c.loop-before.invariant in
-    let inside : at < last = first_of (omega arith, search rules) in
-    let some : 0 < left = first_of (omega arith, search rules) in
+    let inside : at < last = omega arith in
+    let some : 0 < left = omega arith in
     elim c.if-is_none.branch [
       | then-is_none w ↦
           let none : is_none (number_of (at + 1) (log_at s.logs to)) ≡ true = first_of (search rules, grind (arith, common_steps)) in

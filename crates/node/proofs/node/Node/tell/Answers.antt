@@ -21,7 +21,8 @@ put-requires c =
     let is : c.index.result.now ≡ slice_index_or own.covered.items to 0 = c.index.ensures ∙ get_or_default own.covered.items to c.index.result.now 0 inside in
     let place = ssn - c.index.result.now - 1 in
     let known : ssn - c.index.result.now - 1 < length (numbers_of to own.receipts) = omega (arith, is, covered, rows, c.requires.known) in
-    let at : c.from.result ≡ slice_index_or (numbers_of to own.receipts) place 0 = c.from.ensures ∙ ap (λ xs. slice_index_or xs place 0) c.numbers.ensures in
-    let number : IsPositive (own.base + c.from.result) = (omega (arith, at, numbers_from-above to 0 senders place known), omega (arith, at, numbers_from-within to 0 senders place known, i.young)) in
+    let told_as = slice_index_or c.numbers.result.now place 0 in
+    let at : told_as ≡ slice_index_or (numbers_of to own.receipts) place 0 = ap (λ xs. slice_index_or xs place 0) c.numbers.ensures in
+    let number : IsPositive (own.base + told_as) = (omega (arith, at, numbers_from-above to 0 senders place known), omega (arith, at, numbers_from-within to 0 senders place known, i.young)) in
     let told : IsPositive ssn = (omega (arith, c.requires.above), omega (arith, is, covered, known, i.counts to, i.young, i.bound, numbers_from-bound to 0 senders)) in
-    can-say c.args.self.now to (Number own.life ssn (own.base + c.from.result)) c.requires.to (number-fits own.life ssn (own.base + c.from.result) i.alive told number)
+    can-say c.args.self.now to (Number own.life ssn (own.base + told_as)) c.requires.to (number-fits own.life ssn (own.base + told_as) i.alive told number)

@@ -12,6 +12,6 @@ returns-clause-fits c =
       kept = bytes.fits;
       small = subst (λ (x : List ℕ). length x < 2 ^ 64) bytes.bytes_are long;
       flags = flags;
-      heard = c.in_ok-put_rest.ensures.heard;
-      logs = c.in_ok-put_rest.ensures.logs;
+      heard = c.in_ok-put_rest.ensures.fits.0;
+      logs = c.in_ok-put_rest.ensures.fits.1;
     }

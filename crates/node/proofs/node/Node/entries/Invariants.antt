@@ -1,6 +1,0 @@
-use Rattle.std.proofs.Common.{◌≡◌, take}
-use Rattle.node.specs.Status.{entries_kept}
-use Rattle.node.proofs.node.Node.entries.Given as goal
-
-abbrev pub invariant-loop-log : goal.invariant-loop-log
-invariant-loop-log l = l.entries ≡ entries_kept (take l.log-index l.self.logs)
