@@ -1,10 +1,9 @@
 -- One that is up passes on to nothing, and one that is held stays
 use Rattle.std.proofs.Common.{◌≡◌, Result, Err, IfErr, refl, true, false, sym, subst}
-use Rattle.process.specs.declared.lifecycle.Held.{Held}
-use Rattle.process.specs.declared.lifecycle.Lifecycle.{Lifecycle}
-use Rattle.process.specs.declared.lifecycle.Lifecycle.TheVariants.{Up, Collecting, Replaying, Replayed, Restoring, Passing}
-use Rattle.process.specs.Process.{is_node}
-use Rattle.process.specs.Transitions.{Passes, has_heard, is_held, IsHeld}
+use Rattle.recovery.specs.declared.lifecycle.Held.{Held}
+use Rattle.recovery.specs.declared.lifecycle.Lifecycle.{Lifecycle}
+use Rattle.recovery.specs.declared.lifecycle.Lifecycle.TheVariants.{Up, Collecting, Replaying, Replayed, Restoring, Passing}
+use Rattle.recovery.specs.Transitions.{is_node, Passes, has_heard, is_held, IsHeld}
 
 pub passes-up : (c : Lifecycle) → is_node c ≡ true → Passes c c
 passes-up (Up n) e = record { told = Up n; ran = Up n; asks = Up n; recovers = refl; finishes = refl; begins = refl; returns = refl }
