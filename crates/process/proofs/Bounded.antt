@@ -532,8 +532,4 @@ saved_drops = record { none = none }
               (ap (λ (v : TheNode). v.base) is ∙ covers.1, ap (λ (v : TheNode). unacknowledged v.receipts.acknowledged) is ∙ ap (λ r. unacknowledged r.acknowledged) covers.0),
             )
         by-stage (Up n) d e h = absurd h
-        by-stage (Collecting n) d e h = absurd (cc)
-        by-stage (Replaying n) d e h = absurd (cc)
-        by-stage (Replayed n) d e h = absurd (cc)
-        by-stage (Restoring n) d e h = absurd (cc)
-        by-stage Passing d e h = absurd (cc)
+        by-stage c d e h = absurd (cc)

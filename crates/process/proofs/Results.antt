@@ -99,10 +99,7 @@ may-take (Up n) j who e at few =
     record { few = few; others = moved who n.me n.count (given_of who e) (seat-of n.me n.count n.working j who at) (given-goes who e) }
 may-take (Replaying n) j who e at few =
     record { few = few; others = moved who n.own.me n.own.count (given_of who e) (seat-of n.own.me n.own.count _ j who at) (given-goes who e) }
-may-take (Collecting n) j who e at few = tt
-may-take (Replayed n) j who e at few = tt
-may-take (Restoring n) j who e at few = tt
-may-take Passing j who e at few = tt
+may-take c j who e at few = tt
 
 -- ---- one after another
 

@@ -158,14 +158,7 @@ pub fails-finds : {A X : Type 0} (P : X → Type 0) (e : PacketError) (read : Re
 fails-finds P packet.Memory read x h is = tt
 fails-finds P (packet.Fault f) read x h is = absurd (not_both x f (sym is ∙ h))
 
--- nor does a node that can be suspended
-pub can-finds : {X : Type 0} (P : X → Type 0) (e : Unsuspended) (limits : Limits) (m n : TheNode) → m ≡ woken limits n → CanSuspend n → IsUnsuspended e m → Finds P (Err (unmade e))
-can-finds P kept.Memory limits m n is c h = tt
-can-finds P kept.Frozen limits m n is c h = absurd (let no : true ≡ false = sym h ∙ ap (λ (z : TheNode). z.frozen) is ∙ c.live in cc)
-can-finds P kept.Busy limits m n is c h = absurd (let no : true ≡ false = sym h ∙ ap (λ (z : TheNode). is_some z.working) is ∙ c.idle in cc)
-can-finds P kept.Uncovered limits m n is c h = absurd (let no : false ≡ true = sym h ∙ ap is_covered is ∙ c.covered in cc)
-
--- so does the other one
+-- nor does the other one
 pub finds-same : {X Y : Type 0} (P : X → Type 0) (Q : Y → Type 0) (e : Unresumed) → Finds P (Err e) → Finds Q (Err e)
 finds-same P Q why.Memory h = tt
 finds-same P Q why.Bytes h = h

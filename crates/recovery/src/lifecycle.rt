@@ -40,14 +40,7 @@ impl Lifecycle {
     pub fn is_up(&self) -> bool
         ensures { result ≡ is_node self.now }
     {
-        match self {
-            Lifecycle::Up(_) => true,
-            Lifecycle::Collecting(_) => false,
-            Lifecycle::Replaying(_) => false,
-            Lifecycle::Replayed(_) => false,
-            Lifecycle::Restoring(_) => false,
-            Lifecycle::Passing => false,
-        }
+        matches!(self, Lifecycle::Up(_))
     }
 
     /// Goes on as many stages as it can, unless memory is refused.
