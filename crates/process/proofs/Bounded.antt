@@ -41,10 +41,10 @@ use Rattle.recovery.specs.Replayed.{TheReplayed}
 use Rattle.recovery.specs.StandsAtReplay.{replayed_of}
 use Rattle.recovery.specs.Restoration as restoring
 use Rattle.recovery.specs.Restoration.{TheRestoring}
-use Rattle.process.specs.declared.lifecycle.Lifecycle.{Lifecycle}
-use Rattle.process.specs.declared.lifecycle.Lifecycle.TheVariants.{Up, Collecting, Replaying, Replayed, Restoring, Passing}
+use Rattle.recovery.specs.declared.lifecycle.Lifecycle.{Lifecycle}
+use Rattle.recovery.specs.declared.lifecycle.Lifecycle.TheVariants.{Up, Collecting, Replaying, Replayed, Restoring, Passing}
 use Rattle.process.specs.Process.{TheProcess}
-use Rattle.process.specs.Transitions.{Recovers, Finishes, Begun, Returns, Passes}
+use Rattle.recovery.specs.Transitions.{Recovers, Finishes, Begun, Returns, Passes}
 use Rattle.process.specs.Calls.{Stays, IsHanded, Ticks, Takes, Freezes, FreezesAs, Thaws, is_frozen, is_storable, standing_at}
 use Rattle.process.specs.Work.{TakesIn, MayTakeIn}
 use Rattle.process.specs.Bounds.{IsBounded, unacknowledged, waiting_of, NodeHolds, OwnHolds, ReceiptsHold, Holds}
@@ -532,8 +532,4 @@ saved_drops = record { none = none }
               (ap (λ (v : TheNode). v.base) is ∙ covers.1, ap (λ (v : TheNode). unacknowledged v.receipts.acknowledged) is ∙ ap (λ r. unacknowledged r.acknowledged) covers.0),
             )
         by-stage (Up n) d e h = absurd h
-        by-stage (Collecting n) d e h = absurd (cc)
-        by-stage (Replaying n) d e h = absurd (cc)
-        by-stage (Replayed n) d e h = absurd (cc)
-        by-stage (Restoring n) d e h = absurd (cc)
-        by-stage Passing d e h = absurd (cc)
+        by-stage c d e h = absurd (cc)

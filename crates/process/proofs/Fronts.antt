@@ -2,8 +2,8 @@
 use Rattle.std.proofs.Common.{◌≡◌, List, [], ◌∷◌, sym, ap, ◌∙◌, subst}
 use Rattle.std.specs.Prelude.{Option, Some, None}
 use Rattle.packets.specs.declared.packet.NodePacket.{NodePacket}
-use Rattle.process.specs.declared.lifecycle.Lifecycle.{Lifecycle}
-use Rattle.process.specs.declared.lifecycle.Lifecycle.TheVariants.{Up, Collecting, Replaying, Replayed, Restoring, Passing}
+use Rattle.recovery.specs.declared.lifecycle.Lifecycle.{Lifecycle}
+use Rattle.recovery.specs.declared.lifecycle.Lifecycle.TheVariants.{Up, Collecting, Replaying, Replayed, Restoring, Passing}
 use Rattle.process.specs.Process.{TheProcess, out_of}
 use Rattle.process.specs.Calls.{Takes, Stays}
 
@@ -25,57 +25,8 @@ taken None (Replayed n) (Replayed m) x rest h e = none-first n.own.out rest x h.
 taken (Some y) (Replayed n) (Replayed m) x rest h e = same-first n.own.out rest m.own.out x y (ap (λ v. v.own.out) h) e
 taken None (Restoring n) (Restoring m) x rest h e = none-first n.own.out rest x h.0 e
 taken (Some y) (Restoring n) (Restoring m) x rest h e = same-first n.own.out rest m.own.out x y (ap (λ v. v.own.out) h.0) e
-taken None (Up n) (Collecting m) x rest h e = absurd h
-taken (Some y) (Up n) (Collecting m) x rest h e = absurd h
-taken None (Up n) (Replaying m) x rest h e = absurd h
-taken (Some y) (Up n) (Replaying m) x rest h e = absurd h
-taken None (Up n) (Replayed m) x rest h e = absurd h
-taken (Some y) (Up n) (Replayed m) x rest h e = absurd h
-taken None (Up n) (Restoring m) x rest h e = absurd h
-taken (Some y) (Up n) (Restoring m) x rest h e = absurd h
-taken None (Up n) Passing x rest h e = absurd h
-taken (Some y) (Up n) Passing x rest h e = absurd h
-taken None (Collecting n) (Up m) x rest h e = absurd h
-taken (Some y) (Collecting n) (Up m) x rest h e = absurd h
-taken None (Collecting n) (Replaying m) x rest h e = absurd h
-taken (Some y) (Collecting n) (Replaying m) x rest h e = absurd h
-taken None (Collecting n) (Replayed m) x rest h e = absurd h
-taken (Some y) (Collecting n) (Replayed m) x rest h e = absurd h
-taken None (Collecting n) (Restoring m) x rest h e = absurd h
-taken (Some y) (Collecting n) (Restoring m) x rest h e = absurd h
-taken None (Collecting n) Passing x rest h e = absurd h
-taken (Some y) (Collecting n) Passing x rest h e = absurd h
-taken None (Replaying n) (Up m) x rest h e = absurd h
-taken (Some y) (Replaying n) (Up m) x rest h e = absurd h
-taken None (Replaying n) (Collecting m) x rest h e = absurd h
-taken (Some y) (Replaying n) (Collecting m) x rest h e = absurd h
-taken None (Replaying n) (Replayed m) x rest h e = absurd h
-taken (Some y) (Replaying n) (Replayed m) x rest h e = absurd h
-taken None (Replaying n) (Restoring m) x rest h e = absurd h
-taken (Some y) (Replaying n) (Restoring m) x rest h e = absurd h
-taken None (Replaying n) Passing x rest h e = absurd h
-taken (Some y) (Replaying n) Passing x rest h e = absurd h
-taken None (Replayed n) (Up m) x rest h e = absurd h
-taken (Some y) (Replayed n) (Up m) x rest h e = absurd h
-taken None (Replayed n) (Collecting m) x rest h e = absurd h
-taken (Some y) (Replayed n) (Collecting m) x rest h e = absurd h
-taken None (Replayed n) (Replaying m) x rest h e = absurd h
-taken (Some y) (Replayed n) (Replaying m) x rest h e = absurd h
-taken None (Replayed n) (Restoring m) x rest h e = absurd h
-taken (Some y) (Replayed n) (Restoring m) x rest h e = absurd h
-taken None (Replayed n) Passing x rest h e = absurd h
-taken (Some y) (Replayed n) Passing x rest h e = absurd h
-taken None (Restoring n) (Up m) x rest h e = absurd h
-taken (Some y) (Restoring n) (Up m) x rest h e = absurd h
-taken None (Restoring n) (Collecting m) x rest h e = absurd h
-taken (Some y) (Restoring n) (Collecting m) x rest h e = absurd h
-taken None (Restoring n) (Replaying m) x rest h e = absurd h
-taken (Some y) (Restoring n) (Replaying m) x rest h e = absurd h
-taken None (Restoring n) (Replayed m) x rest h e = absurd h
-taken (Some y) (Restoring n) (Replayed m) x rest h e = absurd h
-taken None (Restoring n) Passing x rest h e = absurd h
-taken (Some y) (Restoring n) Passing x rest h e = absurd h
 taken o Passing b x rest h e = absurd (cc)
+taken o a b x rest h e = absurd h
 
 pub stays-front : (o : Option NodePacket) (p q : TheProcess) (x : NodePacket) (rest : List NodePacket) → Stays (Takes o) p q → out_of p.lifecycle ≡ x ∷ rest → Stays (Takes (Some x)) p q
 stays-front o p q x rest s e =

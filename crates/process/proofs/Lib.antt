@@ -1,5 +1,4 @@
 mod Results
-mod Passings
 mod Openings
 pub mod Fronts
 mod Workings

@@ -13,10 +13,10 @@ use Rattle.node.specs.Status.{entries_kept}
 use Rattle.recovery.specs.Replays as replaying
 use Rattle.recovery.specs.Replays.{TheReplaying}
 use Rattle.recovery.specs.Restoration as restoring
-use Rattle.process.specs.declared.lifecycle.Lifecycle.{Lifecycle}
-use Rattle.process.specs.declared.lifecycle.Lifecycle.TheVariants.{Up, Collecting, Replaying, Replayed, Restoring, Passing}
+use Rattle.recovery.specs.declared.lifecycle.Lifecycle.{Lifecycle}
+use Rattle.recovery.specs.declared.lifecycle.Lifecycle.TheVariants.{Up, Collecting, Replaying, Replayed, Restoring, Passing}
 use Rattle.process.specs.Process.{TheProcess}
-use Rattle.process.specs.Transitions.{Recovers, Finishes, Begun, Returns, Passes}
+use Rattle.recovery.specs.Transitions.{Recovers, Finishes, Begun, Returns, Passes}
 use Rattle.process.specs.Calls.{Calls, Stays, IsHanded, Ticks, Takes, Freezes, FreezesAs, Thaws, is_storable, standing_at}
 use Rattle.process.specs.Work.{TakesIn, MayTakeIn}
 use Rattle.process.specs.Job.{TakesBack}

@@ -14,7 +14,7 @@ use Rattle.packets.specs.Kept.{IsKept}
 use Rattle.recovery.specs.Own.{comes_back}
 use Rattle.recovery.specs.Collection.{TheCollecting, revived}
 use Rattle.recovery.specs.Stands.{Revives}
-use Rattle.process.specs.declared.lifecycle.Lifecycle.TheVariants.{Up, Collecting}
+use Rattle.recovery.specs.declared.lifecycle.Lifecycle.TheVariants.{Up, Collecting}
 use Rattle.process.specs.Revival.{IsOpened, IsRevived, zero_state}
 
 pub opened : (image : AnyImage) (limits : Limits) (me count : ℕ) (state : List ℕ) (n : TheNode) → n ≡ new_node limits me count state → length state ≡ state_of image → ((f : Handlers) → BeginsWith f me state → Stands n (opening count f) me)

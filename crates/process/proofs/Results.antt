@@ -12,8 +12,8 @@ use Rattle.world.specs.History.{Payload}
 use Rattle.node.specs.declared.job.OpenJob.{OpenJob}
 use Rattle.node.specs.declared.job.Given.{Given}
 use Rattle.node.specs.declared.node.TheConstants.{MOST_GIVEN}
-use Rattle.process.specs.declared.lifecycle.Lifecycle.{Lifecycle}
-use Rattle.process.specs.declared.lifecycle.Lifecycle.TheVariants.{Up, Collecting, Replaying, Replayed, Restoring, Passing}
+use Rattle.recovery.specs.declared.lifecycle.Lifecycle.{Lifecycle}
+use Rattle.recovery.specs.declared.lifecycle.Lifecycle.TheVariants.{Up, Collecting, Replaying, Replayed, Restoring, Passing}
 use Rattle.process.specs.Work.{is_other, sent_by, shown_of, shown_by, given_of, job_as, job_at, MayTakeIn}
 
 -- it goes to another one
@@ -99,10 +99,7 @@ may-take (Up n) j who e at few =
     record { few = few; others = moved who n.me n.count (given_of who e) (seat-of n.me n.count n.working j who at) (given-goes who e) }
 may-take (Replaying n) j who e at few =
     record { few = few; others = moved who n.own.me n.own.count (given_of who e) (seat-of n.own.me n.own.count _ j who at) (given-goes who e) }
-may-take (Collecting n) j who e at few = tt
-may-take (Replayed n) j who e at few = tt
-may-take (Restoring n) j who e at few = tt
-may-take Passing j who e at few = tt
+may-take c j who e at few = tt
 
 -- ---- one after another
 

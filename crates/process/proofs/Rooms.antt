@@ -45,11 +45,7 @@ brief-room (Told i j k flags entries) brief e =
     let u = both (is_positive i && is_positive j) (is_number k) t.0 in
     let v = both (is_positive i) (is_positive j) u.0 in
     (positive-long i v.0, (positive-long j v.1, (number-long k u.1, (flags-small k flags entries t.1, empty-page entries brief))))
-brief-room (Delivery i ssn payload) brief e = absurd (let z : false ≡ true = brief in cc)
-brief-room (Number i ssn k) brief e = absurd (let z : false ≡ true = brief in cc)
-brief-room (Acknowledgement i k) brief e = absurd (let z : false ≡ true = brief in cc)
-brief-room (Restored i j c s flags pairs) brief e = absurd (let z : false ≡ true = brief in cc)
-brief-room (Saved c) brief e = absurd (let z : false ≡ true = brief in cc)
+brief-room other brief e = absurd (let z : false ≡ true = brief in cc)
 
 -- so it can be sent
 pub written-fits : (x : NodePacket) → is_written x ≡ true → Fits x

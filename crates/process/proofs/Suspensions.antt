@@ -1,5 +1,6 @@
 -- A process that is resumed holds no more than is named
 use Rattle.std.proofs.Common.{◌≡◌, ◌+◌, ℕ, List, [], ◌∷◌, Err, length, map, refl, sym, ap, ◌∙◌, arith}
+use Rattle.std.specs.Prelude.{Option, ⊤}
 use Rattle.packets.specs.Kept.{kept_bytes}
 use Rattle.packets.specs.declared.packet.NodePacket.{NodePacket}
 use Rattle.rsn.specs.Receipts.{Received}
@@ -7,13 +8,13 @@ use Rattle.node.specs.Kept.{with_own, kept_of, queue_of}
 use Rattle.node.specs.Queue.{TheQueue, no_queue}
 use Rattle.node.specs.Node.{TheNode, Within}
 use Rattle.node.specs.declared.limit.Limits.{Limits}
-use Rattle.node.specs.Suspension.{CanSuspend, IsSuspended, joined_by, numbered_by, woken}
+use Rattle.node.specs.Suspension.{CanSuspend, IsSuspended, joined_by, numbered_by}
 use Rattle.verifier.specs.declared.any_image.AnyImage.{AnyImage}
 use Rattle.recovery.specs.declared.resumption.Unresumed.{Unresumed}
 use Rattle.recovery.specs.declared.resumption.Unresumed.TheVariants as node
 use Rattle.recovery.specs.Resumption.{rest_of, Finds}
 use Rattle.recovery.proofs.Resumptions.{none-since, made-again}
-use Rattle.process.specs.declared.lifecycle.Lifecycle.TheVariants.{Up}
+use Rattle.recovery.specs.declared.lifecycle.Lifecycle.TheVariants.{Up}
 use Rattle.process.specs.Suspension.{error_of, IsUnresumed}
 use Rattle.process.specs.Bounds.{unacknowledged, NodeHolds, IsWithin}
 use Rattle.process.proofs.Bounded.{begun}
@@ -52,7 +53,6 @@ pub resumed : (n : TheNode) → Within n → CanSuspend n → n.out ≡ [] → I
 resumed n w c none = record { settled = refl; holds = resumed-holds n w c none; writes = tt }
 
 -- why none is resumed
-pub unresumed-why : (image : AnyImage) (limits : Limits) (bytes : List ℕ) (e : Unresumed) → ((n : TheNode) → IsSuspended n bytes → Finds {X = TheNode} (λ m. m ≡ woken limits n) (Err e))
-    → IsUnresumed image bytes (error_of e)
-unresumed-why image limits bytes node.Memory h = tt
-unresumed-why image limits bytes node.Bytes h = h
+pub unresumed-why : (image : AnyImage) (bytes : List ℕ) (e : Unresumed) → ((n : TheNode) → IsSuspended n bytes → Finds {X = Option TheNode} (λ _. ⊤) (Err e)) → IsUnresumed image bytes (error_of e)
+unresumed-why image bytes node.Memory h = tt
+unresumed-why image bytes node.Bytes h = h

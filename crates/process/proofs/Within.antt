@@ -11,10 +11,10 @@ use Rattle.node.specs.Node.{TheNode, new_node, IsPositive}
 use Rattle.node.specs.Kept.{comes_back}
 use Rattle.node.specs.Checkpoints as saving
 use Rattle.recovery.specs.Collection.{TheCollecting, revived}
-use Rattle.process.specs.declared.lifecycle.Lifecycle.{Lifecycle}
-use Rattle.process.specs.declared.lifecycle.Lifecycle.TheVariants.{Up, Collecting, Replaying, Replayed, Restoring, Passing}
+use Rattle.recovery.specs.declared.lifecycle.Lifecycle.{Lifecycle}
+use Rattle.recovery.specs.declared.lifecycle.Lifecycle.TheVariants.{Up, Collecting, Replaying, Replayed, Restoring, Passing}
 use Rattle.process.specs.Process.{is_settled}
-use Rattle.process.specs.Transitions.{Recovers, Finishes, Begun, Returns, Passes}
+use Rattle.recovery.specs.Transitions.{Recovers, Finishes, Begun, Returns, Passes}
 use Rattle.process.specs.Calls.{IsHanded, Ticks, Takes, Freezes, Thaws}
 use Rattle.process.specs.Work.{TakesIn, MayTakeIn}
 use Rattle.process.specs.Bounds.{IsWithin}

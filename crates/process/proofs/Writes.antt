@@ -24,10 +24,11 @@ use Rattle.recovery.specs.Replays as replaying
 use Rattle.recovery.specs.Replays.{TheReplaying}
 use Rattle.recovery.specs.Restoration as restoring
 use Rattle.recovery.specs.Restoration.{TheRestoring, has_answered}
-use Rattle.process.specs.declared.lifecycle.Lifecycle.{Lifecycle}
-use Rattle.process.specs.declared.lifecycle.Lifecycle.TheVariants.{Up, Collecting, Replaying, Replayed, Restoring, Passing}
-use Rattle.process.specs.Process.{is_node, out_of}
-use Rattle.process.specs.Transitions.{Recovers, Finishes, Begun, Returns}
+use Rattle.recovery.specs.declared.lifecycle.Lifecycle.{Lifecycle}
+use Rattle.recovery.specs.declared.lifecycle.Lifecycle.TheVariants.{Up, Collecting, Replaying, Replayed, Restoring, Passing}
+use Rattle.process.specs.Process.{out_of}
+use Rattle.recovery.specs.Transitions.{is_node}
+use Rattle.recovery.specs.Transitions.{Recovers, Finishes, Begun, Returns}
 use Rattle.process.specs.Calls.{IsHanded, Ticks, Takes, Freezes, Thaws}
 use Rattle.process.specs.Work.{TakesIn}
 use Rattle.process.specs.Packets.{is_written, OwnWrites, Writes}

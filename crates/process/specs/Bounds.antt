@@ -10,8 +10,8 @@ use Rattle.node.specs.Limit.{AreAllowed}
 use Rattle.node.specs.Node.{TheNode}
 use Rattle.node.specs.Status.{entries_kept}
 use Rattle.recovery.specs.Own.{TheOwn}
-use Rattle.process.specs.declared.lifecycle.Lifecycle.{Lifecycle}
-use Rattle.process.specs.declared.lifecycle.Lifecycle.TheVariants.{Up, Collecting, Replaying, Replayed, Restoring, Passing}
+use Rattle.recovery.specs.declared.lifecycle.Lifecycle.{Lifecycle}
+use Rattle.recovery.specs.declared.lifecycle.Lifecycle.TheVariants.{Up, Collecting, Replaying, Replayed, Restoring, Passing}
 use Rattle.process.specs.declared.queries.TheConstants.{MOST_STORED, MOST_ENTRIES}
 use Rattle.process.specs.Process.{is_settled}
 use Rattle.process.specs.Packets.{Writes}

@@ -19,10 +19,10 @@ use Rattle.recovery.specs.Queries.{collecting_standing, replaying_standing, repl
 use Rattle.recovery.specs.Restoration as restoring
 use Rattle.recovery.specs.RestorationStands as restoring_owes
 use Rattle.recovery.specs.RestorationQueries.{restoring_standing}
-use Rattle.process.specs.declared.lifecycle.Lifecycle.{Lifecycle}
-use Rattle.process.specs.declared.lifecycle.Lifecycle.TheVariants.{Up, Collecting, Replaying, Replayed, Restoring, Passing}
+use Rattle.recovery.specs.declared.lifecycle.Lifecycle.{Lifecycle}
+use Rattle.recovery.specs.declared.lifecycle.Lifecycle.TheVariants.{Up, Collecting, Replaying, Replayed, Restoring, Passing}
 use Rattle.process.specs.Process.{TheProcess}
-use Rattle.process.specs.Transitions.{Passes}
+use Rattle.recovery.specs.Transitions.{Passes}
 
 -- takes a packet
 abbrev pub IsHanded : NodePacket → Lifecycle → Lifecycle → Type 0

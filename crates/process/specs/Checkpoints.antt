@@ -4,8 +4,8 @@ use Rattle.limits.specs.declared.TheConstants.{STATE_BYTES}
 use Rattle.packets.specs.Kept.{IsKept}
 use Rattle.node.specs.declared.kept.TheConstants.{MOST_KEPT}
 use Rattle.node.specs.Kept.{kept_of, Covers}
-use Rattle.process.specs.declared.lifecycle.Lifecycle.{Lifecycle}
-use Rattle.process.specs.declared.lifecycle.Lifecycle.TheVariants.{Up}
+use Rattle.recovery.specs.declared.lifecycle.Lifecycle.{Lifecycle}
+use Rattle.recovery.specs.declared.lifecycle.Lifecycle.TheVariants.{Up}
 use Rattle.process.specs.Process.{state_of}
 use Rattle.process.specs.Calls.{may_freeze, standing_at}
 

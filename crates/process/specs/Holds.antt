@@ -6,7 +6,7 @@ use Rattle.node.specs.declared.job.Given.{Given}
 use Rattle.node.specs.Queue.{TheQueue}
 use Rattle.node.specs.Node.{TheNode, log_at}
 use Rattle.node.specs.Calls.{is_for}
-use Rattle.process.specs.declared.lifecycle.Lifecycle.TheVariants.{Up}
+use Rattle.recovery.specs.declared.lifecycle.Lifecycle.TheVariants.{Up}
 use Rattle.process.specs.Process.{TheProcess}
 use Rattle.process.specs.Calls.{Calls, Stays, IsHanded, Ticks, Takes, Freezes, Thaws, is_frozen, standing_at}
 use Rattle.process.specs.Bounds.{waiting_of}

@@ -15,12 +15,12 @@ use Rattle.interp.specs.CallArray.{HoldsEntry, state_in}
 use Rattle.interp.specs.Answer.{MayRunAs, shown, answer_by}
 use Rattle.node.specs.declared.job.OpenJob.{OpenJob}
 use Rattle.node.specs.declared.job.Given.{Given}
-use Rattle.process.specs.declared.lifecycle.Lifecycle.{Lifecycle}
+use Rattle.recovery.specs.declared.lifecycle.Lifecycle.{Lifecycle}
 use Rattle.process.specs.declared.call.HandlerTicket.{HandlerTicket}
 use Rattle.process.specs.declared.fault.Undone.{Undone}
 use Rattle.process.specs.declared.fault.Undone.TheVariants as why
 use Rattle.process.specs.Process.{TheProcess, state_of}
-use Rattle.process.specs.Transitions.{Passes}
+use Rattle.recovery.specs.Transitions.{Passes}
 use Rattle.process.specs.Calls.{standing_at}
 use Rattle.process.specs.Work.{job_at, given_of, answer_to, TakesIn, Rests, Works}
 

@@ -1,6 +1,5 @@
 pub mod Process
 pub mod Calls
-pub mod Transitions
 pub mod Revival
 pub mod Work
 pub mod Packets

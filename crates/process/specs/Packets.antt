@@ -11,8 +11,8 @@ use Rattle.node.specs.Stands.{Each}
 use Rattle.recovery.specs.Own.{TheOwn}
 use Rattle.recovery.specs.Collection.{told_of}
 use Rattle.recovery.specs.Restoration.{above_of, has_answered}
-use Rattle.process.specs.declared.lifecycle.Lifecycle.{Lifecycle}
-use Rattle.process.specs.declared.lifecycle.Lifecycle.TheVariants.{Collecting, Replaying, Replayed, Restoring}
+use Rattle.recovery.specs.declared.lifecycle.Lifecycle.{Lifecycle}
+use Rattle.recovery.specs.declared.lifecycle.Lifecycle.TheVariants.{Collecting, Replaying, Replayed, Restoring}
 use Rattle.process.specs.Process.{TheProcess, out_of}
 use Rattle.process.specs.Calls.{Takes, Stays}
 

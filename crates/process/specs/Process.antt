@@ -2,8 +2,8 @@
 use Rattle.std.specs.Prelude.{ℕ, List, [], Bool, true, false}
 use Rattle.verifier.specs.declared.any_image.AnyImage.{AnyImage}
 use Rattle.packets.specs.declared.packet.NodePacket.{NodePacket}
-use Rattle.process.specs.declared.lifecycle.Lifecycle.{Lifecycle}
-use Rattle.process.specs.declared.lifecycle.Lifecycle.TheVariants.{Up, Collecting, Replaying, Replayed, Restoring, Passing}
+use Rattle.recovery.specs.declared.lifecycle.Lifecycle.{Lifecycle}
+use Rattle.recovery.specs.declared.lifecycle.Lifecycle.TheVariants.{Up, Collecting, Replaying, Replayed, Restoring, Passing}
 
 -- the image of its handler; and its stage, with what it holds there
 pub record TheProcess : Type 0 where
@@ -32,8 +32,3 @@ out_of (Replaying n) = n.own.out
 out_of (Replayed n) = n.own.out
 out_of (Restoring n) = n.own.out
 out_of Passing = []
-
--- it is up
-abbrev pub is_node : Lifecycle → Bool
-is_node (Up n) = true
-is_node other = false

@@ -15,7 +15,7 @@ use Rattle.node.specs.Node.{new_node}
 use Rattle.recovery.specs.Own.{comes_back}
 use Rattle.recovery.specs.Collection.{revived}
 use Rattle.recovery.specs.Stands.{Revives}
-use Rattle.process.specs.declared.lifecycle.Lifecycle.TheVariants.{Up, Collecting}
+use Rattle.recovery.specs.declared.lifecycle.Lifecycle.TheVariants.{Up, Collecting}
 use Rattle.process.specs.declared.fault.Unrevived.{Unrevived}
 use Rattle.process.specs.declared.fault.Unrevived.TheVariants as why
 use Rattle.process.specs.Process.{TheProcess}

@@ -7,8 +7,8 @@ use Rattle.node.specs.Node.{TheNode}
 use Rattle.node.specs.Suspension.{CanSuspend, IsSuspended}
 use Rattle.recovery.specs.declared.resumption.Unresumed.{Unresumed}
 use Rattle.recovery.specs.declared.resumption.Unresumed.TheVariants as node
-use Rattle.process.specs.declared.lifecycle.Lifecycle.{Lifecycle}
-use Rattle.process.specs.declared.lifecycle.Lifecycle.TheVariants.{Up}
+use Rattle.recovery.specs.declared.lifecycle.Lifecycle.{Lifecycle}
+use Rattle.recovery.specs.declared.lifecycle.Lifecycle.TheVariants.{Up}
 use Rattle.process.specs.declared.suspension.ResumeError.{ResumeError}
 use Rattle.process.specs.declared.suspension.ResumeError.TheVariants.{Memory, Bytes, State}
 use Rattle.process.specs.Process.{TheProcess}

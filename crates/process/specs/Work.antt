@@ -17,10 +17,10 @@ use Rattle.recovery.specs.Own.{MayGive}
 use Rattle.node.specs.Stands as up_owes
 use Rattle.recovery.specs.Replays.{next_job, did_replay}
 use Rattle.recovery.specs.StandsAtReplay as replaying_owes
-use Rattle.process.specs.declared.lifecycle.Lifecycle.{Lifecycle}
-use Rattle.process.specs.declared.lifecycle.Lifecycle.TheVariants.{Up, Replaying}
+use Rattle.recovery.specs.declared.lifecycle.Lifecycle.{Lifecycle}
+use Rattle.recovery.specs.declared.lifecycle.Lifecycle.TheVariants.{Up, Replaying}
 use Rattle.process.specs.Process.{TheProcess, state_of}
-use Rattle.process.specs.Transitions.{Passes}
+use Rattle.recovery.specs.Transitions.{Passes}
 
 -- a message that the handler is to run on, and the identity that it is called with
 abbrev pub job_as : ℕ → ℕ → Option OpenJob → Option (OpenJob × Who)

@@ -12,7 +12,7 @@ use std::marker::Model;
 use std::sync::Arc;
 
 /// Which job of a process it is.
-#[derive(Clone, Copy, PartialEq, Eq, Debug)]
+#[derive(Clone, Copy, PartialEq, Eq)]
 pub struct HandlerTicket {
     /// The incarnation of the process.
     pub incarnation: u64,

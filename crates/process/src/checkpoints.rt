@@ -2,14 +2,14 @@
 
 ghost use Rattle.std.specs.Prelude.{◌≡◌, ◌⊎◌, ◌≤◌, ◌<◌, length, false, true, IfOk, IfNone, IfSome, OnOk, OnErr};
 ghost use Rattle.packets.specs.Kept.{IsKept};
-ghost use Rattle.process.specs.declared.lifecycle.Lifecycle.TheVariants.{Up};
+ghost use Rattle.recovery.specs.declared.lifecycle.Lifecycle.TheVariants.{Up};
 ghost use Rattle.process.specs.Calls.{Stays, Freezes, FreezesAs, Thaws, may_freeze, is_frozen, is_storable};
 ghost use Rattle.process.specs.Checkpoints.{IsSavable, Keeps};
 
-use crate::lifecycle::Lifecycle;
 use crate::process::Member;
 use limits::STATE_BYTES;
 use node::{MOST_KEPT, Node, Stage};
+use recovery::Lifecycle;
 use std::alloc::{AllocError, Global};
 
 impl Member {

@@ -4,8 +4,8 @@ ghost use Rattle.std.specs.Prelude.{◌≡◌, ◌≤◌, ◌+◌, ◌↔◌, If
 ghost use Rattle.process.specs.Process.{TheProcess};
 ghost use Rattle.node.specs.declared.node.TheConstants.{MOST_GIVEN};
 ghost use Rattle.process.specs.Holds.{entries_of};
-ghost use Rattle.process.specs.Work.{Rests, Works};
-ghost use Rattle.process.specs.Job.{HasNext, IsJobOf, IsCallOf, IsAnswered, WorksAs, IsUndone, IsUnanswered, ticket_at};
+ghost use Rattle.process.specs.Work.{Rests, Works, given_of};
+ghost use Rattle.process.specs.Job.{HasNext, IsNext, TakesBack, IsJobOf, IsCallOf, IsAnswered, WorksAs, IsUndone, IsUnanswered, ticket_at};
 
 use crate::call::{HandlerCall, HandlerTicket};
 use crate::done::FinishedCall;
@@ -61,9 +61,7 @@ impl Member {
         if !self.has(&done.call, &message, who) {
             return Err(Undone::Other);
         }
-        let state = Vec::from_slice(alloc, done.next.as_slice())?;
-        let given = given(alloc, who, &done.effects)?;
-        self.take_back(alloc, state, &given, done.effects.refused())?;
+        self.take_answer(alloc, who, done.next.as_slice(), &done.effects)?;
         Ok(())
     }
 
@@ -92,10 +90,26 @@ impl Member {
         if state.len() != self.image.state_len() as usize {
             return Err(Undone::State);
         }
+        self.take_answer(alloc, who, state, effects)?;
+        Ok(())
+    }
+
+    /// Takes what a call of the next job left. A refusal changes nothing.
+    fn take_answer(
+        &mut self,
+        alloc: Global,
+        who: Who,
+        state: &[u8],
+        effects: &Effects,
+    ) -> Result<(), AllocError>
+        requires { (message : OpenJob) × IsNext self.old message who }
+        ensures ok { OnOk result (TakesBack state.now (given_of who effects.now) self.old self.new) }
+        ensures few { OnOk result (entries_of self.new ≤ entries_of self.old + MOST_GIVEN) }
+        ensures err { OnErr result (self.new ≡ self.old) }
+    {
         let state = Vec::from_slice(alloc, state)?;
         let given = given(alloc, who, effects)?;
-        self.take_back(alloc, state, &given, effects.refused())?;
-        Ok(())
+        self.take_back(alloc, state, &given, effects.refused())
     }
 
     /// The ticket of the next job.

@@ -8,7 +8,7 @@ use std::alloc::AllocError;
 use thiserror::Error;
 
 /// Why no process comes back from bytes, or opens with a state.
-#[derive(Debug, Drop, PartialEq, Eq, Error)]
+#[derive(Debug, Drop, Error)]
 pub enum Unrevived {
     /// Memory ran out.
     #[error("out of memory")]
@@ -26,7 +26,7 @@ pub enum Unrevived {
 }
 
 /// Why the answer of a handler call isn't taken.
-#[derive(Debug, Drop, PartialEq, Eq, Error)]
+#[derive(Debug, Drop, Error)]
 pub enum Undone {
     /// Memory ran out.
     #[error("out of memory")]

@@ -6,15 +6,16 @@ ghost use Rattle.interp.specs.Handler.{image_of};
 ghost use Rattle.node.specs.Limit.{AreAllowed};
 ghost use Rattle.packets.specs.Kept.{IsKept};
 ghost use Rattle.recovery.specs.Own.{comes_back};
+ghost use Rattle.recovery.specs.declared.lifecycle.Lifecycle.TheVariants as stage;
+ghost use Rattle.process.specs.Bounds.{IsWithin};
 ghost use Rattle.process.specs.Revival.{IsOpened, IsRevived, IsUnopened, IsUnrevived, IsUnread, zero_state};
 
 use crate::fault::Unrevived;
-use crate::lifecycle::Lifecycle;
 use helpers::{Effects, Refused};
 use interp::Handler;
 use node::{Limits, Node};
 use packets::{Kept, KeptError, KeptFault, NUMBER_LIMIT, decode_kept};
-use recovery::{Collecting, comes_back};
+use recovery::{Collecting, Lifecycle, comes_back};
 use std::alloc::{AllocError, Global};
 use std::marker::Model;
 use std::sync::Arc;
@@ -45,6 +46,19 @@ impl Model for Member {
 }
 
 impl Member {
+    /// A process with this image, in this stage.
+    pub(crate) fn new(image: Arc<Handler>, lifecycle: Lifecycle) -> Member
+        requires { IsWithin lifecycle }
+        ensures { result ≡ record { image = image_of (arc_value image); lifecycle = lifecycle } }
+    {
+        Member {
+            image,
+            lifecycle,
+            effects: Effects::new(),
+            refused: Refused::default(),
+        }
+    }
+
     /// The process `me` of `count`, which received nothing, with a state of zeros. It keeps these
     /// limits for life.
     pub fn open(
@@ -60,12 +74,7 @@ impl Member {
         ensures { IfOk result (IsOpened (image_of (arc_value image)) limits me count (zero_state (image_of (arc_value image)))) }
     {
         let node = Node::open(alloc, limits, me, count, image.state_len())?;
-        Ok(Member {
-            image,
-            lifecycle: Lifecycle::Up(node),
-            effects: Effects::new(),
-            refused: Refused::default(),
-        })
+        Ok(Member::new(image, Lifecycle::Up(node)))
     }
 
     /// The process `me` of `count`, which received nothing, with this opening state. It keeps these
@@ -90,12 +99,7 @@ impl Member {
         let Ok(node) = Node::open_with(alloc, limits, me, count, state) else {
             return Err(Unrevived::Memory);
         };
-        Ok(Member {
-            image,
-            lifecycle: Lifecycle::Up(node),
-            effects: Effects::new(),
-            refused: Refused::default(),
-        })
+        Ok(Member::new(image, Lifecycle::Up(node)))
     }
 
     /// A process comes back from these bytes in this incarnation, which counts from 1. It keeps
@@ -111,22 +115,34 @@ impl Member {
         ensures revived { IfOk result (IsRevived (image_of (arc_value image)) limits kept.now incarnation) }
         ensures refused { IfErr result (IsUnrevived (image_of (arc_value image)) kept.now incarnation) }
     {
-        if incarnation < 1 || incarnation >= NUMBER_LIMIT {
-            return Err(Unrevived::Incarnation);
-        }
-        let kept = kept_of(alloc, kept)?;
-        if kept.state.as_slice().len() != image.state_len() as usize {
-            return Err(Unrevived::State);
-        }
-        match Collecting::revive(alloc, limits, &kept, incarnation) {
-            Ok(process) => Ok(Member {
-                image,
-                lifecycle: Lifecycle::Collecting(process),
-                effects: Effects::new(),
-                refused: Refused::default(),
-            }),
-            Err(_) => Err(Unrevived::Memory),
-        }
+        let process = collecting(alloc, &image, limits, kept, incarnation)?;
+        Ok(Member::new(image, Lifecycle::Collecting(process)))
+    }
+}
+
+/// The process of this image that comes back from these bytes in this incarnation.
+fn collecting(
+    alloc: Global,
+    image: &Handler,
+    limits: Limits,
+    kept: &[u8],
+    incarnation: u64,
+) -> Result<Collecting, Unrevived>
+    requires { AreAllowed limits }
+    ensures revived { IfOk result (λ n. IsRevived (image_of image.now) limits kept.now incarnation (record { image = image_of image.now; lifecycle = stage.Collecting n })) }
+    ensures within { IfOk result (λ n. IsWithin (stage.Collecting n)) }
+    ensures refused { IfErr result (IsUnrevived (image_of image.now) kept.now incarnation) }
+{
+    if incarnation < 1 || incarnation >= NUMBER_LIMIT {
+        return Err(Unrevived::Incarnation);
+    }
+    let kept = kept_of(alloc, kept)?;
+    if kept.state.as_slice().len() != image.state_len() as usize {
+        return Err(Unrevived::State);
+    }
+    match Collecting::revive(alloc, limits, &kept, incarnation) {
+        Ok(process) => Ok(process),
+        Err(_) => Err(Unrevived::Memory),
     }
 }
 

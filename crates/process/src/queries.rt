@@ -8,13 +8,13 @@ ghost use Rattle.node.specs.declared.node.TheConstants.{WINDOW};
 ghost use Rattle.process.specs.Calls.{standing_at};
 ghost use Rattle.process.specs.Bounds.{IsBounded, waiting_of};
 
-use crate::lifecycle::Lifecycle;
 use crate::process::Member;
 use helpers::Refused;
 use interp::Handler;
 use limits::PROCESSES;
 use node::{MOST_GIVEN, MOST_KEPT, Stage, Standing};
 use packets::NodePacket;
+use recovery::Lifecycle;
 use rsn::LIMIT;
 
 /// The stored state of a process has at most this many messages in its logs: fewer than
@@ -80,22 +80,20 @@ impl Member {
         ensures bounded { IsBounded result }
         ensures waits { waiting_of self.now.lifecycle ≤ WINDOW }
     {
-        self.lifecycle.standing()
+        standing(&self.lifecycle)
     }
 }
 
-impl Lifecycle {
-    fn standing(&self) -> Standing
-        ensures { result ≡ standing_at self.now }
-    {
-        match self {
-            Lifecycle::Up(process) => process.standing(),
-            Lifecycle::Collecting(process) => process.standing(),
-            Lifecycle::Replaying(process) => process.standing(),
-            Lifecycle::Replayed(process) => process.standing(),
-            Lifecycle::Restoring(process) => process.standing(),
-            Lifecycle::Passing => NONE,
-        }
+fn standing(lifecycle: &Lifecycle) -> Standing
+    ensures { result ≡ standing_at lifecycle.now }
+{
+    match lifecycle {
+        Lifecycle::Up(process) => process.standing(),
+        Lifecycle::Collecting(process) => process.standing(),
+        Lifecycle::Replaying(process) => process.standing(),
+        Lifecycle::Replayed(process) => process.standing(),
+        Lifecycle::Restoring(process) => process.standing(),
+        Lifecycle::Passing => NONE,
     }
 }
 

@@ -7,19 +7,17 @@ ghost use Rattle.node.specs.Limit.{AreAllowed};
 ghost use Rattle.node.specs.Suspension.{CanSuspend, IsSuspended};
 ghost use Rattle.process.specs.Suspension.{MaySuspend, Suspends, error_of, IsResumed, IsUnresumed};
 
-use crate::lifecycle::Lifecycle;
 use crate::process::Member;
-use helpers::{Effects, Refused};
 use interp::Handler;
 use limits::STATE_BYTES;
 use node::{Limits, Node, Unsuspended};
-use recovery::{Unresumed, resume};
+use recovery::{Lifecycle, Unresumed, resume_sized};
 use std::alloc::{AllocError, Global};
 use std::sync::Arc;
 use thiserror::Error;
 
 /// Why no process is resumed from bytes.
-#[derive(Debug, Drop, PartialEq, Eq, Error)]
+#[derive(Debug, Drop, Error)]
 pub enum ResumeError {
     /// Memory ran out.
     #[error("out of memory")]
@@ -70,16 +68,11 @@ impl Member {
         ensures resumed { IfOk result (IsResumed (image_of (arc_value image)) limits bytes.now) }
         ensures refused { IfErr result (IsUnresumed (image_of (arc_value image)) bytes.now) }
     {
-        let node = resume(alloc, limits, bytes)?;
-        if node.state().len() != image.state_len() as usize {
+        let len = image.state_len() as usize;
+        let Some(node) = resume_sized(alloc, limits, len, bytes)? else {
             return Err(ResumeError::State);
-        }
-        Ok(Member {
-            image,
-            lifecycle: Lifecycle::Up(node),
-            effects: Effects::new(),
-            refused: Refused::default(),
-        })
+        };
+        Ok(Member::new(image, Lifecycle::Up(node)))
     }
 }
 

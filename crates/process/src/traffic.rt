@@ -8,12 +8,11 @@ ghost use Rattle.node.specs.Bytes.{IsTaken};
 ghost use Rattle.process.specs.Process.{out_of};
 ghost use Rattle.process.specs.Calls.{Calls, Stays, IsHanded, Ticks, Takes};
 ghost use Rattle.process.specs.Packets.{IsFront, GivesBytes};
-ghost use Rattle.process.specs.Transitions.{Passes, is_held, IsHeld};
+ghost use Rattle.recovery.specs.Transitions.{Passes, is_held, IsHeld};
 
-use crate::lifecycle::Lifecycle;
 use crate::process::Member;
 use packets::{NodePacket, PacketError, decode, encode, one_packet};
-use recovery::Cause;
+use recovery::{Cause, Lifecycle};
 use std::alloc::{AllocError, Global};
 use std::mem::replace;
 
@@ -41,7 +40,7 @@ impl Member {
         ensures calls { OnOk result (Calls (IsHanded packet.now) self.old self.new) }
         ensures err { OnErr result (self.new ≡ self.old) }
     {
-        self.lifecycle.hand(alloc, packet)?;
+        hand(&mut self.lifecycle, alloc, packet)?;
         let _held = self.pass(alloc);
         Ok(())
     }
@@ -53,7 +52,7 @@ impl Member {
         ensures on { OnOk result (is_held self.new.lifecycle ≡ false) }
         ensures held { IfErr result (λ why. IsHeld why self.new.lifecycle) }
     {
-        self.lifecycle.send_again();
+        send_again(&mut self.lifecycle);
         self.pass(alloc)
     }
 
@@ -61,7 +60,7 @@ impl Member {
     pub fn take(&mut self) -> Option<NodePacket>
         ensures { Stays (Takes result) self.old self.new }
     {
-        self.lifecycle.pop()
+        pop(&mut self.lifecycle)
     }
 
     /// Takes the first packet that waits, if there is one, as bytes. A refusal, which is by memory,
@@ -124,70 +123,73 @@ impl Member {
         ensures held { IfErr result (λ why. IsHeld why self.new.lifecycle) }
     {
         let lifecycle = replace(&mut self.lifecycle, Lifecycle::Passing);
-        match lifecycle.passed(alloc) {
-            Ok(lifecycle) => {
-                self.lifecycle = lifecycle;
-                Ok(())
-            }
-            Err(held) => {
-                self.lifecycle = held.lifecycle;
-                Err(held.cause)
-            }
-        }
+        let (lifecycle, passed) = go_on(lifecycle, alloc);
+        self.lifecycle = lifecycle;
+        passed
     }
 }
 
-impl Lifecycle {
-    /// Takes a packet. A refusal changes nothing.
-    fn hand(&mut self, alloc: Global, packet: &NodePacket) -> Result<(), AllocError>
-        ensures ok { OnOk result (IsHanded packet.now self.old self.new) }
-        ensures err { OnErr result (self.new ≡ self.old) }
-    {
-        match self {
-            Lifecycle::Up(process) => process.receive(alloc, packet),
-            Lifecycle::Collecting(process) => process.receive(alloc, packet),
-            Lifecycle::Replaying(process) => {
-                process.receive(alloc, packet);
-                Ok(())
-            }
-            Lifecycle::Replayed(process) => {
-                process.receive(alloc, packet);
-                Ok(())
-            }
-            Lifecycle::Restoring(process) => {
-                process.receive(alloc, packet);
-                Ok(())
-            }
-            Lifecycle::Passing => Ok(()),
-        }
+/// The process after it went on as far as it can, and why it couldn't go on if its stage is over.
+fn go_on(lifecycle: Lifecycle, alloc: Global) -> (Lifecycle, Result<(), Cause>)
+    ensures passes { Passes lifecycle result.0 }
+    ensures on { OnOk result.1 (is_held result.0 ≡ false) }
+    ensures held { IfErr result.1 (λ why. IsHeld why result.0) }
+{
+    match lifecycle.passed(alloc) {
+        Ok(lifecycle) => (lifecycle, Ok(())),
+        Err(held) => (held.lifecycle, Err(held.cause)),
     }
+}
 
-    /// Sends again what isn't answered.
-    fn send_again(&mut self)
-        ensures { Ticks self.old self.new }
-    {
-        match self {
-            Lifecycle::Up(process) => process.tick(),
-            Lifecycle::Collecting(process) => process.tick(),
-            Lifecycle::Restoring(process) => process.tick(),
-            Lifecycle::Replaying(_) => {}
-            Lifecycle::Replayed(_) => {}
-            Lifecycle::Passing => {}
+/// Takes a packet. A refusal changes nothing.
+fn hand(lifecycle: &mut Lifecycle, alloc: Global, packet: &NodePacket) -> Result<(), AllocError>
+    ensures ok { OnOk result (IsHanded packet.now lifecycle.old lifecycle.new) }
+    ensures err { OnErr result (lifecycle.new ≡ lifecycle.old) }
+{
+    match lifecycle {
+        Lifecycle::Up(process) => process.receive(alloc, packet),
+        Lifecycle::Collecting(process) => process.receive(alloc, packet),
+        Lifecycle::Replaying(process) => {
+            process.receive(alloc, packet);
+            Ok(())
         }
+        Lifecycle::Replayed(process) => {
+            process.receive(alloc, packet);
+            Ok(())
+        }
+        Lifecycle::Restoring(process) => {
+            process.receive(alloc, packet);
+            Ok(())
+        }
+        Lifecycle::Passing => Ok(()),
     }
+}
 
-    /// Takes the first packet that waits, if there is one.
-    fn pop(&mut self) -> Option<NodePacket>
-        ensures { Takes result self.old self.new }
-    {
-        match self {
-            Lifecycle::Up(process) => process.take(),
-            Lifecycle::Collecting(process) => process.take(),
-            Lifecycle::Replaying(process) => process.take(),
-            Lifecycle::Replayed(process) => process.pop(),
-            Lifecycle::Restoring(process) => process.take(),
-            Lifecycle::Passing => None,
-        }
+/// Sends again what isn't answered.
+fn send_again(lifecycle: &mut Lifecycle)
+    ensures { Ticks lifecycle.old lifecycle.new }
+{
+    match lifecycle {
+        Lifecycle::Up(process) => process.tick(),
+        Lifecycle::Collecting(process) => process.tick(),
+        Lifecycle::Restoring(process) => process.tick(),
+        Lifecycle::Replaying(_) => {}
+        Lifecycle::Replayed(_) => {}
+        Lifecycle::Passing => {}
+    }
+}
+
+/// Takes the first packet that waits, if there is one.
+fn pop(lifecycle: &mut Lifecycle) -> Option<NodePacket>
+    ensures { Takes result lifecycle.old lifecycle.new }
+{
+    match lifecycle {
+        Lifecycle::Up(process) => process.take(),
+        Lifecycle::Collecting(process) => process.take(),
+        Lifecycle::Replaying(process) => process.take(),
+        Lifecycle::Replayed(process) => process.pop(),
+        Lifecycle::Restoring(process) => process.take(),
+        Lifecycle::Passing => None,
     }
 }
 

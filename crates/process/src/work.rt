@@ -7,10 +7,10 @@ ghost use Rattle.process.specs.Job.{IsCallable, TakesBack, HasNext, IsNext};
 ghost use Rattle.process.specs.Holds.{entries_of};
 ghost use Rattle.process.specs.Work.{job_at, is_other, given_of, sent_by, shown_of, TakesIn, MayTakeIn, Works, Rests};
 
-use crate::lifecycle::Lifecycle;
 use crate::process::Member;
 use helpers::{Effects, Payload, Refused, Sent, Who};
 use node::{Given, OpenJob};
+use recovery::Lifecycle;
 use std::alloc::{AllocError, Global};
 
 impl Member {
@@ -107,35 +107,33 @@ impl Member {
         ensures few { OnOk result (entries_of self.new ≤ entries_of self.old + MOST_GIVEN) }
         ensures err { OnErr result (self.new ≡ self.old) }
     {
-        let refused = self.lifecycle.counted(self.refused, refused);
-        self.lifecycle.take_in(state, given)?;
+        let refused = counted(&self.lifecycle, self.refused, refused);
+        take_in(&mut self.lifecycle, state, given)?;
         self.refused = refused;
         let _held = self.pass(alloc);
         Ok(())
     }
 }
 
-impl Lifecycle {
-    /// The earlier count, plus this one unless the call was a replay.
-    fn counted(&self, before: Refused, refused: Refused) -> Refused {
-        let mut all = before;
-        if self.is_up() {
-            all.add(refused);
-        }
-        all
+/// The earlier count, plus this one unless the call was a replay.
+fn counted(lifecycle: &Lifecycle, before: Refused, refused: Refused) -> Refused {
+    let mut all = before;
+    if lifecycle.is_up() {
+        all.add(refused);
     }
+    all
+}
 
-    /// Takes the state that the handler left, and what it sent. A refusal changes nothing.
-    fn take_in(&mut self, state: Vec<u8>, given: &[Given]) -> Result<(), AllocError>
-        requires { MayTakeIn self.old given.now }
-        ensures ok { OnOk result (TakesIn state.items given.now self.old self.new) }
-        ensures err { OnErr result (self.new ≡ self.old) }
-    {
-        match self {
-            Lifecycle::Up(node) => node.work(state, given),
-            Lifecycle::Replaying(process) => process.work(state, given),
-            _ => Ok(()),
-        }
+/// Takes the state that the handler left, and what it sent. A refusal changes nothing.
+fn take_in(lifecycle: &mut Lifecycle, state: Vec<u8>, given: &[Given]) -> Result<(), AllocError>
+    requires { MayTakeIn lifecycle.old given.now }
+    ensures ok { OnOk result (TakesIn state.items given.now lifecycle.old lifecycle.new) }
+    ensures err { OnErr result (lifecycle.new ≡ lifecycle.old) }
+{
+    match lifecycle {
+        Lifecycle::Up(node) => node.work(state, given),
+        Lifecycle::Replaying(process) => process.work(state, given),
+        _ => Ok(()),
     }
 }
 

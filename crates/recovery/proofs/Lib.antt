@@ -29,3 +29,4 @@ pub mod RestorationOthers
 pub mod Returns
 pub mod Fits
 pub mod Resumptions
+pub mod Passings

@@ -1,5 +1,5 @@
 -- What the bytes of a suspended node are read as, and the node that they make
-use Rattle.std.proofs.Common.{◌≡◌, ℕ, zero, suc, ◌+◌, ◌-◌, ◌^◌, ◌<◌, ◌≤◌, List, [], ◌∷◌, ◌++◌, length, map, replicate, take, drop, Bool, true, false, Result, Ok, Err, refl, sym, ap, ◌∙◌, subst, append_assoc, arith}
+use Rattle.std.proofs.Common.{◌≡◌, ℕ, zero, suc, ◌+◌, ◌-◌, ◌^◌, ◌<◌, ◌≤◌, List, [], ◌∷◌, ◌++◌, length, map, replicate, take, drop, Bool, true, false, Result, Ok, Err, IfOk, refl, sym, ap, ◌∙◌, subst, append_assoc, arith}
 use Rattle.std.specs.Prelude.{Option, Some, None, is_some, ◌&&◌, ◌==◌, nat_lt, nat_le, slice_index_or}
 use Rattle.std.specs.List.{flat_map, list_all, AllByRecursion}
 use Rattle.std.proofs.lemmas.Bool.Decides.{nat_tests}
@@ -32,6 +32,8 @@ use Rattle.node.proofs.Counts.{own-again}
 use Rattle.node.proofs.Preservation.{map-without}
 use Rattle.node.proofs.Views.{none-is}
 use Rattle.node.proofs.Suspensions.{joined-length}
+use Rattle.recovery.specs.Own.{TheOwn, own_of}
+use Rattle.recovery.specs.Replayed.{IsReplayed}
 use Rattle.recovery.specs.declared.rest.Rest.{Rest}
 use Rattle.recovery.specs.declared.resumption.Unresumed.{Unresumed}
 use Rattle.recovery.specs.declared.resumption.Unresumed.TheVariants as why
@@ -156,17 +158,15 @@ pub fails-finds : {A X : Type 0} (P : X → Type 0) (e : PacketError) (read : Re
 fails-finds P packet.Memory read x h is = tt
 fails-finds P (packet.Fault f) read x h is = absurd (not_both x f (sym is ∙ h))
 
--- nor does a node that can be suspended
-pub can-finds : {X : Type 0} (P : X → Type 0) (e : Unsuspended) (limits : Limits) (m n : TheNode) → m ≡ woken limits n → CanSuspend n → IsUnsuspended e m → Finds P (Err (unmade e))
-can-finds P kept.Memory limits m n is c h = tt
-can-finds P kept.Frozen limits m n is c h = absurd (let no : true ≡ false = sym h ∙ ap (λ (z : TheNode). z.frozen) is ∙ c.live in cc)
-can-finds P kept.Busy limits m n is c h = absurd (let no : true ≡ false = sym h ∙ ap (λ (z : TheNode). is_some z.working) is ∙ c.idle in cc)
-can-finds P kept.Uncovered limits m n is c h = absurd (let no : false ≡ true = sym h ∙ ap is_covered is ∙ c.covered in cc)
-
--- so does the other one
+-- nor does the other one
 pub finds-same : {X Y : Type 0} (P : X → Type 0) (Q : Y → Type 0) (e : Unresumed) → Finds P (Err e) → Finds Q (Err e)
 finds-same P Q why.Memory h = tt
 finds-same P Q why.Bytes h = h
+
+-- what is found is found, unless memory ran out
+pub finds-ok : {X : Type 0} (P Q : X → Type 0) (r : Result X Unresumed) → ((x : X) → P x → Q x) → Finds P r → IfOk r Q
+finds-ok P Q (Ok x) f h = f x h
+finds-ok P Q (Err e) f h = tt
 
 pub text-fits : (bytes : List ℕ) (x : List ℕ × List ℕ) → IsBytes bytes → text_at bytes ≡ Ok x → IsBytes x.1
 unfolding text_at
@@ -227,7 +227,7 @@ unused-is q e =
     let none : q.payloads ≡ [] = nil_from_length q.payloads (let z : (length q.payloads == 0) ≡ true = b.1 in grind (arith, nat_tests)) in
     rw (dropped, none) refl
 
-abbrev none_received : Received
+abbrev pub none_received : Received
 none_received = record { senders = []; acknowledged = [] }
 
 counts-none : (q : ℕ) (ks : List ℕ) → counts_from q none_received ks ≡ ks
@@ -355,3 +355,11 @@ made-within limits k r allowed m =
       alive = m.alive;
       fit = tt;
     }
+
+-- ---- the process that is woken
+
+abbrev pub woken-own : Limits → Kept → Rest → TheOwn
+woken-own limits k r = record (own_of limits k r.life) { logs = joined_by numbered_by r.codes (with_own no_queue k.me (map queue_of k.logs)); heard = r.heard; exact = is_set r.exact }
+
+pub woken-replayed : (limits : Limits) (k : Kept) (r : Rest) → AreAllowed limits → MakesNode k r → IsReplayed (woken-own limits k r) none_received
+woken-replayed limits k r allowed m = let w = made-within limits k r allowed m in record { young = w.young; short = w.short; peers = tt }

@@ -18,3 +18,4 @@ pub mod RestorationBeside
 pub mod Fits
 pub mod RestorationQueries
 pub mod Resumption
+pub mod Transitions

@@ -54,6 +54,7 @@ mod collected;
 mod collection;
 mod intake;
 mod laws;
+mod lifecycle;
 mod moment;
 mod overlap;
 mod own;
@@ -72,9 +73,10 @@ pub use laws::{
     comes_back_again, keeps_what_it_had, kept_revives, one_node, only_replays, others_stand,
     replaying_stands, written_revives,
 };
+pub use lifecycle::{Held, Lifecycle};
 pub use moment::{Cause, Unrecovered};
 pub use replayed::Replayed;
 pub use replays::Replaying;
 pub use restoration::Restoring;
 pub use restoration_laws::{pages_fit, replayed_stands, restoring_stands};
-pub use resumption::{Unresumed, resume};
+pub use resumption::{Unresumed, resume, resume_sized};

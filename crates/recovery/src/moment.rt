@@ -15,7 +15,7 @@ use rsn::{LIMIT, Receipts, SENDERS};
 use std::alloc::{AllocError, Global};
 
 /// Why a process can't recover.
-#[derive(Clone, Copy, Debug, PartialEq, Eq)]
+#[derive(Clone, Copy)]
 pub enum Cause {
     /// Memory ran out.
     Memory,

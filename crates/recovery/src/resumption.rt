@@ -1,6 +1,6 @@
 //! A suspended node is resumed.
 
-ghost use Rattle.std.specs.Prelude.{◌≡◌, ◌≤◌, [], length, map, true, IfOk};
+ghost use Rattle.std.specs.Prelude.{◌≡◌, ◌≢◌, ◌≤◌, [], suc, length, map, true, IfOk, IfNone, IfSome, ⊤};
 ghost use Rattle.limits.specs.declared.TheConstants.{PROCESSES, STATE_BYTES};
 ghost use Rattle.packets.specs.declared.kept.Kept.{Kept};
 ghost use Rattle.packets.specs.Kept.{IsKept};
@@ -14,15 +14,16 @@ ghost use Rattle.recovery.specs.declared.resumption.Unresumed.TheVariants.{Memor
 
 use crate::collection::comes_back;
 use crate::own::Own;
+use crate::replayed::Replayed;
 use crate::rest::{Rest, rest_of, text_of};
-use node::{KeptQueue, Limits, Node, Returned, Unsuspended};
+use node::{KeptQueue, Limits, Node, Unsuspended};
 use packets::{Kept, KeptError, NUMBER_LIMIT, PacketError, Page, decode_kept};
 use rsn::Receipts;
 use std::alloc::{AllocError, Global};
 use thiserror::Error;
 
 /// Why no node is resumed from bytes.
-#[derive(Debug, Drop, PartialEq, Eq, Error)]
+#[derive(Debug, Drop, Error)]
 pub enum Unresumed {
     /// Memory ran out.
     #[error("out of memory")]
@@ -72,14 +73,52 @@ pub fn resume(alloc: Global, limits: Limits, bytes: &[u8]) -> Result<Node, Unres
     // Whatever `suspend` writes is resumed, unless memory runs out.
     ensures only { (n : TheNode) → IsSuspended n bytes.now → Finds (λ m. m ≡ woken limits n) result }
 {
-    let (kept, rest) = parts_of(alloc, bytes)?;
-    let node = node_of(alloc, limits, &kept, &rest)?;
+    let node = read(alloc, limits, bytes)?;
     // Bytes that another node has too, or that have a fault, differ from those of this node.
-    let again = node.suspend(alloc)?;
-    if again.as_slice() != bytes {
-        return Err(Unresumed::Bytes);
-    }
+    compare(alloc, &node, bytes)?;
     Ok(node)
+}
+
+/// The same, if the state of that node is `len` bytes long.
+pub fn resume_sized(
+    alloc: Global,
+    limits: Limits,
+    len: usize,
+    bytes: &[u8],
+) -> Result<Option<Node>, Unresumed>
+    requires limits { AreAllowed limits }
+    ensures some { IfOk result (λ o. IfSome o (λ n. IsSuspended n bytes.now × (n.limits ≡ limits) × (n.out ≡ []) × (length n.state ≡ len))) }
+    ensures none { IfOk result (λ o. IfNone o ((n : TheNode) × IsSuspended n bytes.now × (length n.state ≢ len))) }
+    ensures only { (n : TheNode) → IsSuspended n bytes.now → Finds (λ _. ⊤) result }
+{
+    let node = resume(alloc, limits, bytes)?;
+    if node.state().len() != len {
+        return Ok(None);
+    }
+    Ok(Some(node))
+}
+
+/// The node that these bytes are read as.
+fn read(alloc: Global, limits: Limits, bytes: &[u8]) -> Result<Node, Unresumed>
+    requires limits { AreAllowed limits }
+    ensures fresh { IfOk result (λ n. (n.limits ≡ limits) × (n.out ≡ []) × (length n.state ≤ STATE_BYTES)) }
+    ensures only { (n : TheNode) → IsSuspended n bytes.now → Finds (λ m. m ≡ woken limits n) result }
+{
+    let (kept, rest) = parts_of(alloc, bytes)?;
+    node_of(alloc, limits, &kept, &rest)
+}
+
+/// Refuses bytes that aren't those of this node.
+fn compare(alloc: Global, node: &Node, bytes: &[u8]) -> Result<(), Unresumed>
+    requires { length node.now.state ≤ STATE_BYTES }
+    ensures found { IfOk result (λ _. IsSuspended node.now bytes.now) }
+    ensures only { (limits : Limits) (n : TheNode) → IsSuspended n bytes.now → node.now ≡ woken limits n → Finds (λ _. ⊤) result }
+{
+    if node.suspend(alloc)?.as_slice() == bytes {
+        Ok(())
+    } else {
+        Err(Unresumed::Bytes)
+    }
 }
 
 /// The kept state in these bytes, and the rest.
@@ -118,45 +157,29 @@ fn kept_of(alloc: Global, bytes: &[u8]) -> Result<Kept, Unresumed>
 }
 
 /// The node that these parts make.
-fn node_of(alloc: Global, limits: Limits, kept: &Kept, rest: &Rest) -> Result<Node, AllocError>
+fn node_of(alloc: Global, limits: Limits, kept: &Kept, rest: &Rest) -> Result<Node, Unresumed>
     requires limits { AreAllowed limits }
     requires parts { MakesNode kept.now rest.now }
-    ensures { IfOk result (λ n. n ≡ made limits kept.now rest.now) }
+    ensures { Finds (λ n. n ≡ made limits kept.now rest.now) result }
 {
     let receipts = Receipts::new(alloc, &[])?;
-    let heard = Vec::from_slice(alloc, rest.heard.as_slice())?;
     let resumed = flags_of(alloc, rest.resumed.as_slice())?;
-    let own = Own::kept(alloc, limits, kept, rest.life)?;
-    let Own {
-        limits,
-        me,
-        count,
-        life,
-        state,
-        base,
-        covered,
-        mut logs,
-        heard: _,
-        lost: _,
-        exact: _,
-        out,
-    } = own;
-    number(&mut logs, rest.codes.as_slice());
-    Ok(Node::returned(Returned {
-        limits,
-        me,
-        count,
-        life,
-        state,
-        base,
-        covered,
-        receipts,
-        logs,
-        heard,
-        resumed,
-        exact: rest.exact > 0,
-        out,
-    }))
+    let mut own = Own::kept(alloc, limits, kept, rest.life)?;
+    own.wake(rest);
+    Ok(Replayed::new(own, receipts).into_node(resumed))
+}
+
+impl Own {
+    /// Takes what a suspended node has beside its kept state.
+    fn wake(&mut self, rest: &Rest)
+        requires heard { length rest.now.heard ≡ suc self.old.count }
+        requires codes { length rest.now.codes ≡ suc self.old.count }
+        ensures { self.new ≡ record self.old { logs = joined_by numbered_by rest.now.codes self.old.logs; heard = rest.now.heard; exact = is_set rest.now.exact } }
+    {
+        self.heard.copy_from_slice(rest.heard.as_slice());
+        self.exact = rest.exact > 0;
+        number(&mut self.logs, rest.codes.as_slice());
+    }
 }
 
 /// The flags that these bytes are.

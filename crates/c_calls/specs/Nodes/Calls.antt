@@ -8,7 +8,7 @@ use Rattle.packets.specs.declared.fault.PacketError.TheVariants as packet
 use Rattle.process.specs.Process.{TheProcess}
 use Rattle.recovery.specs.declared.moment.Cause.TheVariants as cause
 use Rattle.process.specs.Calls as calls
-use Rattle.process.specs.Transitions as passing
+use Rattle.recovery.specs.Transitions as passing
 use Rattle.process.specs.Job.{HasNext}
 use Rattle.process.specs.Work as working
 use Rattle.c_calls.specs.declared.nodes.fault.NodeFault.{NodeFault}

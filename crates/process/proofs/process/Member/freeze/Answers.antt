@@ -1,6 +1,6 @@
 use Rattle.std.proofs.Common.{rules, arith, sym, ap, subst}
 use Rattle.std.proofs.lemmas.Grind.{common_steps}
-use Rattle.process.specs.declared.lifecycle.Lifecycle.TheVariants.{Up}
+use Rattle.recovery.specs.declared.lifecycle.Lifecycle.TheVariants.{Up}
 use Rattle.process.specs.Bounds.{IsWithin}
 use Rattle.process.proofs.Within as within
 use Rattle.process.proofs.process.Member.freeze.Goals.{in-Up, in_default}

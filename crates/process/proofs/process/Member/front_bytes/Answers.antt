@@ -1,7 +1,8 @@
 use Rattle.std.proofs.Common.{rules, ◌≡◌, false, List, ◌∷◌, arith}
 use Rattle.std.proofs.lemmas.Grind.{common_steps}
 use Rattle.packets.specs.declared.packet.NodePacket.{NodePacket}
-use Rattle.process.specs.Process.{is_node, out_of}
+use Rattle.process.specs.Process.{out_of}
+use Rattle.recovery.specs.Transitions.{is_node}
 use Rattle.process.proofs.Rooms.{written-fits}
 use Rattle.process.proofs.Writes.{first-written}
 use Rattle.process.proofs.process.Member.front_bytes.Goals as goal

@@ -10,7 +10,7 @@ use Rattle.process.proofs.process.Member.open.Goals as goal
 pub returns : goal.returns
 returns c =
     let len : c.state_len.result ≡ state_of (image_of (arc_value c.args.image)) = first_of (search rules, grind (arith, common_steps)) in
-    opened-zeros (image_of (arc_value c.args.image)) c.args.limits c.args.me c.args.count c.state_len.result c.in_ok-node.node c.in_ok-node.ensures.value len c.in_ok-node.ensures.stands
+    rw c.new.ensures (opened-zeros (image_of (arc_value c.args.image)) c.args.limits c.args.me c.args.count c.state_len.result c.in_ok-node.node c.in_ok-node.ensures.value len c.in_ok-node.ensures.stands)
 
-pub invariant_of-result : goal.invariant_of-result
-invariant_of-result c = within.opened c.args.limits c.args.me c.args.count (replicate c.state_len.result 0) c.in_ok-node.node c.in_ok-node.ensures.value c.requires.limits
+pub new-requires : goal.new-requires
+new-requires c = within.opened c.args.limits c.args.me c.args.count (replicate c.state_len.result 0) c.in_ok-node.node c.in_ok-node.ensures.value c.requires.limits

@@ -10,7 +10,7 @@ use Rattle.process.proofs.process.Member.open_with.Goals as goal
 pub returns-clause-opened : goal.returns-clause-opened
 returns-clause-opened c =
     let long : length c.args.state.now ≡ state_of (image_of (arc_value c.args.image)) = first_of (search rules, grind (arith, common_steps)) in
-    opened (image_of (arc_value c.args.image)) c.args.limits c.args.me c.args.count c.args.state.now c.in-Ok.node c.in-Ok.ensures.value long c.in-Ok.ensures.stands
+    rw c.new.ensures (opened (image_of (arc_value c.args.image)) c.args.limits c.args.me c.args.count c.args.state.now c.in-Ok.node c.in-Ok.ensures.value long c.in-Ok.ensures.stands)
 
-pub invariant_of-result : goal.invariant_of-result
-invariant_of-result c = within.opened c.args.limits c.args.me c.args.count c.args.state.now c.in-Ok.node c.in-Ok.ensures.value c.requires.limits
+pub new-requires : goal.new-requires
+new-requires c = within.opened c.args.limits c.args.me c.args.count c.args.state.now c.in-Ok.node c.in-Ok.ensures.value c.requires.limits

@@ -1,9 +1,9 @@
 use Rattle.std.proofs.Common.{rules, ◌≡◌, true, false, refl, subst, arith}
 use Rattle.std.proofs.lemmas.Grind.{common_steps}
-use Rattle.process.specs.Process.{TheProcess, is_node}
+use Rattle.process.specs.Process.{TheProcess}
 use Rattle.process.specs.Calls.{Stays}
-use Rattle.process.specs.Transitions.{Passes, is_held}
-use Rattle.process.proofs.Passings.{passes-up, up-is-free}
+use Rattle.recovery.specs.Transitions.{Passes, is_held, is_node}
+use Rattle.recovery.proofs.Passings.{passes-up, up-is-free}
 use Rattle.process.proofs.process.Member.pass.Goals as goal
 
 pub returns-then-is_up-clause-passes : goal.returns-then-is_up-clause-passes

@@ -6,5 +6,5 @@ use Rattle.process.proofs.process.Member.receive.Goals as goal
 
 pub invariant_of-self-2 : goal.invariant_of-self-2
 invariant_of-self-2 c =
-    let h : IsHanded c.args.packet.now c.self.inside.lifecycle c.hand.new.self = first_of (search rules, grind (arith, common_steps)) in
-    within.handed c.args.packet.now c.self.inside.lifecycle c.hand.new.self h c.self.invariant
+    let h : IsHanded c.args.packet.now c.self.inside.lifecycle c.hand.new.lifecycle = first_of (search rules, grind (arith, common_steps)) in
+    within.handed c.args.packet.now c.self.inside.lifecycle c.hand.new.lifecycle h c.self.invariant

@@ -14,5 +14,5 @@ returns-clause-few c =
 pub invariant_of-self-2 : goal.invariant_of-self-2
 invariant_of-self-2 c =
     let may : MayTakeIn c.self.inside.lifecycle c.args.given.now = first_of (search rules, grind (arith, common_steps)) in
-    let h : TakesIn c.args.state.items c.args.given.now c.self.inside.lifecycle c.take_in.new.self = first_of (search rules, grind (arith, common_steps)) in
-    within.takes-in c.args.state.items c.args.given.now c.self.inside.lifecycle c.take_in.new.self may h c.self.invariant
+    let h : TakesIn c.args.state.items c.args.given.now c.self.inside.lifecycle c.take_in.new.lifecycle = first_of (search rules, grind (arith, common_steps)) in
+    within.takes-in c.args.state.items c.args.given.now c.self.inside.lifecycle c.take_in.new.lifecycle may h c.self.invariant

@@ -1,34 +1,21 @@
 -- One that is up passes on to nothing, and one that is held stays
 use Rattle.std.proofs.Common.{◌≡◌, Result, Err, IfErr, refl, true, false, sym, subst}
-use Rattle.process.specs.declared.lifecycle.Held.{Held}
-use Rattle.process.specs.declared.lifecycle.Lifecycle.{Lifecycle}
-use Rattle.process.specs.declared.lifecycle.Lifecycle.TheVariants.{Up, Collecting, Replaying, Replayed, Restoring, Passing}
-use Rattle.process.specs.Process.{is_node}
-use Rattle.process.specs.Transitions.{Passes, has_heard, is_held, IsHeld}
+use Rattle.recovery.specs.declared.lifecycle.Held.{Held}
+use Rattle.recovery.specs.declared.lifecycle.Lifecycle.{Lifecycle}
+use Rattle.recovery.specs.declared.lifecycle.Lifecycle.TheVariants.{Up, Collecting}
+use Rattle.recovery.specs.Transitions.{is_node, Passes, has_heard, is_held, IsHeld}
 
 pub passes-up : (c : Lifecycle) → is_node c ≡ true → Passes c c
 passes-up (Up n) e = record { told = Up n; ran = Up n; asks = Up n; recovers = refl; finishes = refl; begins = refl; returns = refl }
-passes-up (Collecting n) e = absurd (cc)
-passes-up (Replaying n) e = absurd (cc)
-passes-up (Replayed n) e = absurd (cc)
-passes-up (Restoring n) e = absurd (cc)
-passes-up Passing e = absurd (cc)
+passes-up c e = absurd (cc)
 
 pub up-is-free : (c : Lifecycle) → is_node c ≡ true → is_held c ≡ false
 up-is-free (Up n) e = refl
-up-is-free (Collecting n) e = absurd (cc)
-up-is-free (Replaying n) e = absurd (cc)
-up-is-free (Replayed n) e = absurd (cc)
-up-is-free (Restoring n) e = absurd (cc)
-up-is-free Passing e = absurd (cc)
+up-is-free c e = absurd (cc)
 
 pub heard-stays : (c : Lifecycle) → has_heard c ≡ true → Passes c c
-heard-stays (Up n) e = absurd (cc)
 heard-stays (Collecting n) e = record { told = Collecting n; ran = Collecting n; asks = Collecting n; recovers = refl; finishes = refl; begins = refl; returns = refl }
-heard-stays (Replaying n) e = absurd (cc)
-heard-stays (Replayed n) e = absurd (cc)
-heard-stays (Restoring n) e = absurd (cc)
-heard-stays Passing e = absurd (cc)
+heard-stays c e = absurd (cc)
 
 -- so it is answered
 pub first-held : (r : Result Lifecycle Held) (c : Lifecycle) (h : Held) (why : Held) → r ≡ Err why → why ≡ h → h.lifecycle ≡ c → has_heard c ≡ true → IsHeld h.cause c → IfErr r (λ x. Passes c x.lifecycle × IsHeld x.cause x.lifecycle)

@@ -1,6 +1,6 @@
 use Rattle.std.proofs.lemmas.Result.{err_from_is_err_and}
-use Rattle.process.proofs.Passings.{first-held}
-use Rattle.process.proofs.lifecycle.Lifecycle.passed.Goals as goal
+use Rattle.recovery.proofs.Passings.{first-held}
+use Rattle.recovery.proofs.lifecycle.Lifecycle.passed.Goals as goal
 
 pub returns-in_err-told-clause-held : goal.returns-in_err-told-clause-held
 returns-in_err-told-clause-held c =

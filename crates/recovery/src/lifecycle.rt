@@ -1,11 +1,14 @@
 //! The stages of a process, and the way from one to the next.
 
 ghost use Rattle.std.specs.Prelude.{◌≡◌, true, false, IfOk, IfErr};
-ghost use Rattle.process.specs.Process.{is_node};
-ghost use Rattle.process.specs.Transitions.{Recovers, Finishes, Begun, Returns, Passes, has_heard, has_run, is_held, IsHeld};
+ghost use Rattle.recovery.specs.Transitions.{is_node, Recovers, Finishes, Begun, Returns, Passes, has_heard, has_run, is_held, IsHeld};
 
+use crate::collection::Collecting;
+use crate::moment::Cause;
+use crate::replayed::Replayed;
+use crate::replays::Replaying;
+use crate::restoration::Restoring;
 use node::Node;
-use recovery::{Cause, Collecting, Replayed, Replaying, Restoring};
 use std::alloc::Global;
 
 /// A process in its stage.
@@ -27,28 +30,21 @@ pub enum Lifecycle {
 
 /// The process that couldn't go on to the next stage, and why.
 #[derive(Drop)]
-pub(crate) struct Held {
-    pub(crate) lifecycle: Lifecycle,
-    pub(crate) cause: Cause,
+pub struct Held {
+    pub lifecycle: Lifecycle,
+    pub cause: Cause,
 }
 
 impl Lifecycle {
     /// Whether it is up.
-    pub(crate) fn is_up(&self) -> bool
+    pub fn is_up(&self) -> bool
         ensures { result ≡ is_node self.now }
     {
-        match self {
-            Lifecycle::Up(_) => true,
-            Lifecycle::Collecting(_) => false,
-            Lifecycle::Replaying(_) => false,
-            Lifecycle::Replayed(_) => false,
-            Lifecycle::Restoring(_) => false,
-            Lifecycle::Passing => false,
-        }
+        matches!(self, Lifecycle::Up(_))
     }
 
     /// Goes on as many stages as it can, unless memory is refused.
-    pub(crate) fn passed(self, alloc: Global) -> Result<Lifecycle, Held>
+    pub fn passed(self, alloc: Global) -> Result<Lifecycle, Held>
         ensures passed { IfOk result (λ c. Passes self c × (is_held c ≡ false)) }
         ensures held { IfErr result (λ h. Passes self h.lifecycle × IsHeld h.cause h.lifecycle) }
     {

@@ -1,8 +1,8 @@
 use Rattle.std.proofs.Common.{Result, Ok, Err, OnOk, sym, subst}
-use Rattle.process.specs.declared.lifecycle.Lifecycle.{Lifecycle}
-use Rattle.process.specs.declared.lifecycle.Lifecycle.TheVariants.{Collecting, Restoring}
+use Rattle.recovery.specs.declared.lifecycle.Lifecycle.{Lifecycle}
+use Rattle.recovery.specs.declared.lifecycle.Lifecycle.TheVariants.{Collecting, Restoring}
 use Rattle.process.specs.Calls.{IsHanded}
-use Rattle.process.proofs.lifecycle.Lifecycle.hand.Goals as goal
+use Rattle.process.proofs.traffic.hand.Goals as goal
 
 -- of an answer that isn't refused two things hold
 on-both : {X E : Type 0} (r : Result X E) (P Q : Type 0) → OnOk r P → OnOk r Q → OnOk r (P × Q)

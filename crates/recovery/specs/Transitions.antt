@@ -12,8 +12,13 @@ use Rattle.recovery.specs.Replays.{is_over}
 use Rattle.recovery.specs.StandsAtReplay.{ComesBack, Ends, replayed_of}
 use Rattle.recovery.specs.Restoration.{begun, is_up, up}
 use Rattle.recovery.specs.RestorationStands.{Begins, IsUp}
-use Rattle.process.specs.declared.lifecycle.Lifecycle.{Lifecycle}
-use Rattle.process.specs.declared.lifecycle.Lifecycle.TheVariants.{Up, Collecting, Replaying, Replayed, Restoring}
+use Rattle.recovery.specs.declared.lifecycle.Lifecycle.{Lifecycle}
+use Rattle.recovery.specs.declared.lifecycle.Lifecycle.TheVariants.{Up, Collecting, Replaying, Replayed, Restoring}
+
+-- it is up
+abbrev pub is_node : Lifecycle → Bool
+is_node (Up n) = true
+is_node other = false
 
 -- if all peers have told a process that collects, it recovers with at most as many messages as a process takes; or memory is refused, or
 -- there are too many

@@ -1,9 +1,9 @@
 use Rattle.std.proofs.Common.{◌≡◌, true, sym, subst}
 use Rattle.recovery.specs.Restoration.{is_up}
-use Rattle.process.specs.declared.lifecycle.Lifecycle.{Lifecycle}
-use Rattle.process.specs.declared.lifecycle.Lifecycle.TheVariants.{Up}
-use Rattle.process.specs.Transitions.{Returns}
-use Rattle.process.proofs.lifecycle.Lifecycle.returned.Goals as goal
+use Rattle.recovery.specs.declared.lifecycle.Lifecycle.{Lifecycle}
+use Rattle.recovery.specs.declared.lifecycle.Lifecycle.TheVariants.{Up}
+use Rattle.recovery.specs.Transitions.{Returns}
+use Rattle.recovery.proofs.lifecycle.Lifecycle.returned.Goals as goal
 
 pub returns-else-not-is_up : goal.returns-else-not-is_up
 returns-else-not-is_up c =
