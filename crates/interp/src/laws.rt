@@ -1,6 +1,8 @@
 //! Laws of every step and every call of typable code.
 
 ghost use Rattle.interp.specs.Laws.{IsEntered, IsExited, IsFound, IsOneCall, IsPreserved, IsWordEntered, IsWordKept};
+ghost use Rattle.interp.specs.WorkedCauses.{AreAccessFaults, AreEndFaults, AreHelperFaults, AreRegisterFaults};
+ghost use Rattle.interp.specs.WorkedCauses.{AreSlotFaults, AreSpanFaults};
 
 /// A step from a configuration that fits its frame is no fault: it exits, or goes to a later slot, whose frame the next
 /// configuration fits, with the same message.
@@ -32,4 +34,14 @@ pub fn calls_are_found()
 pub fn numbers_stay_words()
     ensures first { IsWordEntered }
     ensures next { IsWordKept }
+{}
+
+/// Each test for a fault is made, and tells its own cause: worked rows, which the compiler checks by computation.
+pub fn faults_have_causes()
+    ensures registers { AreRegisterFaults }
+    ensures accesses { AreAccessFaults }
+    ensures helpers { AreHelperFaults }
+    ensures ends { AreEndFaults }
+    ensures slots { AreSlotFaults }
+    ensures spans { AreSpanFaults }
 {}
