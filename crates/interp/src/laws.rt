@@ -1,6 +1,6 @@
 //! Laws of every step and every call of typable code.
 
-ghost use Rattle.interp.specs.Laws.{IsEntered, IsExited, IsFound, IsOneCall, IsPreserved, IsWordEntered, IsWordKept};
+ghost use Rattle.interp.specs.Laws.{IsEntered, IsExited, IsFound, IsOneCall, IsPreserved, IsSpanExited, IsWordEntered, IsWordKept};
 ghost use Rattle.interp.specs.WorkedCauses.{AreAccessFaults, AreEndFaults, AreHelperFaults, AreRegisterFaults};
 ghost use Rattle.interp.specs.WorkedCauses.{AreSlotFaults, AreSpanFaults};
 
@@ -15,9 +15,10 @@ pub fn calls_fit()
     ensures { IsEntered }
 {}
 
-/// A call of typable code exits within its number of instructions.
+/// A call of typable code exits within its number of instructions, also in form 3.
 pub fn calls_exit()
-    ensures { IsExited }
+    ensures flat { IsExited }
+    ensures span { IsSpanExited }
 {}
 
 /// A call leaves only one state, one list of effects and one r0, in one number of steps.
