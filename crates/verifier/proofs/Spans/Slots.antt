@@ -46,7 +46,7 @@ target_begins : (slots : List (Option Insn)) (s : ℕ) (z : ℤ) → is_target s
 target_begins slots s (pos t) h = some_of (insn_at slots t) (parts (nat_lt s t) (is_some (insn_at slots t)) h).1
 target_begins slots s (negsuc n) h = absurd (false≢true h)
 
-abs_later : (s : ℕ) (z : ℤ) → pos s <ℤ z → s < unsigned_abs z
+pub abs_later : (s : ℕ) (z : ℤ) → pos s <ℤ z → s < unsigned_abs z
 abs_later s (pos t) h = grind (arith, ints)
 abs_later s (negsuc n) h = absurd (grind (arith, ints))
 
