@@ -1,6 +1,6 @@
 //! Why words and one array are enough.
 
-ghost use Rattle.spans.specs.CallLaws.{AreAccessesWithin, AreMessagesKept, AreRequestsShown, AreStepsShown, IsEntryShown};
+ghost use Rattle.spans.specs.CallLaws.{AreAccessesWithin, AreMessagesKept, AreRequestsShown, AreStepsShown, IsEntryShown, IsForward};
 ghost use Rattle.spans.specs.Slices.{TakesSlice, WritesBytes};
 ghost use Rattle.spans.specs.Worked.{IsSpillingTyped};
 
@@ -17,6 +17,11 @@ pub fn steps_are_shown()
 /// and a store is after the message: no test is needed.
 pub fn accesses_stay_within()
     ensures { AreAccessesWithin }
+{}
+
+/// An instruction of typed code leads to no slot but later ones, so each call ends.
+pub fn typed_code_goes_forward()
+    ensures { IsForward }
 {}
 
 /// An array of bytes is a list: n bytes from a on are a slice, and a word is written over the list byte by byte.

@@ -38,6 +38,7 @@ mod span;
 
 pub use call_laws::{
     accesses_stay_within, lists_are_arrays, spilled_place_is_typed, steps_are_shown,
+    typed_code_goes_forward,
 };
 pub use cells::Cells;
 pub use kind::{Reach, SpanKind};
