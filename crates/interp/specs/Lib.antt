@@ -1,5 +1,6 @@
 pub mod Configuration
 pub mod Step
+pub mod WorkedCauses
 pub mod Run
 pub mod HandlerCall
 pub mod Admits

@@ -1,6 +1,8 @@
 //! Laws of every step and every call of typable code.
 
-ghost use Rattle.interp.specs.Laws.{IsEntered, IsExited, IsFound, IsOneCall, IsPreserved, IsWordEntered, IsWordKept};
+ghost use Rattle.interp.specs.Laws.{IsEntered, IsExited, IsFound, IsOneCall, IsPreserved, IsSpanExited, IsWordEntered, IsWordKept};
+ghost use Rattle.interp.specs.WorkedCauses.{AreAccessFaults, AreEndFaults, AreHelperFaults, AreRegisterFaults};
+ghost use Rattle.interp.specs.WorkedCauses.{AreSlotFaults, AreSpanFaults};
 
 /// A step from a configuration that fits its frame is no fault: it exits, or goes to a later slot, whose frame the next
 /// configuration fits, with the same message.
@@ -13,9 +15,10 @@ pub fn calls_fit()
     ensures { IsEntered }
 {}
 
-/// A call of typable code exits within its number of instructions.
+/// A call of typable code exits within its number of instructions, also in form 3.
 pub fn calls_exit()
-    ensures { IsExited }
+    ensures flat { IsExited }
+    ensures span { IsSpanExited }
 {}
 
 /// A call leaves only one state, one list of effects and one r0, in one number of steps.
@@ -32,4 +35,14 @@ pub fn calls_are_found()
 pub fn numbers_stay_words()
     ensures first { IsWordEntered }
     ensures next { IsWordKept }
+{}
+
+/// Each test for a fault is made, and tells its own cause: worked rows, which the compiler checks by computation.
+pub fn faults_have_causes()
+    ensures registers { AreRegisterFaults }
+    ensures accesses { AreAccessFaults }
+    ensures helpers { AreHelperFaults }
+    ensures ends { AreEndFaults }
+    ensures slots { AreSlotFaults }
+    ensures spans { AreSpanFaults }
 {}

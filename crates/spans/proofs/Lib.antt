@@ -18,3 +18,4 @@ pub mod CallEntry
 pub mod Within
 pub mod Slices
 pub mod Worked
+pub mod Typing

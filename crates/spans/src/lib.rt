@@ -15,13 +15,13 @@
 //! decide; [`steps_fit`] and [`calls_fit`] say that code with a typing never comes to a fault. No law says
 //! that the rules refuse no more than they have to.
 //!
-//! A call in words and one array (`specs/Calls`, run by `interp`): the array has the message and
+//! A call in words and one array (run by `interp`): the array has the message and
 //! zeros after it, the state, and the stack (`specs/Concrete`). A place is its address there, modulo
 //! 2 ^ 64 if it lies outside of its region, and a place in a word of the stack is its address in eight
 //! bytes (`specs/Shows`), so no operation has to know what is a place. Code of which there is a typing
 //! (`specs/Typing`) makes no access outside of the array and no store into the message
-//! ([`accesses_stay_within`]), so its operations need no test; and its call ends as the call of the
-//! configurations does ([`calls_are_shown`]).
+//! ([`accesses_stay_within`]), so its operations need no test; and each of its steps does what the step of
+//! the configurations does ([`steps_are_shown`]).
 //!
 //! ```
 //! // in this frame r3 is a number from 1 to 9, and all else as before
@@ -37,8 +37,8 @@ mod laws;
 mod span;
 
 pub use call_laws::{
-    accesses_stay_within, calls_are_shown, lists_are_arrays, messages_are_kept,
-    spilled_place_is_typed, steps_are_shown,
+    accesses_stay_within, lists_are_arrays, spilled_place_is_typed, steps_are_shown,
+    typed_code_goes_forward,
 };
 pub use cells::Cells;
 pub use kind::{Reach, SpanKind};

@@ -18,14 +18,15 @@
 //! file that begins with the magic of no form is refused as no image file.
 //!
 //! [`span_frames_of`] makes the pass of form 3. It tells what is known at each slot of registers and of the stack's
-//! words; [`span_verify`] answers the frames of typable code only. Such code never comes to a fault
-//! ([`typed_calls_are_shown`]). [`transfer`] applies the rules to one instruction: it answers the frames that leave on
-//! its two ways, none on a way that no number takes, or the least of the rules V3 to V10 that is broken.
-//! `specs/Span/Rules` defines that rule and `specs/Span/Ways` the frames that leave. [`rules_are_exact`] says that both
-//! agree with the definition of form 3, which defines only whether frames leave, and which. Each part of [`transfer`]
-//! promises the equation that is its definition: [`alu_rule`] and [`alu_kind`] for arithmetic, [`shown`] for
-//! conditions, [`load_rule`], [`loaded`], [`store_rule`] and [`stored`] for memory, [`call_rule`] and [`answered`] for
-//! helpers. [`entry`] is the frame of the entry, and [`join`] keeps what two frames both say.
+//! words; [`span_verify`] answers the frames of typable code only. Its typing is one of `spans`
+//! ([`typings_are_typings`]), so it never comes to a fault. [`transfer`] applies the rules to one instruction: it
+//! answers the frames that leave on its two ways, none on a way that no number takes, or the least of the rules V3 to
+//! V10 that is broken. `specs/Span/Rules` defines that rule and `specs/Span/Ways` the frames that leave.
+//! [`rules_are_exact`] says that both agree with the definition of form 3, which defines only whether frames leave,
+//! and which. Each part of [`transfer`] promises the equation that is its definition: [`alu_rule`] and [`alu_kind`]
+//! for arithmetic, [`shown`] for conditions, [`load_rule`], [`loaded`], [`store_rule`] and [`stored`] for memory,
+//! [`call_rule`] and [`answered`] for helpers. [`entry`] is the frame of the entry, and [`join`] keeps what two
+//! frames both say.
 //!
 //! What a verdict means is one definition for all forms. `specs/Form` says what a form gives for a slot and which laws
 //! it has to keep, and `specs/Fixpoint` defines the least typing and a refusal. `proofs/Passes` has the lemmas: how a
@@ -90,8 +91,7 @@ pub use span::flat_laws::{
 pub use span::frame::{entry, join};
 pub use span::image::SpanImage;
 pub use span::laws::{
-    form_3_keeps_laws, span_file_refusals_are_one, span_refusals_are_one, typed_calls_are_shown,
-    typings_are_typings,
+    form_3_keeps_laws, span_file_refusals_are_one, span_refusals_are_one, typings_are_typings,
 };
 pub use span::memory::{load_rule, loaded, store_rule, stored};
 pub use span::narrowing::{opposite, shown};

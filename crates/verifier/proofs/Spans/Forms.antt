@@ -23,10 +23,9 @@ use Rattle.verifier.specs.Span.Ways.{ways}
 use Rattle.verifier.proofs.Spans.Exact.{both, exact, neither}
 use Rattle.spans.specs.Typing.{Table, IsTyping, target}
 use Rattle.spans.specs.Typing as calls
-use Rattle.spans.proofs.CallEntry.{calls-shown}
 use Rattle.verifier.specs.Form.{Below, IsForm}
 use Rattle.verifier.specs.Span.Typing.{IsAllowed, broken_at, span_form, IsTyped}
-use Rattle.verifier.specs.Span.Laws.{AreTypedCallsShown, AreTypings, IsOneRefusal, IsPlaced}
+use Rattle.verifier.specs.Span.Laws.{AreTypings, IsOneRefusal, IsPlaced}
 use Rattle.verifier.proofs.Passes.{one_refusal}
 use Rattle.verifier.proofs.Spans.Slots.{later}
 
@@ -194,9 +193,6 @@ are_typings state slots table = (
     allowed = λ s f lt e. of_calls state slots table s f (h.0.each s f e) (h.1 s f e);
   }),
 )
-
-pub typed_calls : AreTypedCallsShown
-typed_calls state long message bytes slots table reply size typed = calls-shown state (length slots) long message bytes (insn_at slots) table reply size (typing_of state slots table typed)
 
 pub one_refusal_3 : IsOneRefusal
 one_refusal_3 state slots = one_refusal (span_form state slots) (form_3 state slots)

@@ -28,6 +28,7 @@ use Rattle.verifier.specs.Span.Transfer.{frame_of}
 use Rattle.decode.specs.Slots.{Follows}
 use Rattle.verifier.specs.Inside.SpanPass.{AreFitting, IsWayWithin}
 use Rattle.verifier.specs.Span.Typing.{table_of}
+use Rattle.spans.proofs.Typing.{abs_later}
 
 -- ---- jumps
 
@@ -45,10 +46,6 @@ target_later slots s (negsuc n) h = absurd (false≢true h)
 target_begins : (slots : List (Option Insn)) (s : ℕ) (z : ℤ) → is_target slots s z ≡ true → (i : Insn) × (insn_at slots (unsigned_abs z) ≡ Some i)
 target_begins slots s (pos t) h = some_of (insn_at slots t) (parts (nat_lt s t) (is_some (insn_at slots t)) h).1
 target_begins slots s (negsuc n) h = absurd (false≢true h)
-
-abs_later : (s : ℕ) (z : ℤ) → pos s <ℤ z → s < unsigned_abs z
-abs_later s (pos t) h = grind (arith, ints)
-abs_later s (negsuc n) h = absurd (grind (arith, ints))
 
 next_later : (s : ℕ) → pos s <ℤ (pos (s + 1) +ℤ pos 0)
 next_later s = grind (arith, ints)

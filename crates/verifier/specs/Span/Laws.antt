@@ -1,16 +1,12 @@
 -- Laws of typings of form 3 and of refusals.
-use Rattle.std.specs.Prelude.{◌≡◌, ◌↔◌, ℕ, ◌^◌, ◌<◌, ◌≤◌, List, [], Option, Some, None, length}
-use Rattle.limits.specs.declared.TheConstants.{PAYLOAD_BYTES, PROCESSES}
+use Rattle.std.specs.Prelude.{◌≡◌, ◌↔◌, ℕ, List, Option, Some, None, length}
 use Rattle.decode.specs.declared.insn.Insn.{Insn}
 use Rattle.decode.specs.Flow.{flow_of}
 use Rattle.decode.specs.Slots.{insn_at}
 use Rattle.regtypes.specs.Rules.{first_broken}
 use Rattle.regtypes.specs.Typing.{flow_tests}
 use Rattle.spans.specs.Frame.{Frame}
-use Rattle.spans.specs.Configuration.{entry}
-use Rattle.spans.specs.Concrete.{array_size, concrete_entry}
 use Rattle.spans.specs.Typing.{Table, IsTyping}
-use Rattle.spans.specs.Calls.{Request, Replies, call_from, concrete_call_from, ShowsLast}
 use Rattle.verifier.specs.Form.{IsForm}
 use Rattle.verifier.specs.Fixpoint as one
 use Rattle.verifier.specs.Span.Rules.{frame_pointer_rule}
@@ -31,17 +27,6 @@ AreTypings =
     (state : ℕ) (slots : List (Option Insn)) (table : Table)
     → IsTyped state slots table
     ↔ (IsTyping state (length slots) (insn_at slots) table × ((s : ℕ) (f : Frame) → table s ≡ Some f → IsPlaced slots s))
-
--- a call of typed code ends within as many steps as there are slots; on words and one array it ends so too, with the
--- same answer, if each answer of a helper is at most 15; so it makes no access outside of the array and no store into
--- the message
-abbrev pub AreTypedCallsShown : Type 0
-AreTypedCallsShown =
-    (state long : ℕ) (message bytes : ℕ → ℕ) (slots : List (Option Insn)) (table : Table) (reply : Replies)
-    → array_size state < 2 ^ 64 → IsTyped state slots table → ((q : List Request) (r : Request) → reply q r ≤ PROCESSES)
-    → long ≤ PAYLOAD_BYTES → ((a : ℕ) → message a < 256) → ((a : ℕ) → bytes a < 256)
-    → ShowsLast state (length slots) (call_from state (insn_at slots) reply (length slots) 0 (entry long message bytes) [])
-    (concrete_call_from state (insn_at slots) reply (length slots) 0 (concrete_entry state long message bytes) [])
 
 -- refused code has one rule and one slot that can be named
 abbrev pub IsOneRefusal : Type 0

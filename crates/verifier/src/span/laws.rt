@@ -2,7 +2,7 @@
 
 ghost use Rattle.verifier.specs.declared.header.Forms.TheVariants.{Span};
 ghost use Rattle.verifier.specs.ImageFile.{IsOneFileRefusal};
-ghost use Rattle.verifier.specs.Span.Laws.{AreTypedCallsShown, AreTypings, IsOneRefusal, KeepsLaws};
+ghost use Rattle.verifier.specs.Span.Laws.{AreTypings, IsOneRefusal, KeepsLaws};
 
 /// Form 3 keeps the laws that let one pass decide: frames are ordered, and a frame that says more is allowed wherever
 /// one that says less is.
@@ -13,12 +13,6 @@ pub fn form_3_keeps_laws()
 /// A typing of form 3 is one that `spans` requires, and under its frames V1, V2 and V4 are kept.
 pub fn typings_are_typings()
     ensures { AreTypings }
-{}
-
-/// A call of typed code ends within as many steps as there are slots. On words and one array it ends the same way, with
-/// no access outside and no store into the message.
-pub fn typed_calls_are_shown()
-    ensures { AreTypedCallsShown }
 {}
 
 /// Refused code has one rule and one slot that can be named.
