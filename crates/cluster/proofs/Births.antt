@@ -12,7 +12,7 @@ use Rattle.cluster.specs.Rules.{Opens, May, does}
 use Rattle.cluster.proofs.Facts.{true-not-false}
 use Rattle.cluster.specs.Overlap.{Event, Acts, Meets, Loses, Leaves}
 use Rattle.cluster.specs.Exact.{Telling, starts, MayStep, step, Steps, after_steps}
-use Rattle.cluster.proofs.Ages.{IsEnding, Plain, is_some, at_stage, has_told, Later, Fine, Real, Aged}
+use Rattle.cluster.proofs.Ages.{IsEnding, Plain, is_some, at_stage, has_told, Knows, Later, Fine, Real, Aged}
 use Rattle.cluster.proofs.DurableTurns.{put-other, opens}
 use Rattle.cluster.proofs.Age.{takes-aged, meets-aged, loses-aged, leaves-aged}
 
@@ -64,13 +64,6 @@ module _ (born : ℕ → ℕ) (now : ℕ) (s : Telling) (h : Aged born now s) (r
   known-same : (p q : ℕ) → p ≢ r → q ≢ r → s.cluster.heard q p ≡ s.cluster.stored p → (does s.cluster (Opens r n)).heard q p ≡ (does s.cluster (Opens r n)).stored p
   known-same p q m o e = heard-same q p o ∙ e ∙ sym (stored-same p m)
 
-  is : (p : ℕ) → (p ≡ r) ⊎ (p ≢ r)
-  is p = split (p == r) refl
-    where
-      split : (b : Bool) → (p == r) ≡ b → (p ≡ r) ⊎ (p ≢ r)
-      split true e = inl (grind (arith, nat_tests))
-      split false e = inr (grind (arith, nat_tests))
-
   -- the life that a packet of before is for isn't r's
   not-now : (i q : ℕ) → i ≤ s.cluster.stored q → i ≡ (does s.cluster (Opens r n)).stored q → q ≢ r
   not-now i q l e f =
@@ -82,13 +75,10 @@ module _ (born : ℕ → ℕ) (now : ℕ) (s : Telling) (h : Aged born now s) (r
       omega arith
 
   later-same : (p q : ℕ) → p ≢ r → Later born s.cluster p q → Later (put born r (suc now)) (does s.cluster (Opens r n)) p q
-  later-same p q m l = elim (is q) [
-    | inl e ↦ (let P : ℕ → Type 0 = λ x. put born r (suc now) p < put born r (suc now) x in inr (inr (subst P (sym e) (newest p m))))
-    | inr o ↦ elim l [
-      | inl w ↦ inl (let e : put s.cluster.stage r Collecting q ≡ s.cluster.stage q = put-other s.cluster.stage r Collecting q o in rw e w)
-      | inr k ↦ elim k [ inl e ↦ inr (inl (put-other s.cluster.stage r Collecting q o ∙ e)) | inr l ↦ inr (inr (less-same p q m o l)) ]
-    ]
-  ]
+  later-same p q m = choose r (λ q _. Later born s.cluster p q → Later (put born r (suc now)) (does s.cluster (Opens r n)) p q) (λ _. inr (inr (newest p m))) (λ q o l. elim l [
+    | inl w ↦ inl (let e : put s.cluster.stage r Collecting q ≡ s.cluster.stage q = put-other s.cluster.stage r Collecting q o in rw e w)
+    | inr k ↦ elim k [ inl e ↦ inr (inl (put-other s.cluster.stage r Collecting q o ∙ e)) | inr l ↦ inr (inr (less-same p q m o l)) ]
+  ]) q
 
   fine-same : (p q : ℕ) (x : Body) → Fine born s.cluster p q x → Fine (put born r (suc now)) (does s.cluster (Opens r n)) p q x
   fine-same p q (Ask i k) f = let a : s.cluster.stored p ≤ (does s.cluster (Opens r n)).stored p = more p in let l : i ≤ s.cluster.stored p = f.1 in (f.0, omega arith)
@@ -102,10 +92,8 @@ module _ (born : ℕ → ℕ) (now : ℕ) (s : Telling) (h : Aged born now s) (r
         f.2,
         λ e.
             let o : q ≢ r = not-now i q l e in
-            elim (is p) [
-              | inl z ↦ (let P : ℕ → Type 0 = λ x. put born r (suc now) q < put born r (suc now) x in inr (subst P (sym z) (newest q o)))
-              | inr z ↦ elim (f.3 (e ∙ stored-same q o)) [ inl v ↦ inl (known-same q p o z v.0, v.1 ∙ sym (stored-same p z)) | inr v ↦ inr (less-same q p o z v) ]
-            ],
+            choose r (λ p _. ((s.cluster.heard p q ≡ s.cluster.stored q) × (j ≡ s.cluster.stored p)) ⊎ (born q < born p) → (((does s.cluster (Opens r n)).heard p q ≡ (does s.cluster (Opens r n)).stored q) × (j ≡ (does s.cluster (Opens r n)).stored p)) ⊎ (put born r (suc now) q < put born r (suc now) p))
+            (λ _. inr (newest q o)) (λ p z k. elim k [ inl v ↦ inl (known-same q p o z v.0, v.1 ∙ sym (stored-same p z)) | inr v ↦ inr (less-same q p o z v) ]) p (f.3 (e ∙ stored-same q o)),
       )
   fine-same p q (Restored i j m t u g) f = let a : s.cluster.stored p ≤ (does s.cluster (Opens r n)).stored p = more p in let l : j ≤ s.cluster.stored p = f in omega arith
   fine-same p q other f = tt
@@ -119,19 +107,15 @@ module _ (born : ℕ → ℕ) (now : ℕ) (s : Telling) (h : Aged born now s) (r
 
   -- whoever has an answer isn't r
   told-before : (p q : ℕ) → has_told (does s.cluster (Opens r n)) p q ≡ true → (p ≢ r) × (has_told s.cluster p q ≡ true)
-  told-before p q e = elim (is p) [
-    | inl z ↦ absurd (
-        let none : ℕ → Option Collected = λ _. None in
-        let P : ℕ → Type 0 = λ x. has_told (does s.cluster (Opens r n)) x q ≡ true in
-        let f : has_told (does s.cluster (Opens r n)) r q ≡ true = subst P z e in
-        let g : has_told (does s.cluster (Opens r n)) r q ≡ false = at-itself r (λ b. at_stage (if b then Collecting else s.cluster.stage r) (is_some ((if b then none else s.cluster.told r) q)) ≡ false) refl in
-        true-not-false f g)
-    | inr m ↦
-        let none : ℕ → Option Collected = λ _. None in
-        let a : put s.cluster.stage r Collecting p ≡ s.cluster.stage p = put-other s.cluster.stage r Collecting p m in
-        let b : put s.cluster.told r none p ≡ s.cluster.told p = put-other s.cluster.told r none p m in
-        (m, sym (ap (λ x. at_stage x (is_some (s.cluster.told p q))) a) ∙ sym (ap (λ (x : ℕ → Option Collected). at_stage (put s.cluster.stage r Collecting p) (is_some (x q))) b) ∙ e)
-  ]
+  told-before p q = choose r (λ p _. has_told (does s.cluster (Opens r n)) p q ≡ true → (p ≢ r) × (has_told s.cluster p q ≡ true))
+      (λ e.
+      let none : ℕ → Option Collected = λ _. None in
+      absurd (true-not-false e (at-itself r (λ b. at_stage (if b then Collecting else s.cluster.stage r) (is_some ((if b then none else s.cluster.told r) q)) ≡ false) refl)))
+      (λ p m e.
+      let none : ℕ → Option Collected = λ _. None in
+      let a : put s.cluster.stage r Collecting p ≡ s.cluster.stage p = put-other s.cluster.stage r Collecting p m in
+      let b : put s.cluster.told r none p ≡ s.cluster.told p = put-other s.cluster.told r none p m in
+      (m, sym (ap (λ x. at_stage x (is_some (s.cluster.told p q))) a) ∙ sym (ap (λ (x : ℕ → Option Collected). at_stage (put s.cluster.stage r Collecting p) (is_some (x q))) b) ∙ e)) p
 
   pub opens-aged : (exact lost : Bool) → Aged (put born r (suc now)) (suc now) (step s (Acts exact lost (Opens r n)))
   opens-aged exact lost =
@@ -140,10 +124,8 @@ module _ (born : ℕ → ℕ) (now : ℕ) (s : Telling) (h : Aged born now s) (r
         plain = plain;
         parcels = λ p q x i. let f = h.parcels p q x i in (f.0, fine-same p q x f.1);
         said = λ y i e. real-same y.packet.from y.packet.to y.packet.body (h.said y i e);
-        knows = λ p q l m e. let t = told-before p q e in elim (is q) [
-          | inl z ↦ (let P : ℕ → Type 0 = λ x. put born r (suc now) p < put born r (suc now) x in inr (subst P (sym z) (newest p t.0)))
-          | inr z ↦ elim (h.knows p q l m t.1) [ inl v ↦ inl (known-same p q t.0 z v.0, known-same q p z t.0 v.1) | inr v ↦ inr (less-same p q t.0 z v) ]
-        ];
+        knows = λ p q l m e. let t = told-before p q e in choose r (λ q _. q ≤ s.cluster.world.count → p ≢ q → has_told s.cluster p q ≡ true → Knows (put born r (suc now)) (does s.cluster (Opens r n)) p q) (λ _ _ _. inr (newest p t.0))
+            (λ q z l m u. elim (h.knows p q l m u) [ inl v ↦ inl (known-same p q t.0 z v.0, known-same q p z t.0 v.1) | inr v ↦ inr (less-same p q t.0 z v) ]) q l m t.1;
         later = λ p q l m e w f.
             let t = told-before p q e in
             let g : put s.cluster.stage r Collecting p ≡ s.cluster.stage p = put-other s.cluster.stage r Collecting p t.0 in

@@ -118,12 +118,9 @@ module _ (p d k : ℕ) (other : d ≢ p) where
           inside = h.inside;
           covers = h.covers;
           gone = λ r e. h.gone (choose q (λ j t. runs (if t then Dead else c.stage j) ≡ true → runs (c.stage j) ≡ true) (λ y. absurd (cc)) (λ j _ y. y) p r) e;
-          told = λ i j n s u f a y z. alive n (p == q) y (λ o. h.told i j n s u f a o z);
+          told = λ i j n s u f a y z. choose q (λ x t. (c.stage x ≢ Dead → ((runs (c.stage x) ≡ true) × (k ≤ c.world.trims p d)) ⊎ (k ≤ n)) → (if t then Dead else c.stage x) ≢ Dead → ((runs (if t then Dead else c.stage x) ≡ true) × (k ≤ c.world.trims p d)) ⊎ (k ≤ n))
+              (λ _ y. absurd (y refl)) (λ x _ old. old) p (λ o. h.told i j n s u f a o z) y;
         }
-      where
-        alive : (n : ℕ) (t : Bool) → (if t then Dead else c.stage p) ≢ Dead → (c.stage p ≢ Dead → ((runs (c.stage p) ≡ true) × (k ≤ c.world.trims p d)) ⊎ (k ≤ n)) → ((runs (if t then Dead else c.stage p) ≡ true) × (k ≤ c.world.trims p d)) ⊎ (k ≤ n)
-        alive n true y m = absurd (y refl)
-        alive n false y m = m y
 
     -- what was put out for an earlier incarnation isn't for a new one
     opens : (q m : ℕ) → Dropped (does c (Opens q m))
@@ -132,13 +129,10 @@ module _ (p d k : ℕ) (other : d ≢ p) where
           inside = h.inside;
           covers = h.covers;
           gone = λ r e. h.gone (choose q (λ j t. runs (if t then Collecting else c.stage j) ≡ true → runs (c.stage j) ≡ true) (λ y. absurd (cc)) (λ j _ y. y) p r) e;
-          told = λ i j n s u f a y z. later i n (p == q) refl (let g : i ≤ c.world.incarnation p = (agrees.parcels d p (Restored i j n s u f) a).3.past in let o : c.world.incarnation p ≤ c.stored p = agrees.stages.lives p in omega arith) y z (λ o w. h.told i j n s u f a o w);
+          told = λ i j n s u f a y z. choose q (λ x t. i ≤ c.stored x → (c.stage x ≢ Dead → i ≡ c.stored x → ((runs (c.stage x) ≡ true) × (k ≤ c.world.trims p d)) ⊎ (k ≤ n)) → (if t then Collecting else c.stage x) ≢ Dead → i ≡ (if t then suc (m + c.stored q) else c.stored x)
+              → ((runs (if t then Collecting else c.stage x) ≡ true) × (k ≤ c.world.trims p d)) ⊎ (k ≤ n)) (λ l _ _ g. absurd (omega arith)) (λ x _ _ old. old) p
+              (let g : i ≤ c.world.incarnation p = (agrees.parcels d p (Restored i j n s u f) a).3.past in let o : c.world.incarnation p ≤ c.stored p = agrees.stages.lives p in omega arith) (λ o w. h.told i j n s u f a o w) y z;
         }
-      where
-        later : (i n : ℕ) (t : Bool) → (p == q) ≡ t → i ≤ c.stored p → (if t then Collecting else c.stage p) ≢ Dead → i ≡ (if t then suc (m + c.stored q) else c.stored p)
-            → (c.stage p ≢ Dead → i ≡ c.stored p → ((runs (c.stage p) ≡ true) × (k ≤ c.world.trims p d)) ⊎ (k ≤ n)) → ((runs (if t then Collecting else c.stage p) ≡ true) × (k ≤ c.world.trims p d)) ⊎ (k ≤ n)
-        later i n true e l y z old = let same : p ≡ q = grind (arith, nat_tests) in let P : ℕ → Type 0 = λ x. i ≤ c.stored x in let r : i ≤ c.stored q = subst P same l in absurd (omega arith)
-        later i n false e l y z old = old y z
 
     -- who recovers has no answer yet
     recovers : (q m : ℕ) → May c (Recovers q m) → (x : Phase) → ((r : ℕ) → 0 < r → r ≤ c.world.count → r ≢ q → is_restored x r ≡ true → ⊥) → Dropped (record (taken_back c q m) { world = record (taken_back c q m).world { phase = put c.world.phase q x } })
@@ -147,7 +141,8 @@ module _ (p d k : ℕ) (other : d ≢ p) where
           inside = h.inside;
           covers = (let y : covered c.world p d ≤ covered (taken_back c q m).world p d = covered-grows c (taken_back c q m) (takes-back c q m (lawful.sound.saved q)) p d in let z : k ≤ covered c.world p d = h.covers in omega arith);
           gone = back (p == q) refl;
-          told = λ i j n s u f a y z. again i n (p == q) refl y z (λ o. h.told i j n s u f a o z);
+          told = λ i j n s u f a y z. choose q (λ x t. (c.stage x ≢ Dead → ((runs (c.stage x) ≡ true) × (k ≤ c.world.trims x d)) ⊎ (k ≤ n)) → (if t then Live else c.stage x) ≢ Dead → ((runs (if t then Live else c.stage x) ≡ true) × (k ≤ (if t then c.world.saved_trims q else c.world.trims x) d)) ⊎ (k ≤ n))
+              (λ old _. elim (old (λ o. let t : Collecting ≡ Dead = sym may.1 ∙ o in cc)) [ inl g ↦ absurd (true-not-false g.0 (ap runs may.1)) | inr g ↦ inr g ]) (λ x _ old. old) p (λ o. h.told i j n s u f a o z) y;
         }
       where
         back : (t : Bool) → (p == q) ≡ t → runs (if t then Live else c.stage p) ≡ true → (if d == 0 then (if t then false else c.greeted p) else is_restored (if t then x else c.world.phase p) d) ≡ true → k ≤ (if t then c.world.saved_trims q else c.world.trims p) d
@@ -160,15 +155,6 @@ module _ (p d k : ℕ) (other : d ≢ p) where
             none : (t : Bool) → (d == 0) ≡ t → (if t then false else is_restored x d) ≡ true → ⊥
             none true g w = cc
             none false g w = unrestored d (grind (arith, nat_tests)) h.inside (λ o. other (o ∙ sym same)) w
-
-        again : (i n : ℕ) (t : Bool) → (p == q) ≡ t → (if t then Live else c.stage p) ≢ Dead → i ≡ c.stored p → (c.stage p ≢ Dead → ((runs (c.stage p) ≡ true) × (k ≤ c.world.trims p d)) ⊎ (k ≤ n))
-            → ((runs (if t then Live else c.stage p) ≡ true) × (k ≤ (if t then c.world.saved_trims q else c.world.trims p) d)) ⊎ (k ≤ n)
-        again i n false e y z old = old y
-        again i n true e y z old =
-            let same : p ≡ q = grind (arith, nat_tests) in
-            let P : ℕ → Type 0 = λ j. c.stage j ≡ Collecting in
-            let at : c.stage p ≡ Collecting = subst P (sym same) may.1 in
-            elim (old (λ o. cc)) [ inl g ↦ absurd (let w : runs (c.stage p) ≡ false = ap runs at in true-not-false g.0 w) | inr g ↦ inr g ]
 
     -- the answer that p waited for tells it
     answered : (q r i j n s : ℕ) (u : Option ℕ) (f : ℕ → Option ℕ) → In (parcel r q (Restored i j n s u f)) c.parcels → c.stage q ≡ Live → i ≡ c.world.incarnation q → p ≡ q → d ≡ r → k ≤ max (c.world.trims q r) n

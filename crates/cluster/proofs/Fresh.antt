@@ -208,48 +208,36 @@ module _ (p : ℕ) where
 
       collects : (r v i j k : ℕ) (u : Option ℕ) (f : ℕ → Option Message) → May c (Arrives r v (Told i j k u f)) → Of (does c (Arrives r v (Told i j k u f))) (c.world.saved p) took
       collects r v i j k u f may =
-          record { begins = h.begins; numbers = h.numbers; told = h.told; collected = λ q s. split q (p == v) refl (q == r) refl s }
+          record { begins = h.begins; numbers = h.numbers; told = h.told; collected = collected }
         where
-          split : (q : ℕ) (t : Bool) → (p == v) ≡ t → (w : Bool) → (q == r) ≡ w → c.stage p ≡ Collecting → IsOf (c.world.saved p) took q (if t && w then Some (with_page (c.told v r) k u f) else c.told p q)
-          split q false e w g s = h.collected q s
-          split q true e false g s = h.collected q s
-          split q true e true g s =
-              let same : v ≡ p = grind (arith, nat_tests) in
-              let here : r ≡ q = grind (arith, nat_tests) in
-              let P : ℕ → ℕ → Type 0 = λ x y. In (parcel y x (Told i j k u f)) c.parcels × (i ≡ c.stored x) × Asks (c.world.saved x) (c.told x y) k in
-              let Q : ℕ → Type 0 = λ x. P x r in
-              let R : ℕ → Type 0 = λ y. P p y in
-              let t : P p q = subst R here (subst Q same (may.0, may.1.1, may.1.3)) in
-              let m = h.told q i j k u f t.0 s t.1 in
-              let S : ℕ → ℕ → Type 0 = λ x y. IsOf (c.world.saved p) took q (Some (with_page (c.told x y) k u f)) in
-              let U : ℕ → Type 0 = λ x. S x r in
-              let V : ℕ → Type 0 = λ y. S p y in
-              subst U (sym same) (subst V (sym here) (page-of q k u f (c.told p q) t.2 (h.collected q s) m.0 m.1))
+          here : v ≡ p → c.stage p ≡ Collecting → IsOf (c.world.saved p) took r (Some (with_page (c.told v r) k u f))
+          here e s =
+              let P : ℕ → Type 0 = λ x. In (parcel r x (Told i j k u f)) c.parcels × (i ≡ c.stored x) × Asks (c.world.saved x) (c.told x r) k in
+              let t = subst P e (may.0, may.1.1, may.1.3) in
+              let m = h.told r i j k u f t.0 s t.1 in
+              let Q : ℕ → Type 0 = λ x. IsOf (c.world.saved p) took r (Some (with_page (c.told x r) k u f)) in
+              subst Q (sym e) (page-of r k u f (c.told p r) t.2 (h.collected r s) m.0 m.1)
+
+          collected : (q : ℕ) → c.stage p ≡ Collecting → IsOf (c.world.saved p) took q (put2 c.told v r (Some (with_page (c.told v r) k u f)) p q)
+          collected q s = choose2 v r (λ x y t. x ≡ p → IsOf (c.world.saved p) took y (if t then Some (with_page (c.told v r) k u f) else c.told x y)) (λ e. here e s)
+              (λ x y _ e. let P : ℕ → Type 0 = λ z. IsOf (c.world.saved p) took y (c.told z y) in subst P (sym e) (h.collected y s)) p q refl
 
       -- p keeps the first of what it had
       recovers : (r n : ℕ) → May c (Recovers r n) → Of (taken_back c r n) (c.world.saved p) took
       recovers r n may =
           record {
-            begins = λ m x e. h.begins m x (kept (p == r) refl m x e);
+            begins = λ m x e. h.begins m x (kept m x e);
             numbers = λ q ssn m qa ne e low. h.numbers q ssn m qa ne (choose r (λ j t. (if t then (λ (a i : ℕ). None) else c.world.numbers j) p ssn ≡ Some m → c.world.numbers j p ssn ≡ Some m) (λ f. absurd (cc)) (λ j _ f. f) q e) low;
             told = λ q i j k u f a s e. h.told q i j k u f a (back s) e;
-            collected = λ q s. again (p == r) q s;
+            collected = λ q. choose r (λ j t. (c.stage j ≡ Collecting → IsOf (c.world.saved p) took q (c.told j q)) → (if t then Live else c.stage j) ≡ Collecting → IsOf (c.world.saved p) took q ((if t then (λ (i : ℕ). None) else c.told j) q)) (λ _ _. tt) (λ j _ k. k) p (h.collected q);
           }
         where
           back : put c.stage r Live p ≡ Collecting → c.stage p ≡ Collecting
           back = choose r (λ j t. (if t then Live else c.stage j) ≡ Collecting → c.stage j ≡ Collecting) (λ e. absurd (cc)) (λ j _ e. e) p
 
-          kept : (t : Bool) → (p == r) ≡ t → (m : ℕ) (x : Message) → nth (if t then kept_by c r n else c.world.history p) m ≡ Some x → nth (c.world.history p) m ≡ Some x
-          kept false e m x f = f
-          kept true e m x f =
-              let same : r ≡ p = grind (arith, nat_tests) in
-              let P : List Message → Type 0 = λ z. nth z m ≡ Some x in
-              let Q : ℕ → Type 0 = λ j. nth (c.world.history j) m ≡ Some x in
-              subst Q same (nth-take (c.world.history r) n m x (subst P (kept-is c b r n agrees lawful may) f))
-
-          again : (t : Bool) (q : ℕ) → (if t then Live else c.stage p) ≡ Collecting → IsOf (c.world.saved p) took q ((if t then (λ (i : ℕ). None) else c.told p) q)
-          again true q s = tt
-          again false q s = h.collected q s
+          kept : (m : ℕ) (x : Message) → nth (put c.world.history r (kept_by c r n) p) m ≡ Some x → nth (c.world.history p) m ≡ Some x
+          kept m x = choose r (λ j t. nth (if t then kept_by c r n else c.world.history j) m ≡ Some x → nth (c.world.history j) m ≡ Some x)
+              (λ f. let P : List Message → Type 0 = λ z. nth z m ≡ Some x in nth-take (c.world.history r) n m x (subst P (kept-is c b r n agrees lawful may) f)) (λ j _ f. f) p
 
       -- numbers above k are forgotten
       obeys : (u v i k s : ℕ) → Of (does c (Arrives u v (Resume i k s))) (c.world.saved p) took
@@ -284,21 +272,15 @@ module _ (p : ℕ) where
       -- what was told before p was opened is to an earlier incarnation
       opens : (r n : ℕ) → Of (does c (Opens r n)) (c.world.saved p) took
       opens r n =
-          record { begins = h.begins; numbers = h.numbers; told = λ q i j k u f a s e. later q i j k u f a (p == r) refl s e; collected = λ q s. new (p == r) q s }
-        where
-          later : (q i j k : ℕ) (u : Option ℕ) (f : ℕ → Option Message) → In (parcel q p (Told i j k u f)) c.parcels → (t : Bool) → (p == r) ≡ t → (if t then Collecting else c.stage p) ≡ Collecting → i ≡ (if t then suc (n + c.stored r) else c.stored p)
-              → ((v : ℕ) → u ≡ Some v → k < v) × ((m : ℕ) (x : Message) → k < m → reaches u m ≡ true → f m ≡ Some x → c.world.saved p < m → Names took m q x.ssn)
-          later q i j k u f a false e s g = h.told q i j k u f a s g
-          later q i j k u f a true e s g =
-              let same : p ≡ r = grind (arith, nat_tests) in
-              let l : i ≤ c.stored p = (agrees.parcels q p (Told i j k u f) a).3.past in
-              let P : ℕ → Type 0 = λ x. i ≤ c.stored x in
-              let m : i ≤ c.stored r = subst P same l in
-              absurd (omega arith)
-
-          new : (t : Bool) (q : ℕ) → (if t then Collecting else c.stage p) ≡ Collecting → IsOf (c.world.saved p) took q ((if t then (λ (i : ℕ). None) else c.told p) q)
-          new true q s = tt
-          new false q s = h.collected q s
+          record {
+            begins = h.begins;
+            numbers = h.numbers;
+            told = λ q i j k u f a.
+                let X : Type 0 = ((v : ℕ) → u ≡ Some v → k < v) × ((m : ℕ) (x : Message) → k < m → reaches u m ≡ true → f m ≡ Some x → c.world.saved p < m → Names took m q x.ssn) in
+                choose r (λ x t. i ≤ c.stored x → (c.stage x ≡ Collecting → i ≡ c.stored x → X) → (if t then Collecting else c.stage x) ≡ Collecting → i ≡ (if t then suc (n + c.stored r) else c.stored x) → X)
+                (λ l _ _ g. absurd (omega arith)) (λ x _ _ k. k) p (agrees.parcels q p (Told i j k u f) a).3.past (h.told q i j k u f a);
+            collected = λ q. choose r (λ j t. (c.stage j ≡ Collecting → IsOf (c.world.saved p) took q (c.told j q)) → (if t then Collecting else c.stage j) ≡ Collecting → IsOf (c.world.saved p) took q ((if t then (λ (i : ℕ). None) else c.told j) q)) (λ _ _. tt) (λ j _ k. k) p (h.collected q);
+          }
 
       -- another works, or has a durable checkpoint
       works : (r : ℕ) (m : Message) → (p == r) ≡ false → Of (does c (Works r m)) (c.world.saved p) took

@@ -4,7 +4,7 @@ use Rattle.std.specs.Prelude.{None, not, ◌&&◌, ◌||◌, ◌==◌, nat_lt, i
 use Rattle.std.proofs.lemmas.Bool.Decides.{nat_tests}
 use Rattle.world.specs.declared.call.Call.TheVariants.{Finish, ReplayBegin}
 use Rattle.world.specs.declared.answer.Answer.TheVariants.{Started, Replayed}
-use Rattle.world.specs.Phases.{Phase, Replaying, is_up, is_busy, is_working, has}
+use Rattle.world.specs.Phases.{Phase, Replaying, is_up, is_down, is_busy, is_working, has}
 use Rattle.world.specs.World.{World, put, is_inside}
 use Rattle.world.specs.Logs.{length_in, sent_in_all}
 use Rattle.world.specs.Bounds.{open_jobs}
@@ -24,7 +24,7 @@ use Rattle.cluster.specs.Inside.Simulation.{IsJournalOf}
 use Rattle.cluster.proofs.Worlds.{Lawful, leads-by}
 use Rattle.cluster.proofs.CountLemmas.{put-put}
 use Rattle.cluster.proofs.Facts.{runs-live, true-not-false, none-so-far}
-use Rattle.cluster.proofs.Turns.{agrees-turn}
+use Rattle.cluster.proofs.Turns.{Turn, agrees-turn}
 use Rattle.cluster.proofs.Wires.{step-of, leads-one, below-self}
 
 -- who restores its numbers has no job open
@@ -87,11 +87,35 @@ step-replays c b p j h l may = split (nat_lt (c.world.saved p + suc j) (length (
     blank : (q ssn : ℕ) → c.world.numbers p q ssn ≡ None
     blank q ssn = h.numbered.partly p q ssn (rw at refl) ∙ none-so-far c p q ssn (h.numbered.begins p q (rw at refl))
 
-    greets : (q : ℕ) → q ≤ c.world.count → q ≢ p → runs (c.stage q) ≡ true → c.heard q p ≡ c.world.incarnation p → (q == 0) ≡ true → c.greeted p ≡ true → c.resumed q p ≡ true
-    greets q a n o y z e = (h.hearing.heard q p a may.0.1 n o).obeyed y (rw z e)
+    -- it turns to a phase in which it has no answer of a node
+    turn : (x : Phase) → is_down x ≡ false → is_busy x ≡ false → is_working x ≡ false → ((q : ℕ) → (q == 0) ≡ false → q ≤ c.world.count → q ≢ p → is_restored x q ≡ true → ⊥)
+        → length_in (c.world.history p) (c.world.saved p) (c.world.phase p) ≤ length_in (c.world.history p) (c.world.saved p) x → Turn c b p x
+    turn x live busy working none forth =
+        record {
+          node = may.0;
+          stage = may.1;
+          was = rw at refl;
+          live = live;
+          busy = busy;
+          working = working;
+          obeys = λ q a n o y f. obeys q a n o y (q == 0) refl f;
+          clears = λ q a n e f. absurd (clears q a n e (q == 0) refl f);
+          less = λ q _. rw at refl;
+          again = λ _. rw at refl;
+          blank = λ q ssn _ _. blank q ssn;
+          forth = forth;
+        }
+      where
+        obeys : (q : ℕ) → q ≤ c.world.count → q ≢ p → runs (c.stage q) ≡ true → c.heard q p ≡ c.world.incarnation p → (t : Bool) → (q == 0) ≡ t → (if t then c.greeted p else is_restored x q) ≡ true → c.resumed q p ≡ true
+        obeys q a n o y true z f = (h.hearing.heard q p a may.0.1 n o).obeyed y (rw z f)
+        obeys q a n o y false z f = absurd (none q z a n f)
 
-    never : (q : ℕ) → (q == 0) ≡ true → is_answered c p q ≡ false → c.greeted p ≡ true → ⊥
-    never q z e f = true-not-false f (let P : Bool → Type 0 = λ t. (if t then c.greeted p else is_restored (c.world.phase p) q) ≡ false in subst P z e)
+        clears : (q : ℕ) → q ≤ c.world.count → q ≢ p → is_answered c p q ≡ false → (t : Bool) → (q == 0) ≡ t → (if t then c.greeted p else is_restored x q) ≡ true → ⊥
+        clears q a n e true z f = true-not-false f (let P : Bool → Type 0 = λ t. (if t then c.greeted p else is_restored (c.world.phase p) q) ≡ false in subst P z e)
+        clears q a n e false z f = none q z a n f
+
+    beside : (d : Cluster) → Agrees d b → Agrees d b'
+    beside d a = record { phases = a.phases; stages = a.stages; trimmed = a.trimmed; untrimmed = a.untrimmed; numbered = a.numbered; hearing = a.hearing; wired = a.wired; parcels = a.parcels }
 
     split : (t : Bool) → nat_lt (c.world.saved p + suc j) (length (c.world.history p)) ≡ t → IsJournalOf (world c b) (if t then record c { world = record c.world { phase = put c.world.phase p (Replaying (suc j) false false) } } else goes_on c p (peers c.world p false))
     split true e =
@@ -99,53 +123,18 @@ step-replays c b p j h l may = split (nat_lt (c.world.saved p + suc j) (length (
           beside = b';
           leads = leads-to (world (record c { world = record c.world { phase = put c.world.phase p (Replaying (suc j) false false) } }) b')
               (rw e (ap (λ (f : ℕ → Phase). record (world c b) { phase = f; started = b.started + 1 }) (put-put c.world.phase p (Replaying j true false) (Replaying (suc j) false false))));
-          agrees = agrees-beside (agrees-turn c b p (Replaying (suc j) false false) c.world.released l.sound.grows (λ q r. omega arith) (record {
-            node = may.0;
-            stage = may.1;
-            was = rw at refl;
-            live = refl;
-            busy = refl;
-            working = refl;
-            obeys = λ q a n o y f. obeys q a n o y (q == 0) refl f;
-            clears = λ q a n e f. absurd (clears q a n e (q == 0) refl f);
-            less = λ q _. rw at refl;
-            again = λ _. rw at refl;
-            blank = λ q ssn _ _. blank q ssn;
-            forth = rw at (omega arith);
-          }) h);
+          agrees = beside (record c { world = record c.world { phase = put c.world.phase p (Replaying (suc j) false false) } }) (agrees-turn c b p (Replaying (suc j) false false) c.world.released l.sound.grows (λ q r. omega arith)
+              (turn (Replaying (suc j) false false) refl refl refl (λ q z a n f. cc) (rw at (omega arith))) h);
         }
-      where
-        obeys : (q : ℕ) → q ≤ c.world.count → q ≢ p → runs (c.stage q) ≡ true → c.heard q p ≡ c.world.incarnation p → (t : Bool) → (q == 0) ≡ t → (if t then c.greeted p else false) ≡ true → c.resumed q p ≡ true
-        obeys q a n o y true z f = greets q a n o y z f
-        obeys q a n o y false z f = absurd (cc)
-
-        clears : (q : ℕ) → q ≤ c.world.count → q ≢ p → is_answered c p q ≡ false → (t : Bool) → (q == 0) ≡ t → (if t then c.greeted p else false) ≡ true → ⊥
-        clears q a n e true z f = never q z e f
-        clears q a n e false z f = cc
-
-        agrees-beside : Agrees (record c { world = record c.world { phase = put c.world.phase p (Replaying (suc j) false false) } }) b → Agrees (record c { world = record c.world { phase = put c.world.phase p (Replaying (suc j) false false) } }) b'
-        agrees-beside a = record { phases = a.phases; stages = a.stages; trimmed = a.trimmed; untrimmed = a.untrimmed; numbered = a.numbered; hearing = a.hearing; wired = a.wired; parcels = a.parcels }
     split false e =
         record {
           beside = b';
           leads = leads-to (world (goes_on c p (peers c.world p false)) b')
               (rw e (ap (λ (f : ℕ → Phase). record (world c b) { phase = f; released = put c.world.released p (released_with c.world p (peers c.world p false)); started = b.started + 1 }) (put-put c.world.phase p (Replaying j true false) (phase_with (peers c.world p false)))));
-          agrees = agrees-beside (agrees-turn c b p (phase_with (peers c.world p false)) (put c.world.released p (released_with c.world p (peers c.world p false))) l.sound.grows
+          agrees = beside (goes_on c p (peers c.world p false)) (agrees-turn c b p (phase_with (peers c.world p false)) (put c.world.released p (released_with c.world p (peers c.world p false))) l.sound.grows
               (released-more c.world p (peers c.world p false) (λ d. let x : c.world.released p d ≤ _ = (l.tidy p).gated d in let y = sent-more c.world l.sound.grows p (c.world.history p) d (length_in (c.world.history p) (c.world.saved p) (c.world.phase p)) (length (c.world.history p)) short in rw (take-all (c.world.history p)) at (most x y)))
-              (record {
-                node = may.0;
-                stage = may.1;
-                was = rw at refl;
-                live = with-down (peers c.world p false);
-                busy = with-busy (peers c.world p false);
-                working = with-working (peers c.world p false);
-                obeys = λ q a n o y f. obeys q a n o y (q == 0) refl f;
-                clears = λ q a n e f. absurd (clears q a n e (q == 0) refl f);
-                less = λ q _. rw at refl;
-                again = λ _. rw at refl;
-                blank = λ q ssn _ _. blank q ssn;
-                forth = rw (with-length (peers c.world p false) (c.world.history p) (c.world.saved p)) short;
-              }) h);
+              (turn (phase_with (peers c.world p false)) (with-down (peers c.world p false)) (with-busy (peers c.world p false)) (with-working (peers c.world p false)) (λ q z a n f. true-not-false (is-peer c.world p q (grind (arith, nat_tests)) a n) (with-restored (peers c.world p false) q f))
+              (rw (with-length (peers c.world p false) (c.world.history p) (c.world.saved p)) short)) h);
         }
       where
         short : length_in (c.world.history p) (c.world.saved p) (c.world.phase p) ≤ length (c.world.history p)
@@ -153,14 +142,3 @@ step-replays c b p j h l may = split (nat_lt (c.world.saved p + suc j) (length (
 
         most : {x y z : ℕ} → x ≤ y → y ≤ z → x ≤ z
         most a b = omega arith
-
-        obeys : (q : ℕ) → q ≤ c.world.count → q ≢ p → runs (c.stage q) ≡ true → c.heard q p ≡ c.world.incarnation p → (t : Bool) → (q == 0) ≡ t → (if t then c.greeted p else is_restored (phase_with (peers c.world p false)) q) ≡ true → c.resumed q p ≡ true
-        obeys q a n o y true z f = greets q a n o y z f
-        obeys q a n o y false z f = absurd (true-not-false (is-peer c.world p q (grind (arith, nat_tests)) a n) (with-restored (peers c.world p false) q f))
-
-        clears : (q : ℕ) → q ≤ c.world.count → q ≢ p → is_answered c p q ≡ false → (t : Bool) → (q == 0) ≡ t → (if t then c.greeted p else is_restored (phase_with (peers c.world p false)) q) ≡ true → ⊥
-        clears q a n e true z f = never q z e f
-        clears q a n e false z f = true-not-false (is-peer c.world p q (grind (arith, nat_tests)) a n) (with-restored (peers c.world p false) q f)
-
-        agrees-beside : Agrees (goes_on c p (peers c.world p false)) b → Agrees (goes_on c p (peers c.world p false)) b'
-        agrees-beside a = record { phases = a.phases; stages = a.stages; trimmed = a.trimmed; untrimmed = a.untrimmed; numbered = a.numbered; hearing = a.hearing; wired = a.wired; parcels = a.parcels }

@@ -35,8 +35,8 @@ both_fall s =
     taken (Dies 1 ∷ Dies 2 ∷ Opens 1 0 ∷ Opens 2 0 ∷ asks 2 0 2 s ++ tells 2 0 2 1 s no_entries ++ asks 2 1 2 s) ++ Loses 1 2 2 2 s ∷ []
 
 -- node 2 takes that, and keeps s messages
-abbrev pub keeps : ℕ → List Event
-keeps s = Acts false true (Arrives 1 2 (Told 2 2 s None no_entries)) ∷ Acts true false (Recovers 2 s) ∷ []
+abbrev pub takes_loss : ℕ → List Event
+takes_loss s = Acts false true (Arrives 1 2 (Told 2 2 s None no_entries)) ∷ Acts true false (Recovers 2 s) ∷ []
 
 -- no node is durable; the states don't matter
 abbrev pub none_durable : ℕ → Bool
@@ -52,11 +52,11 @@ until_told x = taken (passed_on x ++ acknowledged x) ++ both_fall 0
 
 -- and then node 2 takes that, and recovers
 abbrev pub told_of_loss : Payload → List Event
-told_of_loss x = until_told x ++ keeps 0
+told_of_loss x = until_told x ++ takes_loss 0
 
 -- the run of nodes that are
 abbrev pub durable_run : Payload → List Event
-durable_run x = taken (passed_on x ++ covered x) ++ both_fall 1 ++ keeps 1
+durable_run x = taken (passed_on x ++ covered x) ++ both_fall 1 ++ takes_loss 1
 
 -- if no node is durable, the shown output is an orphan: node 2 has nothing any more
 abbrev pub MeetingFailuresLose : Type 0
