@@ -52,7 +52,7 @@ module _ (f : Answering) (states : ℕ → List ℕ) (n : ℕ) (s : System) (act
 
   -- p is of so many
   is-of : (p : ℕ) → IsFirst n p → IsOf p n (s.processes p)
-  is-of p first = let h = r.holds in subst (λ k. IsOf p k (s.processes p)) h.count (stands-of (s.processes p) c p (h.processes p first))
+  is-of p first = let h = r.holds in subst (λ k. IsOf p k (s.processes p)) h.count (stands-of (s.processes p) c p (h.each p first).stands)
 
   page-fits : (x : NodePacket) (m : TheRestoring) (p : ℕ) → WasPut c x → StandsRestoring m c p → Fits x (Restores m)
   page-fits x m p was st mine i j k a flags pairs e range reply =
@@ -127,7 +127,7 @@ module _ (f : Answering) (states : ℕ → List ℕ) (n : ℕ) (s : System) (act
   revives : (p life : ℕ) (new : TheCollecting) → IsFirst n p → IsKilled (s.processes p) → s.lives p < life → ComesFrom (s.stored p) life new → Lone n (put s.processes p (Collects new)) (put s.lives p life) s.given s.gateway.out
   revives p life new first dead above from =
       let holds = r.holds in
-      let are : AreStoredOf (s.stored p) (s.processes p) here p = holds.stored p first in
+      let are : AreStoredOf (s.stored p) (s.processes p) here p = (holds.each p first).stored in
       let k : Kept = from.0 in
       let one : are.0 ≡ k = one_kept are.0 k (s.stored p) are.1.0 from.1.0 in
       let kept : IsKeptOf k here p = subst (λ z. IsKeptOf z here p) one (kept-dead are.0 (s.processes p) here p dead are.1.1) in
@@ -143,7 +143,7 @@ module _ (f : Answering) (states : ℕ → List ℕ) (n : ℕ) (s : System) (act
       process-goes n s.processes s.lives (x ∷ s.given) s.gateway.out (with-given n s.processes s.lives s.given s.gateway.out x t.0 h) p m.0 new t.1
   call-alone (Handed p x new) m a =
       let holds = r.holds in
-      let fits : Fits x (s.processes p) = fits-here f states n s acts r x (s.processes p) p (one-was (WasPut here) x s.given holds.given m.1.0) (holds.processes p m.0) in
+      let fits : Fits x (s.processes p) = fits-here f states n s acts r x (s.processes p) p (one-was (WasPut here) x s.given holds.given m.1.0) (holds.each p m.0).stands in
       goes p new m.0 (hearing s.lives back n p x (s.processes p) new m.1.1 (sound-given x m.1.0) fits (is-of f states n s acts r p m.0) (only p m.0) (h.good p m.0))
   call-alone (Worked p a new) m l = goes p new m.0 (working s.lives back n p f a (s.processes p) new m.1 (h.good p m.0))
   call-alone (Did p new) m a = goes p new m.0 (acting s.lives back n p (s.processes p) new m.1 (is-of f states n s acts r p m.0) (only p m.0) (h.good p m.0))

@@ -149,7 +149,7 @@ module _ (n : ℕ) (f : Handlers) (x y : hosts.System) (p : ℕ) (a b : TheNode)
 
 -- a process that is known stands so
 stands-known : (f : Handlers) (n : ℕ) (s : System) (c : Cluster) (p : ℕ) (process : Process) → Holds f n s c → IsFirst n p → s.processes p ≡ process → StandsAs process c p
-stands-known f n s c p process h first e = subst (λ z. StandsAs z c p) e (h.processes p first)
+stands-known f n s c p process h first e = subst (λ z. StandsAs z c p) e (h.each p first).stands
 
 -- so one that is up, and its node
 stands-node : (m : TheNode) (process : Process) (c : Cluster) (p : ℕ) → lives.IsUp m process → StandsAs process c p → Stands m c p
@@ -168,8 +168,8 @@ nothing-is-lost images f states n few s t acts good_s good_t one two p a b first
     let c : Cluster = after_run (opening n g) acts in
     let d : Cluster = after_run (opening n g) (acts ++ two.more) in
     let last = two.reached in
-    let up_a : Stands a c p = stands-up a (s.processes p) c p is_a (one.holds.processes p first) in
-    has-back n g s t p a b acts two.more last.run (all-stand images g n s c good_s one.holds) (all-stand images g n t d good_t last.holds) up_a (stands-up b (t.processes p) d p is_b (last.holds.processes p first)) one.holds.handlers last.holds.handlers
+    let up_a : Stands a c p = stands-up a (s.processes p) c p is_a (one.holds.each p first).stands in
+    has-back n g s t p a b acts two.more last.run (all-stand images g n s c good_s one.holds) (all-stand images g n t d good_t last.holds) up_a (stands-up b (t.processes p) d p is_b (last.holds.each p first).stands) one.holds.handlers last.holds.handlers
     (acknowledged-stay n g acts two.more p (run_at a) few (grows f states) last.run (acknowledged-run a c p up_a))
 
 -- ---- what recovers
@@ -260,5 +260,5 @@ recovers-exactly f states n few s t p old new acts one is_old does two three =
       reached = last;
       had = had;
       stays = stays-so n g p old new c b d had recovers.is.own replays_so first_same all_same;
-      back = λ x is_x as_many. is-as-it-was n g p old new c b d had recovers.is.own replays_so first_same all_same x (stands-up x (t.processes p) d p is_x (last.holds.processes p first)) last.holds.handlers as_many;
+      back = λ x is_x as_many. is-as-it-was n g p old new c b d had recovers.is.own replays_so first_same all_same x (stands-up x (t.processes p) d p is_x (last.holds.each p first).stands) last.holds.handlers as_many;
     }

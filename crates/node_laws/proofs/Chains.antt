@@ -13,7 +13,7 @@ use Rattle.recovery.specs.Replayed.{TheReplayed}
 use Rattle.recovery.specs.Restoration.{TheRestoring, begun}
 use Rattle.recovery.specs.Restoration as restores
 use Rattle.node_laws.specs.Inside.Process.{Process, Acts, is_exact}
-use Rattle.node_laws.proofs.NodeSound.{ticks, freezes}
+use Rattle.node_laws.proofs.NodeSound.{self, ticks, freezes}
 
 abbrev pub Chain : Process → List Process → Process → Type 0
 Chain old [] new = new ≡ old
@@ -26,10 +26,10 @@ chain-append a (p ∷ ps) b qs c g h = (g.0, (g.1.0, chain-append p ps b qs c g.
 -- ---- what keeps a process as exact
 
 pub ticked-exact : (n : TheNode) → (ticked n).exact ≡ n.exact
-ticked-exact n = (ticks (λ q. 0) (λ q. Unit {0}) n).exact
+ticked-exact n = (ticks (λ q. 0) (λ q. Unit {0}) n n (self (λ q. 0) (λ q. Unit {0}) n)).exact
 
 pub froze-exact : (n : TheNode) → (froze n).exact ≡ n.exact
-froze-exact n = (freezes (λ q. 0) (λ q. Unit {0}) n).exact
+froze-exact n = (freezes (λ q. 0) (λ q. Unit {0}) n n (self (λ q. 0) (λ q. Unit {0}) n)).exact
 
 -- what is asked of peers changes neither that nor the limits
 pub asked-exact : (n : TheCollecting) → (collects.asked n).own.exact ≡ n.own.exact

@@ -222,14 +222,11 @@ module _ (top : ℕ) (f : Handlers) (gr : Grows f) (p : ℕ) (durable tells : Bo
       (relogged from (recorded ssn k q) n (λ d same. held-recorded durable tells n.base (most d) q (f.sends p g d) ssn k above (λ t. let P : ℕ → Type 0 = λ z. ssn ≤ most z in subst P (sym same) (low t))) s))
       (λ e. s)
 
-  counting : (k : ℕ) (n : TheNode) → On n → On (counted k n)
-  counting k n s = record { at = s.at; many = s.many; taken = s.taken; job = s.job; wide = s.wide; logs = s.logs; out = s.out; rests = s.rests }
-
   acknowledgement : (life k : ℕ) (n : TheNode) → On n → On (acknowledged_by life k n)
   acknowledgement life k n s =
       let m : TheNode = counted (k - n.base) n in
       by-if On ((life == n.life) && nat_lt n.base k && nat_le k (n.base + length n.receipts.senders) && not (slice_index_or n.receipts.acknowledged (k - n.base - 1) false)) (released m) n
-      (λ e. releasing m (counting (k - n.base) n s)) (λ e. s)
+      (λ e. releasing m (record { at = s.at; many = s.many; taken = s.taken; job = s.job; wide = s.wide; logs = s.logs; out = s.out; rests = s.rests })) (λ e. s)
 
   -- its incarnations, and whom it obeyed, may change
   aside : (heard : List ℕ) (resumed : List Bool) (n : TheNode) → On n → On (record n { heard = heard; resumed = resumed })
@@ -271,14 +268,12 @@ module _ (top : ℕ) (f : Handlers) (gr : Grows f) (p : ℕ) (durable tells : Bo
       (each-drop (IsLow (length (In d))) (r - covered_of d n) all (pairs-low n.base (covered_of d n) (length (In d)) (numbers_of d n.receipts) (known-low d n low o t))) in
       by-if On (not (i == heard_of d n) || works_for d n.working) n (posts d (restored_of d i r n) m) (λ e. o) (λ e. posting d (restored_of d i r n) m pairs (obeying d k n o))
 
-  dropping : (from k : ℕ) (n : TheNode) → On n → On (record n { logs = slice_set n.logs from (dropped_to k (log_at n.logs from)) })
-  dropping from k n s = let q : TheQueue = log_at n.logs from in relogged from (dropped_to k q) n (λ d same. held-dropped durable tells n.base (length (f.sends p h d)) q (f.sends p g d) k) s
-
   told-on : (from : ℕ) (x : bodies.Body) (n : TheNode) → n.frozen ≡ false → from ≤ top → from ≢ p → IsFair (D from) (D from) (In from) tells (f.sends p h from) x → On n → On (told from x n)
   told-on from (packets.Delivery i ssn x) n live low other fair s = delivery from i ssn x n live low other fair s
   told-on from (packets.Number i ssn k) n live low other fair s = number from i ssn k n fair s
   told-on from (packets.Acknowledgement i k) n live low other fair s = acknowledgement i k n s
-  told-on from (packets.Saved k) n live low other fair s = dropping from k n s
+  told-on from (packets.Saved k) n live low other fair s =
+      let q : TheQueue = log_at n.logs from in relogged from (dropped_to k q) n (λ d same. held-dropped durable tells n.base (length (f.sends p h d)) q (f.sends p g d) k) s
   told-on from (packets.Ask i k) n live low other fair s = asking from i k n low other s
   told-on from (packets.Resume i k r) n live low other fair s = resuming from i k r n low s
   told-on from x n live low other fair s = s

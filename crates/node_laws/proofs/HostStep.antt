@@ -1,6 +1,6 @@
 -- One call of a host, as calls of a process by its stages: one or none, and acts of its own behind it
-use Rattle.std.proofs.Common.{◌≡◌, inl, inr, ℕ, List, [], ◌∷◌, ◌++◌, Bool, true, false, refl, sym, ap, ◌∙◌, subst, append_assoc}
-use Rattle.std.specs.Prelude.{◌⊎◌, ◌==◌, if◌then◌else◌}
+use Rattle.std.proofs.Common.{◌≡◌, inl, inr, ℕ, List, [], ◌∷◌, ◌++◌, true, refl, sym, ap, ◌∙◌, subst, append_assoc}
+use Rattle.std.specs.Prelude.{◌⊎◌, if◌then◌else◌}
 use Rattle.std.proofs.Math.Path.{fun_ext}
 use Rattle.theorems.proofs.Changes.{choose}
 use Rattle.world.specs.World.{put}
@@ -27,23 +27,15 @@ use Rattle.node_laws.proofs.Views.{IsGood, AreGood, exact-there}
 
 -- ---- functions with a value that changes
 
-over : {X : Type 0} (b : Bool) (x y z : X) → (if b then y else (if b then x else z)) ≡ (if b then y else z)
-over true x y z = refl
-over false x y z = refl
-
 pub put-twice : {X : Type 0} (f : ℕ → X) (p : ℕ) (x y : X) → put (put f p x) p y ≡ put f p y
-put-twice f p x y = fun_ext (λ q. over (q == p) x y (f q))
+put-twice f p x y = fun_ext (λ q. choose p (λ j b. (if b then y else (if b then x else f j)) ≡ (if b then y else f j)) refl (λ j o. refl) q)
 
 pub put-same : {X : Type 0} (f : ℕ → X) (p : ℕ) → put f p (f p) ≡ f
 put-same f p = fun_ext (λ q. choose p (λ j b. (if b then f p else f j) ≡ f j) refl (λ j o. refl) q)
 
-as-if : (b : Bool) (h g : Hosted) → as_process (if b then h else g) ≡ (if b then as_process h else as_process g)
-as-if true h g = refl
-as-if false h g = refl
-
 -- where a process is another, it is so by its stage
 pub view-put : (r : System) (f : ℕ → Hosted) (p : ℕ) (h : Hosted) → view (record r { processes = put f p h }) ≡ record (view r) { processes = put (λ q. as_process (f q)) p (as_process h) }
-view-put r f p h = ap (λ z. record (view r) { processes = z }) (fun_ext (λ q. as-if (q == p) h (f q)))
+view-put r f p h = ap (λ z. record (view r) { processes = z }) (fun_ext (λ q. choose p (λ j b. as_process (if b then h else f j) ≡ (if b then as_process h else as_process (f j))) refl (λ j o. refl) q))
 
 -- ---- calls behind others
 

@@ -1,7 +1,6 @@
 -- Calls of processes and of the gateway, one after another
 use Rattle.std.proofs.Common.{◌≡◌, ◌≢◌, ℕ, ◌≤◌, List, [], ◌∷◌, ◌++◌, length, take, drop, Bool, true, false, refl, sym, ap, ◌∙◌, subst, arith}
-use Rattle.std.specs.Prelude.{Some, ◌==◌, if◌then◌else◌}
-use Rattle.std.proofs.lemmas.Bool.Decides.{nat_tests}
+use Rattle.std.specs.Prelude.{Some, if◌then◌else◌}
 use Rattle.std.proofs.lemmas.List.{take-append-drop}
 use Rattle.theorems.proofs.Changes.{at-itself, choose}
 use Rattle.world.specs.Handlers.{Handlers}
@@ -36,14 +35,15 @@ use Rattle.gateway.proofs.Views.{takes-so}
 use Rattle.node_laws.specs.HostProcess.{IsFirst}
 use Rattle.node_laws.proofs.JointGateways.{gateway-stands, all-by-gateway}
 use Rattle.node_laws.specs.Inside.Process.{Process, Collects, Killed, StandsAs, IsStoredOf, is_exact, covered, stage_of}
-use Rattle.node_laws.specs.Inside.System.{System, Call, Gave, Handed, Worked, Did, Stored, Saved, Resumed, Died, Revived, GaveOut, HandedOut, DidOut, StoredOut, StoredBut, RevivedOut, DoesIt, after_call, AreStoredOf, AreExact, view}
+use Rattle.node_laws.specs.Inside.System.{System, Call, Gave, Handed, Worked, Did, Stored, Saved, Resumed, Died, Revived, GaveOut, HandedOut, DidOut, StoredOut, StoredBut, RevivedOut, DoesIt, after_call, AreExact, view}
 use Rattle.node_laws.specs.HostReplies.{answering}
 use Rattle.node_laws.specs.HostSystem as hosts
 use Rattle.node_laws.specs.HostSystem.{handed_out, untaken, Hosting, start, handlers}
 use Rattle.node_laws.specs.Agreement.{AllStand}
 use Rattle.node_laws.proofs.Durable.{are-stored}
 use Rattle.node_laws.proofs.Views.{AreGood, stands-as as host-stands, stored-as}
-use Rattle.node_laws.proofs.Moves.{Moves, stands-still, stored-still, lives-still}
+use Rattle.node_laws.proofs.HostStep.{put-same}
+use Rattle.node_laws.proofs.Moves.{Has, Moves, has-still}
 use Rattle.node_laws.proofs.Steps.{giving, hearing, working, acting, storing, telling, waking, dying, reviving}
 use Rattle.node_laws.proofs.Losses.{loss-is-dropped}
 use Rattle.node_laws.proofs.Untaken.{goes-fewer, goes-taken-out, dealing, handing}
@@ -58,9 +58,7 @@ pub record Holds (f : Handlers) (n : ℕ) (s : System) (c : Cluster) : Type 0 wh
   pub count : c.world.count ≡ n
   pub few : n ≤ 15
   pub believed : worlds.Holds c
-  pub processes : (p : ℕ) → IsFirst n p → StandsAs (s.processes p) c p
-  pub stored : (p : ℕ) → IsFirst n p → AreStoredOf (s.stored p) (s.processes p) c p
-  pub lives : (p : ℕ) → IsFirst n p → c.stored p ≤ s.lives p
+  pub each : (p : ℕ) → IsFirst n p → Has (s.processes p) (s.stored p) (s.lives p) c p
   pub durable : gateways.Stands s.durable c
   pub ahead : Ahead s.durable (untaken s.taken s.gateway) c
   pub given : Each (WasPut c) s.given
@@ -88,10 +86,9 @@ module _ (f : Handlers) (n : ℕ) (s : System) (c : Cluster) (h : Holds f n s c)
   small : c.world.count ≤ 15
   small = subst (λ k. k ≤ 15) (sym h.count) h.few
 
-  -- a process goes on, and these are stored of all
-  pub process-goes : (p : ℕ) (new : Process) (stored : ℕ → List ℕ) (lives : ℕ → ℕ) → ((q : ℕ) → q ≢ p → stored q ≡ s.stored q) → ((q : ℕ) → q ≢ p → lives q ≡ s.lives q) → IsFirst n p → Moves p new (stored p) (lives p) c
-      → Onward f n c (record s { processes = put s.processes p new; stored = stored; lives = lives })
-  process-goes p new stored lives same_stored same_lives first m =
+  -- a process goes on, and these bytes are stored of it, and this life
+  process-goes : (p : ℕ) (new : Process) (bytes : List ℕ) (life : ℕ) → IsFirst n p → Moves p new bytes life c → Onward f n c (record s { processes = put s.processes p new; stored = put s.stored p bytes; lives = put s.lives p life })
+  process-goes p new bytes life first m =
       record {
         acts = m.acts;
         run = m.run;
@@ -99,11 +96,8 @@ module _ (f : Handlers) (n : ℕ) (s : System) (c : Cluster) (h : Holds f n s c)
           count = count-after c m.acts ∙ h.count;
           few = h.few;
           believed = believed-along c m.acts small h.believed m.run;
-          processes = λ q l. at-each (λ k z. StandsAs z (after_run c m.acts) k) s.processes p q new (λ o. stands-still (s.processes q) q p m.acts c (λ e. o (sym e)) m.by (h.processes q l)) m.stands;
-          stored = λ q l. at-each (λ k z. AreStoredOf (stored k) z (after_run c m.acts) k) s.processes p q new
-              (λ o. subst (λ bytes. AreStoredOf bytes (s.processes q) (after_run c m.acts) q) (sym (same_stored q o)) (stored-still (s.stored q) (s.processes q) q p m.acts c (λ e. o (sym e)) m.by (h.stored q l))) m.stored;
-          lives = λ q l. at-each (λ k z. (after_run c m.acts).stored k ≤ lives k) s.processes p q new
-              (λ o. subst (λ life. (after_run c m.acts).stored q ≤ life) (sym (same_lives q o)) (lives-still (s.lives q) q p m.acts c (λ e. o (sym e)) m.by (h.lives q l))) m.lives;
+          each = choose p (λ j b. IsFirst n j → Has (if b then new else s.processes j) (if b then bytes else s.stored j) (if b then life else s.lives j) (after_run c m.acts) j) (λ l. m.has)
+              (λ j o l. has-still (s.processes j) (s.stored j) (s.lives j) j p m.acts c (λ e. o (sym e)) m.by (h.each j l));
           durable = gateway-stands s.durable c p m.acts first.0 m.by h.durable;
           ahead = ahead-still s.durable (untaken s.taken s.gateway) c (after_run c m.acts) (parcels-stay c m.acts) h.ahead;
           given = given-still c m.acts s.given h.given;
@@ -111,9 +105,17 @@ module _ (f : Handlers) (n : ℕ) (s : System) (c : Cluster) (h : Holds f n s c)
         };
       }
 
-  -- where nothing is stored
-  process-acts : (p : ℕ) (new : Process) → IsFirst n p → Moves p new (s.stored p) (s.lives p) c → Onward f n c (record s { processes = put s.processes p new })
-  process-acts p new first m = process-goes p new s.stored s.lives (λ q o. refl) (λ q o. refl) first m
+  -- where its life is the same
+  pub process-stores : (p : ℕ) (new : Process) (bytes : List ℕ) → IsFirst n p → Moves p new bytes (s.lives p) c → Onward f n c (record s { processes = put s.processes p new; stored = put s.stored p bytes })
+  process-stores p new bytes first m = subst (λ z. Onward f n c (record s { processes = put s.processes p new; stored = put s.stored p bytes; lives = z })) (put-same s.lives p) (process-goes p new bytes (s.lives p) first m)
+
+  -- or what is stored
+  pub process-comes : (p : ℕ) (new : Process) (life : ℕ) → IsFirst n p → Moves p new (s.stored p) life c → Onward f n c (record s { processes = put s.processes p new; lives = put s.lives p life })
+  process-comes p new life first m = subst (λ z. Onward f n c (record s { processes = put s.processes p new; stored = z; lives = put s.lives p life })) (put-same s.stored p) (process-goes p new (s.stored p) life first m)
+
+  -- or both
+  pub process-acts : (p : ℕ) (new : Process) → IsFirst n p → Moves p new (s.stored p) (s.lives p) c → Onward f n c (record s { processes = put s.processes p new })
+  process-acts p new first m = subst (λ z. Onward f n c (record s { processes = put s.processes p new; stored = z })) (put-same s.stored p) (process-stores p new (s.stored p) first m)
 
   -- the gateway goes on to where it is durable so, and goes on from there
   gateway-moves : (new durable : TheGateway) (taken : List Output) → (g : gateways.Goes durable c) → Ahead durable (untaken taken new) (after_run c g.acts) → Onward f n c (record s { gateway = new; durable = durable; taken = taken })
@@ -126,9 +128,7 @@ module _ (f : Handlers) (n : ℕ) (s : System) (c : Cluster) (h : Holds f n s c)
           count = count-after c g.acts ∙ h.count;
           few = h.few;
           believed = believed-along c g.acts small h.believed g.run;
-          processes = λ q l. stands-still (s.processes q) q 0 g.acts c (λ e. absurd (omega (arith, l.0, e))) by (h.processes q l);
-          stored = λ q l. stored-still (s.stored q) (s.processes q) q 0 g.acts c (λ e. absurd (omega (arith, l.0, e))) by (h.stored q l);
-          lives = λ q l. lives-still (s.lives q) q 0 g.acts c (λ e. absurd (omega (arith, l.0, e))) by (h.lives q l);
+          each = λ q l. has-still (s.processes q) (s.stored q) (s.lives q) q 0 g.acts c (λ e. absurd (omega (arith, l.0, e))) by (h.each q l);
           durable = g.stands;
           ahead = ahead;
           given = given-still c g.acts s.given h.given;
@@ -146,7 +146,7 @@ module _ (f : Handlers) (n : ℕ) (s : System) (c : Cluster) (h : Holds f n s c)
       record {
         acts = [];
         run = tt;
-        holds = record { count = h.count; few = h.few; believed = h.believed; processes = h.processes; stored = h.stored; lives = h.lives; durable = h.durable; ahead = a; given = h.given; handlers = h.handlers };
+        holds = record { count = h.count; few = h.few; believed = h.believed; each = h.each; durable = h.durable; ahead = a; given = h.given; handlers = h.handlers };
       }
 
 -- a packet more was given, where it was put out
@@ -156,7 +156,7 @@ given-there f n c s x w o =
     record {
       acts = w.acts;
       run = w.run;
-      holds = record { count = h.count; few = h.few; believed = h.believed; processes = h.processes; stored = h.stored; lives = h.lives; durable = h.durable; ahead = h.ahead; given = (o, h.given); handlers = h.handlers };
+      holds = record { count = h.count; few = h.few; believed = h.believed; each = h.each; durable = h.durable; ahead = h.ahead; given = (o, h.given); handlers = h.handlers };
     }
 
 -- or had been before
@@ -203,35 +203,27 @@ giving-out f n s c x new h lasts m =
     let onward = gateway-moves f n s c h new s.durable s.taken (record { acts = g.acts; run = g.run; by = g.by; stands = kept }) ahead in
     given-there f n c (record s { gateway = new }) x onward (from-gateway d x took.0)
 
--- what is changed at p alone
-elsewhere : {X : Type 0} (f : ℕ → X) (p q : ℕ) (x : X) → q ≢ p → put f p x q ≡ f q
-elsewhere f p q x other = let e : (q == p) ≡ false = grind (arith, nat_tests) in rw e refl
-
 -- each call
 pub call-goes : (f : Answering) (states : ℕ → List ℕ) (n : ℕ) (s : System) (c : Cluster) (k : Call) → Holds (handlers_of f states) n s c → DoesIt f n s k → AreExact n (after_call s k) → Onward (handlers_of f states) n c (after_call s k)
 call-goes f states n s c (Gave p x new) h m exact =
-    let g = giving c p (s.stored p) (s.lives p) (h.lives p m.0) x (s.processes p) new m.1 (h.processes p m.0) (h.stored p m.0) in
+    let g = giving c p (s.stored p) (s.lives p) (h.each p m.0).lives x (s.processes p) new m.1 (h.each p m.0).stands (h.each p m.0).stored in
     given-more (handlers_of f states) n c (record s { processes = put s.processes p new }) x (from-own c p x g.0) (process-acts (handlers_of f states) n s c h p new m.0 g.1)
 call-goes f states n s c (Handed p x new) h m exact =
     let o : WasPut c x = one-was (WasPut c) x s.given h.given m.1.0 in
-    process-acts (handlers_of f states) n s c h p new m.0 (hearing c p (s.stored p) (s.lives p) (h.lives p m.0) x (s.processes p) new m.1.1 (at-itself p (λ b. is_exact (if b then new else s.processes p) ≡ true → is_exact new ≡ true) (λ e. e) (exact p m.0)) (λ e. (o e).said) (h.processes p m.0) (h.stored p m.0))
+    process-acts (handlers_of f states) n s c h p new m.0 (hearing c p (s.stored p) (s.lives p) (h.each p m.0).lives x (s.processes p) new m.1.1 (at-itself p (λ b. is_exact (if b then new else s.processes p) ≡ true → is_exact new ≡ true) (λ e. e) (exact p m.0)) (λ e. (o e).said) (h.each p m.0).stands (h.each p m.0).stored)
 call-goes f states n s c (Worked p a new) h m exact =
-    process-acts (handlers_of f states) n s c h p new m.0 (working c p (s.stored p) (s.lives p) (h.lives p m.0) f states a (s.processes p) new m.1 h.handlers h.believed (h.processes p m.0) (h.stored p m.0))
+    process-acts (handlers_of f states) n s c h p new m.0 (working c p (s.stored p) (s.lives p) (h.each p m.0).lives f states a (s.processes p) new m.1 h.handlers h.believed (h.each p m.0).stands (h.each p m.0).stored)
 call-goes f states n s c (Did p new) h m exact =
-    process-acts (handlers_of f states) n s c h p new m.0 (acting c p (s.stored p) (s.lives p) (h.lives p m.0) (s.processes p) new m.1 h.believed (h.processes p m.0) (h.stored p m.0))
+    process-acts (handlers_of f states) n s c h p new m.0 (acting c p (s.stored p) (s.lives p) (h.each p m.0).lives (s.processes p) new m.1 h.believed (h.each p m.0).stands (h.each p m.0).stored)
 call-goes f states n s c (Stored p bytes) h m exact =
-    let P : List ℕ → Type 0 = λ b. Moves p (covered (s.processes p)) b (s.lives p) c in
-    process-goes (handlers_of f states) n s c h p (covered (s.processes p)) (put s.stored p bytes) s.lives (λ q o. elsewhere s.stored p q bytes o) (λ q o. refl) m.0
-    (at-itself p (λ b. P (if b then bytes else s.stored p)) (storing c p bytes (s.lives p) (h.lives p m.0) (s.stored p) (s.processes p) m.1 (h.processes p m.0) (h.stored p m.0)))
+    process-stores (handlers_of f states) n s c h p (covered (s.processes p)) bytes m.0 (storing c p bytes (s.lives p) (h.each p m.0).lives (s.stored p) (s.processes p) m.1 (h.each p m.0).stands (h.each p m.0).stored)
 call-goes f states n s c (Saved p new) h m exact =
-    process-acts (handlers_of f states) n s c h p new m.0 (telling c p (s.stored p) (s.lives p) (h.lives p m.0) (s.processes p) new m.1 (h.processes p m.0) (h.stored p m.0))
+    process-acts (handlers_of f states) n s c h p new m.0 (telling c p (s.stored p) (s.lives p) (h.each p m.0).lives (s.processes p) new m.1 (h.each p m.0).stands (h.each p m.0).stored)
 call-goes f states n s c (Resumed p limits new) h m exact =
-    process-acts (handlers_of f states) n s c h p new m.0 (waking c p (s.stored p) (s.lives p) (h.lives p m.0) limits (s.processes p) new m.1 (h.processes p m.0) (h.stored p m.0))
-call-goes f states n s c (Died p) h m exact = process-acts (handlers_of f states) n s c h p Killed m (dying c p (s.stored p) (s.lives p) (s.processes p) (h.lives p m) (h.processes p m) (h.stored p m))
+    process-acts (handlers_of f states) n s c h p new m.0 (waking c p (s.stored p) (s.lives p) (h.each p m.0).lives limits (s.processes p) new m.1 (h.each p m.0).stands (h.each p m.0).stored)
+call-goes f states n s c (Died p) h m exact = process-acts (handlers_of f states) n s c h p Killed m (dying c p (s.stored p) (s.lives p) (s.processes p) (h.each p m).lives (h.each p m).stands (h.each p m).stored)
 call-goes f states n s c (Revived p life new) h m exact =
-    let P : ℕ → Type 0 = λ l. Moves p (Collects new) (s.stored p) l c in
-    process-goes (handlers_of f states) n s c h p (Collects new) s.stored (put s.lives p life) (λ q o. refl) (λ q o. elsewhere s.lives p q life o) m.0
-    (at-itself p (λ b. P (if b then life else s.lives p)) (reviving c p (s.stored p) (s.processes p) (s.lives p) life new m.1.0 (h.lives p m.0) m.1.1.0 m.1.1.1 (h.processes p m.0) (h.stored p m.0)))
+    process-comes (handlers_of f states) n s c h p (Collects new) life m.0 (reviving c p (s.stored p) (s.processes p) (s.lives p) life new m.1.0 (h.each p m.0).lives m.1.1.0 m.1.1.1 (h.each p m.0).stands (h.each p m.0).stored)
 call-goes f states n s c (GaveOut x new) h m exact = giving-out (handlers_of f states) n s c x new h m.0 m.1
 call-goes f states n s c (HandedOut x new) h m exact =
     let o : WasPut c x = one-was (WasPut c) x s.given h.given m.0 in
@@ -259,9 +251,11 @@ begins h few =
       count = refl;
       few = few;
       believed = worlds.opens-holds h.n g (grows (answering h.n h.images) h.states);
-      processes = λ p low. subst (λ z. StandsAs (stage_of z) (opening h.n g) p) (sym (h.opens.opened p low).lifecycle_is) (stands-opened (h.limits p) p h.n (h.states p) g low.0 low.1 (begin p));
-      stored = λ p low. (kept_of (new_node usual p h.n (h.states p)), (are-stored h p low, subst (λ z. IsStoredOf (kept_of (new_node usual p h.n (h.states p))) (stage_of z) (opening h.n g) p) (sym (h.opens.opened p low).lifecycle_is) (kept-opened usual p h.n (h.states p) usual-allowed low.0 low.1 few g (begin p))));
-      lives = λ p low. (let e : 1 ≤ 1 = omega arith in e);
+      each = λ p low. record {
+        stands = subst (λ z. StandsAs (stage_of z) (opening h.n g) p) (sym (h.opens.opened p low).lifecycle_is) (stands-opened (h.limits p) p h.n (h.states p) g low.0 low.1 (begin p));
+        stored = (kept_of (new_node usual p h.n (h.states p)), (are-stored h p low, subst (λ z. IsStoredOf (kept_of (new_node usual p h.n (h.states p))) (stage_of z) (opening h.n g) p) (sym (h.opens.opened p low).lifecycle_is) (kept-opened usual p h.n (h.states p) usual-allowed low.0 low.1 few g (begin p))));
+        lives = (let e : 1 ≤ 1 = omega arith in e);
+      };
       durable = gateway_opening.stands-opened h.n h.page h.tick g;
       ahead = ahead-none (new_gateway h.n h.page h.tick) (opening h.n g);
       given = tt;
@@ -272,9 +266,9 @@ begins h few =
 pub all-stand : (images : ℕ → AnyImage) (f : Handlers) (n : ℕ) (s : hosts.System) (c : Cluster) → AreGood images n s → Holds f n (view s) c → AllStand n s c
 all-stand images f n s c good h =
     record {
-      processes = λ p l. host-stands (images p) (s.processes p) c p (good p l) (h.processes p l);
-      stored = λ p l. stored-as (s.stored p) (images p) (s.processes p) c p (good p l) (h.stored p l);
-      lives = h.lives;
+      processes = λ p l. host-stands (images p) (s.processes p) c p (good p l) (h.each p l).stands;
+      stored = λ p l. stored-as (s.stored p) (images p) (s.processes p) c p (good p l) (h.each p l).stored;
+      lives = λ p l. (h.each p l).lives;
       durable = h.durable;
       gateway = goes-taken-out s.taken s.gateway c (h.ahead c h.durable (λ x i. i));
       shown = λ p first. h.durable.shown p (first.0, subst (λ k. p ≤ k) (sym h.count) first.1);

@@ -1,7 +1,7 @@
 -- What holds where failures come one at a time
-use Rattle.std.proofs.Common.{◌≡◌, ◌≢◌, ℕ, ◌<◌, List, [], Bool, true, false, refl, sym, ◌∙◌, subst, arith}
-use Rattle.std.specs.Prelude.{◌==◌, if◌then◌else◌}
-use Rattle.std.proofs.lemmas.Bool.Decides.{nat_tests}
+use Rattle.std.proofs.Common.{inl, inr, ◌≡◌, ◌≢◌, ℕ, ◌<◌, List, [], Bool, true, false, refl, sym, ◌∙◌, subst, arith}
+use Rattle.std.specs.Prelude.{◌⊎◌, if◌then◌else◌}
+use Rattle.std.proofs.lemmas.Bool.{cases_eq}
 use Rattle.world.specs.World.{put}
 use Rattle.packets.specs.declared.packet.NodePacket.{NodePacket}
 use Rattle.cluster.specs.Cluster.{Cluster}
@@ -104,14 +104,11 @@ good-still lives b d top p process less g = record { exact = g.exact; life = g.l
 
 -- nobody else comes back where p isn't up
 pub only-one : (n : ℕ) (processes : ℕ → Process) (lives : ℕ → ℕ) (given out : List NodePacket) (p : ℕ) → Lone n processes lives given out → IsFirst n p → is_up (processes p) ≡ false → (q : ℕ) → Back n processes q → q ≡ p
-only-one n processes lives given out p h first down q b = split (q == p) refl
+only-one n processes lives given out p h first down q b = by (cases_eq q p)
   where
-    split : (t : Bool) → (q == p) ≡ t → q ≡ p
-    split true e = grind (arith, nat_tests)
-    split false e =
-        let apart : p ≢ q = grind (arith, nat_tests) in
-        let up : is_up (processes q) ≡ true = h.alone p q first b.0 apart down in
-        absurd (let z : true ≡ false = sym up ∙ returns-down (processes q) b.1 in cc (z))
+    by : (q ≡ p) ⊎ (q ≢ p) → q ≡ p
+    by (inl e) = e
+    by (inr o) = absurd (let z : true ≡ false = sym (h.alone p q first b.0 (λ e. o (sym e)) down) ∙ returns-down (processes q) b.1 in cc (z))
 
 -- so one that comes back is alone
 pub is-alone : (n : ℕ) (processes : ℕ → Process) (lives : ℕ → ℕ) (given out : List NodePacket) (p : ℕ) → Lone n processes lives given out → IsFirst n p → Returns (processes p) → (q : ℕ) → Back n processes q → q ≡ p
@@ -173,14 +170,11 @@ module _ (n : ℕ) (processes : ℕ → Process) (lives : ℕ → ℕ) (given ou
 
   -- and nobody else does
   pub only-comes : is_up (processes p) ≡ false → (q : ℕ) → Back n changed q → q ≡ p
-  only-comes down q b = split (q == p) refl
+  only-comes down q b = by (cases_eq q p)
     where
-      split : (t : Bool) → (q == p) ≡ t → q ≡ p
-      split true e = grind (arith, nat_tests)
-      split false e =
-          let apart : q ≢ p = grind (arith, nat_tests) in
-          let same : changed q ≡ processes q = raised-other processes p q new apart in
-          only-one n processes lives given out p h first down q (b.0, subst Returns same b.1)
+      by : (q ≡ p) ⊎ (q ≢ p) → q ≡ p
+      by (inl e) = e
+      by (inr o) = only-one n processes lives given out p h first down q (b.0, subst Returns (raised-other processes p q new o) b.1)
 
   -- it comes back in a greater life
   pub process-comes : (life : ℕ) → is_up (processes p) ≡ false → is_up new ≡ false → lives p < life → Good (put lives p life) (Back n changed) n p new → Lone n changed (put lives p life) given out

@@ -94,8 +94,8 @@ module _ (lives : ℕ → ℕ) (back : ℕ → Type 0) (top p : ℕ) where
   -- ---- a packet comes
 
   pub hearing : (x : NodePacket) (old new : Process) → Hears x old new → IsSound lives back x → Fits x old → IsOf p top old → IsOnly old → IsGood old → On old new
-  hearing x (Up n) new g s fits is only h = becomes (Up n) (Up _) new (g.1.0 ∙ ap Up g.1.1.0) (up-goes n _ (nodes.hands lives back x n h.exact (h.life ∙ ap lives (sym is)) s) h)
-  hearing x (Covered n) new g s fits is only h = becomes (Covered n) (Covered _) new (g.1.0 ∙ ap Covered g.1.1) (covered-goes n _ (nodes.hands lives back x n h.exact (h.life ∙ ap lives (sym is)) s) h)
+  hearing x (Up n) new g s fits is only h = becomes (Up n) (Up _) new (g.1.0 ∙ ap Up g.1.1.0) (up-goes n _ (nodes.hands lives back n x n h.exact (h.life ∙ ap lives (sym is)) s (nodes.self lives back n)) h)
+  hearing x (Covered n) new g s fits is only h = becomes (Covered n) (Covered _) new (g.1.0 ∙ ap Covered g.1.1) (covered-goes n _ (nodes.hands lives back n x n h.exact (h.life ∙ ap lives (sym is)) s (nodes.self lives back n)) h)
   hearing x (Collects n) new g s fits is only h = becomes (Collects n) (Collects _) new (g.1.0 ∙ ap Collects g.1.1.0) (collects-goes n _ (collecting.hands lives back top x n (alone n.own is h.life (only tt)) s) h)
   hearing x (Replays n) new g s fits is only h =
       let k = owns.hands lives back top x n.own (alone n.own is h.life (only tt)) h.knows s in
@@ -113,8 +113,8 @@ module _ (lives : ℕ → ℕ) (back : ℕ → Type 0) (top p : ℕ) where
   replaying state given (Some j) n known = (record { me = refl; count = refl; life = refl; exact = λ e. e; out = λ o. o }, record { wide = known.wide; all = known.all })
 
   pub working : (f : Answering) (a : Answer) (old new : Process) → Works f p a old new → IsGood old → On old new
-  working f a (Up n) new g h = becomes (Up n) (Up _) new (g.1.1.0 ∙ ap Up g.1.1.1.0) (up-goes n _ (nodes.works lives back a.state a.given n.working n) h)
-  working f a (Covered n) new g h = becomes (Covered n) (Covered _) new (g.1.0 ∙ ap Covered g.1.1) (covered-goes n _ (nodes.works lives back a.state a.given n.working n) h)
+  working f a (Up n) new g h = becomes (Up n) (Up _) new (g.1.1.0 ∙ ap Up g.1.1.1.0) (up-goes n _ (nodes.works lives back n a.state a.given n.working n (nodes.self lives back n)) h)
+  working f a (Covered n) new g h = becomes (Covered n) (Covered _) new (g.1.0 ∙ ap Covered g.1.1) (covered-goes n _ (nodes.works lives back n a.state a.given n.working n (nodes.self lives back n)) h)
   working f a (Replays n) new g h =
       let m : TheReplaying = did_replay a.state a.given (next_job n) n in
       let k = replaying a.state a.given (next_job n) n h.knows in
@@ -124,8 +124,8 @@ module _ (lives : ℕ → ℕ) (back : ℕ → Type 0) (top p : ℕ) where
   -- ---- it acts, or goes on to its next stage
 
   node-acts : (n m : TheNode) → (m ≡ ticked n) ⊎ (m ≡ froze n) → nodes.Keeps lives back n m
-  node-acts n m (inl e) = subst (nodes.Keeps lives back n) (sym e) (nodes.ticks lives back n)
-  node-acts n m (inr e) = subst (nodes.Keeps lives back n) (sym e) (nodes.freezes lives back n)
+  node-acts n m (inl e) = subst (nodes.Keeps lives back n) (sym e) (nodes.ticks lives back n n (nodes.self lives back n))
+  node-acts n m (inr e) = subst (nodes.Keeps lives back n) (sym e) (nodes.freezes lives back n n (nodes.self lives back n))
 
   recovers : (n : TheCollecting) (r : TheReplaying) → r.own ≡ n.own → HasHeard lives top n.own → IsGood (Collects n) → On (Collects n) (Replays r)
   recovers n r e known h =
@@ -159,7 +159,7 @@ module _ (lives : ℕ → ℕ) (back : ℕ → Type 0) (top p : ℕ) where
   pub telling : (old new : Process) → IsTold old new → IsGood old → On old new
   telling (Up n) new g h = becomes (Up n) (Up n) new (g.1.1.0 ∙ ap Up (g.1.1.1.0 g.0)) (record { good = h; up = λ e. e; returns = λ r. r })
   telling (Covered n) new g h =
-      let k = nodes.saves lives back n in
+      let k = nodes.saves lives back n n (nodes.self lives back n) in
       becomes (Covered n) (Up _) new (g.1.0 ∙ ap Up g.1.1.0) (record { good = record { exact = k.exact ∙ h.exact; life = k.life ∙ h.life; knows = tt; out = k.out h.out }; up = λ e. e; returns = λ r. r })
   telling other new g h = absurd g
 

@@ -215,9 +215,8 @@ hosted-back-alone h calls more few g one = hosted-back h calls more few g (hoste
 -- ---- whatever fails
 
 -- what is kept up to a moment, and from there on
-record Both (h : Hosting) (calls more : List HostCall) (D : ℕ → Bool) (proper : (p : ℕ) → D p ≡ true → IsFirst h.n p) : Type 0 where
-  early : Kept h.images h.states h.n D proper (λ p. []) (start h) calls
-  late : Kept h.images h.states h.n D proper early.messages (after h calls) more
+abbrev Both : (h : Hosting) (calls more : List HostCall) (D : ℕ → Bool) → ((p : ℕ) → D p ≡ true → IsFirst h.n p) → Type 0
+Both h calls more D proper = (early : Kept h.images h.states h.n D proper (λ p. []) (start h) calls) × Kept h.images h.states h.n D proper early.messages (after h calls) more
 
 both : (h : Hosting) (calls more : List HostCall) (D : ℕ → Bool) → (lasting : (p : ℕ) → D p ≡ true → IsFirst h.n p × (((h.limits p).durable ≡ true) × StaysDurable p (calls ++ more))) → Makes h (calls ++ more) → Both h calls more D (λ p d. (lasting p d).0)
 both h calls more D lasting g =
@@ -225,15 +224,15 @@ both h calls more D lasting g =
     let t = trace-split h.images h.states h.n (start h) calls more (made h (calls ++ more) g) in
     let parts = calls-split h.images h.n (start h) calls more g in
     let one = kept-on h.images h.states h.n D proper (λ p. []) (start h) calls (opened-all h D (λ p d. (lasting p d).1.0)) parts.0 t.0 (λ p d. (durable-split p calls more (lasting p d).1.1).0) in
-    record { early = one; late = kept-on h.images h.states h.n D proper one.messages (after h calls) more one.all parts.1 t.1 (λ p d. (durable-split p calls more (lasting p d).1.1).1) }
+    (one, kept-on h.images h.states h.n D proper one.messages (after h calls) more one.all parts.1 t.1 (λ p d. (durable-split p calls more (lasting p d).1.1).1))
 
 module _ (h : Hosting) (calls more : List HostCall) (D : ℕ → Bool) (proper : (p : ℕ) → D p ≡ true → IsFirst h.n p) (b : Both h calls more D proper) (p : ℕ) (l : IsFirst h.n p) where
-  stored-was : AreAfter h.n (handlers h) p (b.early.messages p) ((after h calls).stored p)
-  stored-was = after-of h.n (handlers h) p D (sent_to (handlers h) b.early.messages p) (b.early.messages p) ((after h calls).stored p) (b.early.all.each p l).stored
+  stored-was : AreAfter h.n (handlers h) p (b.0.messages p) ((after h calls).stored p)
+  stored-was = after-of h.n (handlers h) p D (sent_to (handlers h) b.0.messages p) (b.0.messages p) ((after h calls).stored p) (b.0.all.each p l).stored
 
   -- the messages at the end are these and more
   abbrev grown : List Message
-  grown = b.early.messages p ++ (b.late.later p).0
+  grown = b.0.messages p ++ (b.1.later p).0
 
   end-is : after_calls (after h calls) more ≡ after h (calls ++ more)
   end-is = sym (after-more (start h) calls more)
@@ -241,13 +240,13 @@ module _ (h : Hosting) (calls more : List HostCall) (D : ℕ → Bool) (proper :
   stored-is : AreAfter h.n (handlers h) p grown ((after h (calls ++ more)).stored p)
   stored-is =
       let end : System = after_calls (after h calls) more in
-      subst (λ (z : System). AreAfter h.n (handlers h) p grown (z.stored p)) end-is (subst (λ z. AreAfter h.n (handlers h) p z (end.stored p)) (sym (b.late.later p).1) (after-of h.n (handlers h) p D (sent_to (handlers h) b.late.messages p) (b.late.messages p) (end.stored p) (b.late.all.each p l).stored))
+      subst (λ (z : System). AreAfter h.n (handlers h) p grown (z.stored p)) end-is (subst (λ z. AreAfter h.n (handlers h) p z (end.stored p)) (sym (b.1.later p).1) (after-of h.n (handlers h) p D (sent_to (handlers h) b.1.messages p) (b.1.messages p) (end.stored p) (b.1.all.each p l).stored))
 
   up-at-end : (m : TheNode) → IsUp m ((after h (calls ++ more)).processes p) → HasAfter (handlers h) p grown m
   up-at-end m e =
       let end : System = after_calls (after h calls) more in
       let up : IsUp m (end.processes p) = subst (λ (z : System). IsUp m (z.processes p)) (sym end-is) e in
-      subst (λ z. HasAfter (handlers h) p z m) (sym (b.late.later p).1) (up-knows (answering h.n h.images) h.states h.n D proper b.late.messages p l (as_process (end.processes p)) m (b.late.all.each p l).holds (is-up m (end.processes p) up)).0
+      subst (λ z. HasAfter (handlers h) p z m) (sym (b.1.later p).1) (up-knows (answering h.n h.images) h.states h.n D proper b.1.messages p l (as_process (end.processes p)) m (b.1.all.each p l).holds (is-up m (end.processes p) up)).0
 
 pub hosted-stays : HostedStays
 hosted-stays h calls more p g l =
@@ -255,7 +254,7 @@ hosted-stays h calls more p g l =
     let lasting : (q : ℕ) → D q ≡ true → IsFirst h.n q × (((h.limits q).durable ≡ true) × StaysDurable q (calls ++ more)) = λ q e. absurd (cc (e)) in
     let proper : (q : ℕ) → D q ≡ true → IsFirst h.n q = λ q d. (lasting q d).0 in
     let b : Both h calls more D proper = both h calls more D lasting g in
-    record { was = b.early.messages p; more = (b.late.later p).0; stored_was = stored-was h calls more D proper b p l; stored_is = stored-is h calls more D proper b p l; up = up-at-end h calls more D proper b p l }
+    record { was = b.0.messages p; more = (b.1.later p).0; stored_was = stored-was h calls more D proper b p l; stored_is = stored-is h calls more D proper b p l; up = up-at-end h calls more D proper b p l }
 
 -- what it gave that is durable, its messages send
 said : (b : Bool) → b ≡ true → (F : Handlers) (x : NodePacket) (c : Bool) (H : ℕ → List Message) → IsFair b b (F.sends x.from (H x.from) x.to) c (F.sends x.to (H x.to) x.from) x.body → IsSentBy F x.from (H x.from) x
@@ -274,19 +273,19 @@ hosted-last h calls more p g l durable w =
     let proper : (q : ℕ) → D q ≡ true → IsFirst h.n q = λ q d. (lasting q d).0 in
     let b : Both h calls more D proper = both h calls more D lasting g in
     let now : D p ≡ true = at-itself p (λ t. t ≡ true) refl in
-    let H : ℕ → List Message = b.early.messages in
-    let G : ℕ → List Message = b.late.messages in
+    let H : ℕ → List Message = b.0.messages in
+    let G : ℕ → List Message = b.1.messages in
     let Was : NodePacket → Type 0 = λ x. (x.from ≡ p) × IsTrue F D H x in
     let Is : NodePacket → Type 0 = λ x. (x.from ≡ p) × IsTrue F D G x in
-    let early : Each Is (given_by p calls) = all-more Was Is (given_by p calls) (λ x o. (o.0, true-more (answering h.n h.images) h.states h.n D proper H G b.late.later x o.1)) (b.early.gave p) in
-    let all : Each Is (given_by p (calls ++ more)) = subst (Each Is) (sym (given-more p calls more)) (each-append Is (given_by p calls) (given_by p more) early (b.late.gave p)) in
+    let early : Each Is (given_by p calls) = all-more Was Is (given_by p calls) (λ x o. (o.0, true-more (answering h.n h.images) h.states h.n D proper H G b.1.later x o.1)) (b.0.gave p) in
+    let all : Each Is (given_by p (calls ++ more)) = subst (Each Is) (sym (given-more p calls more)) (each-append Is (given_by p calls) (given_by p more) early (b.1.gave p)) in
     record {
       was = H p;
-      more = (b.late.later p).0;
+      more = (b.1.later p).0;
       stored_was = stored-was h calls more D proper b p l;
       stored_is = stored-is h calls more D proper b p l;
-      given_was = all-said F D H p now (given_by p calls) (b.early.gave p);
-      given_is = subst (λ z. Each (IsSentBy F p z) (given_by p (calls ++ more))) (sym (b.late.later p).1) (all-said F D G p now (given_by p (calls ++ more)) all);
+      given_was = all-said F D H p now (given_by p calls) (b.0.gave p);
+      given_is = subst (λ z. Each (IsSentBy F p z) (given_by p (calls ++ more))) (sym (b.1.later p).1) (all-said F D G p now (given_by p (calls ++ more)) all);
     }
 
 pub hosted-keep : HostedKeep

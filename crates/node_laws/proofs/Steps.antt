@@ -72,7 +72,7 @@ answers-again f states n c p a handlers s is j next =
 -- ---- acts before others
 
 moves-after : (p : ℕ) (new : Process) (bytes : List ℕ) (life : ℕ) (c : Cluster) (a : Act) → May c a → actor a ≡ p → Moves p new bytes life (does c a) → Moves p new bytes life c
-moves-after p new bytes life c a may by m = record { acts = a ∷ m.acts; run = (may, m.run); by = (by, m.by); stands = m.stands; stored = m.stored; lives = m.lives }
+moves-after p new bytes life c a may by m = record { acts = a ∷ m.acts; run = (may, m.run); by = (by, m.by); has = m.has }
 
 -- a process that becomes another
 becomes : (p : ℕ) (old new : Process) (bytes : List ℕ) (life : ℕ) (c : Cluster) → new ≡ old → Moves p old bytes life c → Moves p new bytes life c

@@ -8,11 +8,11 @@ use Rattle.node.specs.Node.{TheNode}
 use Rattle.node.specs.Kept.{IsKeptOf}
 use Rattle.recovery.specs.Collection.{TheCollecting}
 use Rattle.process.specs.declared.lifecycle.Lifecycle.{Lifecycle}
-use Rattle.process.specs.declared.lifecycle.Lifecycle.TheVariants.{Up, Collecting, Passing}
+use Rattle.process.specs.declared.lifecycle.Lifecycle.TheVariants.{Up, Passing}
 use Rattle.process.specs.Process.{TheProcess, is_settled}
 use Rattle.process.specs.Calls.{standing_at, is_frozen}
 use Rattle.process.specs.Suspension.{Suspends}
-use Rattle.node_laws.specs.HostProcess.{IsFirst, Checkpoint, Durable, Hosted, Runs, Sleeps, Killed, Alive, is_exact, IsUp}
+use Rattle.node_laws.specs.HostProcess.{IsFirst, Durable, Hosted, Runs, Sleeps, Killed, Alive, is_exact, IsUp}
 use Rattle.node_laws.specs.HostBack.{Collects}
 use Rattle.node_laws.specs.Agreement.{Stands, StandsAs, IsStoredOf, AreStoredOf}
 use Rattle.node_laws.specs.Inside.Process as lives
@@ -57,12 +57,9 @@ exact-there n s e p l = exact-as (s.processes p) ∙ e p l
 
 -- ---- its stage
 
-up-seen : (m : TheNode) (w : Checkpoint) → lives.IsUp m (seen w (Up m))
-up-seen m Durable = refl
-up-seen m other = refl
-
 pub is-up : (m : TheNode) (h : Hosted) → IsUp m h → lives.IsUp m (as_process h)
-is-up m (Runs process w) u = subst (λ c. lives.IsUp m (seen w c)) (sym u) (up-seen m w)
+is-up m (Runs process Durable) u = subst (λ c. lives.IsUp m (covered (stage_of c))) (sym u) refl
+is-up m (Runs process w) u = subst (λ c. lives.IsUp m (stage_of c)) (sym u) refl
 is-up m (Sleeps process bytes) u = subst (λ c. lives.IsUp m (stage_of c)) (sym u) refl
 is-up m Killed u = absurd u
 
@@ -75,11 +72,8 @@ pub up-so : (m : TheNode) (h : Hosted) → IsUp m h → lives.is_up (as_process 
 up-so m h u = up-holds m (as_process h) (is-up m h u)
 
 pub collects : (h : Hosted) → Alive Collects h → (m : TheCollecting) × (as_process h ≡ lives.Collects m)
-collects (Runs process checkpoint) u = (u.0, ap (seen checkpoint) u.1 ∙ seen-so checkpoint u.0)
-  where
-    seen-so : (w : Checkpoint) (m : TheCollecting) → seen w (Collecting m) ≡ lives.Collects m
-    seen-so Durable m = refl
-    seen-so other m = refl
+collects (Runs process Durable) u = (u.0, ap (λ c. covered (stage_of c)) u.1)
+collects (Runs process w) u = (u.0, ap stage_of u.1)
 collects other u = absurd u
 
 -- ---- how it agrees with a cluster

@@ -51,7 +51,7 @@ use Rattle.node_laws.specs.HostLaws.{FailsAlone, OneAtATime}
 use Rattle.node_laws.specs.WorkedMessages.{gave, quiet, collects, restores, input, delivery, number, acknowledgement, covers, ask, told, resume, restored, g1, g2, g3, g4, g5, g6, g7, g8, n0, n1, n2, n3, n4, n5, n6, n7, n8, n9, n10, comes, has_all, job, replays, replays_more, replayed, begins, has_answer}
 use Rattle.node_laws.specs.Worked.{copies, IsCopying, process, before, behind, opened, IsWorked, HostsCanCall}
 use Rattle.node_laws.proofs.Lives.{usual-allowed}
-use Rattle.node_laws.proofs.WorkedMessages.{suspended-5, gives-none, recovers, is-restoring, first-of, first, early, within-n0, within-n1, within-q2, within-n4, within-q5, within-n6, within-q7, within-n8, within-q9, gives-nothing}
+use Rattle.node_laws.proofs.WorkedMessages.{fits, suspended-5, gives-none, recovers, is-restoring, first-of, first, early, within-n0, within-n1, within-q2, within-n4, within-q5, within-n6, within-q7, within-n8, within-q9, gives-nothing}
 use Rattle.node_laws.proofs.Promised.{hosted-alone}
 use Rattle.node_laws.proofs.CopyingLemmas.{r0, r1, r2, copying-loads}
 use Rattle.rsn.specs.declared.receipts.TheConstants.{LIMIT}
@@ -93,27 +93,11 @@ answers image is who a k runs =
 -- ---- what is stored
 
 fits-0 : KeptFits (kept_of n0)
-fits-0 =
-    record {
-      few = omega arith;
-      some = omega arith;
-      own = omega arith;
-      state = omega arith;
-      room = record { length_is = omega arith; counts = (omega arith, tt); logs = ((omega arith, (omega arith, tt)), tt); counts_are = refl; logs_are = refl };
-      range = refl;
-    }
+fits-0 = fits 0 0 (omega arith) refl
 
 fits-4 : KeptFits (kept_of n4)
 unfolding entries_in_range
-fits-4 =
-    record {
-      few = omega arith;
-      some = omega arith;
-      own = omega arith;
-      state = omega arith;
-      room = record { length_is = omega arith; counts = (omega arith, tt); logs = ((omega arith, (omega arith, tt)), tt); counts_are = refl; logs_are = refl };
-      range = refl;
-    }
+fits-4 = fits 1 1 (omega arith) refl
 
 -- ---- how the process passes on
 

@@ -4,7 +4,8 @@ use Rattle.std.specs.Prelude.{Option, Some, None, is_some, slice_index_or, ◌==
 use Rattle.std.specs.List.{AllByRecursion}
 use Rattle.std.proofs.lemmas.Bool.Decides.{nat_tests}
 use Rattle.packets.specs.Format.{short_bytes, long_bytes, checksum_bytes, IsLong}
-use Rattle.packets.specs.Kept.{KeptFits, word_bytes, kept_bytes}
+use Rattle.packets.specs.declared.kept.Kept.{Kept}
+use Rattle.packets.specs.Kept.{kept_in_range, KeptFits, word_bytes, kept_bytes}
 use Rattle.packets.specs.Packet.{entries_in_range}
 use Rattle.world.specs.declared.message.Message.{Message}
 use Rattle.world.specs.History.{count_of}
@@ -15,7 +16,7 @@ use Rattle.node.specs.declared.job.OpenJob.{OpenJob}
 use Rattle.node.specs.Limit.{usual}
 use Rattle.node.specs.Queue.{TheQueue, no_queue}
 use Rattle.node.specs.Node.{TheNode, IsWithin, Within, IsPeer, OfPeer, HasSsn, MaySend, log_at}
-use Rattle.node.specs.Kept.{kept_of}
+use Rattle.node.specs.Kept.{log_of, kept_of}
 use Rattle.node.specs.Suspension.{suspended_bytes, IsWhole, CanSuspend, IsSuspended}
 use Rattle.node.specs.Stands.{job_of}
 use Rattle.node.proofs.Lists.{count-append}
@@ -175,17 +176,24 @@ within-q9 = rests 1 (false ∷ false ∷ []) 2 (0 ∷ 0 ∷ []) (omega arith) (o
 unused-whole : IsWhole no_queue
 unused-whole = record { as_many = refl; small = omega arith; sent = omega arith; numbered = tt }
 
-pub fits-5 : KeptFits (kept_of (quiet n5))
-unfolding entries_in_range
-fits-5 =
+-- what is kept after so many messages, where the last leaves this state, has its room
+abbrev kept : ℕ → ℕ → Kept
+kept many byte = record { me = 1; count = 1; state = byte ∷ []; length = many; counts = many ∷ []; logs = log_of no_queue ∷ [] }
+
+pub fits : (many byte : ℕ) → many ≤ 1 → kept_in_range (kept many byte) ≡ true → KeptFits (kept many byte)
+fits many byte few range =
     record {
       few = omega arith;
       some = omega arith;
       own = omega arith;
       state = omega arith;
-      room = record { length_is = omega arith; counts = (omega arith, tt); logs = ((omega arith, (omega arith, tt)), tt); counts_are = refl; logs_are = refl };
-      range = refl;
+      room = record { length_is = omega (arith, few); counts = (omega (arith, few), tt); logs = ((omega arith, (omega arith, tt)), tt); counts_are = refl; logs_are = refl };
+      range = range;
     }
+
+pub fits-5 : KeptFits (kept_of (quiet n5))
+unfolding entries_in_range
+fits-5 = fits 1 1 (omega arith) refl
 
 small-5 : IsLong (length (kept_bytes (kept_of (quiet n5))))
 unfolding entries_in_range short_bytes long_bytes word_bytes checksum_bytes
