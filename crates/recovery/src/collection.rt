@@ -104,11 +104,11 @@ impl Collecting {
         requires incarnation { IsPositive incarnation }
         ensures { IfOk result (λ n. n ≡ begins limits kept.now incarnation) }
     {
-        let own = Own::kept(alloc, limits, kept, incarnation)?;
         let mut told = Vec::new(alloc);
         for made in 0..kept.count as usize + 1 {
             told.push(Collected::new(alloc, kept.length))?;
         }
+        let own = Own::kept(alloc, limits, kept, incarnation)?;
         Ok(Collecting { own, told })
     }
 

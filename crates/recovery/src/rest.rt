@@ -49,8 +49,8 @@ pub(crate) fn rest_of(alloc: Global, wide: u8, bytes: &[u8]) -> Result<(Rest, &[
     let (exact, after) = byte_of(after)?;
     let (heard, after) = numbers_of(alloc, u64::from(wide), after)?;
     let (flags, after) = bytes_of(u64::from(wide), after)?;
-    let (codes, after) = logs_of(alloc, wide, after)?;
     let resumed = Page::copied(alloc, flags)?;
+    let (codes, after) = logs_of(alloc, wide, after)?;
     let rest = Rest {
         life,
         exact,
