@@ -63,17 +63,17 @@ module _ {slots : List (Option Insn)} {n long : ℕ} {who : Who} {table : Table}
   -- ---- one step of both
 
   module _ {ws mem : List ℕ} {s steps : ℕ} {e : Emitted} (g : Stands r.begun ws mem s steps e) (ten : g.c.cells 10 ≡ Some (At Stack (pos 512))) where
-    abbrev a : IsAllowed n count (insn_at slots) table s g.f
+    abbrev a : IsAllowed n count (insn_at slots) table s g.fits.frame
     a = allowed r.begun g
 
     abbrev i : Insn
     i = insn r.begun g
 
     placed : (first_broken (flow_tests slots s (flow_of i)) ≡ None) × (frame_pointer_rule i ≡ None)
-    placed = ((are_typings n slots table).0 r.begun.typed).1 s g.f g.there i a.there
+    placed = ((are_typings n slots table).0 r.begun.typed).1 s g.fits.frame g.fits.there i a.there
 
     eligible_here : (is_eligible s (task_in n s i) ≡ true) × JumpsWithin s i
-    eligible_here = eligible slots n s r.few_slots g.f (no_number g.c g.f g.leq ten) i a.ways placed.0 placed.1 a.leaves
+    eligible_here = eligible slots n s r.few_slots g.fits.frame (no_number g.c g.fits.frame g.fits.leq ten) i a.ways placed.0 placed.1 a.leaves
 
     ends_at : slice_index ws 10 ≡ array_size n
     ends_at = end_word n g.c ws mem g.shows ten r.begun.small
