@@ -8,7 +8,6 @@ pub mod Forms
 pub mod Passes
 pub mod Slots
 pub mod AluForms
-pub mod NearPlaces
 pub mod FlatFrames
 pub mod FlatMemory
 pub mod FlatRules

@@ -1,6 +1,6 @@
 -- Form 3 keeps the laws that make one pass decide.
 use Rattle.std.proofs.Common.{◌≡◌, ℕ, ◌+◌, ◌≤◌, ◌≤ℤ◌, ℤ, List, length, Option, Some, None, refl, ap, ◌∙◌, subst, arith}
-use Rattle.std.specs.Option.{option_or}
+use Rattle.std.specs.Option.{option_and_then, option_or}
 use Rattle.std.proofs.lemmas.Int.{ints}
 use Rattle.decode.specs.declared.insn.Insn.{Insn}
 use Rattle.decode.specs.Slots.{insn_at, size_of}
@@ -25,7 +25,7 @@ use Rattle.spans.specs.Typing.{Table, IsTyping, target}
 use Rattle.spans.specs.Typing as calls
 use Rattle.spans.proofs.CallEntry.{calls-shown}
 use Rattle.verifier.specs.Form.{Below, IsForm}
-use Rattle.verifier.specs.Span.Typing.{IsAllowed, broken_at, span_form, IsTyped}
+use Rattle.verifier.specs.Span.Typing.{IsAllowed, broken, span_form, IsTyped}
 use Rattle.verifier.specs.Span.Laws.{AreTypedCallsShown, AreTypings, IsOneRefusal, IsPlaced}
 use Rattle.verifier.proofs.Passes.{one_refusal}
 use Rattle.verifier.proofs.Spans.Slots.{later}
@@ -92,18 +92,18 @@ way_weaker table t (Some f) (Some g) l h = (h.0, h.1, Leq-trans f g h.0 l h.2)
 
 module _ (state : ℕ) (slots : List (Option Insn)) where
   -- what an instruction keeps that breaks no rule
-  pub unbroken_parts : (s : ℕ) (i : Insn) (f : Frame) → broken_at state slots s (Some i) f ≡ None → (first_broken (flow_tests slots s (flow_of i)) ≡ None) × (frame_pointer_rule i ≡ None) × (frame_rule state i f ≡ None)
+  pub unbroken_parts : (s : ℕ) (i : Insn) (f : Frame) → broken state slots s i f ≡ None → (first_broken (flow_tests slots s (flow_of i)) ≡ None) × (frame_pointer_rule i ≡ None) × (frame_rule state i f ≡ None)
   unbroken_parts s i f h =
       let k = both_none (first_broken (flow_tests slots s (flow_of i))) (broken_rule state i f) h in
       let m = neither (frame_pointer_rule i) (frame_rule state i f) k.1 in
       (k.0, m.0, m.1)
 
   -- an instruction that keeps V1, V2 and V4 and breaks no rule that asks a frame breaks none
-  pub none_broken : (s : ℕ) (i : Insn) (f : Frame) → (first_broken (flow_tests slots s (flow_of i)) ≡ None) × (frame_pointer_rule i ≡ None) → frame_rule state i f ≡ None → broken_at state slots s (Some i) f ≡ None
+  pub none_broken : (s : ℕ) (i : Insn) (f : Frame) → (first_broken (flow_tests slots s (flow_of i)) ≡ None) × (frame_pointer_rule i ≡ None) → frame_rule state i f ≡ None → broken state slots s i f ≡ None
   none_broken s i f p r = ap (λ o. option_or o (broken_rule state i f)) p.0 ∙ both (frame_pointer_rule i) (frame_rule state i f) p.1 r
 
   -- a frame that says more breaks no more, and on each way one leaves that says more
-  weaker : (s : ℕ) (i : Insn) (f g : Frame) → IsFrame f → IsFrame g → Leq f g → broken_at state slots s (Some i) g ≡ None → (broken_at state slots s (Some i) f ≡ None) × (LeqWay (ways i f).0 (ways i g).0 × LeqWay (ways i f).1 (ways i g).1)
+  weaker : (s : ℕ) (i : Insn) (f g : Frame) → IsFrame f → IsFrame g → Leq f g → broken state slots s i g ≡ None → (broken state slots s i f ≡ None) × (LeqWay (ways i f).0 (ways i g).0 × LeqWay (ways i f).1 (ways i g).1)
   weaker s i f g ff fg le h =
       let p = unbroken_parts s i g h in
       let k = monotone state i f g (ways i g) ff fg le ((exact state i g).0 p.2) in
@@ -123,10 +123,10 @@ module _ (state : ℕ) (slots : List (Option Insn)) where
         leaps = way_weaker t (target s h.insn) (ways h.insn f).1 (ways h.insn g).1 k.1.1 h.leaps;
       }
 
-  not_allowed : (t : Table) (s : ℕ) (f : Frame) (rule : Rule) → broken_at state slots s (insn_at slots s) f ≡ Some rule → IsAllowed state slots t s f → ⊥
+  not_allowed : (t : Table) (s : ℕ) (f : Frame) (rule : Rule) → option_and_then (λ (i : Insn). broken state slots s i f) (insn_at slots s) ≡ Some rule → IsAllowed state slots t s f → ⊥
   not_allowed t s f rule e a =
       let none = a.kept in
-      let some : broken_at state slots s (Some a.insn) f ≡ Some rule = subst (λ o. broken_at state slots s o f ≡ Some rule) a.there e in
+      let some : broken state slots s a.insn f ≡ Some rule = subst (λ o. option_and_then (λ (i : Insn). broken state slots s i f) o ≡ Some rule) a.there e in
       cc
 
   pub form_3 : IsForm (span_form state slots)
