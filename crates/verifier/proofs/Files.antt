@@ -29,7 +29,7 @@ use Rattle.verifier.specs.declared.file_form.FileForm.TheVariants.{Sbi1, Sbi2, S
 use Rattle.verifier.specs.FileForm.{file_form_number, file_form_of}
 use Rattle.verifier.specs.Typed.{Typed}
 use Rattle.verifier.specs.Verdict as flat_verdict
-use Rattle.verifier.specs.Fixpoint.{IsTyped}
+use Rattle.verifier.specs.Fixpoint as one
 use Rattle.verifier.specs.Least.{flat_form}
 use Rattle.verifier.proofs.LeastTypings.{one_refusal}
 use Rattle.verifier.proofs.Spans.Forms.{one_refusal_3}
@@ -255,7 +255,7 @@ flat_once two.Sbi1 two.Sbi2 e = let k : 1 ≡ 2 = ap file_form_number e in absur
 flat_once two.Sbi2 two.Sbi1 e = let k : 2 ≡ 1 = ap file_form_number e in absurd (omega (arith, k))
 flat_once two.Sbi2 two.Sbi2 e = refl
 
-pub flat_fault : (form : ImageForm) (is : List Insn) (len : ℕ) (rule : rules.Rule) (slot : ℕ) → flat_verdict.IsFault form is len rule slot → IsFault (file_form_of form) is len rule slot
+pub flat_fault : (form : ImageForm) (is : List Insn) (len : ℕ) (rule : rules.Rule) (slot : ℕ) → one.IsFault (flat_form form len (slots_of is)) rule slot → IsFault (file_form_of form) is len rule slot
 flat_fault two.Sbi1 is len rule slot h = h
 flat_fault two.Sbi2 is len rule slot h = h
 
@@ -264,7 +264,7 @@ pub image_typable : (form : ImageForm) (is : List Insn) (len : ℕ) (image : Typ
 image_typable form is len image h =
     subst (λ (q : ImageForm). IsTypable (file_form_of q) image.code image.len) (sym h.form_is) (subst (λ (l : List Insn). IsTypable (file_form_of form) l image.len) (sym h.code_is) (subst (λ (x : ℕ). IsTypable (file_form_of form) is x) (sym h.len_is) (typable form h.typing.types)))
   where
-    typable : (form : ImageForm) → IsTyped (flat_form form len (slots_of is)) (frame_at image.table) → IsTypable (file_form_of form) is len
+    typable : (form : ImageForm) → one.IsTyped (flat_form form len (slots_of is)) (frame_at image.table) → IsTypable (file_form_of form) is len
     typable two.Sbi1 t = (image.table, t)
     typable two.Sbi2 t = (image.table, t)
 

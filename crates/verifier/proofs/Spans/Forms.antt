@@ -25,7 +25,8 @@ use Rattle.spans.specs.Typing.{Table, IsTyping, target}
 use Rattle.spans.specs.Typing as calls
 use Rattle.spans.proofs.CallEntry.{calls-shown}
 use Rattle.verifier.specs.Form.{Below, IsForm}
-use Rattle.verifier.specs.Span.Typing.{IsAllowed, broken, span_form, IsTyped}
+use Rattle.verifier.specs.Fixpoint.{IsTyped}
+use Rattle.verifier.specs.Span.Typing.{IsAllowed, broken, span_form}
 use Rattle.verifier.specs.Span.Laws.{AreTypedCallsShown, AreTypings, IsOneRefusal, IsPlaced}
 use Rattle.verifier.proofs.Passes.{one_refusal}
 use Rattle.verifier.proofs.Spans.Slots.{later}
@@ -178,11 +179,11 @@ module _ (state : ℕ) (slots : List (Option Insn)) (table : Table) where
         leaps = subst (λ (v : Ways). calls.Enters table (target s a.insn) v.1) e.1 a.leaps;
       }
 
-  all_to_calls : IsTyped state slots table → (s : ℕ) (f : Frame) → table s ≡ Some f → calls.IsAllowed state (length slots) (insn_at slots) table s f × IsPlaced slots s
+  all_to_calls : IsTyped (span_form state slots) table → (s : ℕ) (f : Frame) → table s ≡ Some f → calls.IsAllowed state (length slots) (insn_at slots) table s f × IsPlaced slots s
   all_to_calls h s f e = let b = (h.stands s f e).1 in to_calls s f (h.allowed s f (within slots s b.0 b.1) e)
 
 -- a typing of form 3 is one of calls
-pub typing_of : (state : ℕ) (slots : List (Option Insn)) (table : Table) → IsTyped state slots table → IsTyping state (length slots) (insn_at slots) table
+pub typing_of : (state : ℕ) (slots : List (Option Insn)) (table : Table) → IsTyped (span_form state slots) table → IsTyping state (length slots) (insn_at slots) table
 typing_of state slots table h = record { start = h.start; each = λ s f e. (all_to_calls state slots table h s f e).0 }
 
 pub are_typings : AreTypings

@@ -14,7 +14,7 @@ use Rattle.spans.specs.Calls.{Request, Replies, call_from, concrete_call_from, S
 use Rattle.verifier.specs.Form.{IsForm}
 use Rattle.verifier.specs.Fixpoint as one
 use Rattle.verifier.specs.Span.Rules.{frame_pointer_rule}
-use Rattle.verifier.specs.Span.Typing.{IsTyped, span_form}
+use Rattle.verifier.specs.Span.Typing.{span_form}
 
 -- form 3 keeps the laws that let one pass decide
 abbrev pub KeepsLaws : Type 0
@@ -29,7 +29,7 @@ IsPlaced slots s =
 abbrev pub AreTypings : Type 0
 AreTypings =
     (state : ℕ) (slots : List (Option Insn)) (table : Table)
-    → IsTyped state slots table
+    → one.IsTyped (span_form state slots) table
     ↔ (IsTyping state (length slots) (insn_at slots) table × ((s : ℕ) (f : Frame) → table s ≡ Some f → IsPlaced slots s))
 
 -- a call of typed code ends within as many steps as there are slots; on words and one array it ends so too, with the
@@ -38,7 +38,7 @@ AreTypings =
 abbrev pub AreTypedCallsShown : Type 0
 AreTypedCallsShown =
     (state long : ℕ) (message bytes : ℕ → ℕ) (slots : List (Option Insn)) (table : Table) (reply : Replies)
-    → array_size state < 2 ^ 64 → IsTyped state slots table → ((q : List Request) (r : Request) → reply q r ≤ PROCESSES)
+    → array_size state < 2 ^ 64 → one.IsTyped (span_form state slots) table → ((q : List Request) (r : Request) → reply q r ≤ PROCESSES)
     → long ≤ PAYLOAD_BYTES → ((a : ℕ) → message a < 256) → ((a : ℕ) → bytes a < 256)
     → ShowsLast state (length slots) (call_from state (insn_at slots) reply (length slots) 0 (entry long message bytes) [])
     (concrete_call_from state (insn_at slots) reply (length slots) 0 (concrete_entry state long message bytes) [])

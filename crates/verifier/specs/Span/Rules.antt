@@ -51,8 +51,7 @@ words_rule (suc w) f s o n =
 
 -- a load inside the stack: of a whole word, or else of numbers
 abbrev pub read_rule : Option ℕ → Frame → Reach → ℤ → ℕ → Option Rule
-read_rule (Some c) f s o n = value_rule (f c)
-read_rule None f s o n = words_rule 64 f s o n
+read_rule word f s o n = option_map_or (λ c. value_rule (f c)) word (words_rule 64 f s o n)
 
 -- a load of n bytes, o bytes from a base of this kind; the stack's words are judged only if it is inside
 abbrev pub load_rule : ℕ → Frame → SpanKind → ℤ → ℕ → Option Rule
@@ -63,8 +62,7 @@ load_rule state f (Place r s) o n = unless (is_inside (region_size state r) s o 
 
 -- a store of a kind inside the stack: into a whole word, also a place; else a number, over numbers
 abbrev pub write_rule : Option ℕ → Frame → SpanKind → Reach → ℤ → ℕ → Option Rule
-write_rule (Some c) f k s o n = value_rule k
-write_rule None f k s o n = lesser (number_rule k) (words_rule 64 f s o n)
+write_rule word f k s o n = option_map_or (λ c. value_rule k) word (lesser (number_rule k) (words_rule 64 f s o n))
 
 -- a store of a kind through a base of another; a place that isn't stored into a whole word breaks V5, wherever it is
 -- stored

@@ -17,7 +17,6 @@ use Rattle.verifier.specs.Span.Rules.{broken_rule}
 use Rattle.verifier.specs.Span.Ways.{ways}
 use Rattle.spans.specs.Typing.{Table, Enters, target}
 use Rattle.verifier.specs.Form.{Form}
-use Rattle.verifier.specs.Fixpoint as one
 
 -- arrays of kinds as frames, slot by slot; none after their end
 abbrev pub table_of : List (Option (Box Cells)) → Table
@@ -49,7 +48,3 @@ span_form state slots = record {
   IsAllowed = λ table s f. IsAllowed state slots table s f;
   broken = λ s f. option_and_then (λ i. broken state slots s i f) (insn_at slots s);
 }
-
--- the table is a typing of the code
-abbrev pub IsTyped : ℕ → List (Option Insn) → Table → Type 0
-IsTyped state slots table = one.IsTyped (span_form state slots) table
