@@ -19,7 +19,7 @@ use Rattle.decode.specs.Flow.{flow_of}
 use Rattle.regtypes.specs.Exits.{exits, exits_by}
 use Rattle.regtypes.specs.Frame.{entry_frame, Leq}
 use Rattle.regtypes.specs.Rules.{Tests, first_broken, tests_of}
-use Rattle.regtypes.specs.Typing.{Table, frame_at, broken, flow_tests, IsTyping}
+use Rattle.regtypes.specs.Typing.{Table, frame_at, broken, flow_tests}
 use Rattle.regtypes.specs.Typing as regtypes
 use Rattle.regtypes.specs.Ways.{shown, next, taken}
 use Rattle.regtypes.proofs.Parts.{jump_tests}

@@ -1,5 +1,5 @@
 -- The frames that leave an instruction that breaks no rule.
-use Rattle.std.specs.Prelude.{◌≡◌, ℕ, ℤ, ◌≤ℤ◌, true, Option, None, Some, Result}
+use Rattle.std.specs.Prelude.{◌≡◌, ℕ, ℤ, ◌≤ℤ◌, true, None, Some, Result}
 use Rattle.std.specs.Result.{result_unwrap_or}
 use Rattle.decode.specs.declared.insn.Reg.{Reg}
 use Rattle.decode.specs.declared.insn.Width.{Width}
