@@ -2,7 +2,7 @@
 use Rattle.std.specs.Prelude.{◌≡◌, ℕ, List}
 use Rattle.decode.specs.declared.insn.Insn.{Insn}
 use Rattle.regtypes.specs.declared.rule.Rule.TheVariants.{V1}
-use Rattle.verifier.specs.Span.Verdict.{IsFault}
+use Rattle.verifier.specs.ImageFile.{IsFault}
 use Rattle.verifier.specs.AnyFile.{IsFile}
 use Rattle.verifier.specs.declared.file_form.FileForm.{FileForm}
 use Rattle.verifier.specs.declared.file_form.FileForm.TheVariants.{Sbi1, Sbi2, Sbi3}
@@ -14,7 +14,7 @@ use Rattle.block_order.specs.declared.writer.Ordered.{Ordered}
 
 -- the verifier of form 3 refuses the code by V1
 abbrev pub BreaksV1 : List Insn → ℕ → Type 0
-BreaksV1 code state = (slot : ℕ) × IsFault code state V1 slot
+BreaksV1 code state = (slot : ℕ) × IsFault Sbi3 code state V1 slot
 
 -- an order is needed: in form 3, if V1 refuses the code
 abbrev pub WantsOrder : FileForm → List Insn → ℕ → Type 0

@@ -1,6 +1,6 @@
 -- Where a call may come to, there is code.
 use Rattle.std.proofs.Common.{◌≡◌, ℕ, zero, suc, ◌+◌, ◌%◌, ◌^◌, ◌<◌, ◌≤◌, ℤ, pos, negsuc, ◌+ℤ◌, Bool, true, false, cond, List, Option, Some, None, length, refl, sym, ap, ◌∙◌, arith}
-use Rattle.std.specs.Prelude.{◌==◌, ◌&&◌, not, is_some, nat_lt, unsigned_abs}
+use Rattle.std.specs.Prelude.{◌==◌, ◌&&◌, not, is_some, nat_lt, unsigned_abs, Ok}
 use Rattle.std.specs.Option.{option_map_or}
 use Rattle.std.proofs.Math.Nat.{mod-eq_of_lt}
 use Rattle.std.proofs.lemmas.Bool.{and_parts, false≢true}
@@ -55,7 +55,7 @@ operand_read len alu.Mov o = refl
 operand_read len a o = operand_word len o
 
 -- what makes a number of a kind asks a number
-from_span-num : (make : Span → Span) (k h : SpanKind) → from_span make k ≡ Some h → is_num k ≡ true
+from_span-num : (make : Span → Span) (k h : SpanKind) → from_span make k ≡ Ok h → is_num k ≡ true
 from_span-num make Unset h e = cc
 from_span-num make (Num s) h e = refl
 from_span-num make (Place r s) h e = cc

@@ -10,6 +10,7 @@ use Rattle.verifier.specs.FileForm.{file_form_of}
 use Rattle.verifier.specs.declared.file_form.FileForm.TheVariants.{Sbi1, Sbi2, Sbi3}
 use Rattle.verifier.specs.declared.any_image.AnyImage.TheVariants.{Flat}
 use Rattle.verifier.specs.AnyFile.{IsTypable}
+use Rattle.verifier.proofs.LeastTypings.{are_typings}
 use Rattle.interp.specs.Image.{as_image}
 use Rattle.native.specs.declared.prologue.Opening.TheVariants as opening
 use Rattle.native.specs.Correct.{IsNative}
@@ -25,8 +26,8 @@ native_in two.Sbi1 code len bytes n = n
 native_in two.Sbi2 code len bytes n = n
 
 typable_in : (form : ImageForm) (code : List Insn) (len : ℕ) (table : Table) → IsTyping form (slots_of code) len table → IsTypable (file_form_of form) code len
-typable_in two.Sbi1 code len table t = (table, t)
-typable_in two.Sbi2 code len table t = (table, t)
+typable_in two.Sbi1 code len table t = (table, (are_typings two.Sbi1 (slots_of code) len table).1 t)
+typable_in two.Sbi2 code len table t = (table, (are_typings two.Sbi2 (slots_of code) len table).1 t)
 
 code_in : (form : ImageForm) (code : List Insn) (len : ℕ) (bytes : List ℕ) → flat.IsCodeOf form (slots_of code) len bytes → IsCodeIn (file_form_of form) code len bytes
 code_in two.Sbi1 code len bytes w = w

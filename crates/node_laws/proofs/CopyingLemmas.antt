@@ -16,6 +16,7 @@ use Rattle.regtypes.specs.Exits.{exits}
 use Rattle.regtypes.specs.Typing.{Table, frame_at, broken, Enters, IsTyping}
 use Rattle.regtypes.proofs.Monotone.{Leq-refl}
 use Rattle.verifier.specs.declared.any_image.AnyImage.TheVariants.{Flat}
+use Rattle.verifier.proofs.LeastTypings.{are_typings}
 use Rattle.node_laws.specs.Worked.{copies, CopyingLoads}
 
 abbrev pub r0 : Reg
@@ -83,4 +84,4 @@ typing =
 pub copying-loads : CopyingLoads
 copying-loads =
     let image = Flat (record { form = two.Sbi1; code = copies r0 r1 r2; slots = slots; table = table; len = 1; low = PAYLOAD_BYTES + 1 }) in
-    (image, (record { r0 = r0; r1 = r1; r2 = r2; numbers = (refl, refl, refl); is_image = record { form_is = refl; code_is = refl; len_is = refl } }, (table, typing)))
+    (image, (record { r0 = r0; r1 = r1; r2 = r2; numbers = (refl, refl, refl); is_image = record { form_is = refl; code_is = refl; len_is = refl } }, (table, (are_typings two.Sbi1 slots 1 table).1 typing)))

@@ -1,6 +1,6 @@
 -- What leaves a frame are frames.
 use Rattle.std.proofs.Common.{◌≡◌, ℕ, suc, ◌+◌, ◌-◌, ◌*◌, ◌/◌, ◌^◌, ◌<◌, ◌≤◌, min, max, Bool, true, false, Option, Some, None, ℤ, pos, negsuc, ◌+ℤ◌, ◌≤ℤ◌, refl, sym, subst, arith}
-use Rattle.std.specs.Prelude.{nat_lt, nat_le, int_le, ◌&&◌, ◌==◌, if◌then◌else◌}
+use Rattle.std.specs.Prelude.{Result, Ok, Err, nat_lt, nat_le, int_le, ◌&&◌, ◌==◌, if◌then◌else◌}
 use Rattle.std.specs.Option.{option_map}
 use Rattle.std.proofs.lemmas.Bool.Decides.{nat_tests}
 use Rattle.std.proofs.lemmas.Int.{ints}
@@ -20,6 +20,8 @@ use Rattle.decode.specs.Encoding.{bytes_in, extension_offset, extension_width}
 use Rattle.operations.specs.Words.{bits_of}
 use Rattle.regtypes.specs.declared.frame.Region.{Region}
 use Rattle.regtypes.specs.declared.frame.Region.TheVariants.{Message, State, Stack}
+use Rattle.regtypes.specs.declared.rule.Rule.{Rule}
+use Rattle.regtypes.specs.declared.rule.Rule.TheVariants.{V6}
 use Rattle.spans.specs.Span.{IsSpan, Span, bounded, one, ones, result_span, span, whole}
 use Rattle.spans.specs.Narrowing.{SpanPair, is_one, not_negative, opposite, shown, swapped, unless_empty, where_at_most, where_less, where_met, where_signed}
 use Rattle.spans.specs.Frame.{Frame, IsFrame, IsKind, SpanKind, Num, Place, Reach, Unset, with_kind}
@@ -94,9 +96,9 @@ extended_span-is k n s h i = by_case (nat_lt s.hi (2 ^ (k - 1)))
 
 -- ---- kinds that arithmetic leaves
 
-abbrev IsGiven : Option SpanKind → Type 0
-IsGiven None = Unit {0}
-IsGiven (Some k) = IsKind k
+abbrev IsGiven : Result SpanKind Rule → Type 0
+IsGiven (Err r) = Unit {0}
+IsGiven (Ok k) = IsKind k
 
 from_span-is : (make : Span → Span) → ((s : Span) → IsSpan 64 s → IsSpan 64 (make s)) → (k : SpanKind) → IsKind k → IsGiven (from_span make k)
 from_span-is make h Unset i = tt
@@ -106,7 +108,9 @@ from_span-is make h (Place r s) i = tt
 from_spans-is : (make : Span → Span → Span) → ((s t : Span) → IsSpan 64 s → IsSpan 64 t → IsSpan 64 (make s t)) → (a b : SpanKind) → IsKind a → IsKind b → IsGiven (from_spans make a b)
 from_spans-is make h Unset b i j = tt
 from_spans-is make h (Num s) b i j = from_span-is (make s) (λ t k. h s t i k) b j
-from_spans-is make h (Place r s) b i j = tt
+from_spans-is make h (Place r s) Unset i j = tt
+from_spans-is make h (Place r s) (Num t) i j = tt
+from_spans-is make h (Place r s) (Place q t) i j = tt
 
 set_kind-is : (k : SpanKind) → IsKind k → IsGiven (set_kind k)
 set_kind-is Unset i = tt
@@ -116,7 +120,7 @@ set_kind-is (Place r s) i = i
 near_place-is : (r : Region) (s : Reach) → s.lo ≤ℤ s.hi → IsGiven (near_place r s)
 near_place-is r s h = by_case (int_le (negsuc 32767) s.lo && int_le s.hi (pos 32767))
   where
-    by_case : (t : Bool) → IsGiven (if t then Some (Place r s) else None)
+    by_case : (t : Bool) → IsGiven (if t then Ok (Place r s) else Err V6)
     by_case true = h
     by_case false = tt
 
@@ -281,7 +285,7 @@ one_way g w h e = subst (λ (z : Ways). IsWay z.0 × IsWay z.1) (sym e) (h, tt)
 jump_way : (g : Frame) (w : Ways) → IsFrame g → w ≡ (None, Some g) → IsWay w.0 × IsWay w.1
 jump_way g w h e = subst (λ (z : Ways). IsWay z.0 × IsWay z.1) (sym e) (tt, h)
 
-gives-is : (k : Option SpanKind) (f : Frame) (dst : Reg) (w : Ways) → IsFrame f → IsGiven k → Gives k f dst w → IsWay w.0 × IsWay w.1
+gives-is : (k : Result SpanKind Rule) (f : Frame) (dst : Reg) (w : Ways) → IsFrame f → IsGiven k → Gives k f dst w → IsWay w.0 × IsWay w.1
 gives-is k f dst w h i g = one_way (with_kind f dst.number g.0) w (with_kind-is f dst.number g.0 h (subst IsGiven g.1 i)) g.2
 
 any-is : IsKind (Num (whole 64))
@@ -293,7 +297,7 @@ closed state (MovSx x dst src) f w p h l =
     gives-is _ f dst w h (from_span-is (extended_span (extension_offset x) (bits_of (extension_width x))) (λ s i. extended_span-is (extension_offset x) (bits_of (extension_width x)) s (few_bits (extension_width x)) i) (f src.number) (h src.number)) l
 closed state (Neg width dst) f w p h l = gives-is _ f dst w h (from_span-is (λ s. whole 64) (λ s i. whole-is 64) (f dst.number) (h dst.number)) l
 closed state (End order bits dst) f w p h l = gives-is _ f dst w h (from_span-is (λ s. whole 64) (λ s i. whole-is 64) (f dst.number) (h dst.number)) l
-closed state (Wide dst value) f w p h l = gives-is (Some (Num (one value))) f dst w h (record { some = omega arith; words = p }) l
+closed state (Wide dst value) f w p h l = gives-is (Ok (Num (one value))) f dst w h (record { some = omega arith; words = p }) l
 closed state (Jump offset) f w p h l = jump_way f w h l
 closed state (JumpLong distance) f w p h l = jump_way f w h l
 closed state (JumpIf condition width dst o offset) f w p h l =

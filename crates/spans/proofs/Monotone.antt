@@ -1,6 +1,6 @@
 -- The local rules are monotone.
 use Rattle.std.proofs.Common.{◌≡◌, ℕ, zero, suc, ◌+◌, ◌-◌, ◌*◌, ◌%◌, ◌^◌, ◌<◌, ◌≤◌, min, Bool, true, false, Option, Some, None, ℤ, pos, negsuc, ◌+ℤ◌, ◌≤ℤ◌, ◌<ℤ◌, refl, sym, ap, subst, arith}
-use Rattle.std.specs.Prelude.{nat_lt, nat_le, int_le, ◌&&◌, ◌==◌, if◌then◌else◌}
+use Rattle.std.specs.Prelude.{Result, Ok, Err, nat_lt, nat_le, int_le, ◌&&◌, ◌==◌, if◌then◌else◌}
 use Rattle.std.specs.Option.{option_map}
 use Rattle.std.proofs.lemmas.Bool.{false≢true}
 use Rattle.std.proofs.lemmas.Bool.Decides.{nat_tests}
@@ -20,6 +20,8 @@ use Rattle.decode.specs.declared.insn.Insn.TheVariants.{Alu, MovSx, Neg, End, Ju
 use Rattle.decode.specs.Encoding.{bytes_in, loaded, extension_offset, extension_width}
 use Rattle.operations.specs.Words.{bits_of, word_of}
 use Rattle.regtypes.specs.declared.frame.Region.{Region}
+use Rattle.regtypes.specs.declared.rule.Rule.{Rule}
+use Rattle.regtypes.specs.declared.rule.Rule.TheVariants.{V6}
 use Rattle.spans.specs.Span.{IsSpan, Span, Within, one, result_span, span, whole}
 use Rattle.spans.specs.Narrowing.{SpanPair, opposite, shown, where_met}
 use Rattle.spans.specs.Frame.{Frame, IsFrame, IsKind, SpanKind, Leq, LeqKind, Num, Place, Reach, Unset, WithinReach, with_kind}
@@ -33,10 +35,10 @@ use Rattle.spans.proofs.Narrowing.{WithinWay, where_met-narrows, where_met-insid
 use Rattle.spans.proofs.Access.{is_inside-grows, numbers-grow, num-grows, with_kind-grows, reaches, reached_by, loads-grow, stores-grow}
 
 -- what the weaker frame gives the stronger one gives too, and says no less
-abbrev Refines : Option SpanKind → Option SpanKind → Type 0
-Refines v None = Unit {0}
-Refines None (Some h) = ⊥
-Refines (Some k) (Some h) = LeqKind k h
+abbrev Refines : Result SpanKind Rule → Result SpanKind Rule → Type 0
+Refines v (Err r) = Unit {0}
+Refines (Err r) (Ok h) = ⊥
+Refines (Ok k) (Ok h) = LeqKind k h
 
 -- a kind that says more than a span of numbers is a span within it
 pub num_shape : (a : SpanKind) (t : Span) → LeqKind a (Num t) → (s : Span) × (a ≡ Num s) × Within s t
@@ -75,7 +77,7 @@ near_place-refines r s t l = by_two (int_le (negsuc 32767) s.lo && int_le s.hi (
     nearer : (int_le (negsuc 32767) t.lo && int_le t.hi (pos 32767)) ≡ true → (int_le (negsuc 32767) s.lo && int_le s.hi (pos 32767)) ≡ true
     nearer e = let p = parts (int_le (negsuc 32767) t.lo) (int_le t.hi (pos 32767)) e in both (int_le (negsuc 32767) s.lo) (int_le s.hi (pos 32767)) (grind (arith, ints, p.0, l.0)) (grind (arith, ints, p.1, l.1))
 
-    by_two : (u v : Bool) → (v ≡ true → u ≡ true) → Refines (if u then Some (Place r s) else None) (if v then Some (Place r t) else None)
+    by_two : (u v : Bool) → (v ≡ true → u ≡ true) → Refines (if u then Ok (Place r s) else Err V6) (if v then Ok (Place r t) else Err V6)
     by_two true true k = (refl, l)
     by_two true false k = tt
     by_two false true k = absurd (false≢true (k refl))
@@ -103,7 +105,7 @@ summed_kind-refines : (a b c d : SpanKind) → LeqKind a c → LeqKind b d → I
 summed_kind-refines a b (Num t) (Num u) l m ia ib ic id =
     let x = num_shape a t l in
     let y = num_shape b u m in
-    subst (λ k. Refines (summed_kind k b) (Some (Num (result_span alu.Add 64 t u)))) (sym x.1) (subst (λ k. Refines (summed_kind (Num x.0) k) (Some (Num (result_span alu.Add 64 t u)))) (sym y.1) (bounded-grows 64 (x.0.lo + y.0.lo) (x.0.hi + y.0.hi) (t.lo + u.lo) (t.hi + u.hi) (omega (arith, x.2.0, y.2.0)) (omega (arith, x.2.1, y.2.1))))
+    subst (λ k. Refines (summed_kind k b) (Ok (Num (result_span alu.Add 64 t u)))) (sym x.1) (subst (λ k. Refines (summed_kind (Num x.0) k) (Ok (Num (result_span alu.Add 64 t u)))) (sym y.1) (bounded-grows 64 (x.0.lo + y.0.lo) (x.0.hi + y.0.hi) (t.lo + u.lo) (t.hi + u.hi) (omega (arith, x.2.0, y.2.0)) (omega (arith, x.2.1, y.2.1))))
 summed_kind-refines a b (Place q t) (Num u) l m ia ib ic id =
     let x = place_shape a q t l in
     let y = num_shape b u m in
@@ -136,7 +138,9 @@ from_span-refines f h (Place r s) (Num t) i j l = absurd l
 
 from_spans-refines : (f : Span → Span → Span) → ((s t u v : Span) → IsSpan 64 s → IsSpan 64 t → IsSpan 64 u → IsSpan 64 v → Within s u → Within t v → Within (f s t) (f u v)) → (a b c d : SpanKind) → IsKind a → IsKind b → IsKind c → IsKind d → LeqKind a c → LeqKind b d → Refines (from_spans f a b) (from_spans f c d)
 from_spans-refines f h a b Unset d ia ib ic id l m = tt
-from_spans-refines f h a b (Place q t) d ia ib ic id l m = tt
+from_spans-refines f h a b (Place q t) Unset ia ib ic id l m = tt
+from_spans-refines f h a b (Place q t) (Num u) ia ib ic id l m = tt
+from_spans-refines f h a b (Place q t) (Place q' u) ia ib ic id l m = tt
 from_spans-refines f h Unset b (Num u) d ia ib ic id l m = absurd l
 from_spans-refines f h (Place r s) b (Num u) d ia ib ic id l m = absurd l
 from_spans-refines f h (Num s) b (Num u) Unset ia ib ic id l m = tt
@@ -181,10 +185,10 @@ extended_span-grows k n s t h l = let wide : 2 ^ (k - 1) ≤ 2 ^ n = powers (k -
     below : s.hi < 2 ^ (k - 1) → 2 ^ (k - 1) ≤ 2 ^ n → s.hi ≤ 2 ^ n - 1
     below h w = omega arith
 
-gives-grows : (f g : Frame) (dst : Reg) (v u : Option SpanKind) (w : Ways) → Leq f g → Refines v u → Gives u g dst w → (x : Ways) × (Gives v f dst x × (LeqWay x.0 w.0 × LeqWay x.1 w.1))
-gives-grows f g dst None u w l r h = absurd (subst (λ z. Refines None z) h.1 r)
-gives-grows f g dst (Some k) u w l r h =
-    let lk : LeqKind k h.0 = subst (λ z. Refines (Some k) z) h.1 r in
+gives-grows : (f g : Frame) (dst : Reg) (v u : Result SpanKind Rule) (w : Ways) → Leq f g → Refines v u → Gives u g dst w → (x : Ways) × (Gives v f dst x × (LeqWay x.0 w.0 × LeqWay x.1 w.1))
+gives-grows f g dst (Err q) u w l r h = absurd (subst (λ z. Refines (Err q) z) h.1 r)
+gives-grows f g dst (Ok k) u w l r h =
+    let lk : LeqKind k h.0 = subst (λ z. Refines (Ok k) z) h.1 r in
     ((Some (with_kind f dst.number k), None), ((k, refl, refl), subst (λ (z : Ways). LeqWay (Some (with_kind f dst.number k)) z.0 × LeqWay None z.1) (sym h.2) (with_kind-grows f g dst.number k h.0 l lk, tt)))
 
 -- ---- jumps
@@ -282,7 +286,7 @@ monotone state (Neg width dst) f g w p q l h =
     gives-grows f g dst _ _ w l (from_span-refines (λ s. whole 64) (λ s t i j k. within-refl (whole 64)) (f dst.number) (g dst.number) (p dst.number) (q dst.number) (l dst.number)) h
 monotone state (End order bits dst) f g w p q l h =
     gives-grows f g dst _ _ w l (from_span-refines (λ s. whole 64) (λ s t i j k. within-refl (whole 64)) (f dst.number) (g dst.number) (p dst.number) (q dst.number) (l dst.number)) h
-monotone state (Wide dst value) f g w p q l h = gives-grows f g dst (Some (Num (one value))) (Some (Num (one value))) w l (within-refl (one value)) h
+monotone state (Wide dst value) f g w p q l h = gives-grows f g dst (Ok (Num (one value))) (Ok (Num (one value))) w l (within-refl (one value)) h
 monotone state (Jump offset) f g w p q l h = ((None, Some f), (refl, jumps f g w l h))
 monotone state (JumpLong distance) f g w p q l h = ((None, Some f), (refl, jumps f g w l h))
 monotone state (JumpIf condition width dst o offset) f g w p q l h =

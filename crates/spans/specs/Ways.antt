@@ -1,7 +1,7 @@
 -- What an instruction needs of a frame, and the frames that leave it. The rules V1, V2 and V4 (docs/FORMATS.md) need no
 -- frame, and are not here.
 use Rattle.std.specs.Prelude.{◌≡◌, ℕ, zero, suc, ◌+◌, ◌-◌, ◌%◌, ◌^◌, ◌==◌, ◌&&◌, nat_lt, nat_le, int_le, ℤ, pos, negsuc, neg_ℤ, ◌+ℤ◌}
-use Rattle.std.specs.Prelude.{true, Option, Some, None, if◌then◌else◌, min}
+use Rattle.std.specs.Prelude.{true, Option, Some, None, Result, Ok, Err, if◌then◌else◌, min}
 use Rattle.std.specs.Option.{option_map}
 use Rattle.decode.specs.declared.insn.Reg.{Reg}
 use Rattle.decode.specs.declared.insn.AluOp.{AluOp}
@@ -18,12 +18,14 @@ use Rattle.decode.specs.Encoding.{bytes_in, loaded, extension_offset, extension_
 use Rattle.operations.specs.Words.{bits_of, word_of}
 use Rattle.regtypes.specs.declared.frame.Region.{Region}
 use Rattle.regtypes.specs.declared.frame.Region.TheVariants.{Stack}
+use Rattle.regtypes.specs.declared.rule.Rule.{Rule}
+use Rattle.regtypes.specs.declared.rule.Rule.TheVariants.{V3, V5, V6}
 use Rattle.spans.specs.Span.{Span, span, whole, one, bounded, result_span}
 use Rattle.spans.specs.Narrowing.{SpanPair, opposite, shown}
 use Rattle.spans.specs.Frame.{Reach, SpanKind, Unset, Num, Place, Frame, Leq, is_num, with_kind}
 use Rattle.spans.specs.Access.{region_size, is_inside, AreNumbers, MayLoad, loaded_kind, MayStore, stored_frame}
 
--- ---- arithmetic: None if a rule is broken
+-- ---- arithmetic: the kind that is left, or the least rule that is broken
 
 -- what arithmetic does with dst and its operand: it copies the operand, also a place; it adds two registers, one of
 -- which may be a place; it moves dst by a whole number, also a place; it sets dst to the operand as a word; or it
@@ -54,35 +56,36 @@ abbrev pub operand_kind : Width → Operand → Frame → SpanKind
 operand_kind width (operand.Imm z) f = Num (one (word_of z % 2 ^ bits_of width))
 operand_kind width (operand.Reg r) f = f r.number
 
--- applies to a span, if the kind is one
-abbrev pub from_span : (Span → Span) → SpanKind → Option SpanKind
-from_span make (Num s) = Some (Num (make s))
-from_span make k = None
+-- applies to a span; V3 is broken if nothing is known of the register, V5 if it is a place
+abbrev pub from_span : (Span → Span) → SpanKind → Result SpanKind Rule
+from_span make Unset = Err V3
+from_span make (Num s) = Ok (Num (make s))
+from_span make (Place r s) = Err V5
 
--- applies to two spans, if both kinds are one
-abbrev pub from_spans : (Span → Span → Span) → SpanKind → SpanKind → Option SpanKind
+-- applies to two spans
+abbrev pub from_spans : (Span → Span → Span) → SpanKind → SpanKind → Result SpanKind Rule
 from_spans make (Num s) b = from_span (make s) b
-from_spans make a b = None
+from_spans make (Place r s) Unset = Err V3
+from_spans make a b = from_span (λ s. s) a
 
 -- any kind that is set
-abbrev pub set_kind : SpanKind → Option SpanKind
-set_kind Unset = None
-set_kind k = Some k
+abbrev pub set_kind : SpanKind → Result SpanKind Rule
+set_kind Unset = Err V3
+set_kind k = Ok k
 
 -- places with distances from their region's first byte that fit 16 bits and a sign
-abbrev pub near_place : Region → Reach → Option SpanKind
-near_place r s = if int_le (negsuc 32767) s.lo && int_le s.hi (pos 32767) then Some (Place r s) else None
+abbrev pub near_place : Region → Reach → Result SpanKind Rule
+near_place r s = if int_le (negsuc 32767) s.lo && int_le s.hi (pos 32767) then Ok (Place r s) else Err V6
 
 -- each distance, after a number from lo to hi is added
 abbrev pub moved_reach : Reach → ℤ → ℤ → Reach
 moved_reach s lo hi = record { lo = s.lo +ℤ lo; hi = s.hi +ℤ hi }
 
 -- a sum of two registers: of two numbers, or of a place and a number, which is read as unsigned
-abbrev pub summed_kind : SpanKind → SpanKind → Option SpanKind
-summed_kind (Num s) (Num t) = Some (Num (result_span alu.Add 64 s t))
+abbrev pub summed_kind : SpanKind → SpanKind → Result SpanKind Rule
 summed_kind (Place r s) (Num t) = near_place r (moved_reach s (pos t.lo) (pos t.hi))
 summed_kind (Num s) (Place r t) = near_place r (moved_reach t (pos s.lo) (pos s.hi))
-summed_kind a b = None
+summed_kind a b = from_spans (result_span alu.Add 64) a b
 
 -- words of n bits after a whole number is added
 abbrev pub moved_span : ℕ → ℤ → Span → Span
@@ -90,13 +93,13 @@ moved_span n (pos m) s = bounded n (s.lo + m) (s.hi + m)
 moved_span n (negsuc m) s = if nat_le (suc m) s.lo then span (s.lo - suc m) (s.hi - suc m) else whole n
 
 -- dst after a whole number is added; a place only by a 64-bit operation
-abbrev pub moved_kind : Width → ℤ → SpanKind → Option SpanKind
-moved_kind width z (Num s) = Some (Num (moved_span (bits_of width) z (low_span width s)))
+abbrev pub moved_kind : Width → ℤ → SpanKind → Result SpanKind Rule
+moved_kind width z (Num s) = Ok (Num (moved_span (bits_of width) z (low_span width s)))
 moved_kind W64 z (Place r s) = near_place r (moved_reach s z z)
-moved_kind width z a = None
+moved_kind width z a = from_span (λ s. s) a
 
 -- what arithmetic leaves in dst, whose kind is a, with an operand of kind b
-abbrev pub result_kind : AluForm → SpanKind → SpanKind → Option SpanKind
+abbrev pub result_kind : AluForm → SpanKind → SpanKind → Result SpanKind Rule
 result_kind Copies a b = set_kind b
 result_kind Sums a b = summed_kind a b
 result_kind (Moves width z) a b = moved_kind width z a
@@ -153,8 +156,8 @@ abbrev pub Ways : Type 0
 Ways = Option Frame × Option Frame
 
 -- dst gets this kind if there is one, and then no rule is broken
-abbrev pub Gives : Option SpanKind → Frame → Reg → Ways → Type 0
-Gives k f dst w = (h : SpanKind) × (k ≡ Some h) × (w ≡ (Some (with_kind f dst.number h), None))
+abbrev pub Gives : Result SpanKind Rule → Frame → Reg → Ways → Type 0
+Gives k f dst w = (h : SpanKind) × (k ≡ Ok h) × (w ≡ (Some (with_kind f dst.number h), None))
 
 -- an instruction breaks none of the rules V3 and V5 to V10 under a frame, and these frames leave; the state has `state`
 -- bytes
@@ -164,7 +167,7 @@ Leaves state (MovSx x dst src) f w =
     Gives (from_span (extended_span (extension_offset x) (bits_of (extension_width x))) (f src.number)) f dst w
 Leaves state (Neg width dst) f w = Gives (from_span (λ s. whole 64) (f dst.number)) f dst w
 Leaves state (End order bits dst) f w = Gives (from_span (λ s. whole 64) (f dst.number)) f dst w
-Leaves state (Wide dst value) f w = Gives (Some (Num (one value))) f dst w
+Leaves state (Wide dst value) f w = Gives (Ok (Num (one value))) f dst w
 Leaves state (Jump offset) f w = w ≡ (None, Some f)
 Leaves state (JumpLong distance) f w = w ≡ (None, Some f)
 Leaves state (JumpIf condition width dst o offset) f w =

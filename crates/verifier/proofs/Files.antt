@@ -17,7 +17,7 @@ use Rattle.decode.proofs.OneFault.{one_fault, no_fault}
 use Rattle.regtypes.specs.declared.image_form.ImageForm.{ImageForm}
 use Rattle.regtypes.specs.declared.image_form.ImageForm.TheVariants as two
 use Rattle.regtypes.specs.declared.rule.Rule as rules
-use Rattle.regtypes.specs.Typing.{IsTyping, frame_at}
+use Rattle.regtypes.specs.Typing.{frame_at}
 use Rattle.verifier.specs.declared.header.FileHeader.{FileHeader}
 use Rattle.verifier.specs.declared.header.Forms.{Forms}
 use Rattle.verifier.specs.declared.fault.HeaderFault.{HeaderFault}
@@ -29,7 +29,9 @@ use Rattle.verifier.specs.declared.file_form.FileForm.TheVariants.{Sbi1, Sbi2, S
 use Rattle.verifier.specs.FileForm.{file_form_number, file_form_of}
 use Rattle.verifier.specs.Typed.{Typed}
 use Rattle.verifier.specs.Verdict as flat_verdict
-use Rattle.verifier.proofs.LeastTypings.{of_typing, one_refusal, typing_of}
+use Rattle.verifier.specs.Fixpoint as one
+use Rattle.verifier.specs.Least.{flat_form}
+use Rattle.verifier.proofs.LeastTypings.{one_refusal}
 use Rattle.verifier.proofs.Spans.Forms.{one_refusal_3}
 use Rattle.verifier.specs.ImageFile.{HasFault, IsCodeFault, IsFault, IsFile, IsHeaderFault, IsOneFileRefusal, IsOther, IsRefusal, IsTaken, IsTypable, IsUnread, field_at, magic}
 use Rattle.verifier.specs.Inside.Header.{header_bytes, HasHeader, IsSound}
@@ -253,17 +255,16 @@ flat_once two.Sbi1 two.Sbi2 e = let k : 1 ≡ 2 = ap file_form_number e in absur
 flat_once two.Sbi2 two.Sbi1 e = let k : 2 ≡ 1 = ap file_form_number e in absurd (omega (arith, k))
 flat_once two.Sbi2 two.Sbi2 e = refl
 
-pub flat_fault : (form : ImageForm) (is : List Insn) (len : ℕ) (rule : rules.Rule) (slot : ℕ) → flat_verdict.IsFault form is len rule slot → IsFault (file_form_of form) is len rule slot
+pub flat_fault : (form : ImageForm) (is : List Insn) (len : ℕ) (rule : rules.Rule) (slot : ℕ) → one.IsFault (flat_form form len (slots_of is)) rule slot → IsFault (file_form_of form) is len rule slot
 flat_fault two.Sbi1 is len rule slot h = h
 flat_fault two.Sbi2 is len rule slot h = h
 
 -- the code of an image is typable
 pub image_typable : (form : ImageForm) (is : List Insn) (len : ℕ) (image : Typed) → flat_verdict.IsImageOf form is len image → IsTypable (file_form_of image.form) image.code image.len
 image_typable form is len image h =
-    let typing = typing_of form len (slots_of is) (length (slots_of is)) image.table h.typing.types in
-    subst (λ (q : ImageForm). IsTypable (file_form_of q) image.code image.len) (sym h.form_is) (subst (λ (l : List Insn). IsTypable (file_form_of form) l image.len) (sym h.code_is) (subst (λ (x : ℕ). IsTypable (file_form_of form) is x) (sym h.len_is) (typable form typing)))
+    subst (λ (q : ImageForm). IsTypable (file_form_of q) image.code image.len) (sym h.form_is) (subst (λ (l : List Insn). IsTypable (file_form_of form) l image.len) (sym h.code_is) (subst (λ (x : ℕ). IsTypable (file_form_of form) is x) (sym h.len_is) (typable form h.typing.types)))
   where
-    typable : (form : ImageForm) → IsTyping form (slots_of is) len image.table → IsTypable (file_form_of form) is len
+    typable : (form : ImageForm) → one.IsTyped (flat_form form len (slots_of is)) (frame_at image.table) → IsTypable (file_form_of form) is len
     typable two.Sbi1 t = (image.table, t)
     typable two.Sbi2 t = (image.table, t)
 
@@ -271,8 +272,8 @@ image_typable form is len image h =
 
 -- code with a fault isn't typable
 untypable : (form : FileForm) (is : List Insn) (len : ℕ) (rule : rules.Rule) (slot : ℕ) → IsFault form is len rule slot → IsTypable form is len → ⊥
-untypable Sbi1 is len rule slot h t = h.1 (frame_at t.0) (of_typing two.Sbi1 len (slots_of is) (length (slots_of is)) t.0 t.1)
-untypable Sbi2 is len rule slot h t = h.1 (frame_at t.0) (of_typing two.Sbi2 len (slots_of is) (length (slots_of is)) t.0 t.1)
+untypable Sbi1 is len rule slot h t = h.1 (frame_at t.0) t.1
+untypable Sbi2 is len rule slot h t = h.1 (frame_at t.0) t.1
 untypable Sbi3 is len rule slot h t = h.1 t.0 t.1
 
 -- a file of typable code isn't refused, unless memory runs out

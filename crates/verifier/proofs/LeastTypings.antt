@@ -2,7 +2,7 @@
 use Rattle.std.proofs.Common.{◌≡◌, ◌≢◌, ℕ, zero, suc, ◌+◌, ◌<◌, ◌≤◌, ◌+ℤ◌, true, false, List, [], ◌∷◌, ◌++◌, length, get_or, Option, Some, None, ℤ, pos, refl, sym, ap, ◌∙◌, subst, arith}
 use Rattle.std.specs.Prelude.{slice_set, is_some, not, nat_lt}
 use Rattle.std.specs.List.{AllByRecursion}
-use Rattle.std.specs.Option.{option_or}
+use Rattle.std.specs.Option.{option_and_then, option_or}
 use Rattle.std.proofs.lemmas.Bool.{false≢true}
 use Rattle.std.proofs.lemmas.Bool.Decides.{nat_tests}
 use Rattle.std.proofs.lemmas.List.{get_or-set_same, get_or-set_other, length-set}
@@ -19,7 +19,7 @@ use Rattle.decode.specs.Flow.{flow_of}
 use Rattle.regtypes.specs.Exits.{exits, exits_by}
 use Rattle.regtypes.specs.Frame.{entry_frame, Leq}
 use Rattle.regtypes.specs.Rules.{Tests, first_broken, tests_of}
-use Rattle.regtypes.specs.Typing.{Table, frame_at, broken, flow_tests, IsTyping}
+use Rattle.regtypes.specs.Typing.{Table, frame_at, broken, flow_tests}
 use Rattle.regtypes.specs.Typing as regtypes
 use Rattle.regtypes.specs.Ways.{shown, next, taken}
 use Rattle.regtypes.proofs.Parts.{jump_tests}
@@ -27,7 +27,7 @@ use Rattle.regtypes.proofs.Typings.{within}
 use Rattle.regtypes.proofs.Monotone.{monotone, raised_within, none_holds, first_of_both, both_pass, not_false, Leq-refl, Leq-trans, Leq-antisym}
 use Rattle.verifier.specs.Form.{Form, Below, Enters, IsForm}
 use Rattle.verifier.specs.Fixpoint.{TypesBelow, IsLeast, StopsAt}
-use Rattle.verifier.specs.Least.{AreTypings, EntersAt, MayStand, broken_at, flat_form}
+use Rattle.verifier.specs.Least.{AreTypings, EntersAt, MayStand, flat_form}
 use Rattle.verifier.specs.Verdict.{IsOneRefusal}
 use Rattle.verifier.specs.Inside.Pass.{IsOpening, Merged}
 use Rattle.verifier.proofs.Passes as pass
@@ -77,7 +77,7 @@ kept_below form slots len s i f g n le h =
 -- ---- the form
 
 -- a rule that is broken at a slot is broken by the instruction there
-breaks_there : (form : ImageForm) (len : ℕ) (slots : List (Option Insn)) (s : ℕ) (f : Frame) (rule : Rule) (o : Option Insn) → broken_at form len slots s o f ≡ Some rule → (i : Insn) × (o ≡ Some i) × (broken form slots len s i f ≡ Some rule)
+breaks_there : (form : ImageForm) (len : ℕ) (slots : List (Option Insn)) (s : ℕ) (f : Frame) (rule : Rule) (o : Option Insn) → option_and_then (λ (i : Insn). broken form slots len s i f) o ≡ Some rule → (i : Insn) × (o ≡ Some i) × (broken form slots len s i f ≡ Some rule)
 breaks_there form len slots s f rule None h = cc
 breaks_there form len slots s f rule (Some i) h = (i, refl, h)
 
@@ -241,7 +241,7 @@ module _ (form : ImageForm) (slots : List (Option Insn)) (len n : ℕ) (old : Ta
     least = l;
     frame = f;
     there = there;
-    breaks = subst (λ o. broken_at form len slots n o f ≡ Some rule) (sym begin) h;
+    breaks = subst (λ o. option_and_then (λ (i : Insn). broken form slots len n i f) o ≡ Some rule) (sym begin) h;
   }
 
   -- where the instruction of a frame breaks a rule of jumps, the pass stops at its slot

@@ -12,7 +12,7 @@ use Rattle.decode.specs.First.{IsFirst}
 use Rattle.decode.specs.Refusal as decoding
 use Rattle.regtypes.specs.declared.image_form.ImageForm.TheVariants as two
 use Rattle.regtypes.specs.declared.rule.Rule.{Rule as BrokenRule}
-use Rattle.regtypes.specs.Typing.{Table, IsTyping}
+use Rattle.regtypes.specs.Typing.{Table, frame_at}
 use Rattle.verifier.specs.declared.fault.HeaderFault.{HeaderFault}
 use Rattle.verifier.specs.declared.fault.HeaderFault.TheVariants.{TooShort, Magic, StateLength, SlotCount, FileLength}
 use Rattle.verifier.specs.declared.fault.ImageError.{ImageError}
@@ -22,9 +22,10 @@ use Rattle.verifier.specs.declared.file_form.FileForm.TheVariants.{Sbi1, Sbi2, S
 use Rattle.verifier.specs.declared.header.Forms.{Forms}
 use Rattle.verifier.specs.declared.header.Forms.TheVariants.{Flat, Span, Any}
 use Rattle.verifier.specs.FileForm.{file_form_number}
+use Rattle.verifier.specs.Fixpoint as one
+use Rattle.verifier.specs.Least.{flat_form}
 use Rattle.verifier.specs.Span.Typed as span
-use Rattle.verifier.specs.Span.Verdict as span_verdict
-use Rattle.verifier.specs.Verdict as flat_verdict
+use Rattle.verifier.specs.Span.Typing.{span_form}
 
 -- ---- the bytes
 
@@ -42,15 +43,15 @@ pub record IsFile (form : FileForm) (code : List Insn) (len : ℕ) (bytes : List
 
 -- code has a typing in this form
 abbrev pub IsTypable : FileForm → List Insn → ℕ → Type 0
-IsTypable Sbi1 code len = (table : Table) × IsTyping two.Sbi1 (slots_of code) len table
-IsTypable Sbi2 code len = (table : Table) × IsTyping two.Sbi2 (slots_of code) len table
+IsTypable Sbi1 code len = (table : Table) × one.IsTyped (flat_form two.Sbi1 len (slots_of code)) (frame_at table)
+IsTypable Sbi2 code len = (table : Table) × one.IsTyped (flat_form two.Sbi2 len (slots_of code)) (frame_at table)
 IsTypable Sbi3 code len = span.IsTypable code len
 
 -- code has no typing in this form, because this slot breaks this rule
 abbrev pub IsFault : FileForm → List Insn → ℕ → BrokenRule → ℕ → Type 0
-IsFault Sbi1 code len rule slot = flat_verdict.IsFault two.Sbi1 code len rule slot
-IsFault Sbi2 code len rule slot = flat_verdict.IsFault two.Sbi2 code len rule slot
-IsFault Sbi3 code len rule slot = span_verdict.IsFault code len rule slot
+IsFault Sbi1 code len rule slot = one.IsFault (flat_form two.Sbi1 len (slots_of code)) rule slot
+IsFault Sbi2 code len rule slot = one.IsFault (flat_form two.Sbi2 len (slots_of code)) rule slot
+IsFault Sbi3 code len rule slot = one.IsFault (span_form len (slots_of code)) rule slot
 
 -- ---- refusals
 

@@ -1,11 +1,11 @@
 -- Forms 1 and 2 by what one pass needs of them, and their least typing.
 use Rattle.std.specs.Prelude.{◌≡◌, ◌≤◌, ◌↔◌, ℕ, ℤ, pos, List, Option, Some, None, length}
 use Rattle.std.specs.List.{AllByRecursion}
+use Rattle.std.specs.Option.{option_and_then}
 use Rattle.limits.specs.declared.TheConstants.{PAYLOAD_BYTES, REGISTERS}
 use Rattle.decode.specs.declared.insn.Insn.{Insn}
 use Rattle.decode.specs.Slots.{insn_at}
 use Rattle.regtypes.specs.declared.frame.Frame.{Frame}
-use Rattle.regtypes.specs.declared.rule.Rule.{Rule}
 use Rattle.regtypes.specs.declared.image_form.ImageForm.{ImageForm}
 use Rattle.regtypes.specs.Exits.{exits}
 use Rattle.regtypes.specs.Frame.{entry_frame, Leq}
@@ -23,11 +23,6 @@ pub record MayStand (slots : List (Option Insn)) (s : ℕ) (f : Frame) : Type 0 
 abbrev pub EntersAt : (ℕ → Option Frame) → ℤ × Frame → Type 0
 EntersAt table e = (t : ℕ) × (g : Frame) × (e.0 ≡ pos t) × (table t ≡ Some g) × Leq e.1 g
 
--- the least rule that an instruction breaks at a slot under a frame; if none begins there, none is broken
-abbrev pub broken_at : ImageForm → ℕ → List (Option Insn) → ℕ → Option Insn → Frame → Option Rule
-broken_at form len slots s None f = None
-broken_at form len slots s (Some i) f = broken form slots len s i f
-
 -- form 1 or 2, for code slot by slot with a state of `len` bytes: typings are those of `regtypes`
 abbrev pub flat_form : ImageForm → ℕ → List (Option Insn) → Form
 flat_form form len slots = record {
@@ -38,7 +33,7 @@ flat_form form len slots = record {
   MayStand = MayStand slots;
   IsAllowed = λ table s f. (i : Insn) → insn_at slots s ≡ Some i
       → (broken form slots len s i f ≡ None) × AllByRecursion (EntersAt table) (exits s i f);
-  broken = λ s f. broken_at form len slots s (insn_at slots s) f;
+  broken = λ s f. option_and_then (λ i. broken form slots len s i f) (insn_at slots s);
 }
 
 -- a typing of the form, slot by slot, is a typing

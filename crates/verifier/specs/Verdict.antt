@@ -19,17 +19,13 @@ pub record IsImageOf (form : ImageForm) (code : List Insn) (len : ℕ) (image : 
   pub len_is : image.len ≡ len
   pub typing : IsLeastTyping form (slots_of code) len image.table
 
--- the rule and the slot, of code that has no typing
-abbrev pub IsFault : ImageForm → List Insn → ℕ → Rule → ℕ → Type 0
-IsFault form code len rule slot = one.IsFault (flat_form form len (slots_of code)) rule slot
-
 -- the table is the least typing of the code; if a slot breaks a rule, it is that of the slots below
 abbrev pub IsJudged : ImageForm → List Insn → ℕ → Table → Option (Rule × ℕ) → Type 0
 IsJudged form code len table refusal = one.IsJudged (flat_form form len (slots_of code)) (frame_at table) refusal
 
 -- why code gave no image; that memory ran out says nothing of the code
 abbrev pub IsWhy : ImageForm → List Insn → ℕ → VerifyError → Type 0
-IsWhy form code len (Fault rule slot) = IsFault form code len rule slot
+IsWhy form code len (Fault rule slot) = one.IsFault (flat_form form len (slots_of code)) rule slot
 IsWhy form code len Memory = Unit {0}
 
 -- refused code has one rule and one slot that can be named

@@ -1,18 +1,18 @@
 -- Which rules are broken is what the definition of form 3 says.
-use Rattle.std.proofs.Common.{◌≡◌, ℕ, zero, suc, ◌+◌, ◌-◌, ◌*◌, ◌<◌, ◌≤◌, Bool, true, false, Option, Some, None, ℤ, pos, negsuc, ◌+ℤ◌, ◌<ℤ◌, ◌≤ℤ◌, refl, sym, ap, ◌∙◌, subst, ⊎_elim, arith}
-use Rattle.std.specs.Prelude.{unwrap_or, int_le, ◌&&◌, min, if◌then◌else◌}
+use Rattle.std.proofs.Common.{◌≡◌, ℕ, zero, suc, ◌+◌, ◌-◌, ◌*◌, ◌<◌, ◌≤◌, Bool, true, false, Option, Some, None, ℤ, pos, ◌+ℤ◌, ◌<ℤ◌, ◌≤ℤ◌, refl, sym, ap, ◌∙◌, subst, ⊎_elim, arith}
+use Rattle.std.specs.Prelude.{Result, Ok, Err, int_le, min, if◌then◌else◌}
+use Rattle.std.specs.Result.{result_err, result_unwrap_or}
 use Rattle.std.proofs.lemmas.Bool.{cases_eq, false≢true}
 use Rattle.std.proofs.lemmas.Int.{ints}
 use Rattle.decode.specs.declared.insn.Reg.{Reg}
 use Rattle.decode.specs.declared.insn.Width.{Width}
-use Rattle.decode.specs.declared.insn.Width.TheVariants.{W32, W64}
+use Rattle.decode.specs.declared.insn.Width.TheVariants.{W64}
 use Rattle.decode.specs.declared.insn.Condition.{Condition}
 use Rattle.decode.specs.declared.insn.Operand.{Operand}
 use Rattle.decode.specs.declared.insn.Operand.TheVariants as operand
 use Rattle.decode.specs.declared.insn.Insn.TheVariants.{Alu, MovSx, Neg, End, Jump, JumpLong, JumpIf, Call, Exit, Load, LoadSx, StoreReg, StoreImm, Wide}
 use Rattle.decode.specs.Encoding.{bytes_in, loaded, extension_offset, extension_width}
 use Rattle.operations.specs.Words.{bits_of}
-use Rattle.regtypes.specs.declared.frame.Region.{Region}
 use Rattle.regtypes.specs.declared.frame.Region.TheVariants.{Message, State, Stack}
 use Rattle.regtypes.specs.declared.rule.Rule.{Rule}
 use Rattle.regtypes.specs.declared.rule.Rule.TheVariants.{V5, V6, V7, V9}
@@ -24,10 +24,10 @@ use Rattle.spans.specs.Span.{whole}
 use Rattle.spans.specs.Narrowing.{opposite}
 use Rattle.spans.specs.Frame.{Frame, is_num, is_set, with_kind}
 use Rattle.spans.specs.Access.{AreNumbers, IsReadable, IsWritable, MayLoad, MayStore, is_inside, is_reached, whole_word}
-use Rattle.spans.specs.Ways.{AluForm, Copies, Sums, Moves, Sets, Computes, alu_form, operand_kind, result_kind, from_span, extended_span, moved_reach, way, Ways, Gives, HasPayload, HasSized, HasArguments}
+use Rattle.spans.specs.Ways.{alu_form, operand_kind, result_kind, from_span, extended_span, way, Ways, Gives, HasPayload, HasSized, HasArguments}
 use Rattle.spans.proofs.Tests.{parts}
 use Rattle.spans.proofs.Access.{reaches}
-use Rattle.verifier.specs.Span.Rules.{lesser, unless, number_rule, value_rule, alu_rule, words_rule, read_rule, load_rule, write_rule, store_rule, argument_rule, payload_rule, sized_rule, call_rule, exit_rule}
+use Rattle.verifier.specs.Span.Rules.{lesser, unless, number_rule, value_rule, words_rule, read_rule, load_rule, write_rule, store_rule, argument_rule, payload_rule, sized_rule, call_rule, exit_rule}
 use Rattle.verifier.specs.Span.Ways.{gives, compares}
 use Rattle.verifier.specs.Span.Exactness.{IsExact}
 
@@ -36,8 +36,8 @@ use Rattle.verifier.specs.Span.Exactness.{IsExact}
 broken : {A : Type 0} {x : A} → Some x ≡ None → ⊥
 broken e = cc
 
-missing : {A : Type 0} {x : A} → None ≡ Some x → ⊥
-missing e = cc
+failed : {A : Type 0} {x : A} {r : Rule} → Err r ≡ Ok x → ⊥
+failed e = cc
 
 pub neither : (a b : Option Rule) → lesser a b ≡ None → (a ≡ None) × (b ≡ None)
 neither None b e = (refl, e)
@@ -88,71 +88,12 @@ is-set (Place r s) e = refl
 
 -- ---- arithmetic
 
-abbrev Known : Option SpanKind → Type 0
-Known k = (h : SpanKind) × (k ≡ Some h)
+abbrev Known : Result SpanKind Rule → Type 0
+Known k = (h : SpanKind) × (k ≡ Ok h)
 
-near-known : (t : Bool) (r : Region) (s : Reach) → unless t V6 ≡ None → Known (if t then Some (Place r s) else None)
-near-known true r s e = (Place r s, refl)
-near-known false r s e = absurd (broken e)
-
-known-near : (t : Bool) (r : Region) (s : Reach) → Known (if t then Some (Place r s) else None) → unless t V6 ≡ None
-known-near true r s k = refl
-known-near false r s k = absurd (missing k.1)
-
-abbrev near : Reach → Bool
-near s = int_le (negsuc 32767) s.lo && int_le s.hi (pos 32767)
-
-alu-known : (form : AluForm) (a b : SpanKind) → alu_rule form a b ≡ None → Known (result_kind form a b)
-alu-known Copies a Unset e = absurd (broken e)
-alu-known Copies a (Num s) e = (Num s, refl)
-alu-known Copies a (Place r s) e = (Place r s, refl)
-alu-known Sums Unset b e = absurd (broken e)
-alu-known Sums (Num s) Unset e = absurd (broken e)
-alu-known Sums (Num s) (Num t) e = (_, refl)
-alu-known Sums (Num s) (Place r t) e = near-known (near (moved_reach t (pos s.lo) (pos s.hi))) r (moved_reach t (pos s.lo) (pos s.hi)) e
-alu-known Sums (Place r s) Unset e = absurd (broken e)
-alu-known Sums (Place r s) (Num t) e = near-known (near (moved_reach s (pos t.lo) (pos t.hi))) r (moved_reach s (pos t.lo) (pos t.hi)) e
-alu-known Sums (Place r s) (Place q t) e = absurd (broken e)
-alu-known (Moves width z) Unset b e = absurd (broken e)
-alu-known (Moves width z) (Num s) b e = (_, refl)
-alu-known (Moves W32 z) (Place r s) b e = absurd (broken e)
-alu-known (Moves W64 z) (Place r s) b e = near-known (near (moved_reach s z z)) r (moved_reach s z z) e
-alu-known (Sets width) a Unset e = absurd (broken e)
-alu-known (Sets width) a (Num s) e = (_, refl)
-alu-known (Sets width) a (Place r s) e = absurd (broken e)
-alu-known (Computes op width) a b e = numbers a b (neither (number_rule a) (number_rule b) e)
-  where
-    numbers : (a b : SpanKind) → (number_rule a ≡ None) × (number_rule b ≡ None) → Known (result_kind (Computes op width) a b)
-    numbers Unset b h = absurd (broken h.0)
-    numbers (Place r s) b h = absurd (broken h.0)
-    numbers (Num s) Unset h = absurd (broken h.1)
-    numbers (Num s) (Num t) h = (_, refl)
-    numbers (Num s) (Place q t) h = absurd (broken h.1)
-
-known-alu : (form : AluForm) (a b : SpanKind) → Known (result_kind form a b) → alu_rule form a b ≡ None
-known-alu Copies a Unset k = absurd (missing k.1)
-known-alu Copies a (Num s) k = refl
-known-alu Copies a (Place r s) k = refl
-known-alu Sums Unset b k = absurd (missing k.1)
-known-alu Sums (Num s) Unset k = absurd (missing k.1)
-known-alu Sums (Num s) (Num t) k = refl
-known-alu Sums (Num s) (Place r t) k = known-near (near (moved_reach t (pos s.lo) (pos s.hi))) r (moved_reach t (pos s.lo) (pos s.hi)) k
-known-alu Sums (Place r s) Unset k = absurd (missing k.1)
-known-alu Sums (Place r s) (Num t) k = known-near (near (moved_reach s (pos t.lo) (pos t.hi))) r (moved_reach s (pos t.lo) (pos t.hi)) k
-known-alu Sums (Place r s) (Place q t) k = absurd (missing k.1)
-known-alu (Moves W32 z) Unset b k = absurd (missing k.1)
-known-alu (Moves W64 z) Unset b k = absurd (missing k.1)
-known-alu (Moves width z) (Num s) b k = refl
-known-alu (Moves W32 z) (Place r s) b k = absurd (missing k.1)
-known-alu (Moves W64 z) (Place r s) b k = known-near (near (moved_reach s z z)) r (moved_reach s z z) k
-known-alu (Sets width) a Unset k = absurd (missing k.1)
-known-alu (Sets width) a (Num s) k = refl
-known-alu (Sets width) a (Place r s) k = absurd (missing k.1)
-known-alu (Computes op width) Unset b k = absurd (missing k.1)
-known-alu (Computes op width) (Place r s) b k = absurd (missing k.1)
-known-alu (Computes op width) (Num s) Unset k = absurd (missing k.1)
-known-alu (Computes op width) (Num s) (Num t) k = refl
-known-alu (Computes op width) (Num s) (Place q t) k = absurd (missing k.1)
+known : (k : Result SpanKind Rule) → result_err k ≡ None → Known k
+known (Ok h) e = (h, refl)
+known (Err r) e = absurd (broken e)
 
 span-known : (make : Span → Span) (k : SpanKind) → number_rule k ≡ None → Known (from_span make k)
 span-known make Unset e = absurd (broken e)
@@ -160,9 +101,9 @@ span-known make (Num s) e = (_, refl)
 span-known make (Place r s) e = absurd (broken e)
 
 known-span : (make : Span → Span) (k : SpanKind) → Known (from_span make k) → number_rule k ≡ None
-known-span make Unset k = absurd (missing k.1)
+known-span make Unset k = absurd (failed k.1)
 known-span make (Num s) k = refl
-known-span make (Place r s) k = absurd (missing k.1)
+known-span make (Place r s) k = absurd (failed k.1)
 
 -- ---- words of the stack
 
@@ -353,11 +294,11 @@ exit-none (Place r s) e = absurd (false≢true e)
 
 -- ---- instructions
 
-gives-known : (k : Option SpanKind) (f : Frame) (dst : Reg) → Known k → Gives k f dst (Some (gives k f dst), None)
-gives-known k f dst h = (h.0, h.1, ap (λ x. (Some (with_kind f dst.number (unwrap_or x Unset)), None)) h.1)
+gives-known : (k : Result SpanKind Rule) (f : Frame) (dst : Reg) → Known k → Gives k f dst (Some (gives k f dst), None)
+gives-known k f dst h = (h.0, h.1, ap (λ x. (Some (with_kind f dst.number (result_unwrap_or x Unset)), None)) h.1)
 
-known-gives : (k : Option SpanKind) (f : Frame) (dst : Reg) (w : Ways) → Gives k f dst w → Known k × (w ≡ (Some (gives k f dst), None))
-known-gives k f dst w g = ((g.0, g.1), g.2 ∙ sym (ap (λ x. (Some (with_kind f dst.number (unwrap_or x Unset)), None)) g.1))
+known-gives : (k : Result SpanKind Rule) (f : Frame) (dst : Reg) (w : Ways) → Gives k f dst w → Known k × (w ≡ (Some (gives k f dst), None))
+known-gives k f dst w g = ((g.0, g.1), g.2 ∙ sym (ap (λ x. (Some (with_kind f dst.number (result_unwrap_or x Unset)), None)) g.1))
 
 spans : (state : ℕ) (f : Frame) (dst : Reg) (make : Span → Span) (k : SpanKind) → (number_rule k ≡ None → Gives (from_span make k) f dst (Some (gives (from_span make k) f dst), None)) × ((w : Ways) → Gives (from_span make k) f dst w → (number_rule k ≡ None) × (w ≡ (Some (gives (from_span make k) f dst), None)))
 spans state f dst make k =
@@ -377,10 +318,8 @@ compared condition width dst o f (Num a) (Num b) p q h = (a, b, p, q, same condi
 
 pub exact : IsExact
 exact state (Alu op width dst o) f =
-    let form = alu_form op width o in
-    let a = f dst.number in
-    let b = operand_kind width o f in
-    ((λ e. gives-known (result_kind form a b) f dst (alu-known form a b e)), (λ w g. let k = known-gives (result_kind form a b) f dst w g in (known-alu form a b k.0, k.1)))
+    let k = result_kind (alu_form op width o) (f dst.number) (operand_kind width o f) in
+    ((λ e. gives-known k f dst (known k e)), (λ w g. let h = known-gives k f dst w g in (ap result_err h.0.1, h.1)))
 exact state (MovSx x dst src) f = spans state f dst (extended_span (extension_offset x) (bits_of (extension_width x))) (f src.number)
 exact state (Neg width dst) f = spans state f dst (λ s. whole 64) (f dst.number)
 exact state (End order bits dst) f = spans state f dst (λ s. whole 64) (f dst.number)

@@ -1,6 +1,6 @@
 -- An instruction that breaks no rule of forms 1 and 2 breaks none of form 3, and leaves no less.
 use Rattle.std.proofs.Common.{◌≡◌, ℕ, zero, suc, ◌^◌, ◌<◌, ◌≤◌, Bool, true, false, List, length, Option, Some, None, ℤ, pos, negsuc, ◌+ℤ◌, refl, sym, ap, ◌∙◌, subst, arith}
-use Rattle.std.specs.Prelude.{slice_set, is_none, nat_lt, int_le, ◌&&◌, ◌==◌, not, if◌then◌else◌, neg_ℤ}
+use Rattle.std.specs.Prelude.{Ok, Err, slice_set, is_none, nat_lt, int_le, ◌&&◌, ◌==◌, not, if◌then◌else◌, neg_ℤ}
 use Rattle.std.specs.Option.{option_map}
 use Rattle.std.proofs.lemmas.Bool.{false≢true}
 use Rattle.std.proofs.lemmas.Bool.Decides.{nat_tests}
@@ -29,7 +29,7 @@ use Rattle.regtypes.specs.Frame.{kind_at, is_num as is_flat_num}
 use Rattle.decode.specs.Attributes.{register_of}
 use Rattle.regtypes.specs.Rules.{arguments_of, first_broken, has, is_in_message, is_near, is_place, is_unset, moved, tests_of}
 use Rattle.regtypes.specs.Ways.{next, taken}
-use Rattle.regtypes.specs.declared.rule.Rule.TheVariants.{V4}
+use Rattle.regtypes.specs.declared.rule.Rule.TheVariants.{V4, V6}
 use Rattle.regtypes.proofs.Monotone.{not_false}
 use Rattle.regtypes.proofs.RuleLemmas.{rules_of}
 use Rattle.regtypes.proofs.RuleLemmas.{send_given, output_given, send_sized_given, output_sized_given}
@@ -111,7 +111,7 @@ module _ (state : ℕ) (i : Insn) (kinds : List FlatKind) (fits : Fits i) (eleve
 
 -- ---- arithmetic
 
-numbers_give : (form : AluForm) (s t : Span) → (u : Span) × (result_kind form (Num s) (Num t) ≡ Some (Num u))
+numbers_give : (form : AluForm) (s t : Span) → (u : Span) × (result_kind form (Num s) (Num t) ≡ Ok (Num u))
 numbers_give Copies s t = (_, refl)
 numbers_give Sums s t = (_, refl)
 numbers_give (Moves width z) s t = (_, refl)
@@ -122,15 +122,15 @@ near-is : (r : Region) (z : ℤ) → is_near (flat.Place r z) ≡ true → (int_
 near-is r (pos n) e = let k : n < 32768 = grind (arith, nat_tests) in both (int_le (negsuc 32767) (pos n)) (int_le (pos n) (pos 32767)) (grind (arith, ints)) (grind (arith, ints))
 near-is r (negsuc n) e = let k : n < 32768 = grind (arith, nat_tests) in both (int_le (negsuc 32767) (negsuc n)) (int_le (negsuc n) (pos 32767)) (grind (arith, ints)) (grind (arith, ints))
 
-moved_given : (z : ℤ) (k : FlatKind) → is_unset k ≡ false → is_near (moved z k) ≡ true → (h : SpanKind) × (moved_kind W64 z (read_kind k) ≡ Some h) × (IsKind h → LeqKind h (read_kind (moved z k)))
+moved_given : (z : ℤ) (k : FlatKind) → is_unset k ≡ false → is_near (moved z k) ≡ true → (h : SpanKind) × (moved_kind W64 z (read_kind k) ≡ Ok h) × (IsKind h → LeqKind h (read_kind (moved z k)))
 moved_given z flat.Unset u n = cc
 moved_given z flat.Num u n = let k = Num (moved_span 64 z (whole 64)) in (k, refl, any_word k refl)
 moved_given z flat.Len u n = let k = Num (moved_span 64 z (span 0 256)) in (k, refl, any_word k refl)
 moved_given z (flat.Place r k) u n =
     let p = Place r (at_place (k +ℤ z)) in
-    (p, ap (λ (t : Bool). if t then Some p else None) (near-is r (k +ℤ z) n), λ i. LeqKind-refl p)
+    (p, ap (λ (t : Bool). if t then Ok p else Err V6) (near-is r (k +ℤ z) n), λ i. LeqKind-refl p)
 
-copied : (k : FlatKind) → is_unset k ≡ false → set_kind (read_kind k) ≡ Some (read_kind k)
+copied : (k : FlatKind) → is_unset k ≡ false → set_kind (read_kind k) ≡ Ok (read_kind k)
 copied flat.Unset u = cc
 copied flat.Num u = refl
 copied flat.Len u = refl

@@ -24,7 +24,8 @@ use Rattle.verifier.specs.Span.Rules.{frame_pointer_rule, frame_rule}
 use Rattle.verifier.proofs.Spans.Exact.{neither}
 use Rattle.spans.specs.Typing.{Enters, target}
 use Rattle.verifier.specs.Inside.SpanPass.{AreFitting}
-use Rattle.verifier.specs.Span.Typing.{IsAllowed, IsTyped}
+use Rattle.verifier.specs.Fixpoint.{IsTyped}
+use Rattle.verifier.specs.Span.Typing.{IsAllowed, span_form}
 use Rattle.verifier.proofs.Spans.Forms.{none_broken}
 use Rattle.verifier.proofs.Spans.Slots.{are_fitting}
 use Rattle.verifier.specs.Span.FlatLaws.{AreTypingsSubsumed}
@@ -99,7 +100,7 @@ module _ (form : ImageForm) (slots : List (Option Insn)) (state : ℕ) (table : 
   start : Enters (read_table table) 0 (Some entry_frame)
   start = enters table (pos 0, flat_entry form) 0 (Some entry_frame) refl t.start (entered form)
 
-  pub typed : IsTyped state slots (read_table table)
+  pub typed : IsTyped (span_form state slots) (read_table table)
   typed = record {
     start = start;
     stands = λ s f e. let a = allowed s f e in (a.frame, (a.insn, a.there));

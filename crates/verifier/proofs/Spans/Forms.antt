@@ -1,6 +1,6 @@
 -- Form 3 keeps the laws that make one pass decide.
 use Rattle.std.proofs.Common.{◌≡◌, ℕ, ◌+◌, ◌≤◌, ◌≤ℤ◌, ℤ, List, length, Option, Some, None, refl, ap, ◌∙◌, subst, arith}
-use Rattle.std.specs.Option.{option_or}
+use Rattle.std.specs.Option.{option_and_then, option_or}
 use Rattle.std.proofs.lemmas.Int.{ints}
 use Rattle.decode.specs.declared.insn.Insn.{Insn}
 use Rattle.decode.specs.Slots.{insn_at, size_of}
@@ -24,7 +24,8 @@ use Rattle.verifier.proofs.Spans.Exact.{both, exact, neither}
 use Rattle.spans.specs.Typing.{Table, IsTyping, target}
 use Rattle.spans.specs.Typing as calls
 use Rattle.verifier.specs.Form.{Below, IsForm}
-use Rattle.verifier.specs.Span.Typing.{IsAllowed, broken_at, span_form, IsTyped}
+use Rattle.verifier.specs.Fixpoint.{IsTyped}
+use Rattle.verifier.specs.Span.Typing.{IsAllowed, broken, span_form}
 use Rattle.verifier.specs.Span.Laws.{AreTypings, IsOneRefusal, IsPlaced}
 use Rattle.verifier.proofs.Passes.{one_refusal}
 use Rattle.verifier.proofs.Spans.Slots.{later}
@@ -91,18 +92,18 @@ way_weaker table t (Some f) (Some g) l h = (h.0, h.1, Leq-trans f g h.0 l h.2)
 
 module _ (state : ℕ) (slots : List (Option Insn)) where
   -- what an instruction keeps that breaks no rule
-  pub unbroken_parts : (s : ℕ) (i : Insn) (f : Frame) → broken_at state slots s (Some i) f ≡ None → (first_broken (flow_tests slots s (flow_of i)) ≡ None) × (frame_pointer_rule i ≡ None) × (frame_rule state i f ≡ None)
+  pub unbroken_parts : (s : ℕ) (i : Insn) (f : Frame) → broken state slots s i f ≡ None → (first_broken (flow_tests slots s (flow_of i)) ≡ None) × (frame_pointer_rule i ≡ None) × (frame_rule state i f ≡ None)
   unbroken_parts s i f h =
       let k = both_none (first_broken (flow_tests slots s (flow_of i))) (broken_rule state i f) h in
       let m = neither (frame_pointer_rule i) (frame_rule state i f) k.1 in
       (k.0, m.0, m.1)
 
   -- an instruction that keeps V1, V2 and V4 and breaks no rule that asks a frame breaks none
-  pub none_broken : (s : ℕ) (i : Insn) (f : Frame) → (first_broken (flow_tests slots s (flow_of i)) ≡ None) × (frame_pointer_rule i ≡ None) → frame_rule state i f ≡ None → broken_at state slots s (Some i) f ≡ None
+  pub none_broken : (s : ℕ) (i : Insn) (f : Frame) → (first_broken (flow_tests slots s (flow_of i)) ≡ None) × (frame_pointer_rule i ≡ None) → frame_rule state i f ≡ None → broken state slots s i f ≡ None
   none_broken s i f p r = ap (λ o. option_or o (broken_rule state i f)) p.0 ∙ both (frame_pointer_rule i) (frame_rule state i f) p.1 r
 
   -- a frame that says more breaks no more, and on each way one leaves that says more
-  weaker : (s : ℕ) (i : Insn) (f g : Frame) → IsFrame f → IsFrame g → Leq f g → broken_at state slots s (Some i) g ≡ None → (broken_at state slots s (Some i) f ≡ None) × (LeqWay (ways i f).0 (ways i g).0 × LeqWay (ways i f).1 (ways i g).1)
+  weaker : (s : ℕ) (i : Insn) (f g : Frame) → IsFrame f → IsFrame g → Leq f g → broken state slots s i g ≡ None → (broken state slots s i f ≡ None) × (LeqWay (ways i f).0 (ways i g).0 × LeqWay (ways i f).1 (ways i g).1)
   weaker s i f g ff fg le h =
       let p = unbroken_parts s i g h in
       let k = monotone state i f g (ways i g) ff fg le ((exact state i g).0 p.2) in
@@ -122,10 +123,10 @@ module _ (state : ℕ) (slots : List (Option Insn)) where
         leaps = way_weaker t (target s h.insn) (ways h.insn f).1 (ways h.insn g).1 k.1.1 h.leaps;
       }
 
-  not_allowed : (t : Table) (s : ℕ) (f : Frame) (rule : Rule) → broken_at state slots s (insn_at slots s) f ≡ Some rule → IsAllowed state slots t s f → ⊥
+  not_allowed : (t : Table) (s : ℕ) (f : Frame) (rule : Rule) → option_and_then (λ (i : Insn). broken state slots s i f) (insn_at slots s) ≡ Some rule → IsAllowed state slots t s f → ⊥
   not_allowed t s f rule e a =
       let none = a.kept in
-      let some : broken_at state slots s (Some a.insn) f ≡ Some rule = subst (λ o. broken_at state slots s o f ≡ Some rule) a.there e in
+      let some : broken state slots s a.insn f ≡ Some rule = subst (λ o. option_and_then (λ (i : Insn). broken state slots s i f) o ≡ Some rule) a.there e in
       cc
 
   pub form_3 : IsForm (span_form state slots)
@@ -177,11 +178,11 @@ module _ (state : ℕ) (slots : List (Option Insn)) (table : Table) where
         leaps = subst (λ (v : Ways). calls.Enters table (target s a.insn) v.1) e.1 a.leaps;
       }
 
-  all_to_calls : IsTyped state slots table → (s : ℕ) (f : Frame) → table s ≡ Some f → calls.IsAllowed state (length slots) (insn_at slots) table s f × IsPlaced slots s
+  all_to_calls : IsTyped (span_form state slots) table → (s : ℕ) (f : Frame) → table s ≡ Some f → calls.IsAllowed state (length slots) (insn_at slots) table s f × IsPlaced slots s
   all_to_calls h s f e = let b = (h.stands s f e).1 in to_calls s f (h.allowed s f (within slots s b.0 b.1) e)
 
 -- a typing of form 3 is one of calls
-pub typing_of : (state : ℕ) (slots : List (Option Insn)) (table : Table) → IsTyped state slots table → IsTyping state (length slots) (insn_at slots) table
+pub typing_of : (state : ℕ) (slots : List (Option Insn)) (table : Table) → IsTyped (span_form state slots) table → IsTyping state (length slots) (insn_at slots) table
 typing_of state slots table h = record { start = h.start; each = λ s f e. (all_to_calls state slots table h s f e).0 }
 
 pub are_typings : AreTypings

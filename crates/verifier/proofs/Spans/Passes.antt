@@ -1,5 +1,6 @@
 -- What a slot and its ways do to the least typing of form 3.
 use Rattle.std.proofs.Common.{◌≡◌, ℕ, ◌+◌, ◌<◌, List, Option, Some, None, refl, sym, subst, arith}
+use Rattle.std.specs.Option.{option_and_then}
 use Rattle.decode.specs.declared.insn.Insn.{Insn}
 use Rattle.decode.specs.Encoding.{Fits}
 use Rattle.decode.specs.Slots.{insn_at, size_of}
@@ -23,7 +24,7 @@ use Rattle.decode.specs.Slots.{Follows}
 use Rattle.verifier.specs.Fixpoint.{IsLeast, StopsAt}
 use Rattle.verifier.specs.Inside.Pass.{IsOpening}
 use Rattle.verifier.specs.Inside.SpanPass.{IsMerged, IsSpread, IsWayMerged, merged}
-use Rattle.verifier.specs.Span.Typing.{IsAllowed, broken_at, span_form}
+use Rattle.verifier.specs.Span.Typing.{IsAllowed, broken, span_form}
 use Rattle.verifier.proofs.Passes.{Led, Merged, led_more, led_none, least_opening, least_step}
 use Rattle.verifier.proofs.Spans.Forms.{form_3, unbroken_parts, way_above}
 use Rattle.verifier.proofs.Spans.Slots.{next_begins, size_positive, taken_begins, target_past}
@@ -72,16 +73,16 @@ module _ (state : ℕ) (slots : List (Option Insn)) where
 
 module _ (state : ℕ) (slots : List (Option Insn)) (n : ℕ) (old : Table) (f : Frame) (i : Insn) (follows : Follows slots) (l : IsLeast (span_form state slots) n old) (there : old n ≡ Some f) (begin : insn_at slots n ≡ Some i) where
   -- where the instruction of a frame breaks a rule, the pass stops at its slot
-  pub stops : (rule : Rule) → broken_at state slots n (Some i) f ≡ Some rule → StopsAt (span_form state slots) rule n
+  pub stops : (rule : Rule) → broken state slots n i f ≡ Some rule → StopsAt (span_form state slots) rule n
   stops rule h = record {
     table = old;
     least = l;
     frame = f;
     there = there;
-    breaks = subst (λ o. broken_at state slots n o f ≡ Some rule) (sym begin) h;
+    breaks = subst (λ o. option_and_then (λ (i : Insn). broken state slots n i f) o ≡ Some rule) (sym begin) h;
   }
 
-  module _ (fits : Fits i) (unbroken : broken_at state slots n (Some i) f ≡ None) where
+  module _ (fits : Fits i) (unbroken : broken state slots n i f ≡ None) where
     kept : (first_broken (flow_tests slots n (flow_of i)) ≡ None) × (frame_pointer_rule i ≡ None) × (frame_rule state i f ≡ None)
     kept = unbroken_parts state slots n i f unbroken
 

@@ -13,7 +13,7 @@ use Rattle.verifier.specs.declared.span.ways.SpanLeaving.{SpanLeaving}
 use Rattle.verifier.specs.Span.Transfer.{frames_of}
 use Rattle.verifier.specs.Span.Ways.{ways}
 use Rattle.verifier.specs.Fixpoint.{IsLeast, StopsAt}
-use Rattle.verifier.specs.Span.Typing.{broken_at, span_form, table_of}
+use Rattle.verifier.specs.Span.Typing.{broken, span_form, table_of}
 
 -- the frame of a slot after another frame was joined into it
 abbrev pub merged : Option Frame → Frame → Frame
@@ -43,8 +43,8 @@ pub record IsSpread (old : Table) (s : ℕ) (i : Insn) (w : Ways) (new : Table) 
 
 -- the frames that leave the instruction at a slot if no rule is broken, else the least broken rule
 abbrev pub IsLeavingAt : ℕ → List (Option Insn) → ℕ → Insn → Frame → Result SpanLeaving Rule → Type 0
-IsLeavingAt state slots s i f (Ok l) = (broken_at state slots s (Some i) f ≡ None) × (frames_of l ≡ ways i f)
-IsLeavingAt state slots s i f (Err r) = broken_at state slots s (Some i) f ≡ Some r
+IsLeavingAt state slots s i f (Ok l) = (broken state slots s i f ≡ None) × (frames_of l ≡ ways i f)
+IsLeavingAt state slots s i f (Err r) = broken state slots s i f ≡ Some r
 
 -- the table is the least typing of one slot more; or the slot breaks a rule, and the table is unchanged
 abbrev pub IsSlotJudged : ℕ → List (Option Insn) → ℕ → List (Option (Box Cells)) → List (Option (Box Cells)) → Option Rule → Type 0

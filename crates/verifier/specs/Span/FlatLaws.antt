@@ -17,8 +17,8 @@ use Rattle.spans.specs.Typing.{Table}
 use Rattle.verifier.specs.Span.Rules.{broken_rule}
 use Rattle.verifier.specs.Span.Ways.{ways}
 use Rattle.verifier.specs.Form.{Below}
-use Rattle.verifier.specs.Span.Typing.{IsTyped, span_form}
-use Rattle.verifier.specs.Span.Verdict.{IsLeastTyping}
+use Rattle.verifier.specs.Fixpoint.{IsLeast, IsTyped}
+use Rattle.verifier.specs.Span.Typing.{span_form}
 use Rattle.verifier.specs.Span.FlatFrames.{read_frame, read_table}
 
 -- if the first of two frames says what the second says, it does so when both are read as frames of form 3
@@ -40,5 +40,5 @@ abbrev pub AreTypingsSubsumed : Type 0
 AreTypingsSubsumed =
     (form : ImageForm) (code : List Insn) (state : ℕ) (table : FlatTable)
     → AllByRecursion Fits code → IsTyping form (slots_of code) state table
-    → IsTyped state (slots_of code) (read_table table)
-    × ((least : Table) → IsLeastTyping state (slots_of code) least → Below (span_form state (slots_of code)) least (read_table table))
+    → IsTyped (span_form state (slots_of code)) (read_table table)
+    × ((least : Table) → IsLeast (span_form state (slots_of code)) (length (slots_of code)) least → Below (span_form state (slots_of code)) least (read_table table))

@@ -10,7 +10,7 @@ use Rattle.spans.specs.Typing.{Table, IsTyping}
 use Rattle.verifier.specs.Form.{IsForm}
 use Rattle.verifier.specs.Fixpoint as one
 use Rattle.verifier.specs.Span.Rules.{frame_pointer_rule}
-use Rattle.verifier.specs.Span.Typing.{IsTyped, span_form}
+use Rattle.verifier.specs.Span.Typing.{span_form}
 
 -- form 3 keeps the laws that let one pass decide
 abbrev pub KeepsLaws : Type 0
@@ -25,7 +25,7 @@ IsPlaced slots s =
 abbrev pub AreTypings : Type 0
 AreTypings =
     (state : ℕ) (slots : List (Option Insn)) (table : Table)
-    → IsTyped state slots table
+    → one.IsTyped (span_form state slots) table
     ↔ (IsTyping state (length slots) (insn_at slots) table × ((s : ℕ) (f : Frame) → table s ≡ Some f → IsPlaced slots s))
 
 -- refused code has one rule and one slot that can be named

@@ -1,9 +1,9 @@
 -- The least rule that an instruction breaks under a frame (docs/FORMATS.md, "Rules of the verifier"); None if it breaks
 -- none of V3 to V10.
-use Rattle.std.specs.Prelude.{ℕ, zero, suc, ◌+◌, ◌&&◌, nat_le, int_le, ℤ, pos, negsuc, Bool, Option, Some, None, false, if◌then◌else◌, min}
+use Rattle.std.specs.Prelude.{ℕ, zero, suc, ◌+◌, nat_le, ℤ, pos, Bool, Option, Some, None, false, if◌then◌else◌, min}
 use Rattle.std.specs.Option.{option_map_or}
-use Rattle.decode.specs.declared.insn.Width.{Width}
-use Rattle.decode.specs.declared.insn.Width.TheVariants.{W32, W64}
+use Rattle.std.specs.Result.{result_err}
+use Rattle.decode.specs.declared.insn.Width.TheVariants.{W64}
 use Rattle.decode.specs.declared.insn.Operand.TheVariants as operand
 use Rattle.decode.specs.declared.insn.Insn.{Insn}
 use Rattle.decode.specs.declared.insn.Insn.TheVariants.{Alu, MovSx, Neg, End, Jump, JumpLong, JumpIf, Call, Exit, Load, LoadSx, StoreReg}
@@ -18,8 +18,8 @@ use Rattle.spans.specs.declared.kind.Reach.{Reach}
 use Rattle.spans.specs.declared.kind.SpanKind.{SpanKind}
 use Rattle.spans.specs.declared.kind.SpanKind.TheVariants.{Unset, Num, Place}
 use Rattle.spans.specs.Frame.{Frame}
-use Rattle.spans.specs.Access.{is_inside, whole_word, is_reached}
-use Rattle.spans.specs.Ways.{AluForm, Copies, Sums, Moves, Sets, Computes, alu_form, operand_kind, moved_reach}
+use Rattle.spans.specs.Access.{region_size, is_inside, whole_word, is_reached}
+use Rattle.spans.specs.Ways.{alu_form, operand_kind, from_span, set_kind, result_kind}
 
 -- the lesser of two rules, if both are broken
 abbrev pub lesser : Option Rule → Option Rule → Option Rule
@@ -35,43 +35,11 @@ unless holds rule = if holds then None else Some rule
 
 -- the rule for what is read as a number: broken if nothing is known of it, or if it is a place
 abbrev pub number_rule : SpanKind → Option Rule
-number_rule Unset = Some V3
-number_rule (Num s) = None
-number_rule (Place r s) = Some V5
+number_rule k = result_err (from_span (λ s. s) k)
 
 -- the rule for what is copied, also a place: broken if nothing is known of it
 abbrev pub value_rule : SpanKind → Option Rule
-value_rule Unset = Some V3
-value_rule k = None
-
--- ---- arithmetic
-
--- a place has a distance from its region's first byte that doesn't fit 16 bits and a sign
-abbrev pub near_rule : Reach → Option Rule
-near_rule s = unless (int_le (negsuc 32767) s.lo && int_le s.hi (pos 32767)) V6
-
--- a sum of two registers
-abbrev pub sum_rule : SpanKind → SpanKind → Option Rule
-sum_rule (Num s) (Num t) = None
-sum_rule (Place r s) (Num t) = near_rule (moved_reach s (pos t.lo) (pos t.hi))
-sum_rule (Num s) (Place r t) = near_rule (moved_reach t (pos s.lo) (pos s.hi))
-sum_rule (Place r s) (Place q t) = Some V5
-sum_rule a b = Some V3
-
--- a sum with a whole number; of a place only by 64 bits
-abbrev pub move_rule : Width → ℤ → SpanKind → Option Rule
-move_rule width z (Num s) = None
-move_rule W64 z (Place r s) = near_rule (moved_reach s z z)
-move_rule W32 z (Place r s) = Some V5
-move_rule width z Unset = Some V3
-
--- arithmetic with dst and an operand
-abbrev pub alu_rule : AluForm → SpanKind → SpanKind → Option Rule
-alu_rule Copies a b = value_rule b
-alu_rule Sums a b = sum_rule a b
-alu_rule (Moves width z) a b = move_rule width z a
-alu_rule (Sets width) a b = number_rule b
-alu_rule (Computes op width) a b = lesser (number_rule a) (number_rule b)
+value_rule k = result_err (set_kind k)
 
 -- ---- memory
 
@@ -83,21 +51,18 @@ words_rule (suc w) f s o n =
 
 -- a load inside the stack: of a whole word, or else of numbers
 abbrev pub read_rule : Option ℕ → Frame → Reach → ℤ → ℕ → Option Rule
-read_rule (Some c) f s o n = value_rule (f c)
-read_rule None f s o n = words_rule 64 f s o n
+read_rule word f s o n = option_map_or (λ c. value_rule (f c)) word (words_rule 64 f s o n)
 
 -- a load of n bytes, o bytes from a base of this kind; the stack's words are judged only if it is inside
 abbrev pub load_rule : ℕ → Frame → SpanKind → ℤ → ℕ → Option Rule
 load_rule state f Unset o n = Some V3
 load_rule state f (Num s) o n = Some V5
-load_rule state f (Place Message s) o n = unless (is_inside 512 s o n) V6
-load_rule state f (Place State s) o n = unless (is_inside state s o n) V6
 load_rule state f (Place Stack s) o n = if is_inside 512 s o n then read_rule (whole_word s o n) f s o n else Some V6
+load_rule state f (Place r s) o n = unless (is_inside (region_size state r) s o n) V6
 
 -- a store of a kind inside the stack: into a whole word, also a place; else a number, over numbers
 abbrev pub write_rule : Option ℕ → Frame → SpanKind → Reach → ℤ → ℕ → Option Rule
-write_rule (Some c) f k s o n = value_rule k
-write_rule None f k s o n = lesser (number_rule k) (words_rule 64 f s o n)
+write_rule word f k s o n = option_map_or (λ c. value_rule k) word (lesser (number_rule k) (words_rule 64 f s o n))
 
 -- a store of a kind through a base of another; a place that isn't stored into a whole word breaks V5, wherever it is
 -- stored
@@ -118,10 +83,9 @@ argument_rule (Some r) = Some V9
 
 -- a place whose n bytes are in its region for each of its distances, and in the stack are numbers
 abbrev pub payload_rule : ℕ → Frame → SpanKind → ℕ → Option Rule
-payload_rule state f (Place Message s) n = unless (is_inside 512 s (pos 0) n) V9
-payload_rule state f (Place State s) n = unless (is_inside state s (pos 0) n) V9
 payload_rule state f (Place Stack s) n =
     if is_inside 512 s (pos 0) n then argument_rule (words_rule 64 f s (pos 0) n) else Some V9
+payload_rule state f (Place r s) n = unless (is_inside (region_size state r) s (pos 0) n) V9
 payload_rule state f k n = Some V9
 
 -- the same for as many bytes as a number says, and for 256 if it may be greater
@@ -148,7 +112,7 @@ exit_rule k = Some V10
 
 -- the rule of V3 and V5 to V10 that an instruction breaks under a frame; the state has `state` bytes
 abbrev pub frame_rule : ℕ → Insn → Frame → Option Rule
-frame_rule state (Alu op width dst o) f = alu_rule (alu_form op width o) (f dst.number) (operand_kind width o f)
+frame_rule state (Alu op width dst o) f = result_err (result_kind (alu_form op width o) (f dst.number) (operand_kind width o f))
 frame_rule state (MovSx x dst src) f = number_rule (f src.number)
 frame_rule state (Neg width dst) f = number_rule (f dst.number)
 frame_rule state (End order bits dst) f = number_rule (f dst.number)

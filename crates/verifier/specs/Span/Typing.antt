@@ -1,7 +1,7 @@
 -- When code is typable in form 3.
 use Rattle.std.specs.Prelude.{◌≡◌, ℕ, ◌+◌, List, Option, Some, None, unwrap_or, length}
 use Rattle.std.specs.List.{slice_get}
-use Rattle.std.specs.Option.{option_map, option_or}
+use Rattle.std.specs.Option.{option_and_then, option_map, option_or}
 use Rattle.std.specs.Global.{Box}
 use Rattle.decode.specs.declared.insn.Insn.{Insn}
 use Rattle.decode.specs.Encoding.{Fits}
@@ -17,17 +17,14 @@ use Rattle.verifier.specs.Span.Rules.{broken_rule}
 use Rattle.verifier.specs.Span.Ways.{ways}
 use Rattle.spans.specs.Typing.{Table, Enters, target}
 use Rattle.verifier.specs.Form.{Form}
-use Rattle.verifier.specs.Fixpoint as one
 
 -- arrays of kinds as frames, slot by slot; none after their end
 abbrev pub table_of : List (Option (Box Cells)) → Table
 table_of items s = option_map (λ (b : Box Cells). frame_of b.value) (unwrap_or (slice_get items s) None)
 
--- the least rule that an instruction breaks at a slot under a frame; V1 and V2 need no frame. If no instruction begins
--- there, none is broken
-abbrev pub broken_at : ℕ → List (Option Insn) → ℕ → Option Insn → Frame → Option Rule
-broken_at state slots s None f = None
-broken_at state slots s (Some i) f = option_or (first_broken (flow_tests slots s (flow_of i))) (broken_rule state i f)
+-- the least rule that an instruction breaks at a slot under a frame; V1 and V2 need no frame
+abbrev pub broken : ℕ → List (Option Insn) → ℕ → Insn → Frame → Option Rule
+broken state slots s i f = option_or (first_broken (flow_tests slots s (flow_of i))) (broken_rule state i f)
 
 -- at slot s an instruction begins that breaks no rule under the frame f, and the frames that leave it fit; `fits` repeats
 -- what the type of instructions says
@@ -36,7 +33,7 @@ pub record IsAllowed (state : ℕ) (slots : List (Option Insn)) (table : Table) 
   pub there : insn_at slots s ≡ Some insn
   pub fits : Fits insn
   pub frame : IsFrame f
-  pub kept : broken_at state slots s (Some insn) f ≡ None
+  pub kept : broken state slots s insn f ≡ None
   pub goes : Enters table (s + size_of insn) (ways insn f).0
   pub leaps : Enters table (target s insn) (ways insn f).1
 
@@ -49,9 +46,5 @@ span_form state slots = record {
   count = length slots;
   MayStand = λ s f. IsFrame f × ((i : Insn) × (insn_at slots s ≡ Some i));
   IsAllowed = λ table s f. IsAllowed state slots table s f;
-  broken = λ s f. broken_at state slots s (insn_at slots s) f;
+  broken = λ s f. option_and_then (λ i. broken state slots s i f) (insn_at slots s);
 }
-
--- the table is a typing of the code
-abbrev pub IsTyped : ℕ → List (Option Insn) → Table → Type 0
-IsTyped state slots table = one.IsTyped (span_form state slots) table

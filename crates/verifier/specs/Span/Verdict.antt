@@ -10,14 +10,6 @@ use Rattle.verifier.specs.declared.span.fault.SpanVerifyError.TheVariants.{Memor
 use Rattle.verifier.specs.declared.span.pass.SpanFrames.{SpanFrames}
 use Rattle.verifier.specs.Span.Typing.{span_form, table_of}
 
--- the least typing
-abbrev pub IsLeastTyping : ℕ → List (Option Insn) → Table → Type 0
-IsLeastTyping state slots table = one.IsLeast (span_form state slots) (length slots) table
-
--- the rule and the slot, of code that has no typing
-abbrev pub IsFault : List Insn → ℕ → Rule → ℕ → Type 0
-IsFault code state rule slot = one.IsFault (span_form state (slots_of code)) rule slot
-
 -- the table is the least typing of the code; if a slot breaks a rule, it is that of the slots below
 abbrev pub IsJudged : List Insn → ℕ → Table → Option (Rule × ℕ) → Type 0
 IsJudged code state table refusal = one.IsJudged (span_form state (slots_of code)) table refusal
@@ -25,10 +17,10 @@ IsJudged code state table refusal = one.IsJudged (span_form state (slots_of code
 -- the code slot by slot, and its least typing
 pub record IsFramesOf (code : List Insn) (state : ℕ) (frames : SpanFrames) : Type 0 where
   pub slots_are : frames.slots.items ≡ slots_of code
-  pub typing : IsLeastTyping state (slots_of code) (table_of frames.table.items)
+  pub typing : one.IsLeast (span_form state (slots_of code)) (length (slots_of code)) (table_of frames.table.items)
   pub unrefused : frames.refusal ≡ None
 
 -- why code gave no frames; that memory ran out says nothing of the code
 abbrev pub IsWhy : List Insn → ℕ → SpanVerifyError → Type 0
 IsWhy code state Memory = Unit {0}
-IsWhy code state (Fault rule slot) = IsFault code state rule slot
+IsWhy code state (Fault rule slot) = one.IsFault (span_form state (slots_of code)) rule slot

@@ -1,5 +1,6 @@
 -- The frames that leave an instruction that breaks no rule.
-use Rattle.std.specs.Prelude.{◌≡◌, ℕ, ℤ, ◌≤ℤ◌, true, Option, None, Some, unwrap_or}
+use Rattle.std.specs.Prelude.{◌≡◌, ℕ, ℤ, ◌≤ℤ◌, true, None, Some, Result}
+use Rattle.std.specs.Result.{result_unwrap_or}
 use Rattle.decode.specs.declared.insn.Reg.{Reg}
 use Rattle.decode.specs.declared.insn.Width.{Width}
 use Rattle.decode.specs.declared.insn.Width.TheVariants.{W64}
@@ -12,6 +13,7 @@ use Rattle.decode.specs.declared.insn.Insn.TheVariants.{StoreImm, Wide}
 use Rattle.decode.specs.Encoding.{bytes_in, extension_offset, extension_width}
 use Rattle.operations.specs.Words.{bits_of}
 use Rattle.regtypes.specs.declared.frame.Region.TheVariants.{Stack}
+use Rattle.regtypes.specs.declared.rule.Rule.{Rule}
 use Rattle.spans.specs.declared.kind.SpanKind.{SpanKind}
 use Rattle.spans.specs.declared.kind.SpanKind.TheVariants.{Unset, Num, Place}
 use Rattle.spans.specs.Span.{whole, one}
@@ -21,8 +23,8 @@ use Rattle.spans.specs.Access.{is_inside, loaded_kind, stored_frame}
 use Rattle.spans.specs.Ways.{Ways, alu_form, operand_kind, result_kind, from_span, extended_span, way, behind_helper}
 
 -- dst gets this kind; if there is none, a rule is broken
-abbrev pub gives : Option SpanKind → Frame → Reg → Frame
-gives k f dst = with_kind f dst.number (unwrap_or k Unset)
+abbrev pub gives : Result SpanKind Rule → Frame → Reg → Frame
+gives k f dst = with_kind f dst.number (result_unwrap_or k Unset)
 
 -- a jump compares two numbers
 abbrev pub compares : SpanKind → SpanKind → Condition → Width → Reg → Operand → Frame → Ways

@@ -1,9 +1,9 @@
 //! Arithmetic on what is known of registers.
 
-ghost use Rattle.std.specs.Prelude.{◌≡◌, neg_ℤ, unwrap_or};
+ghost use Rattle.std.specs.Prelude.{◌≡◌, neg_ℤ};
+ghost use Rattle.std.specs.Result.{result_err, result_unwrap_or};
 ghost use Rattle.decode.specs.Encoding.{extension_offset, extension_width};
 ghost use Rattle.operations.specs.Words.{bits_of};
-ghost use Rattle.verifier.specs.Span.Rules.{alu_rule};
 ghost use Rattle.spans.specs.Frame.{IsKind, kind_at};
 ghost use Rattle.spans.specs.Ways.{alu_form, extended_span, from_span, from_spans, low_span, operand_kind, result_kind};
 ghost use Rattle.spans.specs.Span.{result_span, whole as whole_span};
@@ -40,7 +40,7 @@ fn negated(imm: i32) -> i64
 
 /// The rule that arithmetic with dst and an operand breaks.
 pub fn alu_rule(op: AluOp, width: Width, operand: Operand, a: SpanKind, b: SpanKind) -> Option<Rule>
-    ensures { result ≡ alu_rule (alu_form op width operand) a b }
+    ensures { result ≡ result_err (result_kind (alu_form op width operand) a b) }
 {
     match operand {
         Operand::Imm(n) => match op {
@@ -59,7 +59,7 @@ pub fn alu_rule(op: AluOp, width: Width, operand: Operand, a: SpanKind, b: SpanK
 }
 
 fn set(width: Width, kind: SpanKind) -> SpanKind
-    ensures { result ≡ unwrap_or (from_span (low_span width) kind) SpanKind.Unset }
+    ensures { result ≡ result_unwrap_or (from_span (low_span width) kind) SpanKind.Unset }
 {
     match kind {
         SpanKind::Num(s) => SpanKind::Num(low_span(width, s)),
@@ -70,7 +70,7 @@ fn set(width: Width, kind: SpanKind) -> SpanKind
 fn computed(op: AluOp, width: Width, a: SpanKind, b: SpanKind) -> SpanKind
     requires a { IsKind a }
     requires b { IsKind b }
-    ensures { result ≡ unwrap_or (from_spans (λ s t. result_span op (bits_of width) (low_span width s) (low_span width t)) a b) SpanKind.Unset }
+    ensures { result ≡ result_unwrap_or (from_spans (λ s t. result_span op (bits_of width) (low_span width s) (low_span width t)) a b) SpanKind.Unset }
 {
     match a {
         SpanKind::Num(s) => match b {
@@ -90,7 +90,7 @@ fn computed(op: AluOp, width: Width, a: SpanKind, b: SpanKind) -> SpanKind
 pub fn alu_kind(op: AluOp, width: Width, operand: Operand, a: SpanKind, b: SpanKind) -> SpanKind
     requires a { IsKind a }
     requires b { IsKind b }
-    ensures { result ≡ unwrap_or (result_kind (alu_form op width operand) a b) SpanKind.Unset }
+    ensures { result ≡ result_unwrap_or (result_kind (alu_form op width operand) a b) SpanKind.Unset }
 {
     match operand {
         Operand::Imm(n) => match op {
@@ -110,7 +110,7 @@ pub fn alu_kind(op: AluOp, width: Width, operand: Operand, a: SpanKind, b: SpanK
 
 /// The kind that a sign extension leaves: the same number if none of the numbers is negative.
 pub fn extended(extension: Extension, kind: SpanKind) -> SpanKind
-    ensures { result ≡ unwrap_or (from_span (extended_span (extension_offset extension) (bits_of (extension_width extension))) kind) SpanKind.Unset }
+    ensures { result ≡ result_unwrap_or (from_span (extended_span (extension_offset extension) (bits_of (extension_width extension))) kind) SpanKind.Unset }
 {
     let SpanKind::Num(span) = kind else {
         return SpanKind::Unset;
@@ -131,7 +131,7 @@ pub fn extended(extension: Extension, kind: SpanKind) -> SpanKind
 
 /// Any number, for a register that holds a number.
 pub fn any_number(kind: SpanKind) -> SpanKind
-    ensures { result ≡ unwrap_or (from_span (λ s. whole_span 64) kind) SpanKind.Unset }
+    ensures { result ≡ result_unwrap_or (from_span (λ s. whole_span 64) kind) SpanKind.Unset }
 {
     match kind {
         SpanKind::Num(_) => SpanKind::Num(whole(Width::W64)),

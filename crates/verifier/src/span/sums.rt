@@ -1,15 +1,14 @@
 //! Sums, one part of which may be a place.
 
-ghost use Rattle.std.specs.Prelude.{◌≡◌, ◌≤◌, ◌≤ℤ◌, pos, unwrap_or};
+ghost use Rattle.std.specs.Prelude.{◌≡◌, ◌≤◌, ◌≤ℤ◌, pos};
+ghost use Rattle.std.specs.Result.{result_err, result_unwrap_or};
 ghost use Rattle.operations.specs.Words.{bits_of};
-ghost use Rattle.verifier.specs.Span.Rules.{move_rule, near_rule, sum_rule};
 ghost use Rattle.spans.specs.Frame.{IsKind};
 ghost use Rattle.spans.specs.Span.{IsSpan};
 ghost use Rattle.spans.specs.Ways.{low_span, moved_kind, moved_reach, moved_span, near_place, summed_kind};
 
 use crate::span::distance::{changed, further};
 use crate::span::results::{bounded, result, whole};
-use crate::span::rules::unless;
 use decode::{AluOp, Width};
 use regtypes::{Region, Rule};
 use spans::{Reach, Span, SpanKind};
@@ -26,15 +25,19 @@ pub fn low_span(width: Width, span: Span) -> Span
 
 /// The rule that places break if their distances are from one number to another.
 fn near_rule(lo: i128, hi: i128) -> Option<Rule>
-    ensures { result ≡ near_rule (record { lo = lo; hi = hi }) }
+    ensures { (region : Region) → result ≡ result_err (near_place region (record { lo = lo; hi = hi })) }
 {
-    unless(-32768 <= lo && hi <= 32767, Rule::V6)
+    if -32768 <= lo && hi <= 32767 {
+        None
+    } else {
+        Some(Rule::V6)
+    }
 }
 
 /// The places with distances from one number to another; nothing is known if one is too far off.
 fn near_place(region: Region, lo: i128, hi: i128) -> SpanKind
     requires { lo ≤ℤ hi }
-    ensures { result ≡ unwrap_or (near_place region (record { lo = lo; hi = hi })) SpanKind.Unset }
+    ensures { result ≡ result_unwrap_or (near_place region (record { lo = lo; hi = hi })) SpanKind.Unset }
 {
     if -32768 <= lo && hi <= 32767 {
         let lo = lo as i16;
@@ -46,7 +49,7 @@ fn near_place(region: Region, lo: i128, hi: i128) -> SpanKind
 }
 
 fn rule_by(reach: Reach, by: Span) -> Option<Rule>
-    ensures { result ≡ near_rule (moved_reach reach (pos by.lo) (pos by.hi)) }
+    ensures { (region : Region) → result ≡ result_err (near_place region (moved_reach reach (pos by.lo) (pos by.hi))) }
 {
     near_rule(further(reach.lo, by.lo), further(reach.hi, by.hi))
 }
@@ -55,14 +58,14 @@ fn rule_by(reach: Reach, by: Span) -> Option<Rule>
 fn place_by(region: Region, reach: Reach, by: Span) -> SpanKind
     requires reach { reach.lo ≤ℤ reach.hi }
     requires by { by.lo ≤ by.hi }
-    ensures { result ≡ unwrap_or (near_place region (moved_reach reach (pos by.lo) (pos by.hi))) SpanKind.Unset }
+    ensures { result ≡ result_unwrap_or (near_place region (moved_reach reach (pos by.lo) (pos by.hi))) SpanKind.Unset }
 {
     near_place(region, further(reach.lo, by.lo), further(reach.hi, by.hi))
 }
 
 /// The rule that a sum of two registers breaks.
 pub fn sum_rule(a: SpanKind, b: SpanKind) -> Option<Rule>
-    ensures { result ≡ sum_rule a b }
+    ensures { result ≡ result_err (summed_kind a b) }
 {
     match a {
         SpanKind::Unset => Some(Rule::V3),
@@ -83,7 +86,7 @@ pub fn sum_rule(a: SpanKind, b: SpanKind) -> Option<Rule>
 pub fn summed(a: SpanKind, b: SpanKind) -> SpanKind
     requires a { IsKind a }
     requires b { IsKind b }
-    ensures { result ≡ unwrap_or (summed_kind a b) SpanKind.Unset }
+    ensures { result ≡ result_unwrap_or (summed_kind a b) SpanKind.Unset }
 {
     match a {
         SpanKind::Unset => SpanKind::Unset,
@@ -101,7 +104,7 @@ pub fn summed(a: SpanKind, b: SpanKind) -> SpanKind
 
 /// The rule that a sum with a whole number breaks.
 pub fn move_rule(width: Width, by: i64, kind: SpanKind) -> Option<Rule>
-    ensures { result ≡ move_rule width by kind }
+    ensures { result ≡ result_err (moved_kind width by kind) }
 {
     match kind {
         SpanKind::Unset => Some(Rule::V3),
@@ -139,7 +142,7 @@ fn moved_span(width: Width, by: i64, span: Span) -> Span
 /// The kind of a sum with a whole number.
 pub fn moved(width: Width, by: i64, kind: SpanKind) -> SpanKind
     requires { IsKind kind }
-    ensures { result ≡ unwrap_or (moved_kind width by kind) SpanKind.Unset }
+    ensures { result ≡ result_unwrap_or (moved_kind width by kind) SpanKind.Unset }
 {
     match kind {
         SpanKind::Unset => SpanKind::Unset,

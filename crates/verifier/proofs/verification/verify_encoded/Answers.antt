@@ -7,19 +7,20 @@ use Rattle.regtypes.specs.declared.rule.Rule.{Rule}
 use Rattle.regtypes.specs.declared.rule.Rule.TheVariants.{V2}
 use Rattle.regtypes.specs.Typing.{Table, IsTyping}
 use Rattle.verifier.specs.Dense.{IsDense}
+use Rattle.verifier.specs.Fixpoint.{IsFault}
 use Rattle.verifier.specs.Least.{IsLeastTyping, flat_form}
 use Rattle.verifier.proofs.LeastTypings.{flat_laws, typing_of}
 use Rattle.verifier.proofs.Passes.{fault}
-use Rattle.verifier.specs.Verdict.{IsFault, IsJudged}
+use Rattle.verifier.specs.Verdict.{IsJudged}
 use Rattle.verifier.proofs.verification.verify_encoded.Goals as goal
 
 typed : (form : ImageForm) (code code' : List Insn) (len : ℕ) (table : Table) (refusal : Option (Rule × ℕ)) → refusal ≡ None → code ≡ code' → IsJudged form code len table refusal → IsLeastTyping form (slots_of code') len table
 typed form code code' len table refusal n e h = subst (λ c. IsLeastTyping form (slots_of c) len table) e (subst (IsJudged form code len table) n h)
 
-faulty : (form : ImageForm) (code code' : List Insn) (len : ℕ) (table : Table) (refusal : Option (Rule × ℕ)) (rule : Rule) (slot : ℕ) → refusal ≡ Some (rule, slot) → code ≡ code' → IsJudged form code len table refusal → IsFault form code' len rule slot
+faulty : (form : ImageForm) (code code' : List Insn) (len : ℕ) (table : Table) (refusal : Option (Rule × ℕ)) (rule : Rule) (slot : ℕ) → refusal ≡ Some (rule, slot) → code ≡ code' → IsJudged form code len table refusal → IsFault (flat_form form len (slots_of code')) rule slot
 faulty form code code' len table refusal rule slot n e h =
     let k = subst (IsJudged form code len table) n h in
-    subst (λ c. IsFault form c len rule slot) e k.1
+    subst (λ c. IsFault (flat_form form len (slots_of c)) rule slot) e k.1
 
 no_slot : (code : List Insn) → length code ≡ 0 → length (slots_of code) ≡ 0
 no_slot [] h = refl

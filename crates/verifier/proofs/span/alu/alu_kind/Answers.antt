@@ -1,5 +1,5 @@
 use Rattle.std.proofs.Common.{◌≡◌, sym, ap, ◌∙◌}
-use Rattle.std.specs.Prelude.{unwrap_or}
+use Rattle.std.specs.Result.{result_unwrap_or}
 use Rattle.decode.specs.declared.insn.AluOp.{AluOp}
 use Rattle.decode.specs.declared.insn.Width.{Width}
 use Rattle.decode.specs.declared.insn.Operand.{Operand}
@@ -12,8 +12,8 @@ use Rattle.verifier.proofs.span.alu.alu_kind.Goals as goal
 use Rattle.verifier.proofs.span.alu.alu_kind.Goals.{in_default-2-via-in-Add+in_default, in_default-2-via-in_default}
 
 -- the form of an operation says what it gives
-by_form : (op : AluOp) (width : Width) (o p : Operand) (a b k : SpanKind) → k ≡ unwrap_or (result_kind (Computes op width) a b) Unset → Computes op width ≡ alu_form op width p → o ≡ p → k ≡ unwrap_or (result_kind (alu_form op width o) a b) Unset
-by_form op width o p a b k e f q = e ∙ ap (λ (form : AluForm). unwrap_or (result_kind form a b) Unset) (f ∙ ap (alu_form op width) (sym q))
+by_form : (op : AluOp) (width : Width) (o p : Operand) (a b k : SpanKind) → k ≡ result_unwrap_or (result_kind (Computes op width) a b) Unset → Computes op width ≡ alu_form op width p → o ≡ p → k ≡ result_unwrap_or (result_kind (alu_form op width o) a b) Unset
+by_form op width o p a b k e f q = e ∙ ap (λ (form : AluForm). result_unwrap_or (result_kind form a b) Unset) (f ∙ ap (alu_form op width) (sym q))
 
 pub returns-in_default : goal.returns-in_default
 returns-in_default c =

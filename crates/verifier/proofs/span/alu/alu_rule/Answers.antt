@@ -1,4 +1,5 @@
-use Rattle.std.proofs.Common.{◌≡◌, sym, ap, ◌∙◌}
+use Rattle.std.proofs.Common.{◌≡◌, refl, sym, ap, ◌∙◌}
+use Rattle.std.specs.Result.{result_err}
 use Rattle.std.specs.Prelude.{Option}
 use Rattle.decode.specs.declared.insn.AluOp.{AluOp}
 use Rattle.decode.specs.declared.insn.Width.{Width}
@@ -6,16 +7,32 @@ use Rattle.decode.specs.declared.insn.Operand.{Operand}
 use Rattle.decode.specs.declared.insn.Operand.TheVariants as operand
 use Rattle.regtypes.specs.declared.rule.Rule.{Rule}
 use Rattle.spans.specs.declared.kind.SpanKind.{SpanKind}
-use Rattle.spans.specs.Ways.{AluForm, Computes, alu_form}
-use Rattle.verifier.specs.Span.Rules.{alu_rule, lesser, number_rule}
+use Rattle.spans.specs.declared.kind.SpanKind.TheVariants.{Unset, Num, Place}
+use Rattle.spans.specs.declared.span.Span.{Span}
+use Rattle.spans.specs.Span.{result_span}
+use Rattle.operations.specs.Words.{bits_of}
+use Rattle.spans.specs.Ways.{AluForm, Computes, alu_form, from_spans, low_span, result_kind}
+use Rattle.verifier.specs.Span.Rules.{lesser, number_rule}
 use Rattle.verifier.proofs.Spans.AluForms.{half_sum, other_imm, other_reg}
 use Rattle.verifier.proofs.span.alu.alu_rule.Goals as goal
 use Rattle.verifier.proofs.span.alu.alu_rule.Goals.{in_default-2-via-in-Add+in_default, in_default-2-via-in_default}
 
+-- a word of two is computed unless one of them is no number
+two_numbers : (make : Span → Span → Span) (a b : SpanKind) → lesser (number_rule a) (number_rule b) ≡ result_err (from_spans make a b)
+two_numbers make Unset Unset = refl
+two_numbers make Unset (Num t) = refl
+two_numbers make Unset (Place q t) = refl
+two_numbers make (Num s) Unset = refl
+two_numbers make (Num s) (Num t) = refl
+two_numbers make (Num s) (Place q t) = refl
+two_numbers make (Place r s) Unset = refl
+two_numbers make (Place r s) (Num t) = refl
+two_numbers make (Place r s) (Place q t) = refl
+
 -- the form of an operation that computes a word says what it breaks
-by_form : (op : AluOp) (width : Width) (o p : Operand) (a b : SpanKind) (x y r : Option Rule) → r ≡ lesser x y → x ≡ number_rule a → y ≡ number_rule b → Computes op width ≡ alu_form op width p → o ≡ p → r ≡ alu_rule (alu_form op width o) a b
+by_form : (op : AluOp) (width : Width) (o p : Operand) (a b : SpanKind) (x y r : Option Rule) → r ≡ lesser x y → x ≡ number_rule a → y ≡ number_rule b → Computes op width ≡ alu_form op width p → o ≡ p → r ≡ result_err (result_kind (alu_form op width o) a b)
 by_form op width o p a b x y r e ex ey f q =
-    e ∙ ap (λ (z : Option Rule). lesser z y) ex ∙ ap (lesser (number_rule a)) ey ∙ ap (λ (form : AluForm). alu_rule form a b) (f ∙ ap (alu_form op width) (sym q))
+    e ∙ ap (λ (z : Option Rule). lesser z y) ex ∙ ap (lesser (number_rule a)) ey ∙ two_numbers (λ s t. result_span op (bits_of width) (low_span width s) (low_span width t)) a b ∙ ap (λ (form : AluForm). result_err (result_kind form a b)) (f ∙ ap (alu_form op width) (sym q))
 
 pub returns-in_default : goal.returns-in_default
 returns-in_default c =

@@ -6,7 +6,6 @@ use Rattle.decode.specs.Slots.{Follows}
 use Rattle.verifier.specs.Fixpoint.{IsLeast, StopsAt}
 use Rattle.verifier.specs.Inside.SpanPass.{AreFitting, IsSlotJudged}
 use Rattle.verifier.specs.Span.Typing.{span_form, table_of}
-use Rattle.verifier.specs.Span.Verdict.{IsLeastTyping}
 use Rattle.decode.proofs.Layouts.{first_begins_at, laid_some}
 use Rattle.verifier.proofs.Passes.{fault, kept_whole, taken_whole}
 use Rattle.verifier.proofs.Spans.Forms.{form_3}
@@ -49,7 +48,7 @@ pub returns-clause-judged : goal.returns-clause-judged
 returns-clause-judged c =
     let q : c.loop-slot.slot ≡ length c.in_ok-slots.slots.items = omega arith in
     let l = subst (λ n. IsLeast (span_form c.args.state_len c.in_ok-slots.slots.items) n (table_of c.loop-slot.table.items)) q c.loop-slot.invariant.1 in
-    subst (λ s. IsLeastTyping c.args.state_len s (table_of c.loop-slot.table.items)) c.in_ok-slots.ensures.slots l
+    subst (λ s. IsLeast (span_form c.args.state_len s) (length s) (table_of c.loop-slot.table.items)) c.in_ok-slots.ensures.slots l
 
 pub judge-requires-clause-short : goal.judge-requires-clause-short
 judge-requires-clause-short c = subst (λ (s : List (Option Insn)). length s ≤ SLOTS) (sym (c.deref.ensures.value ∙ c.in_ok-slots.ensures.slots)) c.requires.slots
