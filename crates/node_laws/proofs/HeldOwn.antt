@@ -1,7 +1,7 @@
 -- What a process gives that comes back, and what it holds
 use Rattle.std.proofs.Common.{◌≡◌, ◌≢◌, ℕ, zero, suc, ◌+◌, ◌<◌, ◌≤◌, List, [], ◌∷◌, ◌++◌, length, map, take, drop, Bool, true, false, refl, sym, ap, ◌∙◌, subst, arith, append-nil}
 use Rattle.std.specs.Prelude.{Option, Some, None, ◌&&◌, ◌==◌, nat_lt, slice_get, slice_index_or, slice_set, if◌then◌else◌}
-use Rattle.std.proofs.lemmas.List.{length-set, length-map}
+use Rattle.std.proofs.lemmas.List.{map-append, length-set, length-map}
 use Rattle.theorems.specs.Growth.{Begins}
 use Rattle.theorems.proofs.ListLemmas.{take-next, nth-prefix}
 use Rattle.world.specs.declared.message.Message.{Message}
@@ -293,11 +293,7 @@ running top f p durable tells D In w senders h g j k state given o late s state_
 
 -- the messages of a plan up to one more
 pub plan-next : (plan : List OpenJob) (done : ℕ) (j : OpenJob) → slice_get plan done ≡ Some j → map job_of (take (suc done) plan) ≡ map job_of (take done plan) ++ job_of j ∷ []
-plan-next plan done j e = ap (map job_of) (take-next plan done j e) ∙ mapped (take done plan)
-  where
-    mapped : (xs : List OpenJob) → map job_of (xs ++ j ∷ []) ≡ map job_of xs ++ job_of j ∷ []
-    mapped [] = refl
-    mapped (x ∷ xs) = ap (λ z. job_of x ∷ z) (mapped xs)
+plan-next plan done j e = ap (map job_of) (take-next plan done j e) ∙ map-append job_of (take done plan) (j ∷ [])
 
 -- ---- it comes back
 
