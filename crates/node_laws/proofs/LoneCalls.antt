@@ -14,7 +14,7 @@ use Rattle.recovery.specs.Own.{TheOwn}
 use Rattle.recovery.specs.Collection.{TheCollecting}
 use Rattle.recovery.specs.Replays.{TheReplaying, next_job, did_replay}
 use Rattle.recovery.specs.Replayed.{TheReplayed}
-use Rattle.recovery.specs.Restoration.{TheRestoring}
+use Rattle.recovery.specs.Restoration.{TheRestoring, begins}
 use Rattle.node_laws.specs.Inside.Process.{Process, Up, Covered, Collects, Replays, Replayed, Restores, Killed, Gives, Hears, Works, Acts, WaitsFor, covered, IsTold, Wakes}
 use Rattle.node_laws.proofs.Sound.{IsSound, AreSound}
 use Rattle.node_laws.proofs.NodeSound as nodes
@@ -138,7 +138,7 @@ module _ (lives : ℕ → ℕ) (back : ℕ → Type 0) (top p : ℕ) where
   acting (Replays n) new g is only h =
       becomes (Replays n) (Replayed _) new (g.1.0 ∙ ap Replayed g.1.1.0) (record { good = record { exact = h.exact; life = h.life; knows = h.knows; out = h.out }; up = λ e. refl; returns = λ r. tt })
   acting (Replayed n) new g is only h =
-      let k = restoring.begin lives back top n (alone n.own is h.life (only tt)) in
+      let k = restoring.asks-all lives back top (begins n) (alone n.own is h.life (only tt)) in
       becomes (Replayed n) (Restores _) new (g.1.0 ∙ ap Restores g.1.1.0)
       (record { good = record { exact = k.own.exact h.exact; life = k.own.life ∙ h.life; knows = k.hears h.knows; out = k.own.out h.out }; up = λ e. refl; returns = λ r. tt })
   acting (Restores n) new (inl g) is only h = becomes (Restores n) (Restores _) new (g.1.0 ∙ ap Restores g.1.1.0) (restores-goes n _ (restoring.asks-all lives back top n (alone n.own is h.life (only tt))) h)
