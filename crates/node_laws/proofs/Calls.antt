@@ -1,4 +1,4 @@
--- What each call of a process is among calls in all lives
+-- What each call of a process is, by its stages
 use Rattle.std.proofs.Common.{◌≡◌, inl, inr, ℕ, List, [], ◌∷◌, Bool, true, false, refl, sym, ap, ◌∙◌, subst}
 use Rattle.std.specs.Prelude.{Option, Some, None, not, ◌&&◌, is_none}
 use Rattle.helpers.specs.declared.effects.Who.{Who}
@@ -32,7 +32,7 @@ use Rattle.node_laws.proofs.Chains.{Chain, ticked-exact, froze-exact, asked-exac
 use Rattle.node_laws.proofs.Losses.{handed-rests, ticked-rests, froze-rests}
 use Rattle.node_laws.proofs.Stages.{unsettled, Fits, GoesOn, on}
 
--- a call that is one in all lives, of the process as it is seen
+-- such a call, of the process as it is seen
 abbrev pub Is : (Process → Process → Type 0) → Checkpoint → Lifecycle → Lifecycle → Type 0
 Is Does w c d = (is_settled d ≡ true) × (Fits w d × Does (seen w c) (seen w d))
 

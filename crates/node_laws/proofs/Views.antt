@@ -1,4 +1,4 @@
--- What a host sees of a process holds of the process in all lives
+-- What a host sees of a process, and the process by its stages
 use Rattle.std.proofs.Common.{◌≡◌, ℕ, List, true, refl, sym, ap, ◌∙◌, subst}
 use Rattle.cluster.specs.Cluster.{Cluster}
 use Rattle.cluster.specs.Rules.{May, does, Keeps}
