@@ -26,7 +26,7 @@ use Rattle.recovery.specs.RestorationStands.{StandsRestoring}
 use Rattle.recovery.proofs.Fits.{pages-fit}
 use Rattle.gateway.specs.Gateway.{TheGateway}
 use Rattle.node_laws.specs.HostProcess.{IsFirst}
-use Rattle.node_laws.specs.Inside.Process.{Process, Up, Covered, Collects, Restores, Killed, StandsAs, IsKilled, IsStoredOf, ComesFrom, covered, is_up, stage_of}
+use Rattle.node_laws.specs.Inside.Process.{Process, Collects, Restores, Killed, StandsAs, IsKilled, IsStoredOf, ComesFrom, covered, is_up, stage_of}
 use Rattle.node_laws.specs.Inside.System.{System, AreStoredOf, Call, Gave, Handed, Worked, Did, Stored, Saved, Resumed, Died, Revived, GaveOut, HandedOut, DidOut, RevivedOut, DoesIt, after_call, after_calls, Along, FailsAlone, view}
 use Rattle.node_laws.specs.HostSystem.{Hosting, start}
 use Rattle.node_laws.proofs.HostStep.{IsPart}
@@ -79,15 +79,9 @@ module _ (f : Answering) (states : ℕ → List ℕ) (n : ℕ) (s : System) (act
 
 -- ---- calls
 
-killed-down : (process : Process) → IsKilled process → is_up process ≡ false
-killed-down (Up m) d = absurd d
-killed-down (Covered m) d = absurd d
-killed-down other d = refl
-
--- what is stored of one that is dead is what is kept of it
-kept-dead : (k : Kept) (process : Process) (c : Cluster) (p : ℕ) → IsKilled process → IsStoredOf k process c p → IsKeptOf k c p
-kept-dead k Killed c p d s = s
-kept-dead k other c p d s = absurd d
+killed-is : (process : Process) → IsKilled process → process ≡ Killed
+killed-is Killed d = refl
+killed-is other d = absurd d
 
 -- one more packet was given
 with-given : (n : ℕ) (processes : ℕ → Process) (lives : ℕ → ℕ) (given out : List NodePacket) (x : NodePacket) → IsSound lives (Back n processes) x → Lone n processes lives given out → Lone n processes lives (x ∷ given) out
@@ -130,8 +124,8 @@ module _ (f : Answering) (states : ℕ → List ℕ) (n : ℕ) (s : System) (act
       let are : AreStoredOf (s.stored p) (s.processes p) here p = (holds.each p first).stored in
       let k : Kept = from.0 in
       let one : are.0 ≡ k = one_kept are.0 k (s.stored p) are.1.0 from.1.0 in
-      let kept : IsKeptOf k here p = subst (λ z. IsKeptOf z here p) one (kept-dead are.0 (s.processes p) here p dead are.1.1) in
-      let down : is_up (s.processes p) ≡ false = killed-down (s.processes p) dead in
+      let kept : IsKeptOf k here p = subst (λ z. IsKeptOf z here p) one (subst (λ z. IsStoredOf are.0 z here p) (killed-is (s.processes p) dead) are.1.1) in
+      let down : is_up (s.processes p) ≡ false = ap is_up (killed-is (s.processes p) dead) in
       let now : life ≡ put s.lives p life p = sym (raised-here s.lives p life) in
       let b : Back n (put s.processes p (Collects new)) p = (first, subst Returns (sym (raised-here s.processes p (Collects new))) tt) in
       process-comes n s.processes s.lives s.given s.gateway.out h p first (Collects new) life down refl above

@@ -1,6 +1,6 @@
--- What each call of a process is among calls in all lives
+-- What each call of a process is, by its stages
 use Rattle.std.proofs.Common.{◌≡◌, inl, inr, ℕ, List, [], ◌∷◌, Bool, true, false, refl, sym, ap, ◌∙◌, subst}
-use Rattle.std.specs.Prelude.{Option, Some, None, not, ◌&&◌, is_none, if◌then◌else◌}
+use Rattle.std.specs.Prelude.{Option, Some, None, not, ◌&&◌, is_none}
 use Rattle.helpers.specs.declared.effects.Who.{Who}
 use Rattle.verifier.specs.declared.any_image.AnyImage.{AnyImage}
 use Rattle.interp.specs.HandlerCall.{Handled}
@@ -32,7 +32,7 @@ use Rattle.node_laws.proofs.Chains.{Chain, ticked-exact, froze-exact, asked-exac
 use Rattle.node_laws.proofs.Losses.{handed-rests, ticked-rests, froze-rests}
 use Rattle.node_laws.proofs.Stages.{unsettled, Fits, GoesOn, on}
 
--- a call that is one in all lives, of the process as it is seen
+-- such a call, of the process as it is seen
 abbrev pub Is : (Process → Process → Type 0) → Checkpoint → Lifecycle → Lifecycle → Type 0
 Is Does w c d = (is_settled d ≡ true) × (Fits w d × Does (seen w c) (seen w d))
 
@@ -153,12 +153,8 @@ not-frozen : {P : Type 0} (f b : Bool) → (not f && b) ≡ true → f ≡ true 
 not-frozen {P} true b e t = absurd (cc (e))
 not-frozen {P} false b e t = absurd (cc (t))
 
-if-true : {X : Type 0} (b : Bool) (x y : X) → b ≡ true → (if b then x else y) ≡ x
-if-true true x y e = refl
-if-true false x y e = absurd (cc (e))
-
 frozen-now : (n : TheNode) → may_freeze n ≡ true → froze n ≡ record n { frozen = true }
-frozen-now n e = if-true (may_freeze n) (record n { frozen = true }) n e
+frozen-now n e = rw e refl
 
 -- the checkpoint is made, and these are its bytes
 pub froze-is : (bytes : List ℕ) (w : Checkpoint) (c d : Lifecycle) → Fits w c → IsSavable c → Keeps c bytes → Freezes c d

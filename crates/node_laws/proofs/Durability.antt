@@ -28,7 +28,7 @@ use Rattle.recovery.specs.Overlap as meeting
 use Rattle.recovery.specs.Collection.{TheCollecting, begins, revived}
 use Rattle.recovery.specs.Replays.{TheReplaying, next_job, next_number, did_replay, is_over, receipts_of}
 use Rattle.recovery.specs.StandsAtReplay.{replayed_of}
-use Rattle.recovery.specs.Restoration.{TheRestoring}
+use Rattle.recovery.specs.Restoration.{TheRestoring, begins as begins_again}
 use Rattle.recovery.specs.Collected.{TheCollected, none_told}
 use Rattle.node_laws.proofs.Sound.{same-at}
 use Rattle.node_laws.specs.Inside.Process.{Process, Up, Covered, Collects, Replays, Replayed, Restores, Killed, Gives, Hears, Works, Acts, WaitsFor, covered, IsTold, Wakes, ComesFrom}
@@ -200,7 +200,7 @@ module _ (f : Answering) (states : ℕ → List ℕ) (top p : ℕ) (durable tell
   acting h (Replays n) new g s =
       subst (IsFor h) (sym (g.1.0 ∙ ap Replayed g.1.1.0)) (ended h n g.1.1.1.1 s)
   acting h (Replayed n) new g s =
-      subst (IsFor h) (sym (g.1.0 ∙ ap Restores g.1.1.0)) (s.0, (n.receipts.senders, owns.begin top F p durable tells D In s.0 n.receipts.senders h s.0 n (s.1.0, (s.1.1, (refl, refl)))))
+      subst (IsFor h) (sym (g.1.0 ∙ ap Restores g.1.1.0)) (s.0, (n.receipts.senders, owns.resumes-all top F p durable tells D In s.0 n.receipts.senders h s.0 (begins_again n) (s.1.0, (s.1.1, (refl, refl)))))
   acting h (Restores n) new (inl g) s = subst (IsFor h) (sym (g.1.0 ∙ ap Restores g.1.1.0)) (s.0, (s.1.0, owns.resumes-all top F p durable tells D In s.0 s.1.0 h s.0 n s.1.1))
   acting h (Restores n) new (inr g) s = subst (IsFor h) (sym (g.1.0 ∙ ap Up g.1.1.0)) (s.0, owns.rising top F p durable tells D In s.0 s.1.0 h s.0 n s.1.1)
   acting h Killed new g s = absurd g

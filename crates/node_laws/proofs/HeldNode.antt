@@ -174,15 +174,12 @@ module _ (top : ℕ) (f : Handlers) (gr : Grows f) (p : ℕ) (durable tells : Bo
           let none : n.working ≡ None = none-is n.working (both (not n.frozen) (is_none n.working) e).1 in
           record { at = s.at; many = s.many; taken = s.taken; job = s.job; wide = s.wide; logs = s.logs; out = s.out; rests = λ t. none }
 
-  says-one : (to : ℕ) (n : TheNode) → On n → On (says_covered to n)
-  says-one to n s = by-if On (nat_lt 0 (covered_of to n)) (posts to (packets.Saved (covered_of to n)) n) n (λ e. posting to (packets.Saved (covered_of to n)) n tt s) (λ e. s)
-
   says-each : (me d : ℕ) (n : TheNode) → On n → On (says_below me d n)
   says-each me zero n s = s
   says-each me (suc d) n s =
       let m : TheNode = says_below me d n in
       let here : On m = says-each me d n s in
-      by-if On (d == me) m (says_covered d m) (λ e. here) (λ e. says-one d m here)
+      by-if On (d == me) m (says_covered d m) (λ e. here) (λ e. by-if On (nat_lt 0 (covered_of d m)) (posts d (packets.Saved (covered_of d m)) m) m (λ t. posting d (packets.Saved (covered_of d m)) m tt here) (λ t. here))
 
   -- what waited is released
   pub thaw-sends : (n : TheNode) → On n → On (let m = released n in says_below m.me (m.count + 1) m)

@@ -1,7 +1,7 @@
 -- What a process gives that comes back, and what it holds
 use Rattle.std.proofs.Common.{◌≡◌, ◌≢◌, ℕ, zero, suc, ◌+◌, ◌<◌, ◌≤◌, List, [], ◌∷◌, ◌++◌, length, map, take, drop, Bool, true, false, refl, sym, ap, ◌∙◌, subst, arith, append-nil}
 use Rattle.std.specs.Prelude.{Option, Some, None, ◌&&◌, ◌==◌, nat_lt, slice_get, slice_index_or, slice_set, if◌then◌else◌}
-use Rattle.std.proofs.lemmas.List.{length-set, length-map}
+use Rattle.std.proofs.lemmas.List.{map-append, length-set, length-map}
 use Rattle.theorems.specs.Growth.{Begins}
 use Rattle.theorems.proofs.ListLemmas.{take-next, nth-prefix}
 use Rattle.world.specs.declared.message.Message.{Message}
@@ -35,7 +35,6 @@ use Rattle.recovery.specs.Collected.{TheCollected, none_told, with_page}
 use Rattle.recovery.specs.Collection.{TheCollecting, told_of}
 use Rattle.recovery.specs.Collection as collects
 use Rattle.recovery.specs.Intake.{keeps, takes_in, trusts, noted}
-use Rattle.recovery.specs.Replayed.{TheReplayed}
 use Rattle.recovery.proofs.Preservation.{own-long, at-each, each-take, each-drop}
 use Rattle.recovery.proofs.Lists.{each-append}
 use Rattle.recovery.specs.Restoration.{TheRestoring, replayed_of, above_of, has_answered, last_ssn, is_reply}
@@ -191,9 +190,6 @@ module _ (top : ℕ) (f : Handlers) (p : ℕ) (durable tells : Bool) (D : ℕ �
   pub resumes-all : (n : TheRestoring) → OnRestoring n → OnRestoring (restores.asked n)
   resumes-all n s = resumes-each (n.own.count + 1) n s
 
-  pub begin : (r : TheReplayed) → On r.own × ((length g ≡ r.own.base + length r.receipts.senders) × ((w ≡ g) × (senders ≡ r.receipts.senders))) → OnRestoring (restores.begun r)
-  begin r s = resumes-all (restores.begins r) s
-
   entering : (d covered : ℕ) (pairs : List Pair) (o : TheOwn) → (tells ≡ true → Each (IsLow (length (f.sends p h d))) pairs) → On o → On (takes_in d covered pairs o)
   entering d covered pairs o low s =
       let q : TheQueue = log_at o.logs d in
@@ -202,13 +198,10 @@ module _ (top : ℕ) (f : Handlers) (p : ℕ) (durable tells : Bool) (D : ℕ �
       (λ e same t. held-noted durable tells o.base (most e) (dropped_to covered q) (f.sends p g e) pairs (λ u. let P : ℕ → Type 0 = λ z. Each (IsLow (most z)) pairs in subst P (sym same) (low u))
       (held-dropped durable tells o.base (most e) q (f.sends p g e) covered t)) s
 
-  trusting : (flags : Flags) (o : TheOwn) → On o → On (trusts flags o)
-  trusting flags o s = aside o.heard o.lost (trusts flags o).exact o s
-
   greets : (c : ℕ) (flags : Flags) (n : TheRestoring) → OnRestoring n → OnRestoring (restores.greeted c flags n)
   greets c flags n s =
       by-if OnRestoring (is_done flags) (record n { own = trusts flags (takes_in 0 c [] n.own); answered = slice_set n.answered 0 true }) n
-      (λ e. (trusting flags (takes_in 0 c [] n.own) (entering 0 c [] n.own (λ t. tt) s.0), s.1)) (λ e. s)
+      (λ e. let o : TheOwn = takes_in 0 c [] n.own in (aside o.heard o.lost (trusts flags o).exact o (entering 0 c [] n.own (λ t. tt) s.0), s.1)) (λ e. s)
 
   tells-page : (from j c r : ℕ) (flags : Flags) (pairs : List Pair) (n : TheRestoring) → (tells ≡ true → Each (IsLow (length (f.sends p h from))) pairs) → OnRestoring n → OnRestoring (restores.told from j c r flags pairs n)
   tells-page from j c r flags pairs n low s =
@@ -221,9 +214,6 @@ module _ (top : ℕ) (f : Handlers) (p : ℕ) (durable tells : Bool) (D : ℕ �
 
   page : (from j c r : ℕ) (flags : Flags) (pairs : List Pair) (n : TheRestoring) → (tells ≡ true → Each (IsLow (length (f.sends p h from))) pairs) → OnRestoring n → OnRestoring (restores.page_of from j c r flags pairs n)
   page from j c r flags pairs n low s = by-if OnRestoring (from == 0) (restores.greeted c flags n) (restores.told from j c r flags pairs n) (λ e. greets c flags n s) (λ e. tells-page from j c r flags pairs n low s)
-
-  doubting : (n : TheRestoring) → OnRestoring n → OnRestoring (restores.doubted n)
-  doubting n s = (aside n.own.heard n.own.lost (restores.doubted n).own.exact n.own s.0, s.1)
 
   asked-restoring : (q i k : ℕ) (n : TheRestoring) → OnRestoring n → OnRestoring (restores.asked_by q i k n)
   asked-restoring q i k n s =
@@ -238,7 +228,7 @@ module _ (top : ℕ) (f : Handlers) (p : ℕ) (durable tells : Bool) (D : ℕ �
   heard-restoring from (packets.Restored i j c r flags pairs) n fair s =
       by-if OnRestoring (in_range (packets.Restored i j c r flags pairs) && is_reply from i j r n) _ n
       (λ e. by-if OnRestoring (restores.answers from i j c r pairs n) (restores.page_of from j c r flags pairs n) (restores.doubted (restores.page_of from j c r flags pairs n))
-      (λ k. page from j c r flags pairs n fair s) (λ k. doubting (restores.page_of from j c r flags pairs n) (page from j c r flags pairs n fair s)))
+      (λ k. page from j c r flags pairs n fair s) (λ k. let m : TheRestoring = restores.page_of from j c r flags pairs n in let t = page from j c r flags pairs n fair s in (aside m.own.heard m.own.lost (restores.doubted m).own.exact m.own t.0, t.1)))
       (λ e. s)
   heard-restoring from (packets.Ask i k) n fair s = by-if OnRestoring (in_range (packets.Ask i k)) (restores.asked_by from i k n) n (λ e. asked-restoring from i k n s) (λ e. s)
   heard-restoring from other n fair s = s
@@ -293,11 +283,7 @@ running top f p durable tells D In w senders h g j k state given o late s state_
 
 -- the messages of a plan up to one more
 pub plan-next : (plan : List OpenJob) (done : ℕ) (j : OpenJob) → slice_get plan done ≡ Some j → map job_of (take (suc done) plan) ≡ map job_of (take done plan) ++ job_of j ∷ []
-plan-next plan done j e = ap (map job_of) (take-next plan done j e) ∙ mapped (take done plan)
-  where
-    mapped : (xs : List OpenJob) → map job_of (xs ++ j ∷ []) ≡ map job_of xs ++ job_of j ∷ []
-    mapped [] = refl
-    mapped (x ∷ xs) = ap (λ z. job_of x ∷ z) (mapped xs)
+plan-next plan done j e = ap (map job_of) (take-next plan done j e) ∙ map-append job_of (take done plan) (j ∷ [])
 
 -- ---- it comes back
 

@@ -58,14 +58,14 @@ module _ (images : ℕ → AnyImage) (states : ℕ → List ℕ) (n : ℕ) (s : 
   f = answering n images
 
   -- the system where p is this
-  abbrev with_it : ℕ → Hosted → System
-  with_it p h = record s { processes = put s.processes p h }
+  abbrev put_at : ℕ → Hosted → System
+  put_at p h = record s { processes = put s.processes p h }
 
   good-of : (p : ℕ) (h : Hosted) → IsFirst n p → s.processes p ≡ h → IsGood (images p) h
   good-of p h l e = subst (IsGood (images p)) e (goods p l)
 
   -- acts of p alone
-  acts : (p : ℕ) (old h : Hosted) (ps : List Process) → IsFirst n p → s.processes p ≡ old → IsGood (images p) h → Chain (as_process old) ps (as_process h) → Steps images n s (with_it p h) (Unit {0}) free none
+  acts : (p : ℕ) (old h : Hosted) (ps : List Process) → IsFirst n p → s.processes p ≡ old → IsGood (images p) h → Chain (as_process old) ps (as_process h) → Steps images n s (put_at p h) (Unit {0}) free none
   acts p old h ps l e good chain = by-acts images n s goods s (Unit {0}) free p l h good ps refl (subst (λ z. Chain (as_process z) ps (as_process h)) (sym e) chain)
 
   -- ---- packets
@@ -81,7 +81,7 @@ module _ (images : ℕ → AnyImage) (states : ℕ → List ℕ) (n : ℕ) (s : 
       (λ q. by-if (Each (λ (y : NodePacket). y.from ≡ q)) (p == q) (x ∷ []) [] (λ d. let same : p ≡ q = grind (arith, nat_tests) in (own ∙ same, tt)) (λ d. tt))
       (called.Gave p x to) to [] (l, does) refl (λ z. tt) (λ q z. tt) refl (λ from c. let it = subst (λ z. Gives x z to) c does in inl (it.0, it.1.0))
 
-  heard : (p : ℕ) (x : NodePacket) (old new : TheProcess) (w : Checkpoint) → IsFirst n p → IsOne x s.given → s.processes p ≡ Runs old w → process.Calls (IsHanded x) old new → Steps images n s (with_it p (Runs new w)) (Unit {0}) free none
+  heard : (p : ℕ) (x : NodePacket) (old new : TheProcess) (w : Checkpoint) → IsFirst n p → IsOne x s.given → s.processes p ≡ Runs old w → process.Calls (IsHanded x) old new → Steps images n s (put_at p (Runs new w)) (Unit {0}) free none
   heard p x old new w l one e g =
       let good = good-of p (Runs old w) l e in
       let a1 : Is (Hears x) w old.lifecycle g.mid = handed-is x w old.lifecycle g.mid good.1.0 good.1.1 g.does in
@@ -93,7 +93,7 @@ module _ (images : ℕ → AnyImage) (states : ℕ → List ℕ) (n : ℕ) (s : 
 
   -- ---- its handler, and what is sent again
 
-  worked : (p : ℕ) (old new : TheProcess) (w : Checkpoint) → IsFirst n p → s.processes p ≡ Runs old w → working.Works old new → Steps images n s (with_it p (Runs new w)) (Unit {0}) free none
+  worked : (p : ℕ) (old new : TheProcess) (w : Checkpoint) → IsFirst n p → s.processes p ≡ Runs old w → working.Works old new → Steps images n s (put_at p (Runs new w)) (Unit {0}) free none
   worked p old new w l e g =
       let good = good-of p (Runs old w) l e in
       let am : IsHere n p (seen w old.lifecycle) = subst (λ z. IsHere n p (as_process z)) e (here-of f states n p l H (as_process (s.processes p)) (a.each p l).holds) in
@@ -105,7 +105,7 @@ module _ (images : ℕ → AnyImage) (states : ℕ → List ℕ) (n : ℕ) (s : 
       by-call images n s goods s (Unit {0}) free p l (Runs new w) (ap as_image g.image ∙ good.0, (c.0, c.1.0)) none (λ q. tt) (called.Worked p answer to) to c.1.1.0 (l, does) refl (λ z. tt) (λ q z. tt) c.1.1.1
       (λ from at. absurd (subst (λ z. Works f p answer z to) at does))
 
-  ticks : (p : ℕ) (old new : TheProcess) (w : Checkpoint) → IsFirst n p → s.processes p ≡ Runs old w → process.Calls Ticks old new → Steps images n s (with_it p (Runs new w)) (Unit {0}) free none
+  ticks : (p : ℕ) (old new : TheProcess) (w : Checkpoint) → IsFirst n p → s.processes p ≡ Runs old w → process.Calls Ticks old new → Steps images n s (put_at p (Runs new w)) (Unit {0}) free none
   ticks p old new w l e g =
       let good = good-of p (Runs old w) l e in
       let b : GoesOn w old.lifecycle g.mid = ticks-is w old.lifecycle g.mid good.1.0 good.1.1 g.does in
@@ -114,13 +114,13 @@ module _ (images : ℕ → AnyImage) (states : ℕ → List ℕ) (n : ℕ) (s : 
 
   -- ---- checkpoints
 
-  freezes : (p : ℕ) (bytes : List ℕ) (old new : TheProcess) (w : Checkpoint) → IsFirst n p → s.processes p ≡ Runs old w → IsSavable old.lifecycle → Keeps old.lifecycle bytes → Stays Freezes old new → Steps images n s (with_it p (Runs new (Pending bytes))) (Unit {0}) free none
+  freezes : (p : ℕ) (bytes : List ℕ) (old new : TheProcess) (w : Checkpoint) → IsFirst n p → s.processes p ≡ Runs old w → IsSavable old.lifecycle → Keeps old.lifecycle bytes → Stays Freezes old new → Steps images n s (put_at p (Runs new (Pending bytes))) (Unit {0}) free none
   freezes p bytes old new w l e may kept g =
       let good = good-of p (Runs old w) l e in
       let b = froze-is bytes w old.lifecycle new.lifecycle good.1.1 may kept g.does in
       acts p (Runs old w) (Runs new (Pending bytes)) b.1.1.0 l e (ap as_image g.image ∙ good.0, (b.0, b.1.0)) b.1.1.1
 
-  pauses : (p : ℕ) (old new : TheProcess) (w : Checkpoint) → IsFirst n p → s.processes p ≡ Runs old w → Stays Freezes old new → Steps images n s (with_it p (Runs new w)) (Unit {0}) free none
+  pauses : (p : ℕ) (old new : TheProcess) (w : Checkpoint) → IsFirst n p → s.processes p ≡ Runs old w → Stays Freezes old new → Steps images n s (put_at p (Runs new w)) (Unit {0}) free none
   pauses p old new w l e g =
       let good = good-of p (Runs old w) l e in
       let b : GoesOn w old.lifecycle new.lifecycle = paused-is w old.lifecycle new.lifecycle good.1.0 good.1.1 g.does in
@@ -134,7 +134,7 @@ module _ (images : ℕ → AnyImage) (states : ℕ → List ℕ) (n : ℕ) (s : 
       by-call images n s goods (record s { stored = put s.stored p bytes }) (Unit {0}) free p l (Runs old Durable) (good.0, (good.1.0, stored-is bytes old.lifecycle good.1.1)) none (λ q. tt) (called.Stored p bytes) to [] (l, waits) refl (λ z. tt) (λ q z. tt)
       (ap (λ z. covered (as_process z)) (sym e)) (λ from at. absurd (subst (WaitsFor bytes) at waits))
 
-  saves : (p : ℕ) (old new : TheProcess) → IsFirst n p → s.processes p ≡ Runs old Durable → Stays Thaws old new → Steps images n s (with_it p (Runs new Absent)) (Unit {0}) free none
+  saves : (p : ℕ) (old new : TheProcess) → IsFirst n p → s.processes p ≡ Runs old Durable → Stays Thaws old new → Steps images n s (put_at p (Runs new Absent)) (Unit {0}) free none
   saves p old new l e g =
       let good = good-of p (Runs old Durable) l e in
       let b = saved-is old.lifecycle new.lifecycle good.1.1 g.does in
@@ -144,7 +144,7 @@ module _ (images : ℕ → AnyImage) (states : ℕ → List ℕ) (n : ℕ) (s : 
 
   -- ---- it is suspended, and resumed
 
-  suspends : (p : ℕ) (bytes : List ℕ) (old : TheProcess) (w : Checkpoint) → IsFirst n p → s.processes p ≡ Runs old w → Suspends old.lifecycle bytes → Steps images n s (with_it p (Sleeps old bytes)) (Unit {0}) free none
+  suspends : (p : ℕ) (bytes : List ℕ) (old : TheProcess) (w : Checkpoint) → IsFirst n p → s.processes p ≡ Runs old w → Suspends old.lifecycle bytes → Steps images n s (put_at p (Sleeps old bytes)) (Unit {0}) free none
   suspends p bytes old w l e g = acts p (Runs old w) (Sleeps old bytes) [] l e g (still-seen w old.lifecycle bytes (good-of p (Runs old w) l e).1.1 g)
 
   resumes : (p : ℕ) (limits : Limits) (old new : TheProcess) (bytes : List ℕ) → IsFirst n p → s.processes p ≡ Sleeps old bytes → ResumesAs (images p) limits bytes new → StepsBy images n s (Resumed p limits new)
@@ -209,19 +209,19 @@ module _ (images : ℕ → AnyImage) (states : ℕ → List ℕ) (n : ℕ) (s : 
   steps (Gave p x new) g = alive (λ old. Stays (Takes (Some x)) old new) (λ z. record s { processes = put s.processes p (goes_on new z); given = x ∷ s.given }) (λ q. if p == q then x ∷ [] else []) p g.1 (λ old w e does. took p x old new w g.0 e does)
   steps (GaveBytes p x bytes new) g = alive (λ old. GivesBytes bytes old new) (λ z. record s { processes = put s.processes p (goes_on new z); given = x ∷ s.given }) (λ q. if p == q then x ∷ [] else []) p g.1.1
       (λ old w e does. took p x old new w g.0 e (subst (λ z. Stays (Takes (Some z)) old new) (one_packet does.0 x bytes does.1 g.1.0) does.2))
-  steps (Handed p x new) g = alive (λ old. process.Calls (IsHanded x) old new) (λ z. with_it p (goes_on new z)) none p g.1.1 (λ old w e does. heard p x old new w g.0 g.1.0 e does)
-  steps (HandedBytes p x bytes new) g = alive (λ old. (y : NodePacket) → IsPacket y bytes → process.Calls (IsHanded y) old new) (λ z. with_it p (goes_on new z)) none p g.1.1.1 (λ old w e does. heard p x old new w g.0 g.1.0 e (does x g.1.1.0))
-  steps (Worked p new) g = alive (λ old. working.Works old new) (λ z. with_it p (goes_on new z)) none p g.1 (λ old w e does. worked p old new w g.0 e does)
-  steps (Answered p ticket state b new) g = alive (λ old. AnswersSo state b old × (IsAnswered ticket state b old new × WorksAs state b old new)) (λ z. with_it p (goes_on new z)) none p g.1
+  steps (Handed p x new) g = alive (λ old. process.Calls (IsHanded x) old new) (λ z. put_at p (goes_on new z)) none p g.1.1 (λ old w e does. heard p x old new w g.0 g.1.0 e does)
+  steps (HandedBytes p x bytes new) g = alive (λ old. (y : NodePacket) → IsPacket y bytes → process.Calls (IsHanded y) old new) (λ z. put_at p (goes_on new z)) none p g.1.1.1 (λ old w e does. heard p x old new w g.0 g.1.0 e (does x g.1.1.0))
+  steps (Worked p new) g = alive (λ old. working.Works old new) (λ z. put_at p (goes_on new z)) none p g.1 (λ old w e does. worked p old new w g.0 e does)
+  steps (Answered p ticket state b new) g = alive (λ old. AnswersSo state b old × (IsAnswered ticket state b old new × WorksAs state b old new)) (λ z. put_at p (goes_on new z)) none p g.1
       (λ old w e does. let h = does.0 does.1.0.message does.1.0.who does.1.0.next in worked p old new w g.0 e (does.1.1 does.1.0.message does.1.0.who h.0 does.1.0.next h.1.0 h.1.1.0 h.1.1.1))
-  steps (Ticked p new) g = alive (λ old. process.Calls Ticks old new) (λ z. with_it p (goes_on new z)) none p g.1 (λ old w e does. ticks p old new w g.0 e does)
-  steps (Froze p bytes new) g = alive (λ old. IsSavable old.lifecycle × (Keeps old.lifecycle bytes × Stays Freezes old new)) (λ z. with_it p (Runs new (Pending bytes))) none p g.1 (λ old w e does. freezes p bytes old new w g.0 e does.0 does.1.0 does.1.1)
-  steps (Paused p new) g = alive (λ old. Stays Freezes old new) (λ z. with_it p (goes_on new z)) none p g.1 (λ old w e does. pauses p old new w g.0 e does)
+  steps (Ticked p new) g = alive (λ old. process.Calls Ticks old new) (λ z. put_at p (goes_on new z)) none p g.1 (λ old w e does. ticks p old new w g.0 e does)
+  steps (Froze p bytes new) g = alive (λ old. IsSavable old.lifecycle × (Keeps old.lifecycle bytes × Stays Freezes old new)) (λ z. put_at p (Runs new (Pending bytes))) none p g.1 (λ old w e does. freezes p bytes old new w g.0 e does.0 does.1.0 does.1.1)
+  steps (Paused p new) g = alive (λ old. Stays Freezes old new) (λ z. put_at p (goes_on new z)) none p g.1 (λ old w e does. pauses p old new w g.0 e does)
   steps (Stored p bytes) g =
       let h = has (Pending bytes) (s.processes p) p refl g.1 in
       subst (λ z. Steps images n s (record s { processes = put s.processes p (keeps z); stored = put s.stored p bytes }) (Unit {0}) free none) (sym h.1) (stores p bytes h.0 g.0 h.1)
   steps (Saved p new) g = let h = has Durable (s.processes p) p refl g.1.0 in saves p h.0 new g.0 h.1 (subst (Alive (λ old. Stays Thaws old new)) h.1 g.1.1)
-  steps (Suspended p bytes) g = alive (λ old. Suspends old.lifecycle bytes) (λ z. with_it p (sleeps bytes z)) none p g.1 (λ old w e does. suspends p bytes old w g.0 e does)
+  steps (Suspended p bytes) g = alive (λ old. Suspends old.lifecycle bytes) (λ z. put_at p (sleeps bytes z)) none p g.1 (λ old w e does. suspends p bytes old w g.0 e does)
   steps (Resumed p limits new) g = let h = asleep (λ bytes. ResumesAs (images p) limits bytes new) (s.processes p) p refl g.1 in resumes p limits h.0 new h.1 g.0 h.2 h.3
   steps (Died p) g = dies p g
   steps (Revived p limits life new) g = revives p limits life new g.0 g.1.0 g.1.1.0 g.1.1.1

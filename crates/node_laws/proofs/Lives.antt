@@ -41,7 +41,7 @@ use Rattle.node_laws.specs.HostSystem as hosts
 use Rattle.node_laws.specs.HostSystem.{handed_out, untaken, Hosting, start, handlers}
 use Rattle.node_laws.specs.Agreement.{AllStand}
 use Rattle.node_laws.proofs.Durable.{are-stored}
-use Rattle.node_laws.proofs.Views.{AreGood, stands-as as host-stands, stored-as}
+use Rattle.node_laws.proofs.Views.{AreGood, agrees}
 use Rattle.node_laws.proofs.HostStep.{put-same}
 use Rattle.node_laws.proofs.Moves.{Has, Moves, has-still}
 use Rattle.node_laws.proofs.Steps.{giving, hearing, working, acting, storing, telling, waking, dying, reviving}
@@ -266,8 +266,8 @@ begins h few =
 pub all-stand : (images : ℕ → AnyImage) (f : Handlers) (n : ℕ) (s : hosts.System) (c : Cluster) → AreGood images n s → Holds f n (view s) c → AllStand n s c
 all-stand images f n s c good h =
     record {
-      processes = λ p l. host-stands (images p) (s.processes p) c p (good p l) (h.each p l).stands;
-      stored = λ p l. stored-as (s.stored p) (images p) (s.processes p) c p (good p l) (h.each p l).stored;
+      processes = λ p l. (agrees (h.each p l).stored.0 (images p) (s.processes p) c p (good p l) (h.each p l).stands (h.each p l).stored.1.1).0;
+      stored = λ p l. let a = (h.each p l).stored in (a.0, (a.1.0, (agrees a.0 (images p) (s.processes p) c p (good p l) (h.each p l).stands a.1.1).1));
       lives = λ p l. (h.each p l).lives;
       durable = h.durable;
       gateway = goes-taken-out s.taken s.gateway c (h.ahead c h.durable (λ x i. i));

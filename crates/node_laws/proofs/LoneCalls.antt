@@ -14,7 +14,7 @@ use Rattle.recovery.specs.Own.{TheOwn}
 use Rattle.recovery.specs.Collection.{TheCollecting}
 use Rattle.recovery.specs.Replays.{TheReplaying, next_job, did_replay}
 use Rattle.recovery.specs.Replayed.{TheReplayed}
-use Rattle.recovery.specs.Restoration.{TheRestoring}
+use Rattle.recovery.specs.Restoration.{TheRestoring, begins}
 use Rattle.node_laws.specs.Inside.Process.{Process, Up, Covered, Collects, Replays, Replayed, Restores, Killed, Gives, Hears, Works, Acts, WaitsFor, covered, IsTold, Wakes}
 use Rattle.node_laws.proofs.Sound.{IsSound, AreSound}
 use Rattle.node_laws.proofs.NodeSound as nodes
@@ -56,9 +56,6 @@ module _ (lives : ℕ → ℕ) (back : ℕ → Type 0) (top p : ℕ) where
 
   replays-goes : (n m : TheReplaying) → owns.Keeps lives back n.own m.own → HasHeard lives top m.own → IsGood (Replays n) → On (Replays n) (Replays m)
   replays-goes n m k known h = record { good = record { exact = k.exact h.exact; life = k.life ∙ h.life; knows = known; out = k.out h.out }; up = λ e. refl; returns = λ r. tt }
-
-  replayed-goes : (n m : TheReplayed) → owns.Keeps lives back n.own m.own → HasHeard lives top m.own → IsGood (Replayed n) → On (Replayed n) (Replayed m)
-  replayed-goes n m k known h = record { good = record { exact = k.exact h.exact; life = k.life ∙ h.life; knows = known; out = k.out h.out }; up = λ e. refl; returns = λ r. tt }
 
   restores-goes : (n m : TheRestoring) → restoring.Goes lives back top n m → IsGood (Restores n) → On (Restores n) (Restores m)
   restores-goes n m k h = record { good = record { exact = k.own.exact h.exact; life = k.own.life ∙ h.life; knows = k.hears h.knows; out = k.own.out h.out }; up = λ e. refl; returns = λ r. tt }
@@ -102,7 +99,7 @@ module _ (lives : ℕ → ℕ) (back : ℕ → Type 0) (top p : ℕ) where
       becomes (Replays n) (Replays _) new (g.1.0 ∙ ap Replays g.1.1.0) (replays-goes n _ k.0 k.1 h)
   hearing x (Replayed n) new g s fits is only h =
       let k = owns.hands lives back top x n.own (alone n.own is h.life (only tt)) h.knows s in
-      becomes (Replayed n) (Replayed _) new (g.1.0 ∙ ap Replayed g.1.1.0) (replayed-goes n _ k.0 k.1 h)
+      becomes (Replayed n) (Replayed _) new (g.1.0 ∙ ap Replayed g.1.1.0) (record { good = record { exact = k.0.exact h.exact; life = k.0.life ∙ h.life; knows = k.1; out = k.0.out h.out }; up = λ e. refl; returns = λ r. tt })
   hearing x (Restores n) new g s fits is only h = becomes (Restores n) (Restores _) new (g.1.0 ∙ ap Restores g.1.1.0) (restores-goes n _ (restoring.hands lives back top x n h.knows (alone n.own is h.life (only tt)) fits s) h)
   hearing x Killed new g s fits is only h = absurd g
 
@@ -141,7 +138,7 @@ module _ (lives : ℕ → ℕ) (back : ℕ → Type 0) (top p : ℕ) where
   acting (Replays n) new g is only h =
       becomes (Replays n) (Replayed _) new (g.1.0 ∙ ap Replayed g.1.1.0) (record { good = record { exact = h.exact; life = h.life; knows = h.knows; out = h.out }; up = λ e. refl; returns = λ r. tt })
   acting (Replayed n) new g is only h =
-      let k = restoring.begin lives back top n (alone n.own is h.life (only tt)) in
+      let k = restoring.asks-all lives back top (begins n) (alone n.own is h.life (only tt)) in
       becomes (Replayed n) (Restores _) new (g.1.0 ∙ ap Restores g.1.1.0)
       (record { good = record { exact = k.own.exact h.exact; life = k.own.life ∙ h.life; knows = k.hears h.knows; out = k.own.out h.out }; up = λ e. refl; returns = λ r. tt })
   acting (Restores n) new (inl g) is only h = becomes (Restores n) (Restores _) new (g.1.0 ∙ ap Restores g.1.1.0) (restores-goes n _ (restoring.asks-all lives back top n (alone n.own is h.life (only tt))) h)

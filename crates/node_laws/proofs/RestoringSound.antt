@@ -11,9 +11,8 @@ use Rattle.packets.specs.declared.page.Flags.{Flags}
 use Rattle.packets.specs.Packet.{in_range, is_done, is_exact}
 use Rattle.gateway.proofs.Steps.{by-if}
 use Rattle.recovery.specs.Own.{TheOwn, posts, is_for, hears}
-use Rattle.recovery.specs.Replayed.{TheReplayed}
 use Rattle.recovery.specs.Intake.{keeps, takes_in, trusts}
-use Rattle.recovery.specs.Restoration.{TheRestoring, replayed_of, above_of, has_answered, asks, asks_below, asked, begins, begun, last_ssn, is_reply, answers, told, greeted, page_of, doubted, asked_by, heard, handed}
+use Rattle.recovery.specs.Restoration.{TheRestoring, replayed_of, above_of, has_answered, asks, asks_below, asked, last_ssn, is_reply, answers, told, greeted, page_of, doubted, asked_by, heard, handed}
 use Rattle.recovery.proofs.Posts.{for-own}
 use Rattle.node_laws.proofs.Sound.{Says, IsSound}
 use Rattle.node_laws.proofs.OwnSound.{Keeps, IsAlone, HasHeard, hears-now, stays, onward, alone-still, posting}
@@ -56,9 +55,6 @@ module _ (lives : ℕ → ℕ) (back : ℕ → Type 0) (top : ℕ) where
 
   pub asks-all : (n : TheRestoring) → IsAlone lives back top n.own → On n (asked n)
   asks-all n a = asks-each (n.own.count + 1) n a
-
-  pub begin : (r : TheReplayed) → IsAlone lives back top r.own → On (begins r) (begun r)
-  begin r a = asks-all (begins r) a
 
   -- ---- a page comes
 

@@ -6,6 +6,7 @@ use Rattle.theorems.specs.Growth.{Begins}
 use Rattle.theorems.proofs.ListLemmas.{nth-within, nth-prefix, begins-length}
 use Rattle.theorems.proofs.PlanLemmas.{first_below-at}
 use Rattle.rsn.specs.Receipts.{Received, numbers_from, numbers_of}
+use Rattle.std.proofs.lemmas.List.{map-append}
 use Rattle.world.specs.declared.message.Message.{Message}
 use Rattle.world.specs.History.{Payload, nth, count_of}
 use Rattle.world.specs.Plan.{if_next, or_else}
@@ -131,10 +132,6 @@ pub record HasTaken (D : ℕ → Bool) (In : ℕ → List Payload) (top p : ℕ)
   pub known : Each (IsIn D In) g
   pub few : (q : ℕ) → D q ≡ true → count_of q g ≤ length (In q)
 
-map-push : (xs : List Message) (m : Message) → map sender_of (xs ++ m ∷ []) ≡ map sender_of xs ++ m.sender ∷ []
-map-push [] m = refl
-map-push (x ∷ xs) m = ap (λ l. x.sender ∷ l) (map-push xs m)
-
 module _ (D : ℕ → Bool) (In : ℕ → List Payload) (top p : ℕ) where
   abbrev Has : List Message → List Message → List ℕ → List ℕ → Type 0
   Has h g covered senders = HasTaken D In top p h g covered senders
@@ -155,7 +152,7 @@ module _ (D : ℕ → Bool) (In : ℕ → List Payload) (top p : ℕ) where
         counts = t.counts;
         more = t.more ++ m ∷ [];
         begins = sym (append_assoc h t.more (m ∷ [])) ∙ ap (λ z. z ++ m ∷ []) t.begins;
-        are = ap (λ l. l ++ m.sender ∷ []) t.are ∙ sym (map-push t.more m);
+        are = ap (λ l. l ++ m.sender ∷ []) t.are ∙ sym (map-append sender_of t.more (m ∷ []));
         ordered = InOrderFrom-push (λ q. 0) g m t.ordered (omega (arith, next));
         none = absent (m.sender == p) refl (count-append p g (m ∷ []));
         known = all-push (IsIn D In) g m t.known isin;

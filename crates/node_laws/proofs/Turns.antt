@@ -186,10 +186,6 @@ module _ (c d : ℕ → ℕ) (s : System) (a : UpTo c d s) where
       let alike : outside.handed x (untaken s.taken s.gateway) ≡ untaken s.taken new = handed-alike s.taken x s.gateway ∙ ap (untaken s.taken) (sym e) in
       rests (HandedOut x new) (record { gateway = subst (OfGateway (InTurn c)) (sym e) (hears c x s.gateway a.gateway); durable = a.durable; shadow = subst (OfGateway (InTurn d)) alike (hears d x (untaken s.taken s.gateway) a.shadow); leads = a.leads }) refl
 
-  -- its host lets it do something
-  quiet : (e : ℕ → ℕ) (g new : TheGateway) → (new ≡ g) ⊎ IsQuietDeal g new → OfGateway (InTurn e) g → OfGateway (InTurn e) new
-  quiet e g new q o = held.quiet IsOwn own-plain (InTurn e) (steady e) g new q o
-
   quiet-alike : (new : TheGateway) → (new ≡ s.gateway) ⊎ IsQuietDeal s.gateway new → (untaken s.taken new ≡ untaken s.taken s.gateway) ⊎ IsQuietDeal (untaken s.taken s.gateway) (untaken s.taken new)
   quiet-alike new (inl same) = inl (ap (untaken s.taken) same)
   quiet-alike new (inr q) = inr (deals-alike s.taken s.gateway new q)
@@ -199,9 +195,9 @@ module _ (c d : ℕ → ℕ) (s : System) (a : UpTo c d s) where
       let none : handed_out s.gateway new ≡ [] = q.0 in
       let same : s.taken ++ handed_out s.gateway new ≡ s.taken = ap (λ z. s.taken ++ z) none ∙ append-nil s.taken in
       rests (DidOut new) (record {
-        gateway = quiet c s.gateway new q.1 a.gateway;
+        gateway = held.quiet IsOwn own-plain (InTurn c) (steady c) s.gateway new q.1 a.gateway;
         durable = a.durable;
-        shadow = subst (λ z. OfGateway (InTurn d) (untaken z new)) (sym same) (quiet d (untaken s.taken s.gateway) (untaken s.taken new) (quiet-alike new q.1) a.shadow);
+        shadow = subst (λ z. OfGateway (InTurn d) (untaken z new)) (sym same) (held.quiet IsOwn own-plain (InTurn d) (steady d) (untaken s.taken s.gateway) (untaken s.taken new) (quiet-alike new q.1) a.shadow);
         leads = λ p. a.leads p ∙ ap (λ z. passed d z p) (sym same);
       }) none
   does-out new (inl h) =

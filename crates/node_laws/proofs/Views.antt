@@ -1,6 +1,7 @@
--- What a host sees of a process holds of the process in all lives
+-- What a host sees of a process, and the process by its stages
 use Rattle.std.proofs.Common.{◌≡◌, ℕ, List, true, refl, sym, ap, ◌∙◌, subst}
 use Rattle.cluster.specs.Cluster.{Cluster}
+use Rattle.cluster.specs.Rules.{May, does, Keeps}
 use Rattle.verifier.specs.declared.any_image.AnyImage.{AnyImage}
 use Rattle.interp.specs.Image.{as_image}
 use Rattle.packets.specs.declared.kept.Kept.{Kept}
@@ -9,12 +10,12 @@ use Rattle.node.specs.Kept.{IsKeptOf}
 use Rattle.recovery.specs.Collection.{TheCollecting}
 use Rattle.process.specs.declared.lifecycle.Lifecycle.{Lifecycle}
 use Rattle.process.specs.declared.lifecycle.Lifecycle.TheVariants.{Up, Passing}
-use Rattle.process.specs.Process.{TheProcess, is_settled}
+use Rattle.process.specs.Process.{is_settled}
 use Rattle.process.specs.Calls.{standing_at, is_frozen}
 use Rattle.process.specs.Suspension.{Suspends}
-use Rattle.node_laws.specs.HostProcess.{IsFirst, Durable, Hosted, Runs, Sleeps, Killed, Alive, is_exact, IsUp}
+use Rattle.node_laws.specs.HostProcess.{IsFirst, Checkpoint, Absent, Durable, Hosted, Runs, Sleeps, Killed, Alive, is_exact, IsUp}
 use Rattle.node_laws.specs.HostBack.{Collects}
-use Rattle.node_laws.specs.Agreement.{Stands, StandsAs, IsStoredOf, AreStoredOf}
+use Rattle.node_laws.specs.Agreement.{Stands, StandsAs, IsStoredOf}
 use Rattle.node_laws.specs.Inside.Process as lives
 use Rattle.node_laws.specs.HostSystem.{System}
 use Rattle.node_laws.specs.HostLaws as laws
@@ -34,18 +35,15 @@ AreGood images n s = (p : ℕ) → IsFirst n p → IsGood (images p) (s.processe
 
 -- ---- whether it is exact
 
-exact-stage : (c : Lifecycle) → lives.is_exact (stage_of c) ≡ (standing_at c).exact
-exact-stage Passing = refl
-exact-stage other = refl
-
-exact-durable : (c : Lifecycle) → lives.is_exact (covered (stage_of c)) ≡ (standing_at c).exact
-exact-durable Passing = refl
-exact-durable other = refl
+exact-seen : (w : Checkpoint) (c : Lifecycle) → lives.is_exact (seen w c) ≡ (standing_at c).exact
+exact-seen Durable Passing = refl
+exact-seen Durable other = refl
+exact-seen w Passing = refl
+exact-seen w other = refl
 
 exact-as : (h : Hosted) → lives.is_exact (as_process h) ≡ is_exact h
-exact-as (Runs process Durable) = exact-durable process.lifecycle
-exact-as (Runs process checkpoint) = exact-stage process.lifecycle
-exact-as (Sleeps process bytes) = exact-stage process.lifecycle
+exact-as (Runs process w) = exact-seen w process.lifecycle
+exact-as (Sleeps process bytes) = exact-seen Absent process.lifecycle
 exact-as Killed = refl
 
 -- one system is as exact as the other
@@ -63,13 +61,11 @@ is-up m (Runs process w) u = subst (λ c. lives.IsUp m (stage_of c)) (sym u) ref
 is-up m (Sleeps process bytes) u = subst (λ c. lives.IsUp m (stage_of c)) (sym u) refl
 is-up m Killed u = absurd u
 
-up-holds : (m : TheNode) (process : lives.Process) → lives.IsUp m process → lives.is_up process ≡ true
-up-holds m (lives.Up n) u = refl
-up-holds m (lives.Covered n) u = refl
-up-holds m other u = absurd u
-
 pub up-so : (m : TheNode) (h : Hosted) → IsUp m h → lives.is_up (as_process h) ≡ true
-up-so m h u = up-holds m (as_process h) (is-up m h u)
+up-so m (Runs process Durable) u = ap (λ c. lives.is_up (covered (stage_of c))) u
+up-so m (Runs process w) u = ap (λ c. lives.is_up (stage_of c)) u
+up-so m (Sleeps process bytes) u = ap (λ c. lives.is_up (stage_of c)) u
+up-so m Killed u = absurd u
 
 pub collects : (h : Hosted) → Alive Collects h → (m : TheCollecting) × (as_process h ≡ lives.Collects m)
 collects (Runs process Durable) u = (u.0, ap (λ c. covered (stage_of c)) u.1)
@@ -78,37 +74,20 @@ collects other u = absurd u
 
 -- ---- how it agrees with a cluster
 
-stands-stage : (c : Lifecycle) (d : Cluster) (p : ℕ) → is_settled c ≡ true → lives.StandsAs (stage_of c) d p → Stands c d p
-stands-stage Passing d p s g = unsettled s
-stands-stage other d p s g = g
+in-stage : (k : Kept) (c : Lifecycle) (d : Cluster) (p : ℕ) → is_settled c ≡ true → lives.StandsAs (stage_of c) d p → lives.IsStoredOf k (stage_of c) d p → Stands c d p × IsKeptOf k d p
+in-stage k Passing d p s g h = unsettled s
+in-stage k other d p s g h = (g, h)
 
-stands-durable : (c : Lifecycle) (d : Cluster) (p : ℕ) → Fits Durable c → lives.StandsAs (covered (stage_of c)) d p → (is_frozen c ≡ true) × Stands c d p
-stands-durable (Up n) d p f g = (f, g.1)
-stands-durable other d p f g = absurd f
+when-durable : (k : Kept) (c : Lifecycle) (d : Cluster) (p : ℕ) → Fits Durable c → lives.StandsAs (covered (stage_of c)) d p → lives.IsStoredOf k (covered (stage_of c)) d p → ((is_frozen c ≡ true) × Stands c d p) × (May d (Keeps p) × IsKeptOf k (does d (Keeps p)) p)
+when-durable k (Up n) d p f g h = ((f, g.1), h)
+when-durable k other d p f g h = absurd f
 
-stands-asleep : (c : Lifecycle) (bytes : List ℕ) (d : Cluster) (p : ℕ) → Suspends c bytes → lives.StandsAs (stage_of c) d p → Stands c d p
-stands-asleep (Up n) bytes d p s g = g
-stands-asleep other bytes d p s g = absurd s
+asleep-settled : (c : Lifecycle) (bytes : List ℕ) → Suspends c bytes → is_settled c ≡ true
+asleep-settled (Up n) bytes s = refl
+asleep-settled other bytes s = absurd s
 
-pub stands-as : (image : AnyImage) (h : Hosted) (d : Cluster) (p : ℕ) → IsGood image h → lives.StandsAs (as_process h) d p → StandsAs h d p
-stands-as image (Runs process Durable) d p good g = stands-durable process.lifecycle d p good.1.1 g
-stands-as image (Runs process checkpoint) d p good g = stands-stage process.lifecycle d p good.1.0 g
-stands-as image (Sleeps process bytes) d p good g = stands-asleep process.lifecycle bytes d p good g
-stands-as image Killed d p good g = g
-
-stored-stage : (k : Kept) (c : Lifecycle) (d : Cluster) (p : ℕ) → lives.IsStoredOf k (stage_of c) d p → IsKeptOf k d p
-stored-stage k Passing d p g = g
-stored-stage k other d p g = g
-
-stored-durable : (k : Kept) (process : TheProcess) (c : Lifecycle) (d : Cluster) (p : ℕ) → Fits Durable c → lives.IsStoredOf k (covered (stage_of c)) d p → IsStoredOf k (Runs process Durable) d p
-stored-durable k process (Up n) d p f g = g
-stored-durable k process other d p f g = absurd f
-
-kept-as : (k : Kept) (image : AnyImage) (h : Hosted) (d : Cluster) (p : ℕ) → IsGood image h → lives.IsStoredOf k (as_process h) d p → IsStoredOf k h d p
-kept-as k image (Runs process Durable) d p good g = stored-durable k process process.lifecycle d p good.1.1 g
-kept-as k image (Runs process checkpoint) d p good g = stored-stage k process.lifecycle d p g
-kept-as k image (Sleeps process bytes) d p good g = stored-stage k process.lifecycle d p g
-kept-as k image Killed d p good g = g
-
-pub stored-as : (bytes : List ℕ) (image : AnyImage) (h : Hosted) (d : Cluster) (p : ℕ) → IsGood image h → called.AreStoredOf bytes (as_process h) d p → AreStoredOf bytes h d p
-stored-as bytes image h d p good g = (g.0, (g.1.0, kept-as g.0 image h d p good g.1.1))
+pub agrees : (k : Kept) (image : AnyImage) (h : Hosted) (d : Cluster) (p : ℕ) → IsGood image h → lives.StandsAs (as_process h) d p → lives.IsStoredOf k (as_process h) d p → StandsAs h d p × IsStoredOf k h d p
+agrees k image (Runs process Durable) d p good g h = when-durable k process.lifecycle d p good.1.1 g h
+agrees k image (Runs process w) d p good g h = in-stage k process.lifecycle d p good.1.0 g h
+agrees k image (Sleeps process bytes) d p good g h = in-stage k process.lifecycle d p (asleep-settled process.lifecycle bytes good) g h
+agrees k image Killed d p good g h = (g, h)
