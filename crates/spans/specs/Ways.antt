@@ -56,13 +56,13 @@ abbrev pub operand_kind : Width → Operand → Frame → SpanKind
 operand_kind width (operand.Imm z) f = Num (one (word_of z % 2 ^ bits_of width))
 operand_kind width (operand.Reg r) f = f r.number
 
--- applies to a span; V3 is broken if nothing is known of the register, V5 if it is a place
+-- applies to a span; V3 is broken if nothing is known, V5 if it is a place
 abbrev pub from_span : (Span → Span) → SpanKind → Result SpanKind Rule
 from_span make Unset = Err V3
 from_span make (Num s) = Ok (Num (make s))
 from_span make (Place r s) = Err V5
 
--- applies to two spans
+-- applies to two spans; of two broken rules V3 is the lesser
 abbrev pub from_spans : (Span → Span → Span) → SpanKind → SpanKind → Result SpanKind Rule
 from_spans make (Num s) b = from_span (make s) b
 from_spans make (Place r s) Unset = Err V3

@@ -41,4 +41,5 @@ AreTypingsSubsumed =
     (form : ImageForm) (code : List Insn) (state : ℕ) (table : FlatTable)
     → AllByRecursion Fits code → IsTyping form (slots_of code) state table
     → IsTyped (span_form state (slots_of code)) (read_table table)
-    × ((least : Table) → IsLeast (span_form state (slots_of code)) (length (slots_of code)) least → Below (span_form state (slots_of code)) least (read_table table))
+    × ((least : Table) → IsLeast (span_form state (slots_of code)) (length (slots_of code)) least
+    → Below (span_form state (slots_of code)) least (read_table table))
