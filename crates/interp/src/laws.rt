@@ -1,6 +1,7 @@
 //! Laws of every step and every call of typable code.
 
-ghost use Rattle.interp.specs.Laws.{IsEntered, IsExited, IsFound, IsOneCall, IsPreserved, IsSpanExited, IsWordEntered, IsWordKept};
+ghost use Rattle.interp.specs.Laws.{IsEntered, IsExited, IsFound, IsOneCall, IsPreserved, IsSpanExited};
+ghost use Rattle.interp.specs.Laws.{IsWordEntered, IsWordKept};
 ghost use Rattle.interp.specs.WorkedCauses.{AreAccessFaults, AreEndFaults, AreHelperFaults, AreRegisterFaults};
 ghost use Rattle.interp.specs.WorkedCauses.{AreSlotFaults, AreSpanFaults};
 

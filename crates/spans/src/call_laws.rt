@@ -1,6 +1,7 @@
 //! Why words and one array are enough.
 
-ghost use Rattle.spans.specs.CallLaws.{AreAccessesWithin, AreMessagesKept, AreRequestsShown, AreStepsShown, IsEntryShown, IsForward};
+ghost use Rattle.spans.specs.CallLaws.{AreAccessesWithin, AreMessagesKept, AreRequestsShown, AreStepsShown};
+ghost use Rattle.spans.specs.CallLaws.{IsEntryShown, IsForward};
 ghost use Rattle.spans.specs.Slices.{TakesSlice, WritesBytes};
 ghost use Rattle.spans.specs.Worked.{IsSpillingTyped};
 
