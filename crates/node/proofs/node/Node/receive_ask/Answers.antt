@@ -1,8 +1,8 @@
-use Rattle.std.proofs.Common.{◌≤◌, subst}
-use Rattle.std.proofs.lemmas.Bool.{le-ltb}
-use Rattle.node.specs.contracts.node.Node.{the_view}
+use Rattle.std.proofs.Common.{◌≡◌, false, arith}
+use Rattle.std.specs.Prelude.{nat_lt}
+use Rattle.std.proofs.lemmas.Grind.{common_steps}
 use Rattle.node.specs.Answers.{heard_of}
-use Rattle.node.proofs.Changes.{heard-there, hearer-says, told-above}
+use Rattle.node.proofs.Changes.{hearer-says, told-above}
 use Rattle.node.proofs.node.Node.receive_ask.Goals as goal
 
 pub told-requires-clause-peer : goal.told-requires-clause-peer
@@ -22,6 +22,5 @@ put-requires c = hearer-says c.args.from c.args.life c.args.from c.in_ok-body.bo
 
 pub returns-clause-ok : goal.returns-clause-ok
 returns-clause-ok c =
-    let heard = heard-there (the_view c.self.inside) c.args.self.now c.args.from c.index.result.now c.self.invariant.heard_wide c.self.view_is c.requires.peer.0 c.index.ensures in
-    let late = le-ltb c.args.life (heard_of c.args.from c.args.self.now) (subst (λ k. k ≤ c.args.life) heard c.if-life-index.false) in
+    let late : nat_lt c.args.life (heard_of c.args.from c.args.self.now) ≡ false = grind (arith, common_steps) in
     told-above c.args.from c.args.life c.args.above c.args.self.now c.hear.new.self c.put.new.self c.in_ok-body.body late c.in_ok-body.ensures.value c.hear.ensures c.put.ensures

@@ -1,8 +1,9 @@
-use Rattle.std.proofs.Common.{false, ◌≡◌, ◌∙◌, ◌<◌, length, sym}
+use Rattle.std.proofs.Common.{arith, false, ◌≡◌, ◌<◌, length}
 use Rattle.node.specs.contracts.node.Node.{the_view}
 use Rattle.node.specs.Node.{TheNode}
 use Rattle.node.specs.Answers.{heard_of}
 use Rattle.node.specs.Answers.{works_for}
+use Rattle.std.proofs.lemmas.Grind.{common_steps}
 use Rattle.node.proofs.Changes.{has-place, there-is, obeyer-says, restored-above}
 use Rattle.node.proofs.node.Node.receive_resume.Goals as goal
 
@@ -27,5 +28,5 @@ returns-clause-ok c =
     let from = c.args.from in
     let inside : from < length m.heard = has-place m.heard m c.args.self.now from c.self.invariant.heard_wide c.self.view_is c.requires.peer.0 in
     let is : c.index.result.now ≡ heard_of from m = there-is m.heard from c.index.result.now 0 inside c.index.ensures in
-    let free : works_for from c.args.self.now.working ≡ false = sym c.works_for.ensures ∙ c.if-works_for.false in
+    let free : works_for from c.args.self.now.working ≡ false = grind (arith, common_steps) in
     restored-above from c.args.life c.args.kept c.args.above c.index.result.now m c.args.self.now c.obey.new.self c.put.new.self c.in_ok-body.body c.self.view_is is c.if-life-index.false free c.in_ok-body.ensures.value c.obey.ensures c.put.ensures
