@@ -12,6 +12,9 @@
 //! is asked again ([`Restoring::tick`]). When all have told all ([`Restoring::is_up`]), it is a node
 //! ([`Restoring::into_node`]), and all that it sent may go out.
 //!
+//! A [`Lifecycle`] is a process in any of these stages, or up; [`Lifecycle::passed`] goes on from stage
+//! to stage as far as it can.
+//!
 //! The promise: each call is none, one or more acts of the process that the rules of crate `cluster`
 //! allow, and what it then holds is what the cluster has of it. A call that is refused memory changes
 //! nothing; of a restoring process only the first needs memory, and gives back what was handed in.
