@@ -1,6 +1,6 @@
 -- One that is up passes on to nothing, and one that is held stays
 use Rattle.std.proofs.Common.{◌≡◌, Result, Err, IfErr, refl, true, false, sym, subst}
-use Rattle.recovery.specs.declared.lifecycle.Held.{Held}
+use Rattle.recovery.specs.declared.lifecycle.Stalled.{Stalled}
 use Rattle.recovery.specs.declared.lifecycle.Lifecycle.{Lifecycle}
 use Rattle.recovery.specs.declared.lifecycle.Lifecycle.TheVariants.{Up, Collecting}
 use Rattle.recovery.specs.Transitions.{is_node, Passes, has_heard, is_held, IsHeld}
@@ -18,9 +18,9 @@ heard-stays (Collecting n) e = record { told = Collecting n; ran = Collecting n;
 heard-stays c e = absurd (cc)
 
 -- so it is answered
-pub first-held : (r : Result Lifecycle Held) (c : Lifecycle) (h : Held) (why : Held) → r ≡ Err why → why ≡ h → h.lifecycle ≡ c → has_heard c ≡ true → IsHeld h.cause c → IfErr r (λ x. Passes c x.lifecycle × IsHeld x.cause x.lifecycle)
+pub first-held : (r : Result Lifecycle Stalled) (c : Lifecycle) (h : Stalled) (why : Stalled) → r ≡ Err why → why ≡ h → h.lifecycle ≡ c → has_heard c ≡ true → IsHeld h.cause c → IfErr r (λ x. Passes c x.lifecycle × IsHeld x.cause x.lifecycle)
 first-held r c h why is same stays heard because =
-    let P : Held → Type 0 = λ x. Passes c x.lifecycle × IsHeld x.cause x.lifecycle in
+    let P : Stalled → Type 0 = λ x. Passes c x.lifecycle × IsHeld x.cause x.lifecycle in
     let Q : Lifecycle → Type 0 = λ d. Passes c d × IsHeld h.cause d in
     let all : P h = subst Q (sym stays) (heard-stays c heard, because) in
-    subst (λ (x : Result Lifecycle Held). IfErr x P) (sym is) (subst P (sym same) all)
+    subst (λ (x : Result Lifecycle Stalled). IfErr x P) (sym is) (subst P (sym same) all)

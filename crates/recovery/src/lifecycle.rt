@@ -30,7 +30,7 @@ pub enum Lifecycle {
 
 /// The process that couldn't go on to the next stage, and why.
 #[derive(Drop)]
-pub struct Held {
+pub struct Stalled {
     pub lifecycle: Lifecycle,
     pub cause: Cause,
 }
@@ -44,7 +44,7 @@ impl Lifecycle {
     }
 
     /// Goes on as many stages as it can, unless memory is refused.
-    pub fn passed(self, alloc: Global) -> Result<Lifecycle, Held>
+    pub fn passed(self, alloc: Global) -> Result<Lifecycle, Stalled>
         ensures passed { IfOk result (λ c. Passes self c × (is_held c ≡ false)) }
         ensures held { IfErr result (λ h. Passes self h.lifecycle × IsHeld h.cause h.lifecycle) }
     {
@@ -55,7 +55,7 @@ impl Lifecycle {
     }
 
     /// If all peers have told all, it replays what it keeps.
-    fn recovered(self, alloc: Global) -> Result<Lifecycle, Held>
+    fn recovered(self, alloc: Global) -> Result<Lifecycle, Stalled>
         ensures told { IfOk result (λ c. Recovers self c × (has_heard c ≡ false)) }
         ensures held { IfErr result (λ h. (h.lifecycle ≡ self) × (has_heard self ≡ true) × IsHeld h.cause self) }
     {
@@ -66,7 +66,7 @@ impl Lifecycle {
                 }
                 match process.recover(alloc) {
                     Ok(process) => Ok(Lifecycle::Replaying(process)),
-                    Err(refused) => Err(Held {
+                    Err(refused) => Err(Stalled {
                         lifecycle: Lifecycle::Collecting(refused.collecting),
                         cause: refused.cause,
                     }),
@@ -92,14 +92,14 @@ impl Lifecycle {
     }
 
     /// If its replay is over, it asks its peers for its RSNs.
-    fn begun(self, alloc: Global) -> Result<Lifecycle, Held>
+    fn begun(self, alloc: Global) -> Result<Lifecycle, Stalled>
         ensures begun { IfOk result (λ c. Begun self c × (has_run c ≡ false)) }
         ensures held { IfErr result (λ h. (h.lifecycle ≡ self) × (has_run self ≡ true) × IsHeld h.cause self) }
     {
         match self {
             Lifecycle::Replayed(process) => match Restoring::begin(alloc, process) {
                 Ok(process) => Ok(Lifecycle::Restoring(process)),
-                Err(process) => Err(Held {
+                Err(process) => Err(Stalled {
                     lifecycle: Lifecycle::Replayed(process),
                     cause: Cause::Memory,
                 }),
