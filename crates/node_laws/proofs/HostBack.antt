@@ -8,7 +8,7 @@ use Rattle.cluster.specs.Rules.{Act, after_run}
 use Rattle.node.specs.declared.job.OpenJob.{OpenJob}
 use Rattle.node.specs.Runs.{Answering}
 use Rattle.recovery.specs.Moment.{HadReceived}
-use Rattle.process.specs.declared.lifecycle.Lifecycle.TheVariants.{Collecting}
+use Rattle.recovery.specs.declared.lifecycle.Lifecycle.TheVariants.{Collecting}
 use Rattle.node_laws.specs.HostProcess.{IsFirst, Absent, Hosted, Runs}
 use Rattle.node_laws.specs.HostReplies.{answering}
 use Rattle.node_laws.specs.HostSystem.{System, start, after, handlers, after_call, after_calls}

@@ -10,7 +10,7 @@ use Rattle.node.specs.Stands.{Each}
 use Rattle.node.specs.Runs.{Answering}
 use Rattle.recovery.specs.Collection.{TheCollecting}
 use Rattle.recovery.specs.Replays.{TheReplaying}
-use Rattle.process.specs.declared.lifecycle.Lifecycle.TheVariants.{Collecting}
+use Rattle.recovery.specs.declared.lifecycle.Lifecycle.TheVariants.{Collecting}
 use Rattle.process.specs.Process.{TheProcess}
 use Rattle.node_laws.specs.HostProcess.{IsFirst, Checkpoint, Absent, Hosted, Runs}
 use Rattle.node_laws.specs.HostReplies.{answering}

@@ -17,8 +17,8 @@ use Rattle.recovery.specs.Restoration as restores
 use Rattle.node_laws.specs.HostProcess.{Checkpoint, Durable}
 use Rattle.node_laws.specs.Inside.Process.{Process, Up, Covered, Collects, Replays, Replayed, Restores, Killed, Acts, seen}
 use Rattle.node_laws.specs.Back.{length_of}
-use Rattle.process.specs.declared.lifecycle.Lifecycle.{Lifecycle}
-use Rattle.process.specs.declared.lifecycle.Lifecycle.TheVariants as lifecycle
+use Rattle.recovery.specs.declared.lifecycle.Lifecycle.{Lifecycle}
+use Rattle.recovery.specs.declared.lifecycle.Lifecycle.TheVariants as lifecycle
 use Rattle.process.proofs.Bounds.{ticked-stay}
 use Rattle.node_laws.specs.HostBack.{has_recovered, plan_of, keeps}
 use Rattle.node_laws.proofs.Chains.{Chain}

@@ -3,10 +3,10 @@ use Rattle.std.proofs.Common.{◌≡◌, inl, inr, List, [], ◌∷◌, ◌++◌
 use Rattle.node.specs.Node.{TheNode}
 use Rattle.node.specs.Transmission.{ticked}
 use Rattle.recovery.specs.Restoration.{up}
-use Rattle.process.specs.declared.lifecycle.Lifecycle.{Lifecycle}
-use Rattle.process.specs.declared.lifecycle.Lifecycle.TheVariants.{Up, Collecting, Replaying, Replayed, Restoring, Passing}
+use Rattle.recovery.specs.declared.lifecycle.Lifecycle.{Lifecycle}
+use Rattle.recovery.specs.declared.lifecycle.Lifecycle.TheVariants.{Up, Collecting, Replaying, Replayed, Restoring, Passing}
 use Rattle.process.specs.Process.{is_settled}
-use Rattle.process.specs.Transitions.{Recovers, Finishes, Begun, Returns, Passes}
+use Rattle.recovery.specs.Transitions.{Recovers, Finishes, Begun, Returns, Passes}
 use Rattle.node_laws.specs.Inside.Process.{Process, WaitsFor, stage_of, seen}
 use Rattle.node_laws.specs.Inside.Process as lives
 use Rattle.node_laws.specs.HostProcess.{Checkpoint, Absent, Pending, Durable}

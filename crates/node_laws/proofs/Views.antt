@@ -8,8 +8,8 @@ use Rattle.packets.specs.declared.kept.Kept.{Kept}
 use Rattle.node.specs.Node.{TheNode}
 use Rattle.node.specs.Kept.{IsKeptOf}
 use Rattle.recovery.specs.Collection.{TheCollecting}
-use Rattle.process.specs.declared.lifecycle.Lifecycle.{Lifecycle}
-use Rattle.process.specs.declared.lifecycle.Lifecycle.TheVariants.{Up, Passing}
+use Rattle.recovery.specs.declared.lifecycle.Lifecycle.{Lifecycle}
+use Rattle.recovery.specs.declared.lifecycle.Lifecycle.TheVariants.{Up, Passing}
 use Rattle.process.specs.Process.{is_settled}
 use Rattle.process.specs.Calls.{standing_at, is_frozen}
 use Rattle.process.specs.Suspension.{Suspends}

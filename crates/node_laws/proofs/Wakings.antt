@@ -6,8 +6,8 @@ use Rattle.node.specs.declared.limit.Limits.{Limits}
 use Rattle.node.specs.Node.{TheNode}
 use Rattle.node.specs.Suspension.{woken}
 use Rattle.recovery.proofs.Resumptions.{one-node}
-use Rattle.process.specs.declared.lifecycle.Lifecycle.{Lifecycle}
-use Rattle.process.specs.declared.lifecycle.Lifecycle.TheVariants.{Up}
+use Rattle.recovery.specs.declared.lifecycle.Lifecycle.{Lifecycle}
+use Rattle.recovery.specs.declared.lifecycle.Lifecycle.TheVariants.{Up}
 use Rattle.process.specs.Process.{TheProcess}
 use Rattle.process.specs.Suspension.{Suspends, IsResumed}
 use Rattle.node_laws.specs.Inside.Process.{Wakes, stage_of, seen}

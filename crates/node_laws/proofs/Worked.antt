@@ -55,11 +55,11 @@ use Rattle.node_laws.proofs.WorkedMessages.{fits, suspended-5, gives-none, recov
 use Rattle.node_laws.proofs.Promised.{hosted-alone}
 use Rattle.node_laws.proofs.CopyingLemmas.{r0, r1, r2, copying-loads}
 use Rattle.rsn.specs.declared.receipts.TheConstants.{LIMIT}
-use Rattle.process.specs.declared.lifecycle.Lifecycle.{Lifecycle}
-use Rattle.process.specs.declared.lifecycle.Lifecycle.TheVariants.{Up, Collecting, Replaying, Replayed, Restoring}
+use Rattle.recovery.specs.declared.lifecycle.Lifecycle.{Lifecycle}
+use Rattle.recovery.specs.declared.lifecycle.Lifecycle.TheVariants.{Up, Collecting, Replaying, Replayed, Restoring}
 use Rattle.process.specs.Process.{state_of as state_at}
 use Rattle.process.specs.Calls as calls
-use Rattle.process.specs.Transitions.{Passes}
+use Rattle.recovery.specs.Transitions.{Passes}
 use Rattle.process.specs.Revival.{IsOpened}
 use Rattle.process.specs.Suspension.{IsResumed}
 use Rattle.process.specs.Work.{Works, TakesIn, job_at, answer_to}

@@ -27,8 +27,8 @@ use Rattle.gateway.proofs.Handover.{handed-so}
 use Rattle.verifier.specs.declared.any_image.AnyImage.{AnyImage}
 use Rattle.node.proofs.Sendings.{ticking}
 use Rattle.rsn.specs.declared.receipts.TheConstants.{LIMIT}
-use Rattle.process.specs.declared.lifecycle.Lifecycle.TheVariants.{Up, Collecting, Replaying, Replayed, Restoring}
-use Rattle.process.specs.Transitions.{Passes}
+use Rattle.recovery.specs.declared.lifecycle.Lifecycle.TheVariants.{Up, Collecting, Replaying, Replayed, Restoring}
+use Rattle.recovery.specs.Transitions.{Passes}
 use Rattle.recovery.proofs.Preservation.{at-each}
 use Rattle.node_laws.specs.HostProcess.{IsFirst}
 use Rattle.node_laws.specs.WorkedMessages.{gave, quiet, collects, restores}

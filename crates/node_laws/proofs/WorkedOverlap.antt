@@ -7,7 +7,7 @@ use Rattle.node.specs.Node.{new_node}
 use Rattle.node.specs.Kept.{kept_of}
 use Rattle.recovery.proofs.Reports as collecting
 use Rattle.recovery.proofs.ReplayLemmas.{collecting-takes}
-use Rattle.process.specs.declared.lifecycle.Lifecycle.TheVariants.{Collecting}
+use Rattle.recovery.specs.declared.lifecycle.Lifecycle.TheVariants.{Collecting}
 use Rattle.node_laws.specs.WorkedOverlap.{lasting, loss, hears, learns, HostsMeet}
 use Rattle.node_laws.specs.WorkedBeside.{ask, comes}
 use Rattle.node_laws.specs.WorkedMessages.{collects}

@@ -15,8 +15,8 @@ use Rattle.recovery.specs.Replayed.{StandsReplayed}
 use Rattle.recovery.specs.RestorationStands as restoring
 use Rattle.gateway.specs.Gateway.{peer_of}
 use Rattle.gateway.specs.Stands as gateways
-use Rattle.process.specs.declared.lifecycle.Lifecycle.{Lifecycle}
-use Rattle.process.specs.declared.lifecycle.Lifecycle.TheVariants.{Up, Collecting, Replaying, Replayed, Restoring, Passing}
+use Rattle.recovery.specs.declared.lifecycle.Lifecycle.{Lifecycle}
+use Rattle.recovery.specs.declared.lifecycle.Lifecycle.TheVariants.{Up, Collecting, Replaying, Replayed, Restoring, Passing}
 use Rattle.process.specs.Calls.{is_frozen}
 use Rattle.node_laws.specs.HostProcess.{IsFirst, Durable, Hosted, Runs, Sleeps, Killed}
 use Rattle.node_laws.specs.HostSystem.{System}

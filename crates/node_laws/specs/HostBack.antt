@@ -8,8 +8,8 @@ use Rattle.node.specs.declared.job.OpenJob.{OpenJob}
 use Rattle.node.specs.Node.{TheNode}
 use Rattle.recovery.specs.Collection.{TheCollecting}
 use Rattle.recovery.specs.Moment.{HadReceived}
-use Rattle.process.specs.declared.lifecycle.Lifecycle.{Lifecycle}
-use Rattle.process.specs.declared.lifecycle.Lifecycle.TheVariants.{Collecting, Replaying, Passing}
+use Rattle.recovery.specs.declared.lifecycle.Lifecycle.{Lifecycle}
+use Rattle.recovery.specs.declared.lifecycle.Lifecycle.TheVariants.{Collecting, Replaying, Passing}
 use Rattle.process.specs.Process.{TheProcess}
 use Rattle.process.specs.Calls.{standing_at}
 use Rattle.node_laws.specs.HostProcess.{Absent, Runs, IsUp}

@@ -1,7 +1,7 @@
 -- A process and its host
 use Rattle.std.specs.Prelude.{◌≡◌, ℕ, ◌<◌, ◌≤◌, List, Bool, true}
 use Rattle.node.specs.Node.{TheNode}
-use Rattle.process.specs.declared.lifecycle.Lifecycle.TheVariants.{Up}
+use Rattle.recovery.specs.declared.lifecycle.Lifecycle.TheVariants.{Up}
 use Rattle.process.specs.Calls.{standing_at}
 use Rattle.process.specs.Process.{TheProcess}
 

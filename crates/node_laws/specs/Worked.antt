@@ -22,8 +22,8 @@ use Rattle.node_laws.specs.Back.{length_of}
 use Rattle.node_laws.specs.WorkedMessages.{gave, quiet, collects, restores, input, delivery, number, acknowledgement, covers, ask, told}
 use Rattle.node_laws.specs.WorkedMessages.{resume, restored, g1, g2, g3, g4, g5, g6, g7, g8, n0, n1, n2, n3, n4, n5, n6, n7, n8, n9, n10}
 use Rattle.node_laws.specs.WorkedMessages.{comes, replays, replays_more, begins, has_answer}
-use Rattle.process.specs.declared.lifecycle.Lifecycle.{Lifecycle}
-use Rattle.process.specs.declared.lifecycle.Lifecycle.TheVariants.{Up, Collecting, Replaying, Restoring}
+use Rattle.recovery.specs.declared.lifecycle.Lifecycle.{Lifecycle}
+use Rattle.recovery.specs.declared.lifecycle.Lifecycle.TheVariants.{Up, Collecting, Replaying, Restoring}
 use Rattle.process.specs.Process.{TheProcess}
 use Rattle.node_laws.specs.HostProcess.{Absent, Runs, Sleeps}
 use Rattle.node_laws.specs.HostSystem.{System, Opens, new_system, HostCall, Gave, Handed, Worked, Froze, Stored, Saved, Suspended, Resumed}

@@ -20,7 +20,7 @@ use Rattle.recovery.specs.Restoration.{TheRestoring, begun, up}
 use Rattle.recovery.specs.Restoration as restoring
 use Rattle.gateway.specs.Gateway.{TheGateway, new_gateway}
 use Rattle.gateway.specs.Calls as gateways
-use Rattle.process.specs.declared.lifecycle.Lifecycle.TheVariants.{Up, Collecting, Restoring}
+use Rattle.recovery.specs.declared.lifecycle.Lifecycle.TheVariants.{Up, Collecting, Restoring}
 use Rattle.node_laws.specs.HostProcess.{IsFirst, IsUp}
 use Rattle.node_laws.specs.HostSystem.{System, Opens, new_system, HostCall, Gave, Handed, Died, Revived, GaveOut, HandedOut, StoredOut}
 use Rattle.node_laws.specs.HostSystem.{AreCalls, after_calls}

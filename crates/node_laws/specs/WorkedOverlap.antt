@@ -7,7 +7,7 @@ use Rattle.verifier.specs.declared.any_image.AnyImage.{AnyImage}
 use Rattle.node.specs.declared.limit.Limits.{Limits}
 use Rattle.node.specs.Limit.{usual}
 use Rattle.recovery.specs.Collection.{TheCollecting, handed}
-use Rattle.process.specs.declared.lifecycle.Lifecycle.TheVariants.{Collecting}
+use Rattle.recovery.specs.declared.lifecycle.Lifecycle.TheVariants.{Collecting}
 use Rattle.node_laws.specs.HostProcess.{is_exact}
 use Rattle.node_laws.specs.HostSystem.{HostCall, Gave, Handed, Died, Revived, AreCalls, after_calls}
 use Rattle.node_laws.specs.HostLaws.{StaysDurable}

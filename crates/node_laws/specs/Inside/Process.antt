@@ -30,8 +30,8 @@ use Rattle.recovery.specs.Moment.{Recovered}
 use Rattle.recovery.specs.Restoration.{TheRestoring, begun, up}
 use Rattle.recovery.specs.Restoration as restores
 use Rattle.recovery.specs.RestorationStands as restoring
-use Rattle.process.specs.declared.lifecycle.Lifecycle.{Lifecycle}
-use Rattle.process.specs.declared.lifecycle.Lifecycle.TheVariants as lifecycle
+use Rattle.recovery.specs.declared.lifecycle.Lifecycle.{Lifecycle}
+use Rattle.recovery.specs.declared.lifecycle.Lifecycle.TheVariants as lifecycle
 use Rattle.node_laws.specs.HostProcess.{Checkpoint, Durable, Hosted, Runs, Sleeps}
 
 -- a process in its stage
