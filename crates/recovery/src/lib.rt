@@ -76,7 +76,7 @@ pub use laws::{
     comes_back_again, keeps_what_it_had, kept_revives, one_node, only_replays, others_stand,
     replaying_stands, written_revives,
 };
-pub use lifecycle::{Stalled, Lifecycle};
+pub use lifecycle::{Lifecycle, Stalled};
 pub use moment::{Cause, Unrecovered};
 pub use replayed::Replayed;
 pub use replays::Replaying;
