@@ -1,6 +1,6 @@
 //! What holds of nodes and the gateway as hosts call them: their calls are a run of a cluster.
 //!
-//! A host has each process as a [`process::Process`], one value through all its stages, and the contract
+//! A host has each process as a [`process::Member`], one value through all its stages, and the contract
 //! of each of its functions says what it leaves. The gateway is a [`gateway::Gateway`]. A process may be
 //! killed at any moment, and comes back from the bytes that are stored of it. A host that suspends a
 //! process keeps only its bytes: it resumes it at most once, and not if it revives it. Calls of hosts and
