@@ -5,7 +5,7 @@ use Rattle.world.specs.History.{Payload, nth, count_of}
 use Rattle.world.specs.Handlers.{Handlers}
 use Rattle.theorems.specs.Growth.{Begins, Grows}
 use Rattle.theorems.specs.Orphans.{payloads_of}
-use Rattle.cluster.specs.Cluster.{Cluster, opening}
+use Rattle.cluster.specs.Cluster.{Cluster, durable_opening}
 use Rattle.cluster.specs.Promises.{NoOrphanNode, OutputOnce}
 use Rattle.cluster.specs.Overlap.{Event, Events, after_events, kept_sends}
 
@@ -41,23 +41,23 @@ InOrder h = (i : ℕ) (m : Message) → slice_get h i ≡ Some m → m.ssn ≡ s
 -- in each run, whatever fails and whether or not nodes are durable: what each node has received, and what the gateway has shown, is in
 -- order
 abbrev pub AlwaysInOrder : Type 0
-AlwaysInOrder = (n : ℕ) (f : Handlers) (durable : ℕ → Bool) (es : List Event) → Grows f → Events durable (opening n f) es
-    → ((p : ℕ) → InOrder ((after_events (opening n f) es).world.history p))
-    × InOrder (after_events (opening n f) es).world.shown
+AlwaysInOrder = (n : ℕ) (f : Handlers) (durable : ℕ → Bool) (es : List Event) → Grows f → Events (durable_opening n f durable) es
+    → ((p : ℕ) → InOrder ((after_events (durable_opening n f durable) es).world.history p))
+    × InOrder (after_events (durable_opening n f durable) es).world.shown
 
 -- in each run in which some nodes are durable
 abbrev pub DurableKeep : Type 0
-DurableKeep = (n : ℕ) (f : Handlers) (durable : ℕ → Bool) (es : List Event) (p : ℕ) → Grows f → Events durable (opening n f) es
+DurableKeep = (n : ℕ) (f : Handlers) (durable : ℕ → Bool) (es : List Event) (p : ℕ) → Grows f → Events (durable_opening n f durable) es
     → lasts durable p ≡ true
-    → NobodyHasMore (after_events (opening n f) es) p
+    → NobodyHasMore (after_events (durable_opening n f durable) es) p
 
 -- a message that a checkpoint covers stays covered for good, of any node
 abbrev pub CheckpointsStay : Type 0
 CheckpointsStay = (n : ℕ) (f : Handlers) (durable : ℕ → Bool) (es more : List Event) (p : ℕ) → Grows f
-    → Events durable (opening n f) (es ++ more)
-    → Stays (after_events (opening n f) es) (after_events (opening n f) (es ++ more)) p
+    → Events (durable_opening n f durable) (es ++ more)
+    → Stays (after_events (durable_opening n f durable) es) (after_events (durable_opening n f durable) (es ++ more)) p
 
 -- if all nodes are durable: no orphan, and each output once
 abbrev pub AllDurableKeep : Type 0
-AllDurableKeep = (n : ℕ) (f : Handlers) (es : List Event) → Grows f → Events (λ _. true) (opening n f) es
-    → NoOrphanNode (after_events (opening n f) es) × OutputOnce (after_events (opening n f) es)
+AllDurableKeep = (n : ℕ) (f : Handlers) (es : List Event) → Grows f → Events (durable_opening n f (λ _. true)) es
+    → NoOrphanNode (after_events (durable_opening n f (λ _. true)) es) × OutputOnce (after_events (durable_opening n f (λ _. true)) es)

@@ -1,13 +1,13 @@
 -- The whole rules: nodes may be durable, nodes whose recoveries meet say so, and each node knows whether it is exact
-use Rattle.std.specs.Prelude.{◌≡◌, ◌⊎◌, ℕ, ◌≤◌, List, [], ◌∷◌, None, Bool, true, false, not, ◌&&◌}
+use Rattle.std.specs.Prelude.{◌≡◌, ◌⊎◌, ℕ, ◌≤◌, List, [], ◌∷◌, Bool, true, false, ◌&&◌}
 use Rattle.world.specs.Handlers.{Handlers}
 use Rattle.world.specs.World.{put}
 use Rattle.theorems.specs.Growth.{Grows}
 use Rattle.cluster.specs.Parcels.{Ask, Told, Restored, Parcel, parcel}
-use Rattle.cluster.specs.Cluster.{Cluster, opening}
+use Rattle.cluster.specs.Cluster.{Cluster, opening, durable_opening}
 use Rattle.cluster.specs.Rules.{Act, Puts, Arrives, Opens, put2, Run, after_run}
 use Rattle.cluster.specs.Promises.{NoOrphanNode, OutputOnce, ReceivedOnce}
-use Rattle.cluster.specs.Overlap.{Event, Acts, Meets, Loses, Leaves, Might, goes, Events, after_events}
+use Rattle.cluster.specs.Overlap.{Event, Acts, Meets, Loses, Lacks, Leaves, Doubts, loss, Might, goes, Events, after_events}
 
 -- a packet Told or Restored also says whether its teller is exact, and whether the teller lost what it had
 pub record Flagged : Type 0 where
@@ -24,10 +24,8 @@ abbrev pub Said : Flagged → List Flagged → Type 0
 Said x [] = ⊥
 Said x (y ∷ ys) = (x ≡ y) ⊎ Said x ys
 
--- a cluster some nodes of which are durable, and what its nodes know of recoveries that met
+-- a cluster, and what its nodes know of recoveries that met
 pub record Telling : Type 0 where
-  -- which nodes are durable: fixed when they are opened
-  pub durable : ℕ → Bool
   pub cluster : Cluster
   -- in memory: whether it is exact, as far as it knows; and by peer, whether the peer said that it lost what it had
   pub exact : ℕ → Bool
@@ -37,45 +35,48 @@ pub record Telling : Type 0 where
 
 -- a cluster at its opening, where each process is exact and nothing was said
 abbrev pub starts : ℕ → Handlers → (ℕ → Bool) → Telling
-starts n f durable = record { durable = durable; cluster = opening n f; exact = λ _. true; lost = λ _ _. false; said = [] }
+starts n f durable = record { cluster = durable_opening n f durable; exact = λ _. true; lost = λ _ _. false; said = [] }
 
 -- the packet that is taken said this; and p doesn't wait for q only if q said that it lost what it had
 abbrev pub Says : Telling → Event → Type 0
-Says s (Acts exact lost (Arrives p d (Told i j k u f))) = Said (flagged (parcel p d (Told i j k u f)) exact lost) s.said
-Says s (Acts exact lost (Arrives p d (Restored i j n r u f))) = Said (flagged (parcel p d (Restored i j n r u f)) exact lost) s.said
+Says s (Acts exact (Arrives p d (Told i j k u f))) = Said (flagged (parcel p d (Told i j k u f)) exact false) s.said
+Says s (Acts exact (Arrives p d (Restored i j n r u f))) = Said (flagged (parcel p d (Restored i j n r u f)) exact false) s.said
+Says s (Lacks q p i j k) = Said (flagged (parcel q p (loss i j k)) false true) s.said
 Says s (Leaves p q) = s.lost p q ≡ true
 Says s e = Unit {0}
 
 -- when each event may happen
 abbrev pub MayStep : Telling → Event → Type 0
-MayStep s e = Might s.durable s.cluster e × Says s e
+MayStep s e = Might s.cluster e × Says s e
 
 -- who is exact after an event. A node that is opened again has forgotten that it wasn't
 abbrev pub exact_after : (ℕ → Bool) → Event → ℕ → Bool
-exact_after f (Acts exact lost (Arrives p d (Told i j k u g))) = put f d (f d && (exact && not lost))
-exact_after f (Acts exact lost (Arrives p d (Restored i j n r u g))) = put f d (f d && exact)
-exact_after f (Acts exact lost (Opens p n)) = put f p true
+exact_after f (Acts exact (Arrives p d (Told i j k u g))) = put f d (f d && exact)
+exact_after f (Acts exact (Arrives p d (Restored i j n r u g))) = put f d (f d && exact)
+exact_after f (Acts exact (Opens p n)) = put f p true
 exact_after f (Meets q p i k) = put f q false
+exact_after f (Lacks q p i j k) = put f p false
+exact_after f (Doubts q p x) = put f p false
 exact_after f e = f
 
 -- which peers said that they lost what they had. A node that asks anew was told nothing
 abbrev pub lost_after : (ℕ → ℕ → Bool) → Event → ℕ → ℕ → Bool
-lost_after f (Acts exact lost (Arrives p d (Told i j k u g))) = put2 f d p lost
-lost_after f (Acts exact lost (Arrives p d (Ask i k))) = put2 f d p false
-lost_after f (Acts exact lost (Opens p n)) = put f p (λ _. false)
+lost_after f (Acts exact (Arrives p d (Told i j k u g))) = put2 f d p false
+lost_after f (Acts exact (Arrives p d (Ask i k))) = put2 f d p false
+lost_after f (Acts exact (Opens p n)) = put f p (λ _. false)
+lost_after f (Lacks q p i j k) = put2 f p q true
 lost_after f e = f
 
 -- what packets said, after an event
 abbrev pub said_after : Telling → Event → List Flagged
-said_after s (Acts exact lost (Puts p d (Told i j k u f))) = flagged (parcel p d (Told i j k u f)) (s.exact p) false ∷ s.said
-said_after s (Acts exact lost (Puts p d (Restored i j n r u f))) = flagged (parcel p d (Restored i j n r u f)) (s.exact p) false ∷ s.said
-said_after s (Loses q p i j k) = flagged (parcel q p (Told i j k None (λ _. None))) false true ∷ s.said
+said_after s (Acts exact (Puts p d (Told i j k u f))) = flagged (parcel p d (Told i j k u f)) (s.exact p) false ∷ s.said
+said_after s (Acts exact (Puts p d (Restored i j n r u f))) = flagged (parcel p d (Restored i j n r u f)) (s.exact p) false ∷ s.said
+said_after s (Loses q p i j k) = flagged (parcel q p (loss i j k)) false true ∷ s.said
 said_after s e = s.said
 
 -- what each event changes
 abbrev pub step : Telling → Event → Telling
 step s e = record {
-  durable = s.durable;
   cluster = goes s.cluster e;
   exact = exact_after s.exact e;
   lost = lost_after s.lost e;
@@ -100,19 +101,17 @@ AlwaysExact s (e ∷ es) = ((p : ℕ) → s.exact p ≡ true) × AlwaysExact (st
 -- the acts of a run in which no recoveries meet
 abbrev pub acts_of : List Event → List Act
 acts_of [] = []
-acts_of (Acts exact lost a ∷ es) = a ∷ acts_of es
+acts_of (Acts exact a ∷ es) = a ∷ acts_of es
 acts_of (e ∷ es) = acts_of es
 
 -- a run of the whole rules is one of events, whatever packets say: so it keeps their promises whatever fails
 abbrev pub StepsAreEvents : Type 0
 StepsAreEvents = (n : ℕ) (f : Handlers) (durable : ℕ → Bool) (es : List Event) → Steps (starts n f durable) es
-    → Events durable (opening n f) es × (after_events (opening n f) es ≡ (after_steps (starts n f durable) es).cluster)
+    → Events (durable_opening n f durable) es × (after_events (durable_opening n f durable) es ≡ (after_steps (starts n f durable) es).cluster)
 
--- these acts are a run of nodes whose recoveries don't meet. They lead where the steps lead, except for packets that say that something is
--- lost
+-- these acts are a run of nodes whose recoveries don't meet. They lead where the steps lead, where no node need be durable
 abbrev pub IsRunOf : ℕ → Handlers → List Act → Cluster → Type 0
-IsRunOf n f acts c =
-    Run (opening n f) acts × (after_run (opening n f) acts ≡ record c { parcels = (after_run (opening n f) acts).parcels })
+IsRunOf n f acts c = Run (opening n f) acts × (after_run (opening n f) acts ≡ record c { durable = λ _. false })
 
 -- so is each run in which every node was always exact
 abbrev pub ExactRunsDontMeet : Type 0

@@ -31,8 +31,8 @@ LoneComesBack = (n : ℕ) (f : Handlers) (acts : List Act) (p : ℕ) → FromOpe
 
 -- an event that is no failure and needs nothing from outside: no node dies, and the gateway gets no input
 abbrev pub is_quiet : Event → Bool
-is_quiet (Acts exact lost (Dies p)) = false
-is_quiet (Acts exact lost (Input d x)) = false
+is_quiet (Acts exact (Dies p)) = false
+is_quiet (Acts exact (Input d x)) = false
 is_quiet e = true
 
 -- by such events alone the nodes can go on to where this holds

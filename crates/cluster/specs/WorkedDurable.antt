@@ -4,18 +4,18 @@ use Rattle.std.specs.Prelude.{◌≡◌, ℕ, List, [], ◌∷◌, ◌++◌, Non
 use Rattle.world.specs.declared.message.Message.{Message}
 use Rattle.world.specs.History.{Payload}
 use Rattle.theorems.specs.WorkedOverlap.{passing}
-use Rattle.cluster.specs.Parcels.{Delivery, Number, Acknowledgement, Told}
-use Rattle.cluster.specs.Cluster.{opening}
+use Rattle.cluster.specs.Parcels.{Delivery, Number, Acknowledgement}
+use Rattle.cluster.specs.Cluster.{durable_opening}
 use Rattle.cluster.specs.Rules.{Act, Arrives, Works, Recovers, Freezes, Keeps, Thaws, Dies, Opens, message}
 use Rattle.cluster.specs.Promises.{NoOrphanNode}
 use Rattle.cluster.specs.WorkedPieces.{sends, receives, asks, tells, no_entries}
 use Rattle.cluster.specs.WorkedLate.{old_ask_answered}
-use Rattle.cluster.specs.Overlap.{Event, Acts, Loses, Events, after_events}
+use Rattle.cluster.specs.Overlap.{Event, Acts, Loses, Lacks, Events, after_events}
 use Rattle.cluster.specs.Exact.{starts, Steps, after_steps}
 
--- acts, if all packets say that nothing is lost
+-- acts, if all packets say that their tellers are exact
 abbrev pub taken : List Act → List Event
-taken acts = map (Acts true false) acts
+taken acts = map (Acts true) acts
 
 -- node 1 forwards a message of the gateway as soon as its checkpoint covers it; node 2 works on it
 abbrev pub passed_on : Payload → List Act
@@ -36,7 +36,7 @@ both_fall s =
 
 -- node 2 takes that, and keeps s messages
 abbrev pub takes_loss : ℕ → List Event
-takes_loss s = Acts false true (Arrives 1 2 (Told 2 2 s None no_entries)) ∷ Acts true false (Recovers 2 s) ∷ []
+takes_loss s = Lacks 1 2 2 2 s ∷ Acts true (Recovers 2 s) ∷ []
 
 -- no node is durable; the states don't matter
 abbrev pub none_durable : ℕ → Bool
@@ -61,17 +61,17 @@ durable_run x = taken (passed_on x ++ covered x) ++ both_fall 1 ++ takes_loss 1
 -- if no node is durable, the shown output is an orphan: node 2 has nothing any more
 abbrev pub MeetingFailuresLose : Type 0
 MeetingFailuresLose = (g : ℕ → List Message → List ℕ) (x : Payload) →
-    Events none_durable (opening 2 (passing g)) (told_of_loss x)
-    × ((after_events (opening 2 (passing g)) (taken (passed_on x ++ acknowledged x))).world.acknowledged 2 1 ≡ true)
-    × ((after_events (opening 2 (passing g)) (told_of_loss x)).world.history 2 ≡ [])
-    × (¬ NoOrphanNode (after_events (opening 2 (passing g)) (told_of_loss x)))
+    Events (durable_opening 2 (passing g) none_durable) (told_of_loss x)
+    × ((after_events (durable_opening 2 (passing g) none_durable) (taken (passed_on x ++ acknowledged x))).world.acknowledged 2 1 ≡ true)
+    × ((after_events (durable_opening 2 (passing g) none_durable) (told_of_loss x)).world.history 2 ≡ [])
+    × (¬ NoOrphanNode (after_events (durable_opening 2 (passing g) none_durable) (told_of_loss x)))
 
 -- if both are durable, it isn't: node 2 still has the message
 abbrev pub DurableNodesKeep : Type 0
 DurableNodesKeep = (g : ℕ → List Message → List ℕ) (x : Payload) →
-    Events all_durable (opening 2 (passing g)) (durable_run x)
-    × ((after_events (opening 2 (passing g)) (durable_run x)).world.shown ≡ message 2 1 x ∷ [])
-    × ((after_events (opening 2 (passing g)) (durable_run x)).world.history 2 ≡ message 1 1 x ∷ [])
+    Events (durable_opening 2 (passing g) all_durable) (durable_run x)
+    × ((after_events (durable_opening 2 (passing g) all_durable) (durable_run x)).world.shown ≡ message 2 1 x ∷ [])
+    × ((after_events (durable_opening 2 (passing g) all_durable) (durable_run x)).world.history 2 ≡ message 1 1 x ∷ [])
 
 -- the first is a run of the whole rules; node 2 is no longer exact once it took that
 abbrev pub LossIsTold : Type 0
