@@ -3,13 +3,14 @@ use Rattle.std.specs.Prelude.{◌≡◌, ◌≢◌, ℕ, ◌<◌, ◌≤◌, Lis
 use Rattle.world.specs.World.{put}
 use Rattle.cluster.specs.Cluster.{Cluster}
 use Rattle.cluster.specs.Rules.{Act, Run, after_run}
+use Rattle.cluster.specs.Overlap.{Event, after_events}
 use Rattle.node.specs.Node.{TheNode}
-use Rattle.node.specs.Stands.{Each, Stands, Goes, actor}
+use Rattle.node.specs.Stands.{Each, Stands, Goes, doer}
 
--- a node still agrees with the cluster after the acts of another
+-- a node still agrees with the cluster after the events of another
 abbrev pub OthersStand : Type 0
-OthersStand = (n : TheNode) (p q : ℕ) (acts : List Act) (c : Cluster) → q ≢ p → Each (λ (a : Act). actor a ≡ q) acts → Stands n c p
-    → Stands n (after_run c acts) p
+OthersStand = (n : TheNode) (p q : ℕ) (es : List Event) (c : Cluster) → q ≢ p → Each (λ (e : Event). doer e ≡ q) es → Stands n c p
+    → Stands n (after_events c es) p
 
 -- the nodes of a cluster, by number: each agrees with it
 abbrev pub AllStand : (ℕ → TheNode) → Cluster → Type 0

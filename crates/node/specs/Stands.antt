@@ -9,20 +9,15 @@ use Rattle.world.specs.Handlers.{Handlers}
 use Rattle.world.specs.World.{put}
 use Rattle.world.specs.Logs.{run_to}
 use Rattle.cluster.specs.Parcels.{Body, Parcel, parcel, In}
-use Rattle.cluster.specs.Cluster.{Cluster, Stage, Live, Frozen, waiting}
-use Rattle.cluster.specs.Rules.{Act, Input, Puts, Arrives, Works, Replays, Recovers, Freezes, Keeps, Thaws, Dies, Opens, May, does, Run}
-use Rattle.cluster.specs.Rules.{after_run, IsNode, message}
+use Rattle.cluster.specs.Cluster.{Cluster, Stage, Live, Frozen, durable_opening, waiting}
+use Rattle.cluster.specs.Rules.{Act, Keeps, May, does, Run, after_run, IsNode, message}
 use Rattle.packets.specs.declared.packet.NodePacket.{NodePacket}
 use Rattle.node.specs.declared.job.OpenJob.{OpenJob}
 use Rattle.node.specs.declared.job.Given.{Given}
 use Rattle.node.specs.Queue.{TheQueue, leading}
 use Rattle.node.specs.Node.{TheNode, log_at}
 use Rattle.packets.specs.Says.{WasSaid}
-
--- P holds of each
-abbrev pub Each : {X : Type 0} → (X → Type 0) → List X → Type 0
-Each P [] = Unit {0}
-Each P (x ∷ xs) = P x × Each P xs
+pub use Rattle.node.specs.Goes.{Each, actor, doer, own_act, own_event, IsAct, GoesTo}
 
 -- the packet is from the process p of a cluster of `count`, and was sent
 pub record PutOut (count : ℕ) (parcels : List Parcel) (p : ℕ) (x : NodePacket) : Type 0 where
@@ -112,6 +107,8 @@ pub record Stands (n : TheNode) (c : Cluster) (p : ℕ) : Type 0 where
   pub life : c.world.incarnation p ≡ n.life
   pub state : c.world.handlers.state p (c.world.history p) ≡ n.state
   pub saved : c.world.saved p ≡ n.base
+  -- a durable process of the cluster has a durable node
+  pub durable : c.durable p ≡ true → n.limits.durable ≡ true
   pub received : HasReceived n.count n.base n.covered n.receipts (c.world.history p) (c.world.acknowledged p)
   pub waits : waiting c p ≡ n.waiting
   pub logs : (d : ℕ) → d ≤ c.world.count → d ≢ p
@@ -126,20 +123,6 @@ pub record Stands (n : TheNode) (c : Cluster) (p : ℕ) : Type 0 where
   -- the packets that wait were sent in the cluster
   pub out : Each (PutOut c.world.count c.parcels p) n.out
 
--- the process that acts
-abbrev pub actor : Act → ℕ
-actor (Input d x) = 0
-actor (Puts p d x) = p
-actor (Arrives p d x) = d
-actor (Works p m) = p
-actor (Replays p j) = p
-actor (Recovers p k) = p
-actor (Freezes p) = p
-actor (Keeps p) = p
-actor (Thaws p) = p
-actor (Dies p) = p
-actor (Opens p n) = p
-
 -- acts of the process p lead from the cluster c to one with which the new node agrees
 pub record Goes (p : ℕ) (new : TheNode) (c : Cluster) : Type 0 where
   pub acts : List Act
@@ -147,22 +130,9 @@ pub record Goes (p : ℕ) (new : TheNode) (c : Cluster) : Type 0 where
   pub by : Each (λ (a : Act). actor a ≡ p) acts
   pub stands : Stands new (after_run c acts) p
 
--- the process that acts, if the act doesn't change stable storage
-abbrev pub own_act : Act → Option ℕ
-own_act (Keeps p) = None
-own_act (Opens p n) = None
-own_act act = Some (actor act)
-
--- acts of the process p that don't change stable storage lead from the cluster c to one for which P holds
-pub record GoesTo (p : ℕ) (P : Cluster → Type 0) (c : Cluster) : Type 0 where
-  pub acts : List Act
-  pub run : Run c acts
-  pub by : Each (λ (a : Act). own_act a ≡ Some p) acts
-  pub stands : P (after_run c acts)
-
--- to one with which the new node agrees
+-- the process goes to a cluster with which the new node agrees, by acts alone: a node that is up meets no recovery
 abbrev pub GoesOn : ℕ → TheNode → Cluster → Type 0
-GoesOn p new c = GoesTo p (λ d. Stands new d p) c
+GoesOn p new c = GoesTo true p (λ d. Stands new d p) c
 
 -- what a call owes, in each cluster with which the node agrees and for which `given` holds
 abbrev pub Owes : (Cluster → Type 0) → TheNode → TheNode → Type 0
@@ -201,6 +171,11 @@ Handles state given n c = (j : OpenJob) → n.working ≡ Some j → Answers c n
 pub record BeginsWith (f : Handlers) (p : ℕ) (state : List ℕ) : Type 0 where
   pub state_is : f.state p [] ≡ state
   pub sends_are : (d : ℕ) → f.sends p [] d ≡ []
+
+-- a node with this opening state agrees with each opening in which its handler begins so
+abbrev pub StandsFirst : TheNode → ℕ → ℕ → List ℕ → Type 0
+StandsFirst n me count state = (f : Handlers) (durable : ℕ → Bool) → (durable me ≡ true → n.limits.durable ≡ true) → BeginsWith f me state
+    → Stands n (durable_opening count f durable) me
 
 -- what a call owes that is handed a packet, if that says what was sent
 abbrev pub IsHanded : NodePacket → TheNode → TheNode → Type 0

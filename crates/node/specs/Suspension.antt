@@ -114,6 +114,8 @@ number_of_code code = if nat_lt 0 code && nat_le code (2 ^ 63) then Some (code -
 abbrev pub numbered_by : List ℕ → TheQueue → TheQueue
 numbered_by codes q = record q { numbers = joined_by (λ code _. number_of_code code) codes q.numbers }
 
--- a suspended node that is resumed, whatever its limits, agrees with each cluster with which it agreed
+-- a suspended node that is resumed, whatever its limits, agrees with each cluster with which it agreed; if it is durable there, it must be
+-- so by its limits
 abbrev pub WokenStands : Type 0
-WokenStands = (n : TheNode) (limits : Limits) (c : Cluster) (p : ℕ) → CanSuspend n → Stands n c p → Stands (woken limits n) c p
+WokenStands = (n : TheNode) (limits : Limits) (c : Cluster) (p : ℕ) → (c.durable p ≡ true → limits.durable ≡ true) → CanSuspend n
+    → Stands n c p → Stands (woken limits n) c p

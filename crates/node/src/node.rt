@@ -4,9 +4,7 @@ ghost use Rattle.std.specs.Prelude.{◌≡◌, ◌≤◌, ◌+◌, [], replicate
 ghost use Rattle.node.specs.Limit.{AreAllowed};
 ghost use Rattle.node.specs.Queue.{no_queue};
 ghost use Rattle.node.specs.Node.{new_node, posts, CanSay};
-ghost use Rattle.world.specs.Handlers.{Handlers};
-ghost use Rattle.cluster.specs.Cluster.{opening};
-ghost use Rattle.node.specs.Stands.{Stands, BeginsWith, Takes};
+ghost use Rattle.node.specs.Stands.{StandsFirst, Takes};
 
 use crate::job::OpenJob;
 use crate::limit::Limits;
@@ -82,7 +80,7 @@ impl Node {
         requires own { (1 ≤ me) × (me ≤ count) }
         requires few { count ≤ PROCESSES }
         ensures value { IfOk result (λ n. n ≡ new_node limits me count (replicate state_len 0)) }
-        ensures stands { IfOk result (λ n. (f : Handlers) → BeginsWith f me (replicate state_len 0) → Stands n (opening count f) me) }
+        ensures stands { IfOk result (λ n. StandsFirst n me count (replicate state_len 0)) }
     {
         let state = zeros(alloc, state_len as usize)?;
         Node::open_with(alloc, limits, me, count, &state)
@@ -101,7 +99,7 @@ impl Node {
         requires own { (1 ≤ me) × (me ≤ count) }
         requires few { count ≤ PROCESSES }
         ensures value { IfOk result (λ n. n ≡ new_node limits me count state.now) }
-        ensures stands { IfOk result (λ n. (f : Handlers) → BeginsWith f me state.now → Stands n (opening count f) me) }
+        ensures stands { IfOk result (λ n. StandsFirst n me count state.now) }
     {
         let state = Vec::from_slice(alloc, state)?;
         let receipts = Receipts::new(alloc, &[])?;

@@ -8,9 +8,7 @@ use Rattle.packets.specs.Kept.{IsKept}
 use Rattle.packets.specs.KeptFaults.{IsFirstKept}
 use Rattle.node.specs.declared.limit.Limits.{Limits}
 use Rattle.node.specs.Node.{IsPositive}
-use Rattle.world.specs.Handlers.{Handlers}
-use Rattle.cluster.specs.Cluster.{opening}
-use Rattle.node.specs.Stands.{Stands, BeginsWith}
+use Rattle.node.specs.Stands.{StandsFirst}
 use Rattle.node.specs.Node.{new_node}
 use Rattle.recovery.specs.Own.{comes_back}
 use Rattle.recovery.specs.Collection.{revived}
@@ -30,7 +28,7 @@ pub record IsOpened (image : AnyImage) (limits : Limits) (me count : ℕ) (state
   pub long : length state ≡ state_of image
   pub image_is : p.image ≡ image
   pub lifecycle_is : p.lifecycle ≡ Up (new_node limits me count state)
-  pub stands : (f : Handlers) → BeginsWith f me state → Stands (new_node limits me count state) (opening count f) me
+  pub stands : StandsFirst (new_node limits me count state) me count state
 
 -- why no process opens with this state: it isn't as long as the image's, or memory ran out
 abbrev pub IsUnopened : AnyImage → List ℕ → Unrevived → Type 0
