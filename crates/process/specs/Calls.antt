@@ -29,8 +29,8 @@ abbrev pub IsHanded : NodePacket → Lifecycle → Lifecycle → Type 0
 IsHanded x (Up old) (Up new) = (new ≡ up.handed x old) × up_owes.IsHanded x old new
 IsHanded x (Collecting old) (Collecting new) = (new ≡ collecting.handed x old) × collecting_owes.IsHanded x old new
 IsHanded x (Restoring old) (Restoring new) = (new ≡ restoring.handed x old) × restoring_owes.IsHanded x old new
-IsHanded x (Replaying old) (Replaying new) = (new ≡ record old { own = meeting.handed x old.own }) × replaying_owes.Stays old new
-IsHanded x (Replayed old) (Replayed new) = (new ≡ record old { own = meeting.handed x old.own }) × replayed_owes.Stays old new
+IsHanded x (Replaying old) (Replaying new) = (new ≡ record old { own = meeting.handed x old.own }) × replaying_owes.IsHanded x old new
+IsHanded x (Replayed old) (Replayed new) = (new ≡ record old { own = meeting.handed x old.own }) × replayed_owes.IsHanded x old new
 IsHanded x Passing new = new ≡ Passing
 IsHanded x old new = ⊥
 

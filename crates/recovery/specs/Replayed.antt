@@ -5,11 +5,12 @@ use Rattle.rsn.specs.Receipts.{Received}
 use Rattle.world.specs.Logs.{sent_in_all}
 use Rattle.world.specs.Calls.{phase_with, peers}
 use Rattle.cluster.specs.Cluster.{Cluster, Live}
+use Rattle.packets.specs.declared.packet.NodePacket.{NodePacket}
 use Rattle.node.specs.declared.node.TheConstants.{MOST_RECEIVED}
 use Rattle.node.specs.Node.{IsPeer}
 use Rattle.node.specs.Stands.{HasReceived}
 use Rattle.recovery.specs.Own.{TheOwn, IsShort}
-use Rattle.recovery.specs.Stands.{HasOwn}
+use Rattle.recovery.specs.Stands.{HasOwn, IsSaid, GoesTo}
 
 -- the process, and what it received after its checkpoint
 pub record TheReplayed : Type 0 where
@@ -39,6 +40,7 @@ pub record StandsReplayed (n : TheReplayed) (c : Cluster) (p : ℕ) : Type 0 whe
   pub restoring : (q : ℕ) → c.restoring p q ≡ 0
   pub released : peers c.world p false ≡ [] → (d : ℕ) → c.world.released p d ≡ sent_in_all c.world p d
 
--- what a call owes that is handed a packet: the process still agrees, or is no longer exact
-abbrev pub Stays : TheReplayed → TheReplayed → Type 0
-Stays old new = new.own.exact ≡ true → (c : Cluster) (p : ℕ) → StandsReplayed old c p → StandsReplayed new c p
+-- what a call owes that is handed a packet, if that was sent
+abbrev pub IsHanded : NodePacket → TheReplayed → TheReplayed → Type 0
+IsHanded x old new = (c : Cluster) → StandsReplayed old c old.own.me → IsSaid c x.from x.to x.body
+    → GoesTo new.own.exact old.own.me (λ d. StandsReplayed new d old.own.me) c

@@ -8,7 +8,7 @@ use Rattle.node.specs.Node.{TheNode}
 use Rattle.node.specs.Stands.{HasReceived, Stands}
 use Rattle.recovery.specs.Stands.{HasOwn, IsSaid, IsSent, GoesTo}
 use Rattle.recovery.specs.Replayed.{TheReplayed, StandsReplayed}
-use Rattle.recovery.specs.Restoration.{TheRestoring, above_of, has_answered, left}
+use Rattle.recovery.specs.Restoration.{TheRestoring, above_of, has_answered, left, is_up}
 
 -- it agrees with a cluster in which p restores its RSNs and waits for the same peers: all that p received is acknowledged; from a peer that
 -- it waits for it has the RSNs up to the SSN up to which that told them; and if it waits for no process, all that it sent is released
@@ -27,26 +27,26 @@ pub record StandsRestoring (n : TheRestoring) (c : Cluster) (p : ℕ) : Type 0 w
 
 -- what the first call owes: from each cluster in which the process has finished its replay, to one with which it agrees
 abbrev pub Begins : TheReplayed → TheRestoring → Type 0
-Begins r n = (c : Cluster) → StandsReplayed r c r.own.me → GoesTo r.own.me (λ d. StandsRestoring n d r.own.me) c
+Begins r n = (c : Cluster) → StandsReplayed r c r.own.me → GoesTo n.own.exact r.own.me (λ d. StandsRestoring n d r.own.me) c
 
 -- what a call owes: from each cluster with which it agreed, and for which `given` holds, to one with which it agrees
 abbrev pub Owes : (Cluster → Type 0) → TheRestoring → TheRestoring → Type 0
 Owes given old new = (c : Cluster) → StandsRestoring old c old.own.me → given c
-    → GoesTo old.own.me (λ d. StandsRestoring new d old.own.me) c
+    → GoesTo new.own.exact old.own.me (λ d. StandsRestoring new d old.own.me) c
 
 -- what a call owes that is handed nothing
 abbrev pub Acts : TheRestoring → TheRestoring → Type 0
 Acts old new = Owes (λ c. Unit {0}) old new
 
--- what a call owes that is handed a packet, if that was sent; nothing if the process is no longer exact
+-- what a call owes that is handed a packet, if that was sent and the process still waits for an answer
 abbrev pub IsHanded : NodePacket → TheRestoring → TheRestoring → Type 0
-IsHanded x old new = new.own.exact ≡ true → Owes (λ c. IsSaid c.parcels x.from x.to x.body) old new
+IsHanded x old new = is_up old ≡ false → Owes (λ c. IsSaid c x.from x.to x.body) old new
 
 -- what `take` owes: it gives the first packet that waited, which was sent, and the process no longer has it
 abbrev pub Takes : Option NodePacket → TheRestoring → TheRestoring → Type 0
 Takes None old new = (old.own.out ≡ []) × (new ≡ old)
 Takes (Some x) old new = (old ≡ record new { own = record new.own { out = x ∷ new.own.out } })
-    × ((c : Cluster) → StandsRestoring old c old.own.me → IsSent c.world.count c.parcels old.own.me x × StandsRestoring new c old.own.me)
+    × ((c : Cluster) → StandsRestoring old c old.own.me → IsSent c old.own.me x × StandsRestoring new c old.own.me)
 
 -- its node agrees with the same clusters
 abbrev pub IsUp : TheRestoring → TheNode → Type 0

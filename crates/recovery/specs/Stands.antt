@@ -4,17 +4,19 @@ use Rattle.std.specs.Prelude.{slice_index_or}
 use Rattle.world.specs.declared.message.Message.{Message}
 use Rattle.world.specs.History.{count_of}
 use Rattle.cluster.specs.Parcels.{reaches}
-use Rattle.cluster.specs.Parcels.{Parcel}
 use Rattle.cluster.specs.Cluster.{Cluster, Collected, Dead, Collecting}
 use Rattle.cluster.specs.Rules.{Opens, May, does, IsNode, Asks, IsAll, entry_in}
+use Rattle.packets.specs.Packet.{flags_of, is_lost}
 use Rattle.packets.specs.declared.packet.Body.{Body}
+use Rattle.packets.specs.declared.packet.Body.TheVariants.{Ask, Told}
+use Rattle.packets.specs.declared.page.Flags.{Flags}
 use Rattle.packets.specs.declared.packet.NodePacket.{NodePacket}
 use Rattle.packets.specs.declared.page.LoggedMessage.{LoggedMessage}
 use Rattle.packets.specs.declared.kept.Kept.{Kept}
 use Rattle.node.specs.Queue.{TheQueue}
 use Rattle.node.specs.Node.{log_at}
 use Rattle.node.specs.Stands.{Each, PutOut, KeepsOf, IsShut, sent_by}
-pub use Rattle.node.specs.Stands.{own_act, GoesTo}
+pub use Rattle.node.specs.Stands.{own_event, GoesTo}
 use Rattle.recovery.specs.Own.{TheOwn}
 use Rattle.recovery.specs.Overlap.{is_loss}
 use Rattle.packets.specs.Says.{WasSaid, first_told}
@@ -22,18 +24,26 @@ pub use Rattle.node.specs.Kept.{IsKeptOf}
 use Rattle.recovery.specs.Collected.{TheCollected}
 use Rattle.recovery.specs.Collection.{TheCollecting, told_of}
 
--- what the packet says was sent, unless it says that all is lost, which no packet of a cluster says
-abbrev pub IsSaid : List Parcel → ℕ → ℕ → Body → Type 0
-IsSaid parcels from to body = is_loss body ≡ false → WasSaid parcels from to body
+-- the process p, in an incarnation that was stored, says that all is lost; that is no packet of the cluster
+pub record IsLoss (c : Cluster) (p j : ℕ) (flags : Flags) (entries : List LoggedMessage) : Type 0 where
+  pub process : 0 < p
+  pub stored : j ≤ c.stored p
+  pub flags_are : flags ≡ flags_of true true false
+  pub none : entries ≡ []
+
+-- a process asks, or says that all is lost; the gateway never does
+abbrev pub OfProcess : Cluster → ℕ → Body → Type 0
+OfProcess c p (Ask i k) = 0 < p
+OfProcess c p (Told i j k flags entries) = is_lost flags ≡ true → IsLoss c p j flags entries
+OfProcess c p body = Unit {0}
+
+-- what the packet says was sent, unless it says that all is lost
+abbrev pub IsSaid : Cluster → ℕ → ℕ → Body → Type 0
+IsSaid c from to body = OfProcess c from body × (is_loss body ≡ false → WasSaid c.parcels from to body)
 
 -- it was sent, as a packet of the process p, unless it says that
-abbrev pub IsSent : ℕ → List Parcel → ℕ → NodePacket → Type 0
-IsSent count parcels p x = is_loss x.body ≡ false → PutOut count parcels p x
-
--- as far as it knows failures came one at a time, so no peer said that it lost what it had
-pub record IsSure (count : ℕ) (lost : List Bool) (exact : Bool) : Type 0 where
-  pub exact_is : exact ≡ true
-  pub none_lost : (q : ℕ) → q ≤ count → slice_index_or lost q true ≡ false
+abbrev pub IsSent : Cluster → ℕ → NodePacket → Type 0
+IsSent c p x = (x.from ≡ p) × OfProcess c p x.body × (is_loss x.body ≡ false → PutOut c.world.count c.parcels p x)
 
 -- of what n messages send to one destination, a queue has released what the first `base` of them send, and so what the checkpoint covers;
 -- the rest waits, each for a later RSN
@@ -55,8 +65,13 @@ pub record HasOwn (o : TheOwn) (c : Cluster) (p : ℕ) (h : List Message) (trims
   pub held : (d : ℕ) → d ≤ c.world.count → d ≢ p → IsHeldBack (log_at o.logs d) (length h) o.base (sent_by c.world.handlers p h d)
   pub grown : (d : ℕ) → sent_by c.world.handlers p h d o.base ≤ length (c.world.handlers.sends p h d)
   pub heard : (q : ℕ) → q ≤ c.world.count → c.heard p q ≡ slice_index_or o.heard q 0
-  pub sure : IsSure o.count o.lost o.exact
-  pub out : Each (IsSent c.world.count c.parcels p) o.out
+  pub stored : o.life ≤ c.stored p
+  -- a durable process of the cluster is durable by its limits
+  pub durable : c.durable p ≡ true → o.limits.durable ≡ true
+  -- if it is exact, no peer said that it lost what it had; the gateway never does
+  pub sure : o.exact ≡ true → (q : ℕ) → q ≤ c.world.count → slice_index_or o.lost q true ≡ false
+  pub greets : slice_index_or o.lost 0 true ≡ false
+  pub out : Each (IsSent c p) o.out
 
 -- whether what a peer told reaches m; with no page at all it counts as reaching every m
 abbrev pub reached : Option Collected → ℕ → Bool
@@ -85,30 +100,30 @@ pub record Reopens (p life : ℕ) (P : Cluster → Type 0) (c : Cluster) : Type 
   pub skipped : ℕ
   pub opens : May c (Opens p skipped)
   pub incarnation : suc (skipped + c.stored p) ≡ life
-  pub goes : GoesTo p P (does c (Opens p skipped))
+  pub goes : GoesTo true p P (does c (Opens p skipped))
 
 -- what a process owes that comes back: if p is dead, the kept state is what its checkpoint covers, and no incarnation from this one on was
--- stored, then it is opened in this one, and goes on to a cluster with which it agrees
+-- stored, then it is opened in this one, and goes on to a cluster with which it agrees; a durable one must be durable by its limits
 abbrev pub Revives : Kept → ℕ → TheCollecting → Type 0
-Revives k life n = (c : Cluster) → c.stage k.me ≡ Dead → c.stored k.me < life → IsKeptOf k c k.me → IsNode c k.me
+Revives k life n = (c : Cluster) → (c.durable k.me ≡ true → n.own.limits.durable ≡ true) → c.stage k.me ≡ Dead → c.stored k.me < life → IsKeptOf k c k.me → IsNode c k.me
     → Reopens k.me life (λ d. StandsCollecting n d k.me) c
 
 -- what a call owes of a process that collects: from each cluster with which it agreed, and for which `given` holds, to one with which it
 -- agrees
 abbrev pub Owes : (Cluster → Type 0) → TheCollecting → TheCollecting → Type 0
 Owes given old new = (c : Cluster) → StandsCollecting old c old.own.me → given c
-    → GoesTo old.own.me (λ d. StandsCollecting new d old.own.me) c
+    → GoesTo new.own.exact old.own.me (λ d. StandsCollecting new d old.own.me) c
 
 -- what a call owes that is handed nothing
 abbrev pub Acts : TheCollecting → TheCollecting → Type 0
 Acts old new = Owes (λ c. Unit {0}) old new
 
--- what a call owes that is handed a packet, if that was sent; nothing if the process is no longer exact
+-- what a call owes that is handed a packet, if that was sent
 abbrev pub IsHanded : NodePacket → TheCollecting → TheCollecting → Type 0
-IsHanded x old new = new.own.exact ≡ true → Owes (λ c. IsSaid c.parcels x.from x.to x.body) old new
+IsHanded x old new = Owes (λ c. IsSaid c x.from x.to x.body) old new
 
 -- what `take` owes: it gives the first packet that waited, which was sent, and the process no longer has it
 abbrev pub Takes : Option NodePacket → TheCollecting → TheCollecting → Type 0
 Takes None old new = (old.own.out ≡ []) × (new ≡ old)
 Takes (Some x) old new = (old ≡ record new { own = record new.own { out = x ∷ new.own.out } })
-    × ((c : Cluster) → StandsCollecting old c old.own.me → IsSent c.world.count c.parcels old.own.me x × StandsCollecting new c old.own.me)
+    × ((c : Cluster) → StandsCollecting old c old.own.me → IsSent c old.own.me x × StandsCollecting new c old.own.me)

@@ -15,7 +15,7 @@ use Rattle.node.specs.declared.job.OpenJob.{OpenJob}
 use Rattle.node.specs.declared.job.Given.{Given}
 use Rattle.node.specs.Stands.{HasReceived, actor, job_of, payloads_to}
 use Rattle.recovery.specs.Collection.{TheCollecting}
-use Rattle.recovery.specs.Stands.{HasOwn, IsSent, StandsCollecting, GoesTo}
+use Rattle.recovery.specs.Stands.{HasOwn, IsSaid, IsSent, StandsCollecting, GoesTo}
 use Rattle.recovery.specs.Replays.{TheReplaying, receipts_of, next_job, is_over}
 use Rattle.recovery.specs.Replayed.{TheReplayed, StandsReplayed}
 
@@ -47,13 +47,14 @@ IsInOrder c p = (k : ℕ) (m : Message) → slice_get (c.world.history p) k ≡ 
 
 -- what a process owes that recovers: from each cluster in which it collects, to one in which it replays
 abbrev pub ComesBack : TheCollecting → TheReplaying → Type 0
-ComesBack n r = (c : Cluster) → StandsCollecting n c n.own.me → IsInOrder c n.own.me → GoesTo n.own.me (λ d. StandsReplaying r d n.own.me) c
+ComesBack n r = (c : Cluster) → StandsCollecting n c n.own.me → IsInOrder c n.own.me
+    → GoesTo true n.own.me (λ d. StandsReplaying r d n.own.me) c
 
 -- what a call owes of a process that replays: from each cluster with which it agreed, and for which `given` holds, to one with which it
 -- agrees
 abbrev pub Owes : (Cluster → Type 0) → TheReplaying → TheReplaying → Type 0
 Owes given old new = (c : Cluster) → StandsReplaying old c old.own.me → given c
-    → GoesTo old.own.me (λ d. StandsReplaying new d old.own.me) c
+    → GoesTo new.own.exact old.own.me (λ d. StandsReplaying new d old.own.me) c
 
 -- after the messages h, on the message m the handler of p leaves this state, and sends these messages
 pub record AnswersAfter (f : Handlers) (p : ℕ) (h : List Message) (m : Message) (state : List ℕ) (given : List Given) : Type 0 where
@@ -69,11 +70,11 @@ Handles state given n c = (j : OpenJob) → next_job n ≡ Some j
 abbrev pub Takes : Option NodePacket → TheReplaying → TheReplaying → Type 0
 Takes None old new = (old.own.out ≡ []) × (new ≡ old)
 Takes (Some x) old new = (old ≡ record new { own = record new.own { out = x ∷ new.own.out } })
-    × ((c : Cluster) → StandsReplaying old c old.own.me → IsSent c.world.count c.parcels old.own.me x × StandsReplaying new c old.own.me)
+    × ((c : Cluster) → StandsReplaying old c old.own.me → IsSent c old.own.me x × StandsReplaying new c old.own.me)
 
--- what a call owes that is handed a packet: the process still agrees, or is no longer exact
-abbrev pub Stays : TheReplaying → TheReplaying → Type 0
-Stays old new = new.own.exact ≡ true → (c : Cluster) (p : ℕ) → StandsReplaying old c p → StandsReplaying new c p
+-- what a call owes that is handed a packet, if that was sent
+abbrev pub IsHanded : NodePacket → TheReplaying → TheReplaying → Type 0
+IsHanded x old new = Owes (λ c. IsSaid c x.from x.to x.body) old new
 
 -- the process after its replay, with the receipts of these messages
 abbrev pub replayed_of : TheReplaying → TheReplayed

@@ -2,7 +2,7 @@
 
 ghost use Rattle.std.specs.Prelude.{◌≡◌};
 ghost use Rattle.recovery.specs.Overlap.{handed};
-ghost use Rattle.recovery.specs.Replayed.{IsReplayed, Stays};
+ghost use Rattle.recovery.specs.Replayed.{IsReplayed, IsHanded};
 
 use crate::own::Own;
 use packets::NodePacket;
@@ -40,7 +40,7 @@ impl Replayed {
     /// it is lost, and drops anything else.
     pub fn receive(&mut self, alloc: Global, packet: &NodePacket)
         ensures value { self.new ≡ record self.old { own = handed packet.now self.old.own } }
-        ensures stands { Stays self.old self.new }
+        ensures acts { IsHanded packet.now self.old self.new }
     {
         self.own.receive(alloc, packet);
     }

@@ -4,7 +4,7 @@ ghost use Rattle.std.specs.Prelude.{◌≡◌, ◌-◌, length, true, OnOk, OnEr
 ghost use Rattle.recovery.specs.Own.{MayGive};
 ghost use Rattle.recovery.specs.Replays.{next_job, is_over, did_replay};
 ghost use Rattle.recovery.specs.Overlap.{handed};
-ghost use Rattle.recovery.specs.StandsAtReplay.{Owes, Handles, Takes, Stays, Ends, replayed_of};
+ghost use Rattle.recovery.specs.StandsAtReplay.{Owes, Handles, Takes, IsHanded, Ends, replayed_of};
 
 use crate::own::Own;
 use crate::replayed::Replayed;
@@ -90,7 +90,7 @@ impl Replaying {
     /// it is lost, and drops anything else.
     pub fn receive(&mut self, alloc: Global, packet: &NodePacket)
         ensures value { self.new ≡ record self.old { own = handed packet.now self.old.own } }
-        ensures stands { Stays self.old self.new }
+        ensures acts { IsHanded packet.now self.old self.new }
     {
         self.own.receive(alloc, packet);
     }
