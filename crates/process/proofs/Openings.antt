@@ -4,11 +4,9 @@ use Rattle.std.specs.Prelude.{replicate}
 use Rattle.std.proofs.lemmas.List.{length-replicate}
 use Rattle.verifier.specs.declared.any_image.AnyImage.{AnyImage}
 use Rattle.verifier.specs.AnyImage.{state_of}
-use Rattle.world.specs.Handlers.{Handlers}
-use Rattle.cluster.specs.Cluster.{opening}
 use Rattle.node.specs.declared.limit.Limits.{Limits}
 use Rattle.node.specs.Node.{TheNode, new_node}
-use Rattle.node.specs.Stands.{Stands, BeginsWith}
+use Rattle.node.specs.Stands.{StandsFirst}
 use Rattle.packets.specs.declared.kept.Kept.{Kept}
 use Rattle.packets.specs.Kept.{IsKept}
 use Rattle.recovery.specs.Own.{comes_back}
@@ -17,19 +15,19 @@ use Rattle.recovery.specs.Stands.{Revives}
 use Rattle.recovery.specs.declared.lifecycle.Lifecycle.TheVariants.{Up, Collecting}
 use Rattle.process.specs.Revival.{IsOpened, IsRevived, zero_state}
 
-pub opened : (image : AnyImage) (limits : Limits) (me count : ℕ) (state : List ℕ) (n : TheNode) → n ≡ new_node limits me count state → length state ≡ state_of image → ((f : Handlers) → BeginsWith f me state → Stands n (opening count f) me)
+pub opened : (image : AnyImage) (limits : Limits) (me count : ℕ) (state : List ℕ) (n : TheNode) → n ≡ new_node limits me count state → length state ≡ state_of image → StandsFirst n me count state
     → IsOpened image limits me count state (record { image = image; lifecycle = Up n })
 opened image limits me count state n is long s =
     record {
       long = long;
       image_is = refl;
       lifecycle_is = ap Up is;
-      stands = λ f b. let Q : TheNode → Type 0 = λ v. Stands v (opening count f) me in subst Q is (s f b);
+      stands = let Q : TheNode → Type 0 = λ v. StandsFirst v me count state in subst Q is s;
     }
 
 -- the same with zeros
 pub opened-zeros : (image : AnyImage) (limits : Limits) (me count len : ℕ) (n : TheNode) → n ≡ new_node limits me count (replicate len 0) → len ≡ state_of image
-    → ((f : Handlers) → BeginsWith f me (replicate len 0) → Stands n (opening count f) me) → IsOpened image limits me count (zero_state image) (record { image = image; lifecycle = Up n })
+    → StandsFirst n me count (replicate len 0) → IsOpened image limits me count (zero_state image) (record { image = image; lifecycle = Up n })
 opened-zeros image limits me count len n is e s =
     let P : ℕ → Type 0 = λ k. IsOpened image limits me count (replicate k 0) (record { image = image; lifecycle = Up n }) in
     subst P e (opened image limits me count (replicate len 0) n is (length-replicate {A = ℕ} len 0 ∙ e) s)
