@@ -1,7 +1,7 @@
 """Where the library's nodes do otherwise than the rules say, and harm no promise by that. `beside` takes the model with these, unless it
 is told to be strict; whoever mends one takes it out here."""
 
-from node import RESUMING, Node
+from node import Node
 
 MOST_RECEIVED = 2**58
 MOST_SENT_FOR_ONE = 16
@@ -18,14 +18,6 @@ class NodeAsBuilt(Node):
         """One that has come back loses the packets that were not taken by then."""
         self.out.clear()
         super().begin_to_send()
-
-    def on_restored(self, peer, packet):
-        """A page that tells of more messages than were sent to its teller shows that failures met: the node isn't exact then."""
-        is_reply = (self.stage == RESUMING and packet.incarnation == self.incarnation
-                    and self.todo.get(peer) == packet.above and packet.teller >= self.heard[peer])
-        if is_reply and max([packet.covered] + [ssn for ssn, _ in packet.pairs]) > self.logs[peer].last:
-            self.exact = False
-        super().on_restored(peer, packet)
 
     def hear_of_teller(self, peer, packet):
         """The gateway's incarnation is 1, and is kept as it is told: a forged one is too."""
