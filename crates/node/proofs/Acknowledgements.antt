@@ -1,5 +1,5 @@
 -- An acknowledgement comes
-use Rattle.std.proofs.Common.{◌≡◌, ◌≢◌, ℕ, zero, suc, ◌+◌, ◌-◌, ◌<◌, ◌≤◌, List, [], ◌∷◌, length, Bool, true, false, refl, sym, ap, ◌∙◌, subst, arith}
+use Rattle.std.proofs.Common.{◌≡◌, ◌≢◌, ℕ, zero, suc, ◌+◌, ◌-◌, ◌<◌, ◌≤◌, List, length, Bool, true, false, refl, sym, ap, ◌∙◌, subst, arith}
 use Rattle.std.specs.Prelude.{take, max, not, slice_index_or, slice_set, ◌==◌, if◌then◌else◌}
 use Rattle.std.proofs.lemmas.Bool.Decides.{nat_tests}
 use Rattle.std.proofs.lemmas.List.{get_or-set_same, get_or-set_other, length-set}
@@ -14,6 +14,7 @@ use Rattle.cluster.specs.Cluster.{Cluster, waiting}
 use Rattle.cluster.specs.Rules.{Act, Arrives, May, does}
 use Rattle.node.specs.Node.{TheNode, counted, log_at}
 use Rattle.node.specs.Stands.{Stands, HasReceived, IsShut, sent_by, freed_in, most_released, GoesOn, Receives}
+use Rattle.node.proofs.Goes.{goes-act}
 use Rattle.node.proofs.Puts.{stands-takes}
 use Rattle.node.proofs.StandsLemmas.{stands-anew}
 use Rattle.node.proofs.Commits.{long}
@@ -133,12 +134,12 @@ module _ (n : TheNode) (c : Cluster) (q i k : ℕ) (s : Stands n c n.me) (given 
 
   stands-counted : Stands (counted k n) c' n.me
   stands-counted =
-      stands-anew n c n.me s
+      stands-anew n c n.me s s.durable
       (subst (HasReceived n.count n.base n.covered (acknowledged k n.receipts) h) (sym acknowledged-is) (received-counted n.count n.base n.covered n.receipts h (c.world.acknowledged n.me) k some within s.received))
       fewer s.logs gates (λ d. free n.limits.durable d (s.free d)) s.heard s.resumed s.out
 
   goes-counted : GoesOn n.me (counted k n) c
-  goes-counted = record { acts = act ∷ []; run = (may, tt); by = (refl, tt); stands = stands-counted }
+  goes-counted = goes-act true n.me (λ d. Stands (counted k n) d n.me) c act may tt refl stands-counted
 
 -- an acknowledgement of the present life, for a number that isn't acknowledged yet, is counted
 pub counts : (n : TheNode) (q i m k : ℕ) → n.frozen ≡ false → i ≡ n.life → m ≡ n.base + k → 0 < k → k ≤ length n.receipts.senders → slice_index_or n.receipts.acknowledged (k - 1) false ≡ false → Receives q (Acknowledgement i m) n (counted k n)

@@ -1,5 +1,5 @@
 -- Acts of others leave what a node stands for
-use Rattle.std.proofs.Common.{zero, ◌≡◌, ◌≢◌, inr, ℕ, suc, ◌≤◌, ◌+◌, List, [], ◌∷◌, length, Bool, true, false, refl, sym, ◌∙◌, subst, arith}
+use Rattle.std.proofs.Common.{zero, ◌≡◌, ◌≢◌, inr, ℕ, suc, ◌≤◌, ◌+◌, List, [], ◌∷◌, length, Bool, true, false, refl, sym, ap, ◌∙◌, subst, arith}
 use Rattle.std.specs.Prelude.{None, Some, ◌==◌, nat_lt, if◌then◌else◌}
 use Rattle.std.proofs.lemmas.Bool.Decides.{nat_tests}
 use Rattle.world.specs.World.{put}
@@ -8,10 +8,11 @@ use Rattle.world.specs.Calls.{peers}
 use Rattle.cluster.specs.Parcels.{Delivery, Number, Acknowledgement, Ask, Told, Resume, Restored, Saved, Parcel, In}
 use Rattle.cluster.specs.Cluster.{Cluster}
 use Rattle.cluster.specs.Rules.{Act, Input, Puts, Arrives, Works, Replays, Recovers, Keeps, Opens, does, after_run, goes_on, taken_back}
+use Rattle.cluster.specs.Overlap.{Event, Acts, Meets, Loses, Lacks, Leaves, Doubts, loss, cut, goes}
 use Rattle.node.specs.Node.{TheNode}
-use Rattle.node.specs.Stands.{Each, Stands, Goes, PutOut, actor}
+use Rattle.node.specs.Stands.{Each, Stands, Goes, PutOut, actor, doer}
 use Rattle.cluster.proofs.Settings.{does-count}
-use Rattle.node.specs.Beside.{AllStand, NodesRun}
+use Rattle.node.specs.Beside.{OthersStand, AllStand, NodesRun}
 use Rattle.node.proofs.Lists.{all-more}
 use Rattle.node.proofs.Puts.{put-still}
 
@@ -36,36 +37,46 @@ pub record Same (c d : Cluster) (p : ℕ) : Type 0 where
   pub stored : c.stored p ≡ d.stored p
   pub saved_trims : (k : ℕ) → c.world.saved_trims p k ≡ d.world.saved_trims p k
   pub parcels : (x : Parcel) → In x c.parcels → In x d.parcels
+  pub durable : c.durable ≡ d.durable
 
 -- an act of another node changes none of it
 pub same : (c : Cluster) (a : Act) (p : ℕ) → (p == actor a) ≡ false → Same c (does c a) p
-same c (Input d x) p e = record { count = refl; handlers = refl; stage = refl; greeted = refl; phase = refl; life = refl; history = refl; saved = refl; acknowledged = refl; released = refl; trims = λ k. refl; numbers = λ k. refl; heard = λ k. refl; resumed = λ k. refl; told = λ k. refl; restoring = λ k. refl; stored = refl; saved_trims = λ k. refl; parcels = λ x i. i }
-same c (Puts q d x) p e = record { count = refl; handlers = refl; stage = refl; greeted = refl; phase = refl; life = refl; history = refl; saved = refl; acknowledged = refl; released = refl; trims = λ k. refl; numbers = λ k. refl; heard = λ k. refl; resumed = λ k. refl; told = λ k. refl; restoring = λ k. refl; stored = refl; saved_trims = λ k. refl; parcels = λ x i. inr i }
-same c (Arrives q (suc d) (Delivery i ssn x)) p e = record { count = refl; handlers = refl; stage = refl; greeted = refl; phase = rw e refl; life = refl; history = refl; saved = refl; acknowledged = refl; released = refl; trims = λ k. refl; numbers = λ k. refl; heard = λ k. refl; resumed = λ k. refl; told = λ k. refl; restoring = λ k. refl; stored = refl; saved_trims = λ k. refl; parcels = λ x i. i }
-same c (Arrives q zero (Delivery i ssn x)) p e = record { count = refl; handlers = refl; stage = refl; greeted = refl; phase = refl; life = refl; history = refl; saved = refl; acknowledged = refl; released = refl; trims = λ k. refl; numbers = λ k. refl; heard = λ k. refl; resumed = λ k. refl; told = λ k. refl; restoring = λ k. refl; stored = refl; saved_trims = λ k. refl; parcels = λ x i. i }
-same c (Works q m) p e = record { count = refl; handlers = refl; stage = refl; greeted = refl; phase = rw e refl; life = refl; history = rw e refl; saved = refl; acknowledged = refl; released = refl; trims = λ k. refl; numbers = λ k. refl; heard = λ k. refl; resumed = λ k. refl; told = λ k. refl; restoring = λ k. refl; stored = refl; saved_trims = λ k. refl; parcels = λ x i. i }
+same c (Input d x) p e = record { count = refl; handlers = refl; stage = refl; greeted = refl; phase = refl; life = refl; history = refl; saved = refl; acknowledged = refl; released = refl; trims = λ k. refl; numbers = λ k. refl; heard = λ k. refl; resumed = λ k. refl; told = λ k. refl; restoring = λ k. refl; stored = refl; saved_trims = λ k. refl; parcels = λ x i. i; durable = refl }
+same c (Puts q d x) p e = record { count = refl; handlers = refl; stage = refl; greeted = refl; phase = refl; life = refl; history = refl; saved = refl; acknowledged = refl; released = refl; trims = λ k. refl; numbers = λ k. refl; heard = λ k. refl; resumed = λ k. refl; told = λ k. refl; restoring = λ k. refl; stored = refl; saved_trims = λ k. refl; parcels = λ x i. inr i; durable = refl }
+same c (Arrives q (suc d) (Delivery i ssn x)) p e = record { count = refl; handlers = refl; stage = refl; greeted = refl; phase = rw e refl; life = refl; history = refl; saved = refl; acknowledged = refl; released = refl; trims = λ k. refl; numbers = λ k. refl; heard = λ k. refl; resumed = λ k. refl; told = λ k. refl; restoring = λ k. refl; stored = refl; saved_trims = λ k. refl; parcels = λ x i. i; durable = refl }
+same c (Arrives q zero (Delivery i ssn x)) p e = record { count = refl; handlers = refl; stage = refl; greeted = refl; phase = refl; life = refl; history = refl; saved = refl; acknowledged = refl; released = refl; trims = λ k. refl; numbers = λ k. refl; heard = λ k. refl; resumed = λ k. refl; told = λ k. refl; restoring = λ k. refl; stored = refl; saved_trims = λ k. refl; parcels = λ x i. i; durable = refl }
+same c (Works q m) p e = record { count = refl; handlers = refl; stage = refl; greeted = refl; phase = rw e refl; life = refl; history = rw e refl; saved = refl; acknowledged = refl; released = refl; trims = λ k. refl; numbers = λ k. refl; heard = λ k. refl; resumed = λ k. refl; told = λ k. refl; restoring = λ k. refl; stored = refl; saved_trims = λ k. refl; parcels = λ x i. i; durable = refl }
 same c (Replays q j) p e = by_end (nat_lt (c.world.saved q + suc j) (length (c.world.history q)))
   where
     by_end : (b : Bool) → Same c (if b then record c { world = record c.world { phase = put c.world.phase q (Replaying (suc j) false false) } } else goes_on c q (peers c.world q false)) p
-    by_end true = record { count = refl; handlers = refl; stage = refl; greeted = refl; phase = rw e refl; life = refl; history = refl; saved = refl; acknowledged = refl; released = refl; trims = λ k. refl; numbers = λ k. refl; heard = λ k. refl; resumed = λ k. refl; told = λ k. refl; restoring = λ k. refl; stored = refl; saved_trims = λ k. refl; parcels = λ x i. i }
-    by_end false = record { count = refl; handlers = refl; stage = refl; greeted = refl; phase = rw e refl; life = refl; history = refl; saved = refl; acknowledged = refl; released = rw e refl; trims = λ k. refl; numbers = λ k. refl; heard = λ k. refl; resumed = λ k. refl; told = λ k. refl; restoring = λ k. refl; stored = refl; saved_trims = λ k. refl; parcels = λ x i. i }
-same c (Arrives r s (Number i ssn k)) p e = record { count = refl; handlers = refl; stage = refl; greeted = refl; phase = refl; life = refl; history = refl; saved = refl; acknowledged = refl; released = refl; trims = λ k. refl; numbers = λ k. rw e refl; heard = λ k. refl; resumed = λ k. refl; told = λ k. refl; restoring = λ k. refl; stored = refl; saved_trims = λ k. refl; parcels = λ x i. inr i }
-same c (Arrives s r (Acknowledgement i k)) p e = record { count = refl; handlers = refl; stage = refl; greeted = refl; phase = refl; life = refl; history = refl; saved = refl; acknowledged = rw e refl; released = rw e refl; trims = λ k. refl; numbers = λ k. refl; heard = λ k. refl; resumed = λ k. refl; told = λ k. refl; restoring = λ k. refl; stored = refl; saved_trims = λ k. refl; parcels = λ x i. i }
-same c (Arrives d s (Saved n)) p e = record { count = refl; handlers = refl; stage = refl; greeted = refl; phase = refl; life = refl; history = refl; saved = refl; acknowledged = refl; released = refl; trims = λ k. rw e refl; numbers = λ k. refl; heard = λ k. refl; resumed = λ k. refl; told = λ k. refl; restoring = λ k. refl; stored = refl; saved_trims = λ k. refl; parcels = λ x i. i }
-same c (Arrives r q (Ask i k)) p e = record { count = refl; handlers = refl; stage = refl; greeted = refl; phase = refl; life = refl; history = refl; saved = refl; acknowledged = refl; released = refl; trims = λ k. refl; numbers = λ k. refl; heard = λ k. rw e refl; resumed = λ k. rw e refl; told = λ k. rw e refl; restoring = λ k. refl; stored = refl; saved_trims = λ k. refl; parcels = λ x i. i }
-same c (Arrives r q (Told i j k u f)) p e = record { count = refl; handlers = refl; stage = refl; greeted = refl; phase = refl; life = refl; history = refl; saved = refl; acknowledged = refl; released = refl; trims = λ k. refl; numbers = λ k. refl; heard = λ k. rw e refl; resumed = λ k. refl; told = λ k. rw e refl; restoring = λ k. refl; stored = refl; saved_trims = λ k. refl; parcels = λ x i. i }
+    by_end true = record { count = refl; handlers = refl; stage = refl; greeted = refl; phase = rw e refl; life = refl; history = refl; saved = refl; acknowledged = refl; released = refl; trims = λ k. refl; numbers = λ k. refl; heard = λ k. refl; resumed = λ k. refl; told = λ k. refl; restoring = λ k. refl; stored = refl; saved_trims = λ k. refl; parcels = λ x i. i; durable = refl }
+    by_end false = record { count = refl; handlers = refl; stage = refl; greeted = refl; phase = rw e refl; life = refl; history = refl; saved = refl; acknowledged = refl; released = rw e refl; trims = λ k. refl; numbers = λ k. refl; heard = λ k. refl; resumed = λ k. refl; told = λ k. refl; restoring = λ k. refl; stored = refl; saved_trims = λ k. refl; parcels = λ x i. i; durable = refl }
+same c (Arrives r s (Number i ssn k)) p e = record { count = refl; handlers = refl; stage = refl; greeted = refl; phase = refl; life = refl; history = refl; saved = refl; acknowledged = refl; released = refl; trims = λ k. refl; numbers = λ k. rw e refl; heard = λ k. refl; resumed = λ k. refl; told = λ k. refl; restoring = λ k. refl; stored = refl; saved_trims = λ k. refl; parcels = λ x i. inr i; durable = refl }
+same c (Arrives s r (Acknowledgement i k)) p e = record { count = refl; handlers = refl; stage = refl; greeted = refl; phase = refl; life = refl; history = refl; saved = refl; acknowledged = rw e refl; released = rw e refl; trims = λ k. refl; numbers = λ k. refl; heard = λ k. refl; resumed = λ k. refl; told = λ k. refl; restoring = λ k. refl; stored = refl; saved_trims = λ k. refl; parcels = λ x i. i; durable = refl }
+same c (Arrives d s (Saved n)) p e = record { count = refl; handlers = refl; stage = refl; greeted = refl; phase = refl; life = refl; history = refl; saved = refl; acknowledged = refl; released = refl; trims = λ k. rw e refl; numbers = λ k. refl; heard = λ k. refl; resumed = λ k. refl; told = λ k. refl; restoring = λ k. refl; stored = refl; saved_trims = λ k. refl; parcels = λ x i. i; durable = refl }
+same c (Arrives r q (Ask i k)) p e = record { count = refl; handlers = refl; stage = refl; greeted = refl; phase = refl; life = refl; history = refl; saved = refl; acknowledged = refl; released = refl; trims = λ k. refl; numbers = λ k. refl; heard = λ k. rw e refl; resumed = λ k. rw e refl; told = λ k. rw e refl; restoring = λ k. refl; stored = refl; saved_trims = λ k. refl; parcels = λ x i. i; durable = refl }
+same c (Arrives r q (Told i j k u f)) p e = record { count = refl; handlers = refl; stage = refl; greeted = refl; phase = refl; life = refl; history = refl; saved = refl; acknowledged = refl; released = refl; trims = λ k. refl; numbers = λ k. refl; heard = λ k. rw e refl; resumed = λ k. refl; told = λ k. rw e refl; restoring = λ k. refl; stored = refl; saved_trims = λ k. refl; parcels = λ x i. i; durable = refl }
 same c (Recovers q k) p e = by_end (nat_lt (c.world.saved q) k)
   where
     by_end : (b : Bool) → Same c (if b then record (taken_back c q k) { world = record (taken_back c q k).world { phase = put c.world.phase q (Replaying 0 false false) } } else goes_on (taken_back c q k) q (peers c.world q false)) p
-    by_end true = record { count = refl; handlers = refl; stage = rw e refl; greeted = rw e refl; phase = rw e refl; life = rw e refl; history = rw e refl; saved = refl; acknowledged = rw e refl; released = rw e refl; trims = λ k. rw e refl; numbers = λ k. rw e refl; heard = λ k. refl; resumed = λ k. rw e refl; told = λ k. rw e refl; restoring = λ k. rw e refl; stored = refl; saved_trims = λ k. refl; parcels = λ x i. i }
-    by_end false = record { count = refl; handlers = refl; stage = rw e refl; greeted = rw e refl; phase = rw e refl; life = rw e refl; history = rw e refl; saved = refl; acknowledged = rw e refl; released = rw e refl; trims = λ k. rw e refl; numbers = λ k. rw e refl; heard = λ k. refl; resumed = λ k. rw e refl; told = λ k. rw e refl; restoring = λ k. rw e refl; stored = refl; saved_trims = λ k. refl; parcels = λ x i. i }
-same c (Arrives r q (Resume i k s)) p e = record { count = refl; handlers = refl; stage = refl; greeted = refl; phase = refl; life = refl; history = refl; saved = refl; acknowledged = refl; released = refl; trims = λ k. refl; numbers = λ k. rw e refl; heard = λ k. refl; resumed = λ k. rw e refl; told = λ k. refl; restoring = λ k. refl; stored = refl; saved_trims = λ k. refl; parcels = λ x i. i }
-same c (Arrives r q (Restored i j n s (Some u) f)) p e = record { count = refl; handlers = refl; stage = refl; greeted = refl; phase = refl; life = refl; history = refl; saved = refl; acknowledged = refl; released = refl; trims = λ k. rw e refl; numbers = λ k. rw e refl; heard = λ k. rw e refl; resumed = λ k. refl; told = λ k. refl; restoring = λ k. rw e refl; stored = refl; saved_trims = λ k. refl; parcels = λ x i. i }
-same c (Arrives (suc r) q (Restored i j n s None f)) p e = record { count = refl; handlers = refl; stage = refl; greeted = refl; phase = rw e refl; life = refl; history = refl; saved = refl; acknowledged = refl; released = rw e refl; trims = λ k. rw e refl; numbers = λ k. rw e refl; heard = λ k. rw e refl; resumed = λ k. refl; told = λ k. refl; restoring = λ k. refl; stored = refl; saved_trims = λ k. refl; parcels = λ x i. i }
-same c (Arrives zero q (Restored i j n s None f)) p e = record { count = refl; handlers = refl; stage = refl; greeted = rw e refl; phase = refl; life = refl; history = refl; saved = refl; acknowledged = refl; released = refl; trims = λ k. rw e refl; numbers = λ k. refl; heard = λ k. refl; resumed = λ k. refl; told = λ k. refl; restoring = λ k. refl; stored = refl; saved_trims = λ k. refl; parcels = λ x i. i }
-same c (Keeps q) p e = record { count = refl; handlers = refl; stage = refl; greeted = refl; phase = refl; life = refl; history = refl; saved = rw e refl; acknowledged = rw e refl; released = rw e refl; trims = λ k. refl; numbers = λ k. refl; heard = λ k. refl; resumed = λ k. refl; told = λ k. refl; restoring = λ k. refl; stored = refl; saved_trims = λ k. rw e refl; parcels = λ x i. i }
-same c (Opens q n) p e = record { count = refl; handlers = refl; stage = rw e refl; greeted = refl; phase = refl; life = refl; history = refl; saved = refl; acknowledged = refl; released = refl; trims = λ k. refl; numbers = λ k. refl; heard = λ k. rw e refl; resumed = λ k. rw e refl; told = λ k. rw e refl; restoring = λ k. refl; stored = rw e refl; saved_trims = λ k. refl; parcels = λ x i. i }
-same c other p e = record { count = refl; handlers = refl; stage = rw e refl; greeted = refl; phase = refl; life = refl; history = refl; saved = refl; acknowledged = refl; released = refl; trims = λ k. refl; numbers = λ k. refl; heard = λ k. refl; resumed = λ k. refl; told = λ k. refl; restoring = λ k. refl; stored = refl; saved_trims = λ k. refl; parcels = λ x i. i }
+    by_end true = record { count = refl; handlers = refl; stage = rw e refl; greeted = rw e refl; phase = rw e refl; life = rw e refl; history = rw e refl; saved = refl; acknowledged = rw e refl; released = rw e refl; trims = λ k. rw e refl; numbers = λ k. rw e refl; heard = λ k. refl; resumed = λ k. rw e refl; told = λ k. rw e refl; restoring = λ k. rw e refl; stored = refl; saved_trims = λ k. refl; parcels = λ x i. i; durable = refl }
+    by_end false = record { count = refl; handlers = refl; stage = rw e refl; greeted = rw e refl; phase = rw e refl; life = rw e refl; history = rw e refl; saved = refl; acknowledged = rw e refl; released = rw e refl; trims = λ k. rw e refl; numbers = λ k. rw e refl; heard = λ k. refl; resumed = λ k. rw e refl; told = λ k. rw e refl; restoring = λ k. rw e refl; stored = refl; saved_trims = λ k. refl; parcels = λ x i. i; durable = refl }
+same c (Arrives r q (Resume i k s)) p e = record { count = refl; handlers = refl; stage = refl; greeted = refl; phase = refl; life = refl; history = refl; saved = refl; acknowledged = refl; released = refl; trims = λ k. refl; numbers = λ k. rw e refl; heard = λ k. refl; resumed = λ k. rw e refl; told = λ k. refl; restoring = λ k. refl; stored = refl; saved_trims = λ k. refl; parcels = λ x i. i; durable = refl }
+same c (Arrives r q (Restored i j n s (Some u) f)) p e = record { count = refl; handlers = refl; stage = refl; greeted = refl; phase = refl; life = refl; history = refl; saved = refl; acknowledged = refl; released = refl; trims = λ k. rw e refl; numbers = λ k. rw e refl; heard = λ k. rw e refl; resumed = λ k. refl; told = λ k. refl; restoring = λ k. rw e refl; stored = refl; saved_trims = λ k. refl; parcels = λ x i. i; durable = refl }
+same c (Arrives (suc r) q (Restored i j n s None f)) p e = record { count = refl; handlers = refl; stage = refl; greeted = refl; phase = rw e refl; life = refl; history = refl; saved = refl; acknowledged = refl; released = rw e refl; trims = λ k. rw e refl; numbers = λ k. rw e refl; heard = λ k. rw e refl; resumed = λ k. refl; told = λ k. refl; restoring = λ k. refl; stored = refl; saved_trims = λ k. refl; parcels = λ x i. i; durable = refl }
+same c (Arrives zero q (Restored i j n s None f)) p e = record { count = refl; handlers = refl; stage = refl; greeted = rw e refl; phase = refl; life = refl; history = refl; saved = refl; acknowledged = refl; released = refl; trims = λ k. rw e refl; numbers = λ k. refl; heard = λ k. refl; resumed = λ k. refl; told = λ k. refl; restoring = λ k. refl; stored = refl; saved_trims = λ k. refl; parcels = λ x i. i; durable = refl }
+same c (Keeps q) p e = record { count = refl; handlers = refl; stage = refl; greeted = refl; phase = refl; life = refl; history = refl; saved = rw e refl; acknowledged = rw e refl; released = rw e refl; trims = λ k. refl; numbers = λ k. refl; heard = λ k. refl; resumed = λ k. refl; told = λ k. refl; restoring = λ k. refl; stored = refl; saved_trims = λ k. rw e refl; parcels = λ x i. i; durable = refl }
+same c (Opens q n) p e = record { count = refl; handlers = refl; stage = rw e refl; greeted = refl; phase = refl; life = refl; history = refl; saved = refl; acknowledged = refl; released = refl; trims = λ k. refl; numbers = λ k. refl; heard = λ k. rw e refl; resumed = λ k. rw e refl; told = λ k. rw e refl; restoring = λ k. refl; stored = rw e refl; saved_trims = λ k. refl; parcels = λ x i. i; durable = refl }
+same c other p e = record { count = refl; handlers = refl; stage = rw e refl; greeted = refl; phase = refl; life = refl; history = refl; saved = refl; acknowledged = refl; released = refl; trims = λ k. refl; numbers = λ k. refl; heard = λ k. refl; resumed = λ k. refl; told = λ k. refl; restoring = λ k. refl; stored = refl; saved_trims = λ k. refl; parcels = λ x i. i; durable = refl }
+
+-- nor does an event of another
+pub same-event : (c : Cluster) (e : Event) (p : ℕ) → (p == doer e) ≡ false → Same c (goes c e) p
+same-event c (Acts exact a) p e = same c a p e
+same-event c (Meets q r i k) p e = record { count = refl; handlers = refl; stage = refl; greeted = refl; phase = rw e refl; life = refl; history = refl; saved = refl; acknowledged = refl; released = refl; trims = λ k. refl; numbers = λ k. rw e refl; heard = λ k. rw e refl; resumed = λ k. rw e refl; told = λ k. refl; restoring = λ k. rw e refl; stored = refl; saved_trims = λ k. refl; parcels = λ x i. i; durable = refl }
+same-event c (Loses q r i j k) p e = record { count = refl; handlers = refl; stage = refl; greeted = refl; phase = refl; life = refl; history = refl; saved = refl; acknowledged = refl; released = refl; trims = λ k. refl; numbers = λ k. refl; heard = λ k. refl; resumed = λ k. refl; told = λ k. refl; restoring = λ k. refl; stored = refl; saved_trims = λ k. refl; parcels = λ x i. i; durable = refl }
+same-event c (Lacks q r i j k) p e = same c (Arrives q r (loss i j k)) p e
+same-event c (Leaves q r) p e = record { count = refl; handlers = refl; stage = refl; greeted = refl; phase = rw e refl; life = refl; history = refl; saved = refl; acknowledged = refl; released = rw e refl; trims = λ k. refl; numbers = λ k. refl; heard = λ k. refl; resumed = λ k. refl; told = λ k. refl; restoring = λ k. refl; stored = refl; saved_trims = λ k. refl; parcels = λ x i. i; durable = refl }
+same-event c (Doubts q r x) p e = same c (Arrives q r (cut c r q x)) p e
 
 -- so the node stands
 stands-same : (n : TheNode) (c d : Cluster) (p : ℕ) → Same c d p → Stands n c p → Stands n d p
@@ -81,6 +92,7 @@ stands-same n c d p e s =
       life = sym e.life ∙ s.life;
       state = rw (sym e.handlers, sym e.history) s.state;
       saved = sym e.saved ∙ s.saved;
+      durable = λ t. s.durable (ap (λ (f : ℕ → Bool). f p) e.durable ∙ t);
       received = rw (sym e.history, sym e.acknowledged) s.received;
       waits = rw (sym e.history, sym e.acknowledged) s.waits;
       logs = λ k l o. rw (sym e.handlers, sym e.history, sym (e.trims k), sym (e.numbers k)) (s.logs k (subst (λ m. k ≤ m) (sym e.count) l) o);
@@ -97,6 +109,13 @@ stands-still n p q [] c other by s = s
 stands-still n p q (a ∷ acts) c other by s =
     let apart : (p == actor a) ≡ false = (let f : actor a ≡ q = by.0 in grind (arith, nat_tests)) in
     stands-still n p q acts (does c a) other by.1 (stands-same n c (does c a) p (same c a p apart) s)
+
+-- and after the events of another
+pub stands-after : OthersStand
+stands-after n p q [] c other by s = s
+stands-after n p q (e ∷ es) c other by s =
+    let apart : (p == doer e) ≡ false = (let f : doer e ≡ q = by.0 in grind (arith, nat_tests)) in
+    stands-after n p q es (goes c e) other by.1 (stands-same n c (goes c e) p (same-event c e p apart) s)
 
 pub count-after : (c : Cluster) (acts : List Act) → (after_run c acts).world.count ≡ c.world.count
 count-after c [] = refl

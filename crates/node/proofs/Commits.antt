@@ -256,6 +256,7 @@ module _ (n : TheNode) (c : Cluster) (j : OpenJob) (state : List ℕ) (given : L
         life = s.life;
         state = ap (c.world.handlers.state n.me) history-is ∙ answers.state_is;
         saved = s.saved;
+        durable = s.durable;
         received = subst (λ h. HasReceived n.count n.base n.covered (accepted j.sender n.receipts) h (c.world.acknowledged n.me)) (sym history-is) (received-more n.count n.base n.covered n.receipts (c.world.history n.me) (c.world.acknowledged n.me) (job_of j) s.received next);
         waits = waits;
         logs = λ d l o. subst (λ h. KeepsOf (log_at (given_to (next_number n) given n.logs) d) (c.world.trims n.me d) (c.world.handlers.sends n.me h d) (c.world.numbers n.me d)) (sym history-is) (logs-worked d l o);
@@ -275,5 +276,5 @@ module _ (n : TheNode) (c : Cluster) (j : OpenJob) (state : List ℕ) (given : L
 
   pub goes-worked : OfPeer n.me n.count (Some j) → GoesOn n.me (posts j.sender (number_of j n) (worked j state given n)) c
   goes-worked peer =
-      goes-on n.me (posts j.sender (number_of j n) (worked j state given n)) c act may refl
-      (posted (worked j state given n) c' j.sender (number_of j n) (Number n.life j.ssn (next_number n)) refl stands-worked peer.0 peer.1 (stands-well (worked j state given n) c' n.me stands-worked, sym s.life, names))
+      goes-on n.me (posts j.sender (number_of j n) (worked j state given n)) c act may tt refl
+      (posted (worked j state given n) c' j.sender (number_of j n) (Number n.life j.ssn (next_number n)) refl stands-worked peer.0 peer.1 (stands-well (worked j state given n) c' n.me stands-worked, sym s.life, names) tt)

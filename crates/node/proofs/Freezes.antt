@@ -21,9 +21,10 @@ use Rattle.node.specs.Transmission.{released}
 use Rattle.node.specs.Checkpoints.{may_freeze, froze, counts_from, thawed, says_covered, says_below, thaws, saved}
 use Rattle.node.specs.Stands.{Stands, HasReceived, IsShut, sent_by, freed_in, most_released, GoesOn, Acts, Saves, phase_of, InOrderFrom}
 use Rattle.node.proofs.Logs.{leading-bound}
+use Rattle.node.proofs.Goes.{goes-act, goes-then}
 use Rattle.node.proofs.Puts.{stands-takes}
 use Rattle.node.proofs.StandsLemmas.{stands-staged}
-use Rattle.node.proofs.Steps.{acts-self, acts-then, goes-then, owes-at, by-if}
+use Rattle.node.proofs.Steps.{acts-self, acts-then, owes-at, by-if}
 use Rattle.node.proofs.Numbers.{InOrderFrom-same, InOrderFrom-joined}
 use Rattle.node.proofs.Arrivals.{counted, says-covered}
 use Rattle.node.proofs.Records.{sent-size}
@@ -42,12 +43,8 @@ freezes n = by-if (Acts n) (may_freeze n) (record n { frozen = true }) n (λ e. 
   where
     here : (not n.frozen ≡ true) × (is_none n.working ≡ true) → Acts n (record n { frozen = true })
     here t c s u =
-        record {
-          acts = Freezes n.me ∷ [];
-          run = ((s.inside, stands-takes n c n.me (off n.frozen t.0) s, s.phase ∙ idle n.working t.1), tt);
-          by = (refl, tt);
-          stands = stands-staged n c n.me s (at-itself n.me (λ b. (if b then Frozen else c.stage n.me) ≡ Frozen) refl) s.phase s.works;
-        }
+        goes-act true n.me (λ d. Stands (record n { frozen = true }) d n.me) c (Freezes n.me) (s.inside, stands-takes n c n.me (off n.frozen t.0) s, s.phase ∙ idle n.working t.1) tt refl
+        (stands-staged n c n.me s (at-itself n.me (λ b. (if b then Frozen else c.stage n.me) ≡ Frozen) refl) s.phase s.works)
 
 -- ---- what was received is counted
 
@@ -177,33 +174,32 @@ module _ (n : TheNode) (c : Cluster) (s : Stands n c n.me) (wait : n.frozen ≡ 
   may-keep : May c (Keeps n.me)
   may-keep = (s.inside, waits-there)
 
-  goes-thawed : GoesOn n.me (thawed n) kept
-  goes-thawed =
+  stands-thawed : Stands (thawed n) c' n.me
+  stands-thawed =
       record {
-        acts = Thaws n.me ∷ [];
-        run = (may-thaw, tt);
-        by = (refl, tt);
-        stands = record {
-          me = refl;
-          count = s.count;
-          inside = s.inside;
-          stage = at-itself n.me (λ b. (if b then Live else c.stage n.me) ≡ Live) refl;
-          greeted = s.greeted;
-          phase = s.phase;
-          works = s.works;
-          life = s.life;
-          state = s.state;
-          saved = at-itself n.me (λ b. (if b then length h else c.world.saved n.me) ≡ (thawed n).base) many;
-          received = subst (HasReceived n.count (thawed n).base (thawed n).covered (thawed n).receipts h) (sym acknowledged-is) received;
-          waits = none-waits;
-          logs = s.logs;
-          gates = gates;
-          free = λ d. free n.limits.durable d;
-          heard = s.heard;
-          resumed = s.resumed;
-          out = s.out;
-        };
+        me = refl;
+        count = s.count;
+        inside = s.inside;
+        stage = at-itself n.me (λ b. (if b then Live else c.stage n.me) ≡ Live) refl;
+        greeted = s.greeted;
+        phase = s.phase;
+        works = s.works;
+        life = s.life;
+        state = s.state;
+        durable = s.durable;
+        saved = at-itself n.me (λ b. (if b then length h else c.world.saved n.me) ≡ (thawed n).base) many;
+        received = subst (HasReceived n.count (thawed n).base (thawed n).covered (thawed n).receipts h) (sym acknowledged-is) received;
+        waits = none-waits;
+        logs = s.logs;
+        gates = gates;
+        free = λ d. free n.limits.durable d;
+        heard = s.heard;
+        resumed = s.resumed;
+        out = s.out;
       }
+
+  goes-thawed : GoesOn n.me (thawed n) kept
+  goes-thawed = goes-act true n.me (λ d. Stands (thawed n) d n.me) kept (Thaws n.me) may-thaw tt refl stands-thawed
 
 -- ---- the peers are told
 
@@ -244,6 +240,6 @@ saves n w = (stays_so, here)
         let thaw : GoesOn n.me (thawed n) kept = goes-thawed n c s e w.wide in (
           may-keep n c s e w.wide,
           by-if (λ x. GoesOn n.me x kept) n.frozen (thaws n) n
-              (λ f. goes-then n.me (thawed n) (thaws n) kept thaw (λ d t. owes-at (λ z. Unit {0}) (thawed n) (thaws n) d n.me behind t tt))
+              (λ f. goes-then true n.me (λ d. Stands (thawed n) d n.me) (λ d. Stands (thaws n) d n.me) kept thaw (λ d t. owes-at (λ z. Unit {0}) (thawed n) (thaws n) d n.me behind t tt))
               (λ f. absurd (cc (e, f))),
         )

@@ -1,10 +1,10 @@
 -- What is kept of a new node is what the opening's checkpoint covers
-use Rattle.std.proofs.Common.{◌≡◌, ℕ, zero, suc, ◌+◌, ◌≤◌, List, length, true, refl, sym, subst, arith}
+use Rattle.std.proofs.Common.{◌≡◌, ℕ, zero, suc, ◌+◌, ◌≤◌, List, length, Bool, true, false, refl, sym, subst, arith}
 use Rattle.std.specs.Prelude.{replicate, sum, slice_index_or, if◌then◌else◌}
 use Rattle.std.proofs.lemmas.List.{length-replicate}
 use Rattle.theorems.proofs.Changes.{at-itself}
 use Rattle.world.specs.Handlers.{Handlers}
-use Rattle.cluster.specs.Cluster.{Cluster, Live, Frozen, opening}
+use Rattle.cluster.specs.Cluster.{Cluster, Live, Frozen, opening, durable_opening}
 use Rattle.cluster.specs.Rules.{Freezes, Keeps, does}
 use Rattle.node.specs.declared.limit.Limits.{Limits}
 use Rattle.node.specs.Limit.{AreAllowed}
@@ -70,7 +70,7 @@ module _ (limits : Limits) (me count : ℕ) (state : List ℕ) (allowed : AreAll
     waits = does c (Freezes me)
 
     stands : Stands n c me
-    stands = stands-opened limits me count state f some low begins
+    stands = stands-opened limits me count state some low f (λ _. false) (λ e. absurd (cc (e))) begins
 
     stands-resting : Stands (resting n) waits me
     stands-resting =
@@ -85,6 +85,7 @@ module _ (limits : Limits) (me count : ℕ) (state : List ℕ) (allowed : AreAll
           life = refl;
           state = stands.state;
           saved = refl;
+          durable = stands.durable;
           received = stands.received;
           waits = stands.waits;
           logs = stands.logs;
@@ -95,9 +96,10 @@ module _ (limits : Limits) (me count : ℕ) (state : List ℕ) (allowed : AreAll
           out = tt;
         }
 
-    pub kept-opened : IsKeptOf (kept_of n) c me
-    kept-opened =
-        kept-still (kept_of n) (does waits (Keeps me)) c me
+    -- whichever nodes are durable
+    pub kept-opened : (durable : ℕ → Bool) → IsKeptOf (kept_of n) (durable_opening count f durable) me
+    kept-opened durable =
+        kept-still (kept_of n) (does waits (Keeps me)) (durable_opening count f durable) me
         (record {
           count = refl;
           handlers = refl;

@@ -1,10 +1,11 @@
 -- A node puts a packet out
-use Rattle.std.proofs.Common.{◌≡◌, ◌≢◌, inl, inr, ℕ, ◌≤◌, [], ◌∷◌, Bool, true, false, refl, sym, ap, ◌∙◌, arith}
+use Rattle.std.proofs.Common.{◌≡◌, ◌≢◌, inl, inr, ℕ, ◌≤◌, ◌∷◌, Bool, true, false, refl, sym, ap, ◌∙◌, arith}
 use Rattle.std.specs.Prelude.{Option, Some, None}
 use Rattle.world.specs.Phases.{is_up}
 use Rattle.cluster.specs.Parcels.{Body, parcel, In}
 use Rattle.cluster.specs.Cluster.{Cluster, runs, is_well, takes}
 use Rattle.cluster.specs.Rules.{Act, Puts, May, MayPut, does}
+use Rattle.cluster.specs.Overlap.{Acts, IsKept}
 use Rattle.node.specs.declared.job.OpenJob.{OpenJob}
 use Rattle.packets.specs.declared.packet.Body as bodies
 use Rattle.packets.specs.declared.packet.NodePacket.{NodePacket}
@@ -12,6 +13,7 @@ use Rattle.node.specs.Node.{TheNode, posts, packet_of}
 use Rattle.packets.specs.Says.{Says}
 use Rattle.node.specs.Stands.{Stands, GoesOn, PutOut, phase_of, stage_of, own_act}
 use Rattle.node.proofs.Lists.{all-more, all-pushed}
+use Rattle.node.proofs.Goes.{goes-self, goes-act}
 use Rattle.node.proofs.StandsLemmas.{stands-with}
 
 up-with : (o : Option OpenJob) → is_up (phase_of o) ≡ true
@@ -45,20 +47,15 @@ stands-posted n c p to x b says s =
     (record { count_is = s.count; from = s.me; said = (b, says, inl refl) }))
 
 -- to put out what the cluster lets it
-pub posted : (n : TheNode) (c : Cluster) (to : ℕ) (x : bodies.Body) (b : Body) → Says n.me x b → Stands n c n.me → to ≤ n.count → to ≢ n.me → MayPut c n.me to b → GoesOn n.me (posts to x n) c
-posted n c to x b says s low other may =
+pub posted : (n : TheNode) (c : Cluster) (to : ℕ) (x : bodies.Body) (b : Body) → Says n.me x b → Stands n c n.me → to ≤ n.count → to ≢ n.me → MayPut c n.me to b → IsKept c.durable c (Puts n.me to b) → GoesOn n.me (posts to x n) c
+posted n c to x b says s low other may kept =
     let within : to ≤ c.world.count = omega (arith, low, s.count) in
-    record {
-      acts = Puts n.me to b ∷ [];
-      run = ((s.inside.1, within, (λ e. other (sym e)), may), tt);
-      by = (refl, tt);
-      stands = stands-posted n c n.me to x b says s;
-    }
+    goes-act true n.me (λ d. Stands (posts to x n) d n.me) c (Puts n.me to b) (s.inside.1, within, (λ e. other (sym e)), may) kept refl (stands-posted n c n.me to x b says s)
 
 -- to do nothing
 pub stays : (n : TheNode) (c : Cluster) → Stands n c n.me → GoesOn n.me n c
-stays n c s = record { acts = []; run = tt; by = tt; stands = s }
+stays n c s = goes-self true n.me (λ d. Stands n d n.me) c s
 
 -- after one more act
-pub goes-on : (p : ℕ) (n : TheNode) (c : Cluster) (a : Act) → May c a → own_act a ≡ Some p → GoesOn p n (does c a) → GoesOn p n c
-goes-on p n c a may by g = record { acts = a ∷ g.acts; run = (may, g.run); by = (by, g.by); stands = g.stands }
+pub goes-on : (p : ℕ) (n : TheNode) (c : Cluster) (a : Act) → May c a → IsKept c.durable c a → own_act a ≡ Some p → GoesOn p n (does c a) → GoesOn p n c
+goes-on p n c a may kept by g = record { events = Acts true a ∷ g.events; run = ((may, kept), g.run); by = (by, g.by); acts = λ t. (tt, g.acts t); stands = g.stands }

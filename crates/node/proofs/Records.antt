@@ -1,5 +1,5 @@
 -- A number comes
-use Rattle.std.proofs.Common.{◌≡◌, ◌≢◌, inl, inr, ℕ, suc, ◌+◌, ◌-◌, ◌<◌, ◌≤◌, List, [], ◌∷◌, length, take, Bool, true, false, refl, sym, ap, ◌∙◌, subst, arith}
+use Rattle.std.proofs.Common.{◌≡◌, ◌≢◌, inl, inr, ℕ, suc, ◌+◌, ◌-◌, ◌<◌, ◌≤◌, List, length, take, Bool, true, false, refl, sym, ap, ◌∙◌, subst, arith}
 use Rattle.std.specs.Prelude.{Option, Some, None, slice_index_or, slice_set, ◌&&◌, ◌==◌, nat_lt, nat_le, if◌then◌else◌}
 use Rattle.std.proofs.lemmas.Bool.Decides.{nat_tests}
 use Rattle.std.proofs.lemmas.List.{get_or-set_same, get_or-set_other, length-set, take_all, length-append}
@@ -19,6 +19,7 @@ use Rattle.node.specs.Node.{TheNode, posts, packet_of, log_at, numbered}
 use Rattle.node.specs.Stands.{Stands, KeepsOf, IsShut, sent_by, most_released, GoesOn, Receives, PutOut}
 use Rattle.node.proofs.Logs.{changed-at}
 use Rattle.node.proofs.Lists.{all-more, all-pushed}
+use Rattle.node.proofs.Goes.{goes-act}
 use Rattle.node.proofs.Puts.{stands-takes, is-up, put-still}
 use Rattle.node.proofs.StandsLemmas.{stands-with}
 
@@ -121,7 +122,7 @@ module _ (n : TheNode) (c : Cluster) (r i ssn k : ℕ) (s : Stands n c n.me) (lo
       (record { count_is = s.count; from = refl; said = (Acknowledgement i k, refl, inl refl) }))
 
   goes-recorded : GoesOn n.me (posts r (packets.Acknowledgement i k) (numbered r ssn k n)) c
-  goes-recorded = record { acts = act ∷ []; run = (may, tt); by = (refl, tt); stands = stands-recorded }
+  goes-recorded = goes-act true n.me (λ d. Stands (posts r (packets.Acknowledgement i k) (numbered r ssn k n)) d n.me) c act may tt refl stands-recorded
 
 -- a number for a message that is still logged is noted, and its acknowledgement is put out
 pub says-acknowledgement : (n : TheNode) (r i ssn k : ℕ) → n.frozen ≡ false → r ≤ n.count → r ≢ n.me → i ≡ slice_index_or n.heard r 0 → r < length n.logs → is_kept ssn (log_at n.logs r) ≡ true

@@ -20,8 +20,9 @@ use Rattle.rsn.specs.Receipts.{numbers_of}
 use Rattle.node.specs.Pages.{entries_in, told_of, told_page, told_all, pairs_above, most_pairs, restored_all, restored_of}
 use Rattle.node.specs.Answers.{heard_of, hears, asked_by, works_for, obeys, resumed_by}
 use Rattle.packets.specs.Says.{told_end, restored_end}
-use Rattle.node.specs.Stands.{KeepsOf, IsShut, sent_by, most_released, Receives, Acts, phase_of, job_of}
+use Rattle.node.specs.Stands.{Stands, KeepsOf, IsShut, sent_by, most_released, Receives, Acts, phase_of, job_of}
 use Rattle.node.proofs.Logs.{changed-at}
+use Rattle.node.proofs.Goes.{goes-act}
 use Rattle.node.proofs.Puts.{stands-takes, stands-well, posted, stays}
 use Rattle.node.proofs.StandsLemmas.{stands-with}
 use Rattle.node.proofs.Steps.{owes-then, by-if}
@@ -55,25 +56,21 @@ telling n d i k low other heard c s u =
     posted n c d (told_of d i k n) (Told i n.life k end (entry_of c n.me d))
     (entry_of c n.me d, refl, lost-is (told_all d k n) n.exact, λ m above reach. log-told n c d s within other k m above ∙ page-told n.limits.page n.me k m n.exact all above (ordered n d k) reach)
     s low other
-    (stands-well n c n.me s, sym (s.heard d within ∙ heard), sym s.life, λ v e. page-goes n.limits.page k v n.exact all (ordered n d k) e, λ m above reach. refl)
+    (stands-well n c n.me s, sym (s.heard d within ∙ heard), sym s.life, λ v e. page-goes n.limits.page k v n.exact all (ordered n d k) e, λ m above reach. refl) tt
 
 -- it hears of a newer incarnation
 hearing : (n : TheNode) (d i k : ℕ) → n.frozen ≡ false → d ≤ n.count → d < length n.heard → d < length n.resumed → heard_of d n < i
     → Receives d (Ask i k) n (record n { heard = slice_set n.heard d i; resumed = slice_set n.resumed d false })
 hearing n d i k live low wide broad newer c s given =
     let within : d ≤ c.world.count = omega (arith, low, s.count) in
-    record {
-      acts = Arrives d n.me (Ask i k) ∷ [];
-      run = ((given, (omega (arith, s.heard d within, newer), inl (stands-takes n c n.me live s))), tt);
-      by = (refl, tt);
-      stands =
-          stands-with n c n.me s s.logs s.gates
-          (λ q l. at-itself n.me (λ t. (if t && (q == d) then i else c.heard n.me q) ≡ slice_index_or (slice_set n.heard d i) q 0)
-          (ap (λ z. if q == d then i else z) (s.heard q l) ∙ set-at n.heard d i 0 q wide))
-          (λ q l. at-itself n.me (λ t. (if t && (q == d) then false else c.resumed n.me q) ≡ slice_index_or (slice_set n.resumed d false) q true)
-          (ap (λ z. if q == d then false else z) (s.resumed q l) ∙ set-at n.resumed d false true q broad))
-          s.out;
-    }
+    goes-act true n.me (λ e. Stands (record n { heard = slice_set n.heard d i; resumed = slice_set n.resumed d false }) e n.me) c (Arrives d n.me (Ask i k))
+    (given, (omega (arith, s.heard d within, newer), inl (stands-takes n c n.me live s))) tt refl
+    (stands-with n c n.me s s.logs s.gates
+    (λ q l. at-itself n.me (λ t. (if t && (q == d) then i else c.heard n.me q) ≡ slice_index_or (slice_set n.heard d i) q 0)
+    (ap (λ z. if q == d then i else z) (s.heard q l) ∙ set-at n.heard d i 0 q wide))
+    (λ q l. at-itself n.me (λ t. (if t && (q == d) then false else c.resumed n.me q) ≡ slice_index_or (slice_set n.resumed d false) q true)
+    (ap (λ z. if q == d then false else z) (s.resumed q l) ∙ set-at n.resumed d false true q broad))
+    s.out)
 
 -- an Ask comes
 pub asks : (n : TheNode) (from i k : ℕ) → Within n → n.frozen ≡ false → from ≤ n.count → from ≢ n.me → Receives from (Ask i k) n (asked_by from i k n)
@@ -127,7 +124,7 @@ restoring n d i a low other heard obeyed free some c s u =
       covers n c n.me d s low s.inside.0,
       λ v e. pairs-go (most_pairs n.limits.page) some n.base covered a n.exact ks v e,
       λ ssn above reach. refl,
-    )
+    ) tt
 
 get-map : {X Y : Type 0} (f : X → Y) (xs : List X) (i : ℕ) (d : X) → slice_index_or (map f xs) i (f d) ≡ f (slice_index_or xs i d)
 get-map f [] i d = refl
@@ -151,16 +148,12 @@ kept-forgotten q dropped xs numbers k s =
 obeying : (n : TheNode) (d i k a : ℕ) → n.frozen ≡ false → d ≤ n.count → d ≢ n.me → d < length n.logs → d < length n.resumed → heard_of d n ≡ i → slice_index_or n.resumed d true ≡ false → works_for d n.working ≡ false
     → Receives d (Resume i k a) n (record n { logs = slice_set n.logs d (forgotten_above k (log_at n.logs d)); resumed = slice_set n.resumed d true })
 obeying n d i k a live low other wide broad heard fresh free c s given =
-    record {
-      acts = Arrives d n.me (Resume i k a) ∷ [];
-      run = ((given, (stands-takes n c n.me live s, sym (s.heard d within ∙ heard), s.resumed d within ∙ fresh, λ m e. no-job n.working d m free (sym s.phase ∙ e))), tt);
-      by = (refl, tt);
-      stands =
-          stands-with n c n.me s logs gates s.heard
-          (λ q l. at-itself n.me (λ t. (if t && (q == d) then true else c.resumed n.me q) ≡ slice_index_or (slice_set n.resumed d true) q true)
-          (ap (λ z. if q == d then true else z) (s.resumed q l) ∙ set-at n.resumed d true true q broad))
-          s.out;
-    }
+    goes-act true n.me (λ e. Stands (record n { logs = slice_set n.logs d (forgotten_above k (log_at n.logs d)); resumed = slice_set n.resumed d true }) e n.me) c (Arrives d n.me (Resume i k a))
+    (given, (stands-takes n c n.me live s, sym (s.heard d within ∙ heard), s.resumed d within ∙ fresh, λ m e. no-job n.working d m free (sym s.phase ∙ e))) tt refl
+    (stands-with n c n.me s logs gates s.heard
+    (λ q l. at-itself n.me (λ t. (if t && (q == d) then true else c.resumed n.me q) ≡ slice_index_or (slice_set n.resumed d true) q true)
+    (ap (λ z. if q == d then true else z) (s.resumed q l) ∙ set-at n.resumed d true true q broad))
+    s.out)
   where
     within : d ≤ c.world.count
     within = omega (arith, low, s.count)

@@ -208,7 +208,7 @@ pub calls-run : CallsRun
 calls-run f n limits states calls few m =
     let g : Handlers = handlers_of f states in
     let s : System = new_system n limits states g in
-    let begins : Holds g s (opening n g) = record { stand = λ p some low. stands-opened (limits p) p n (states p) g some low (record { state_is = refl; sends_are = λ d. refl }); outside = outside-self (opening n g); given = tt; handlers = refl } in
+    let begins : Holds g s (opening n g) = record { stand = λ p some low. stands-opened (limits p) p n (states p) some low g (λ _. false) (λ e. absurd (cc (e))) (record { state_is = refl; sends_are = λ d. refl }); outside = outside-self (opening n g); given = tt; handlers = refl } in
     let all = calls-go f states s (opening n g) calls begins m in
     let keeps = nodes-keep n g all.acts few (grows f states) all.run in
     record {

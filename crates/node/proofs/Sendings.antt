@@ -11,6 +11,7 @@ use Rattle.theorems.proofs.RunLemmas.{run_to-is, run_to-most}
 use Rattle.theorems.proofs.Tests.{different}
 use Rattle.cluster.specs.Parcels.{Delivery}
 use Rattle.cluster.specs.Cluster.{Cluster}
+use Rattle.cluster.specs.Overlap.{kept_sends}
 use Rattle.packets.specs.declared.packet.Body.TheVariants as packets
 use Rattle.node.specs.Queue.{TheQueue, payload_of, number_of, leading, released_by}
 use Rattle.node.specs.Node.{TheNode, log_at, tells, covered_of}
@@ -18,6 +19,7 @@ use Rattle.node.specs.Transmission.{delivers, sends, first_to_send, many_to_send
 use Rattle.node.specs.Stands.{Stands, KeepsOf, IsShut, sent_by, freed_in, most_released, Acts}
 use Rattle.packets.proofs.Lists.{get-behind, get-some}
 use Rattle.node.proofs.Logs.{changed-at, leading-bound, leading-split, leading-none}
+use Rattle.node.proofs.Goes.{goes-self}
 use Rattle.node.proofs.Puts.{stands-well, posted}
 use Rattle.node.proofs.StandsLemmas.{stands-with}
 use Rattle.node.proofs.Arrivals.{tells-number}
@@ -124,7 +126,7 @@ shut-released q run n released sent within free s =
     split k l false e = let earlier : k ≤ run = grind (arith, nat_tests) in omega (arith, leading-none run k q.held earlier, s.waits run within, free)
 
 unlocks : (n : TheNode) (to : ℕ) → to < length n.logs → Acts n (unlocked to n)
-unlocks n to wide c s u = record { acts = []; run = tt; by = tt; stands = stands-with n c n.me s logs gates s.heard s.resumed s.out }
+unlocks n to wide c s u = goes-self true n.me (λ d. Stands (unlocked to n) d n.me) c (stands-with n c n.me s logs gates s.heard s.resumed s.out)
   where
     logs : (d : ℕ) → d ≤ c.world.count → d ≢ n.me → KeepsOf (log_at (unlocked to n).logs d) (c.world.trims n.me d) (c.world.handlers.sends n.me (c.world.history n.me) d) (c.world.numbers n.me d)
     logs d l o = changed-at (λ q. KeepsOf q (c.world.trims n.me d) (c.world.handlers.sends n.me (c.world.history n.me) d) (c.world.numbers n.me d)) n.logs to (released_by (freed n) (log_at n.logs to)) d wide
@@ -145,16 +147,23 @@ unlocks n to wide c s u = record { acts = []; run = tt; by = tt; stands = stands
 -- a message that is kept and released
 pub delivery : (n : TheNode) (to ssn : ℕ) → to ≤ n.count → to ≢ n.me → (log_at n.logs to).dropped < ssn → ssn ≤ (log_at n.logs to).released → Acts n (delivers to ssn n)
 delivery n to ssn low other above free c s u =
-    posted n c to (packets.Delivery n.life ssn (payload_of ssn (log_at n.logs to))) (Delivery n.life ssn (payload_of ssn (log_at n.logs to))) refl s low other (stands-well n c n.me s, sym s.life, out, kept, said)
+    posted n c to (packets.Delivery n.life ssn (payload_of ssn (log_at n.logs to))) (Delivery n.life ssn (payload_of ssn (log_at n.logs to))) refl s low other (stands-well n c n.me s, sym s.life, out, kept, said) stable
   where
     within : to ≤ c.world.count
     within = omega (arith, low, s.count)
 
+    inner : (n.me == 0) ≡ false
+    inner = let z : 0 < n.me = s.inside.0 in grind (arith, nat_tests)
+
+    most : ssn ≤ most_released n.limits.durable c n.me to
+    most = let w = (s.gates to within other).waits (freed_in n.limits.durable c n.me) (freed-within n c n.me s) in omega (arith, w, freed-most n c n.me to s, free)
+
     out : ssn ≤ released_of c.world n.me to
-    out =
-        let inner : (n.me == 0) ≡ false = (let z : 0 < n.me = s.inside.0 in grind (arith, nat_tests)) in
-        let w = (s.gates to within other).waits (freed_in n.limits.durable c n.me) (freed-within n c n.me s) in
-        rw inner (omega (arith, w, freed-most n c n.me to s, most-in n c n.me to s, free))
+    out = rw inner (omega (arith, most, most-in n c n.me to s))
+
+    -- a durable node has released only what its checkpoint covers
+    stable : c.durable n.me ≡ true → ssn ≤ length (kept_sends c n.me to)
+    stable e = rw inner (subst (λ (b : Bool). ssn ≤ most_released b c n.me to) (s.durable e) most)
 
     kept : c.world.trims n.me to < ssn
     kept = let k = s.logs to within other in omega (arith, above, k.dropped_is)

@@ -14,7 +14,7 @@ use Rattle.node.specs.Stands.{Each, PutOut, HasReceived, KeepsOf, IsShut, IsNext
 
 -- with other limits and receipts too, of which more are acknowledged and more is released
 pub stands-anew : (n : TheNode) (c : Cluster) (p : ℕ) {limits : Limits} {receipts : Received} {left : ℕ} {queues : List TheQueue} {hears : List ℕ} {obeyed : List Bool} {packets : List NodePacket} {acknowledged : ℕ → ℕ → Bool} {released : ℕ → ℕ → ℕ}
-    {trims : ℕ → ℕ → ℕ} {numbers : ℕ → ℕ → ℕ → Option ℕ} {heard : ℕ → ℕ → ℕ} {resumed : ℕ → ℕ → Bool} {told : ℕ → ℕ → Option Collected} {parcels : List Parcel} → Stands n c p
+    {trims : ℕ → ℕ → ℕ} {numbers : ℕ → ℕ → ℕ → Option ℕ} {heard : ℕ → ℕ → ℕ} {resumed : ℕ → ℕ → Bool} {told : ℕ → ℕ → Option Collected} {parcels : List Parcel} → Stands n c p → (c.durable p ≡ true → limits.durable ≡ true)
     → HasReceived n.count n.base n.covered receipts (c.world.history p) (acknowledged p)
     → waiting (record c { world = record c.world { acknowledged = acknowledged } }) p ≡ left
     → ((d : ℕ) → d ≤ c.world.count → d ≢ p → KeepsOf (log_at queues d) (trims p d) (c.world.handlers.sends p (c.world.history p) d) (numbers p d))
@@ -25,8 +25,8 @@ pub stands-anew : (n : TheNode) (c : Cluster) (p : ℕ) {limits : Limits} {recei
     → Each (PutOut c.world.count parcels p) packets
     → Stands (record n { limits = limits; receipts = receipts; waiting = left; logs = queues; heard = hears; resumed = obeyed; out = packets })
     (record c { heard = heard; resumed = resumed; told = told; parcels = parcels; world = record c.world { acknowledged = acknowledged; released = released; trims = trims; numbers = numbers } }) p
-stands-anew n c p s received waits logs gates free hears obeyed out =
-    record { me = s.me; count = s.count; inside = s.inside; stage = s.stage; greeted = s.greeted; phase = s.phase; works = s.works; life = s.life; state = s.state; saved = s.saved; received = received; waits = waits; logs = logs; gates = gates; free = free; heard = hears; resumed = obeyed; out = out }
+stands-anew n c p s durable received waits logs gates free hears obeyed out =
+    record { me = s.me; count = s.count; inside = s.inside; stage = s.stage; greeted = s.greeted; phase = s.phase; works = s.works; life = s.life; state = s.state; saved = s.saved; durable = durable; received = received; waits = waits; logs = logs; gates = gates; free = free; heard = hears; resumed = obeyed; out = out }
 
 -- with other logs, other marks of its peers and other packets, in a cluster that has them too
 pub stands-with : (n : TheNode) (c : Cluster) (p : ℕ) {queues : List TheQueue} {hears : List ℕ} {obeyed : List Bool} {packets : List NodePacket}
@@ -37,11 +37,11 @@ pub stands-with : (n : TheNode) (c : Cluster) (p : ℕ) {queues : List TheQueue}
     → ((q : ℕ) → q ≤ c.world.count → resumed p q ≡ slice_index_or obeyed q true)
     → Each (PutOut c.world.count parcels p) packets
     → Stands (record n { logs = queues; heard = hears; resumed = obeyed; out = packets }) (record c { heard = heard; resumed = resumed; told = told; parcels = parcels; world = record c.world { trims = trims; numbers = numbers } }) p
-stands-with n c p s logs gates hears obeyed out = stands-anew n c p s s.received s.waits logs gates s.free hears obeyed out
+stands-with n c p s logs gates hears obeyed out = stands-anew n c p s s.durable s.received s.waits logs gates s.free hears obeyed out
 
 -- with another job, or waiting for its checkpoint, in a cluster that says so too
 pub stands-staged : (n : TheNode) (c : Cluster) (p : ℕ) {waits : Bool} {job : Option OpenJob} {stage : ℕ → Stage} {phase : ℕ → Phase} → Stands n c p
     → stage p ≡ stage_of waits → phase p ≡ phase_of job → IsNextAfter (c.world.history p) job
     → Stands (record n { frozen = waits; working = job }) (record c { stage = stage; world = record c.world { phase = phase } }) p
 stands-staged n c p s staged phased works =
-    record { me = s.me; count = s.count; inside = s.inside; stage = staged; greeted = s.greeted; phase = phased; works = works; life = s.life; state = s.state; saved = s.saved; received = s.received; waits = s.waits; logs = s.logs; gates = s.gates; free = s.free; heard = s.heard; resumed = s.resumed; out = s.out }
+    record { me = s.me; count = s.count; inside = s.inside; stage = staged; greeted = s.greeted; phase = phased; works = works; life = s.life; state = s.state; saved = s.saved; durable = s.durable; received = s.received; waits = s.waits; logs = s.logs; gates = s.gates; free = s.free; heard = s.heard; resumed = s.resumed; out = s.out }

@@ -123,10 +123,10 @@ module _ (n : TheNode) (c : Cluster) (p : ℕ) (can : CanSuspend n) (s : Stands 
       let most : many d ≤ most_released durable c p d = most-is durable d in
       record { within = within; waits = λ i l. (let z : leading i q.held ≡ 0 = ap (leading i) none in omega (arith, few, most, z)) }
 
-  stands-again : (limits : Limits) → Stands (woken limits n) c p
-  stands-again limits =
-      stands-anew n c p s s.received s.waits s.logs (shut-again limits.durable)
+  stands-again : (limits : Limits) → (c.durable p ≡ true → limits.durable ≡ true) → Stands (woken limits n) c p
+  stands-again limits durable =
+      stands-anew n c p s durable s.received s.waits s.logs (shut-again limits.durable)
       (λ d. let e : sent_by c.world.handlers p h d (freed_in limits.durable c p) ≡ many d = freed-sends limits.durable d in let l : many d ≤ c.world.released p d = all-out d in omega (arith, e, l)) s.heard s.resumed tt
 
 pub woken-stands : WokenStands
-woken-stands n limits c p can s = stands-again n c p can s limits
+woken-stands n limits c p durable can s = stands-again n c p can s limits durable

@@ -5,7 +5,7 @@ ghost use Rattle.node.specs.Kept.{KeptStays};
 ghost use Rattle.node.specs.Runs.{CallsRun};
 ghost use Rattle.node.specs.Suspension.{WokenStands};
 
-/// A node still agrees with the cluster after the acts of another.
+/// A node still agrees with the cluster after the events of another.
 pub fn others_stand()
     ensures { OthersStand }
 {}
@@ -30,7 +30,8 @@ pub fn calls_run()
 {}
 
 /// A node that was suspended and is resumed, whatever limits it is given, agrees with each cluster
-/// with which it agreed. So a resume is no act of the cluster, and needs no answer of a peer.
+/// with which it agreed, if it is durable by its limits where it is so there. So a resume is no act
+/// of the cluster, and needs no answer of a peer.
 pub fn woken_stands()
     ensures { WokenStands }
 {}

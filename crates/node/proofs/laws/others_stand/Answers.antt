@@ -1,5 +1,5 @@
-use Rattle.node.proofs.Beside.{stands-still}
+use Rattle.node.proofs.Beside.{stands-after}
 use Rattle.node.proofs.laws.others_stand.Goals as goal
 
 pub returns : goal.returns
-returns c = stands-still
+returns c = stands-after
