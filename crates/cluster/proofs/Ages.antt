@@ -1,12 +1,13 @@
 -- What the way back of nodes rests on, along each run of the whole rules: which of two lives began later
-use Rattle.std.proofs.Common.{◌≡◌, ◌≢◌, inl, inr, ℕ, ◌<◌, ◌≤◌, length, Bool, true, false, refl, sym, ap, ◌∙◌, arith}
+use Rattle.std.proofs.Common.{◌≡◌, ◌≢◌, inl, inr, ℕ, ◌<◌, ◌≤◌, length, Bool, true, false, refl, sym, ap, ◌∙◌, subst, arith}
 use Rattle.std.specs.Prelude.{◌⊎◌, [], ◌∷◌, Option, Some, None}
 use Rattle.world.specs.declared.message.Message.{Message}
-use Rattle.world.specs.Phases.{Phase, Up, Down, Replaying, Resync}
+use Rattle.world.specs.Phases.{Phase, Up, Down, Replaying, Resync, is_up}
 use Rattle.cluster.specs.Parcels.{Body, Ask, Told, Restored, parcel, In, reaches}
 use Rattle.cluster.specs.Cluster.{Stage, Live, Dead, Collecting, Collected, Cluster, runs, is_well}
 use Rattle.cluster.specs.Rules.{IsNode}
 use Rattle.cluster.specs.Exact.{Telling, Flagged, Said}
+use Rattle.cluster.proofs.Facts.{is-well, true-not-false}
 use Rattle.cluster.proofs.Sane.{Low, Todo}
 
 -- a phase that a node is in
@@ -39,6 +40,12 @@ Plain c =
       ends : (p q : ℕ) → IsEnding (c.told p q);
       own : (p : ℕ) → c.told p p ≡ None;
     }
+
+-- the gateway is up
+pub un-gate : (c : Cluster) → Plain c → (p : ℕ) → is_well c p ≡ false → 0 ≢ p
+un-gate c h p w e =
+    let P : ℕ → Type 0 = λ i. is_well c i ≡ false in
+    true-not-false (is-well c 0 (ap runs h.gateway.0) h.gateway.1 (ap is_up h.gateway.2)) (subst P (sym e) w)
 
 -- where none is opened: incarnations stay, more was heard, those that were up are so or dead, and the dead are
 abbrev pub On : Cluster → Cluster → Type 0

@@ -1,5 +1,5 @@
 -- Nodes that collect are told by all, also by those that come back themselves, and recover
-use Rattle.std.proofs.Common.{◌≡◌, ◌≢◌, inl, inr, ℕ, zero, suc, ◌<◌, ◌≤◌, [], Bool, true, false, refl, sym, ap, ◌∙◌, subst, arith}
+use Rattle.std.proofs.Common.{◌≡◌, ◌≢◌, inl, inr, ℕ, ◌≤◌, [], Bool, true, false, refl, sym, ap, ◌∙◌, subst, arith}
 use Rattle.std.specs.Prelude.{◌⊎◌, Option, Some, None, ◌&&◌, ◌==◌, nat_lt, if◌then◌else◌}
 use Rattle.std.proofs.lemmas.Bool.Decides.{nat_tests}
 use Rattle.world.specs.declared.message.Message.{Message}
@@ -12,6 +12,7 @@ use Rattle.cluster.specs.Rules.{Puts, Arrives, IsNode, Asks, IsAll, entry_of, wi
 use Rattle.cluster.proofs.Facts.{true-not-false, unphased}
 use Rattle.cluster.specs.Overlap.{Event, Acts, Meets, Loses, Lacks, restores_anew, goes}
 use Rattle.cluster.specs.Exact.{flagged, Said, Telling, MayStep, step}
+use Rattle.cluster.proofs.Ages.{un-gate}
 use Rattle.cluster.proofs.DurableTurns.{put2-same}
 use Rattle.cluster.proofs.Births.{Orderly, orderly-step}
 use Rattle.cluster.proofs.WakeUps.{AllBut, Goes, two-down, go-first, go-last, go-on, AllReady}
@@ -117,7 +118,7 @@ module _ (p q : ℕ) (ne : q ≢ p) where
             let is : j ≡ s.cluster.stored q = elim back [ inl v ↦ v.1 ∙ h.2.plain.settled q (ap runs v.0.0) | inr v ↦ v.1 ] in
             let none : (r : ℕ) → AllBut r s.cluster → ⊥ = λ r o. two-down s.cluster p q r ne node.1 a (rw coll refl) un o in
             let m : MayStep s (Loses q p (s.cluster.stored p) j k) = ((there, sym e, back), tt) in
-            let t : MayStep (step s (Loses q p (s.cluster.stored p) j k)) (Lacks q p (s.cluster.stored p) j k) = (((some q un, a), ne, (omega arith), (coll, refl, low, asks)), inl refl) in
+            let t : MayStep (step s (Loses q p (s.cluster.stored p) j k)) (Lacks q p (s.cluster.stored p) j k) = (((let n : 0 ≢ q = un-gate s.cluster h.2.plain q un in omega arith, a), ne, (omega arith), (coll, refl, low, asks)), inl refl) in
             let page : Option Collected = Some (with_page (s.cluster.told p q) k None (λ _. None)) in
             let P : Option Collected → Type 0 = λ t. IsAll t in
             go-first s (Answered p q s) (Loses q p (s.cluster.stored p) j k) m (refl, λ r o. absurd (none r o))
@@ -126,10 +127,6 @@ module _ (p q : ℕ) (ne : q ≢ p) where
               subst P (sym (put2-same s.cluster.told p q page)) refl,
               λ r n. put2-column s.cluster.told p q page p r n,
             ))
-          where
-            some : (x : ℕ) → is_well s.cluster x ≡ false → 0 < x
-            some zero w = let g = h.2.plain.gateway in absurd (true-not-false (rw (g.0, g.1, g.2) refl) w)
-            some (suc x) w = omega arith
 
         split : s.cluster.stage q ≡ Live → (b : Bool) → is_well s.cluster q ≡ b → Goes s (Answered p q s)
         split live b f =

@@ -11,13 +11,13 @@ use Rattle.theorems.proofs.Replays.{has-those}
 use Rattle.cluster.specs.Parcels.{Body, Delivery, Ask, Told, Restored, parcel, In}
 use Rattle.cluster.specs.Cluster.{Stage, Live, Frozen, Dead, Collecting, Collected, Cluster, runs, is_well}
 use Rattle.cluster.specs.Rules.{Act, Arrives, Works, Replays, Recovers, Freezes, Keeps, Thaws, Dies, Opens, IsNode, MayTake, May, arrived, does, message, with_page, kept_by, put2}
-use Rattle.cluster.proofs.Facts.{choose2, well-is, is-well, takes-is, true-not-false}
+use Rattle.cluster.proofs.Facts.{choose2, well-is, takes-is, true-not-false}
 use Rattle.cluster.specs.Return.{is_death}
 use Rattle.cluster.proofs.Settings.{does-count}
 use Rattle.cluster.proofs.Growth.{either-way}
 use Rattle.cluster.specs.Overlap.{Event, Acts, Meets, Leaves, Might, restores_anew, goes}
 use Rattle.cluster.proofs.Sane.{Low, those-has, todo-turn, todo-with, peers-nodes, without-less}
-use Rattle.cluster.proofs.Ages.{IsSound, Ends, IsEnding, Plain, On, Fine}
+use Rattle.cluster.proofs.Ages.{IsSound, Ends, IsEnding, Plain, un-gate, On, Fine}
 
 pub put-other : {X : Type 0} (f : ℕ → X) (p : ℕ) (x : X) (q : ℕ) → q ≢ p → put f p x q ≡ f q
 put-other f p x q ne = elsewhere p (λ j b. (if b then x else f j) ≡ f j) (λ j. refl) q ne
@@ -283,12 +283,6 @@ module _ (born : ℕ → ℕ) (c : Cluster) (h : Plain c) (fine : (p d : ℕ) (x
       some [] e = absurd (cc)
       some (r ∷ rs) e = tt
 
-  un-gate : (p : ℕ) → is_well c p ≡ false → 0 ≢ p
-  un-gate p w e =
-      let P : ℕ → Type 0 = λ i. is_well c i ≡ false in
-      let z : is_well c 0 ≡ false = subst P (sym e) w in
-      true-not-false (is-well c 0 (ap runs h.gateway.0) h.gateway.1 (ap is_up h.gateway.2)) z
-
   meets-well : (q : ℕ) (x : Phase) → is_well c q ≡ false → StayUp c (record c { world = record c.world { phase = put c.world.phase q x } })
   meets-well q x un = choose q (λ j b. is_well c j ≡ true → (runs (c.stage j) && (c.greeted j && is_up (if b then x else c.world.phase j))) ≡ true) (λ w. absurd (true-not-false w un)) (λ j _ w. w)
 
@@ -307,7 +301,7 @@ module _ (born : ℕ → ℕ) (c : Cluster) (h : Plain c) (fine : (p d : ℕ) (x
   plain-meets q p i k may =
       let f = fine p q (Ask i k) may.0 in
       let x : Phase = restores_anew c.world.count (c.world.phase q) p in
-      let g = plain-turn c q x (un-gate q may.1.1) (anew-sound (c.world.phase q) p f.1.0 (h.sound q)) (λ r e. elim (anew c.world.count (c.world.phase q) p r e) [ inl z ↦ (let P : ℕ → Type 0 = λ i. IsNode c i × (i ≢ q) in subst P (sym z) (f.1.0, f.0)) | inr t ↦ h.todo q r t ]) h in
+      let g = plain-turn c q x (un-gate c h q may.1.1) (anew-sound (c.world.phase q) p f.1.0 (h.sound q)) (λ r e. elim (anew c.world.count (c.world.phase q) p r e) [ inl z ↦ (let P : ℕ → Type 0 = λ i. IsNode c i × (i ≢ q) in subst P (sym z) (f.1.0, f.0)) | inr t ↦ h.todo q r t ]) h in
       plain-heard (record c { world = record c.world { phase = put c.world.phase q x } }) (put2 c.heard q p i) (low-hears c q p i h.low f.1.1) g
 
   pub plain-leaves : (p q : ℕ) → Might c (Leaves p q) → Plain (goes c (Leaves p q))
