@@ -10,13 +10,13 @@ use Rattle.world.specs.Plan.{first_below, logged_as, message_of}
 use Rattle.theorems.proofs.Changes.{choose}
 use Rattle.cluster.specs.Parcels.{Body, Delivery, Number, Acknowledgement, Ask, Told, Restored, Parcel, parcel, In}
 use Rattle.cluster.specs.Cluster.{Stage, Live, Frozen, Dead, Collecting, Collected, Cluster, runs, is_well}
-use Rattle.cluster.specs.Rules.{Act, Puts, Arrives, Replays, Recovers, Freezes, Thaws, Dies, Opens, IsAll, MayPut, May, does, with_page, put2}
-use Rattle.cluster.proofs.Facts.{choose2, well-is, takes-well, takes-is, true-not-false}
+use Rattle.cluster.specs.Rules.{Act, Puts, Arrives, Replays, Recovers, Freezes, Thaws, Dies, Opens, IsAll, MayPut, MayTake, May, arrived, does, with_page}
+use Rattle.cluster.proofs.Facts.{choose2, well-is, takes-well, takes-is, true-not-false, cut-taken}
 use Rattle.cluster.proofs.Growth.{either-way}
-use Rattle.cluster.specs.Overlap.{Acts, Meets, Loses, Leaves, Might}
+use Rattle.cluster.specs.Overlap.{Acts, Meets, Loses, Lacks, Leaves, Doubts, IsRestored, Might, loss, cut}
 use Rattle.cluster.specs.Exact.{Flagged, flagged, Said, Telling, MayStep, lost_after, said_after, step}
-use Rattle.cluster.proofs.Ages.{On, is_some, at_stage, has_told, Knows, Later, Fine, Real, Aged, known-on, later-on, aged-on}
-use Rattle.cluster.proofs.DurableTurns.{put2-same, is_opening, on-event, plain-event}
+use Rattle.cluster.proofs.Ages.{On, is_some, at_stage, has_told, Knows, Later, Fine, Real, Aged, known-on, later-on, on-self, aged-on}
+use Rattle.cluster.proofs.DurableTurns.{put2-same, is_opening, on-takes, on-act, on-meets, on-leaves, plain-takes, plain-act, plain-meets, plain-leaves}
 
 -- a log has no entry behind some number
 pub log-ends : (w : World) (p q n : ℕ) → (b : ℕ) × ((m : ℕ) → b < m → first_below (logged_as w p m q) n ≡ None)
@@ -75,19 +75,19 @@ module _ (born : ℕ → ℕ) (now : ℕ) (s : Telling) (h : Aged born now s) wh
 
   -- and what is said of it
   abbrev AreSaid : Cluster → List Flagged → Type 0
-  AreSaid d said = (y : Flagged) → Said y said → y.lost ≡ false → Said y s.said ⊎ Real born d y.packet.from y.packet.to y.packet.body
+  AreSaid d said = (y : Flagged) → Said y said → Said y s.said ⊎ Real born d y.lost y.packet.from y.packet.to y.packet.body
 
-  one-said : (d : Cluster) (z : Flagged) → (z.lost ≡ false → Real born d z.packet.from z.packet.to z.packet.body) → AreSaid d (z ∷ s.said)
-  one-said d z r y (inl e) f = let P : Flagged → Type 0 = λ w. w.lost ≡ false → Real born d w.packet.from w.packet.to w.packet.body in inr (subst P (sym e) r f)
-  one-said d z r y (inr i) f = inl i
+  one-said : (d : Cluster) (z : Flagged) → Real born d z.lost z.packet.from z.packet.to z.packet.body → AreSaid d (z ∷ s.said)
+  one-said d z r y (inl e) = let P : Flagged → Type 0 = λ w. Real born d w.lost w.packet.from w.packet.to w.packet.body in inr (subst P (sym e) r)
+  one-said d z r y (inr i) = inl i
 
-  said-act : (exact lost : Bool) (a : Act) → May s.cluster a → AreSaid (does s.cluster a) (said_after s (Acts exact lost a))
-  said-act exact lost (Puts p d (Told i j k u f)) may =
+  said-act : (exact : Bool) (a : Act) → May s.cluster a → AreSaid (does s.cluster a) (said_after s (Acts exact a))
+  said-act exact (Puts p d (Told i j k u f)) may =
       let a : s.cluster.heard p d ≤ s.cluster.stored d = h.plain.low p d in
       let b : i ≡ s.cluster.heard p d = may.3.1 in
-      one-said s.cluster (flagged (parcel p d (Told i j k u f)) (s.exact p) false) (λ _. ((omega arith), λ _. inl may.3.0))
-  said-act exact lost (Puts p d (Restored i j n r u f)) may = one-said s.cluster (flagged (parcel p d (Restored i j n r u f)) (s.exact p) false) (λ _. tt)
-  said-act exact lost act may = λ y i e. inl i
+      one-said s.cluster (flagged (parcel p d (Told i j k u f)) (s.exact p) false) ((omega arith), λ _. inl may.3.0)
+  said-act exact (Puts p d (Restored i j n r u f)) may = one-said s.cluster (flagged (parcel p d (Restored i j n r u f)) (s.exact p) false) tt
+  said-act exact act may = λ y i. inl i
 
   -- a node that has an answer had it before, or takes it
   abbrev IsPage : Act → ℕ → ℕ → Type 0
@@ -135,71 +135,104 @@ module _ (born : ℕ → ℕ) (now : ℕ) (s : Telling) (h : Aged born now s) wh
   was-act act may = λ i j l n e. inl e
 
   -- what it lost it lost before, while it isn't up
-  abbrev Lost : Act → Bool → Cluster → Type 0
-  Lost a lost d = (p q : ℕ) → has_told d p q ≡ true → is_well d p ≡ false → lost_after s.lost (Acts true lost a) p q ≡ false → (s.lost p q ≡ false) ⊎ IsPage a p q
+  abbrev Lost : Act → Cluster → Type 0
+  Lost a d = (p q : ℕ) → has_told d p q ≡ true → is_well d p ≡ false → lost_after s.lost (Acts true a) p q ≡ false → (s.lost p q ≡ false) ⊎ IsPage a p q
 
-  lost-act : (lost : Bool) (a : Act) → is_opening a ≡ false → May s.cluster a → Lost a lost (does s.cluster a)
-  lost-act lost (Arrives q p (Restored i j m r (Some u) g)) n may = λ p q e w f. inl f
-  lost-act lost (Arrives p zero (Delivery i ssn x)) n may = λ p q e w f. inl f
-  lost-act lost (Arrives p q (Ask i k)) n may = λ x y e w f. choose2 q p (λ a b t. at_stage (s.cluster.stage a) (is_some (if t then None else s.cluster.told a b)) ≡ true → is_well s.cluster a ≡ false → (if t then false else s.lost a b) ≡ false → (s.lost a b ≡ false) ⊎ ⊥)
+  lost-act : (a : Act) → is_opening a ≡ false → May s.cluster a → Lost a (does s.cluster a)
+  lost-act (Arrives q p (Restored i j m r (Some u) g)) n may = λ p q e w f. inl f
+  lost-act (Arrives p zero (Delivery i ssn x)) n may = λ p q e w f. inl f
+  lost-act (Arrives p q (Ask i k)) n may = λ x y e w f. choose2 q p (λ a b t. at_stage (s.cluster.stage a) (is_some (if t then None else s.cluster.told a b)) ≡ true → is_well s.cluster a ≡ false → (if t then false else s.lost a b) ≡ false → (s.lost a b ≡ false) ⊎ ⊥)
       (λ e w f. absurd (off e w)) (λ a b _ e w f. inl f) x y e w f
     where
       off : at_stage (s.cluster.stage q) false ≡ true → is_well s.cluster q ≡ false → ⊥
       off e w = elim may.1.1 [ inl t ↦ true-not-false (takes-well s.cluster q t) w | inr g ↦ true-not-false e (ap (λ x. at_stage x false) g) ]
-  lost-act lost (Arrives q p (Told i j k u g)) n may = λ x y e w f. choose2 p q (λ a b t. (if t then lost else s.lost a b) ≡ false → (s.lost a b ≡ false) ⊎ ((a ≡ p) × (b ≡ q))) (λ f. inr (refl, refl)) (λ a b _ f. inl f) x y f
-  lost-act lost (Arrives zero p (Restored i j m r None g)) n may = λ p q e w f. inl f
-  lost-act lost (Opens p n) m may = absurd (cc)
-  lost-act lost act n may = λ p q e w f. inl f
+  lost-act (Arrives q p (Told i j k u g)) n may = λ x y e w f. choose2 p q (λ a b t. (if t then false else s.lost a b) ≡ false → (s.lost a b ≡ false) ⊎ ((a ≡ p) × (b ≡ q))) (λ f. inr (refl, refl)) (λ a b _ f. inl f) x y f
+  lost-act (Arrives zero p (Restored i j m r None g)) n may = λ p q e w f. inl f
+  lost-act (Opens p n) m may = absurd (cc)
+  lost-act act n may = λ p q e w f. inl f
 
   -- a page that is taken
+  told-knows : (r t i j k : ℕ) (u : Option ℕ) (f : ℕ → Option Message) → Fine born s.cluster r t (Told i j k u f) → i ≡ s.cluster.stored t → On s.cluster (arrived s.cluster r t (Told i j k u f)) → Knows born (arrived s.cluster r t (Told i j k u f)) t r
+  told-knows r t i j k u f g e o = elim (g.3 e) [ inl v ↦ inl (known-on born s.cluster (arrived s.cluster r t (Told i j k u f)) o t r v.0, put2-same s.cluster.heard t r j ∙ v.1) | inr l ↦ inr l ]
+
   page-knows : (a : Act) → May s.cluster a → On s.cluster (does s.cluster a) → (p q : ℕ) → IsPage a p q → Knows born (does s.cluster a) p q
   page-knows (Arrives r t (Told i j k u f)) may o p q g =
-      let known : Knows born (does s.cluster (Arrives r t (Told i j k u f))) t r =
-      elim ((fine r t (Told i j k u f) may.0).1.3 may.1.1) [ inl e ↦ inl (known-on born s.cluster (does s.cluster (Arrives r t (Told i j k u f))) o t r e.0, put2-same s.cluster.heard t r j ∙ e.1) | inr l ↦ inr l ] in
       let P : ℕ → Type 0 = λ x. Knows born (does s.cluster (Arrives r t (Told i j k u f))) x q in
       let Q : ℕ → Type 0 = λ y. Knows born (does s.cluster (Arrives r t (Told i j k u f))) t y in
-      subst P (sym g.0) (subst Q (sym g.1) known)
+      subst P (sym g.0) (subst Q (sym g.1) (told-knows r t i j k u f (fine r t (Told i j k u f) may.0).1 may.1.1 o))
   page-knows a may o p q g = absurd (g)
 
-  page-later : (exact lost : Bool) (a : Act) → MayStep s (Acts exact lost a) → On s.cluster (does s.cluster a) → (p q : ℕ) → IsPage a p q → lost_after s.lost (Acts true lost a) p q ≡ false → Later born (does s.cluster a) p q
-  page-later exact lost (Arrives r t (Told i j k u f)) may o p q g e =
+  page-later : (exact : Bool) (a : Act) → MayStep s (Acts exact a) → On s.cluster (does s.cluster a) → (p q : ℕ) → IsPage a p q → Later born (does s.cluster a) p q
+  page-later exact (Arrives r t (Told i j k u f)) may o p q g =
       let P : ℕ → Type 0 = λ x. Later born (does s.cluster (Arrives r t (Told i j k u f))) x q in
       let Q : ℕ → Type 0 = λ y. Later born (does s.cluster (Arrives r t (Told i j k u f))) t y in
-      let R : ℕ → Type 0 = λ x. put2 s.lost t r lost x q ≡ false in
-      let S : ℕ → Type 0 = λ y. put2 s.lost t r lost t y ≡ false in
-      let none : lost ≡ false = sym (put2-same s.lost t r lost) ∙ subst S g.1 (subst R g.0 e) in
-      let real = h.said (flagged (parcel r t (Told i j k u f)) exact lost) may.1 none in
+      let real : Real born s.cluster false r t (Told i j k u f) = h.said (flagged (parcel r t (Told i j k u f)) exact false) may.1 in
       subst P (sym g.0) (subst Q (sym g.1) (later-on born s.cluster (does s.cluster (Arrives r t (Told i j k u f))) o t r (real.1 may.0.0.1.1)))
-  page-later exact lost a may o p q g e = absurd (g)
+  page-later exact a may o p q g = absurd (g)
 
-  pub takes-aged : (exact lost : Bool) (a : Act) → is_opening a ≡ false → MayStep s (Acts exact lost a) → Aged born now (step s (Acts exact lost a))
-  takes-aged exact lost a n may =
-      let o : On s.cluster (does s.cluster a) = on-event born s.cluster h.plain h.parcels s.durable (Acts exact lost a) n may.0 in
-      aged-on born now s (step s (Acts exact lost a)) h o (plain-event born s.cluster h.plain h.parcels s.durable (Acts exact lost a) n may.0) (under-act a may.0.0) (said-act exact lost a may.0.0)
+  pub takes-aged : (exact : Bool) (a : Act) → is_opening a ≡ false → MayStep s (Acts exact a) → Aged born now (step s (Acts exact a))
+  takes-aged exact a n may =
+      let o : On s.cluster (does s.cluster a) = on-act born s.cluster h.plain h.parcels a n may.0.0 in
+      aged-on born now s (step s (Acts exact a)) h o (plain-act born s.cluster h.plain h.parcels a n may.0.0) (under-act a may.0.0) (said-act exact a may.0.0)
       (λ p q l m e. elim (was-act a may.0.0 p q l m e) [ inl f ↦ inl f | inr g ↦ inr (page-knows a may.0.0 o p q g) ])
-      (λ p q l m e w f. elim (lost-act lost a n may.0.0 p q e w f) [
-        | inl v ↦ elim (was-act a may.0.0 p q l m e) [ inl u ↦ inl (u, v) | inr g ↦ inr (page-later exact lost a may o p q g f) ]
-        | inr g ↦ inr (page-later exact lost a may o p q g f)
+      (λ p q l m e w f. elim (lost-act a n may.0.0 p q e w f) [
+        | inl v ↦ elim (was-act a may.0.0 p q l m e) [ inl u ↦ inl (u, v) | inr g ↦ inr (page-later exact a may o p q g) ]
+        | inr g ↦ inr (page-later exact a may o p q g)
       ])
 
-  pub meets-aged : (q p i k : ℕ) → Might s.durable s.cluster (Meets q p i k) → Aged born now (step s (Meets q p i k))
+  pub meets-aged : (q p i k : ℕ) → Might s.cluster (Meets q p i k) → Aged born now (step s (Meets q p i k))
   meets-aged q p i k may =
-      aged-on born now s (step s (Meets q p i k)) h (on-event born s.cluster h.plain h.parcels s.durable (Meets q p i k) refl may) (plain-event born s.cluster h.plain h.parcels s.durable (Meets q p i k) refl may)
-      (λ a b y i. inl i) (λ y i e. inl i) (λ a b l m e. inl e) (λ a b l m e w f. inl (e, f))
+      aged-on born now s (step s (Meets q p i k)) h (on-meets born s.cluster h.plain h.parcels q p i k may) (plain-meets born s.cluster h.plain h.parcels q p i k may)
+      (λ a b y i. inl i) (λ y i. inl i) (λ a b l m e. inl e) (λ a b l m e w f. inl (e, f))
 
-  pub loses-aged : (q p i j k : ℕ) → Might s.durable s.cluster (Loses q p i j k) → Aged born now (step s (Loses q p i j k))
+  -- an answer that all is lost
+  pub loses-aged : (q p i j k : ℕ) → Might s.cluster (Loses q p i j k) → Aged born now (step s (Loses q p i j k))
   loses-aged q p i j k may =
       let n : p ≢ q = (fine p q (Ask i k) may.0).0 in
       let a : s.cluster.heard q p ≤ s.cluster.stored p = h.plain.low q p in
       let b : i ≡ s.cluster.heard q p = may.1 in
       let e : j ≡ s.cluster.stored q = elim may.2 [ inl r ↦ r.1 ∙ h.plain.settled q (ap runs r.0.0) | inr r ↦ r.1 ] in
-      aged-on born now s (step s (Loses q p i j k)) h (on-event born s.cluster h.plain h.parcels s.durable (Loses q p i j k) refl may) (plain-event born s.cluster h.plain h.parcels s.durable (Loses q p i j k) refl may)
-      (one-more s.cluster q p (Told i j k None (λ _. None)) (λ f. n (sym f)) ((omega arith), (omega arith), (0, λ m l g r. refl), λ g. inl (sym b ∙ g, e)))
-      (one-said s.cluster (flagged (parcel q p (Told i j k None (λ _. None))) false true) (λ f. absurd (let z : true ≡ false = f in cc)))
+      aged-on born now s (step s (Loses q p i j k)) h (on-self s.cluster h.plain.low) h.plain (λ a b y i. inl i)
+      (one-said s.cluster (flagged (parcel q p (loss i j k)) false true) ((λ f. n (sym f)), ((omega arith), (omega arith), (0, λ m l g r. refl), λ g. inl (sym b ∙ g, e))))
       (λ a b l m e. inl e) (λ a b l m e w f. inl (e, f))
 
-  pub leaves-aged : (p q : ℕ) → Might s.durable s.cluster (Leaves p q) → Aged born now (step s (Leaves p q))
+  -- and who takes it
+  pub lacks-aged : (q p i j k : ℕ) → MayStep s (Lacks q p i j k) → Aged born now (step s (Lacks q p i j k))
+  lacks-aged q p i j k may =
+      let r : Real born s.cluster true q p (loss i j k) = h.said (flagged (parcel q p (loss i j k)) false true) may.1 in
+      let page : Option Collected = Some (with_page (s.cluster.told p q) k None (λ _. None)) in
+      let d : Cluster = arrived s.cluster q p (loss i j k) in
+      let o : On s.cluster (arrived s.cluster q p (loss i j k)) = on-takes born s.cluster h.plain h.parcels q p (loss i j k) r.1 may.0.3 in
+      aged-on born now s (step s (Lacks q p i j k)) h o (plain-takes born s.cluster h.plain h.parcels q p (loss i j k) r.0 r.1 may.0.3) (λ a b y i. inl i) (λ y i. inl i)
+      (λ a b l m. choose2 p q (λ a b t. at_stage (s.cluster.stage a) (is_some (if t then page else s.cluster.told a b)) ≡ true → (has_told s.cluster a b ≡ true) ⊎ Knows born d a b)
+      (λ _. inr (told-knows q p i j k None (λ _. None) r.1 may.0.3.1 o)) (λ a b _ e. inl e) a b)
+      (λ a b l m e w. choose2 p q (λ a b t. at_stage (s.cluster.stage a) (is_some (if t then page else s.cluster.told a b)) ≡ true → (if t then true else s.lost a b) ≡ false → ((has_told s.cluster a b ≡ true) × (s.lost a b ≡ false)) ⊎ Later born d a b)
+      (λ _ f. absurd (true-not-false refl f)) (λ a b _ e f. inl (e, f)) a b e)
+
+  pub leaves-aged : (p q : ℕ) → Might s.cluster (Leaves p q) → Aged born now (step s (Leaves p q))
   leaves-aged p q may =
-      aged-on born now s (step s (Leaves p q)) h (on-event born s.cluster h.plain h.parcels s.durable (Leaves p q) refl may) (plain-event born s.cluster h.plain h.parcels s.durable (Leaves p q) refl may)
-      (λ a b y i. inl i) (λ y i e. inl i) (λ a b l m e. inl e)
+      aged-on born now s (step s (Leaves p q)) h (on-leaves born s.cluster h.plain h.parcels p q may) (plain-leaves born s.cluster h.plain h.parcels p q may)
+      (λ a b y i. inl i) (λ y i. inl i) (λ a b l m e. inl e)
       (λ a b l m e w f. inl (e, f))
+
+  -- a page that is cut speaks of no more
+  cut-fine : (q p : ℕ) (x : Body) → Fine born s.cluster q p x → Fine born s.cluster q p (cut s.cluster p q x)
+  cut-fine q p (Restored i j n r u f) g = g
+  cut-fine q p x g = g
+
+  -- and no packet and no answer is new by it
+  none-new : (q p : ℕ) (x : Body) → IsRestored x → ((arrived s.cluster q p (cut s.cluster p q x)).parcels ≡ s.cluster.parcels) × ((a b : ℕ) → has_told (arrived s.cluster q p (cut s.cluster p q x)) a b ≡ has_told s.cluster a b)
+  none-new q p (Restored i j n r (Some u) f) is = (refl, λ a b. refl)
+  none-new zero p (Restored i j n r None f) is = (refl, λ a b. refl)
+  none-new (suc q) p (Restored i j n r None f) is = (refl, λ a b. refl)
+  none-new q p x is = absurd (is)
+
+  pub doubts-aged : (q p : ℕ) (x : Body) → Might s.cluster (Doubts q p x) → Aged born now (step s (Doubts q p x))
+  doubts-aged q p x may =
+      let f = fine q p x may.1 in
+      let g : Fine born s.cluster q p (cut s.cluster p q x) = cut-fine q p x f.1 in
+      let t : MayTake s.cluster q p (cut s.cluster p q x) = cut-taken s.cluster q p x may.2 in
+      let same = none-new q p x may.0 in
+      aged-on born now s (step s (Doubts q p x)) h (on-takes born s.cluster h.plain h.parcels q p (cut s.cluster p q x) g t) (plain-takes born s.cluster h.plain h.parcels q p (cut s.cluster p q x) f.0 g t)
+      (λ a b y i. inl (let P : List Parcel → Type 0 = λ ps. In (parcel a b y) ps in subst P same.0 i)) (λ y i. inl i) (λ a b l m e. inl (sym (same.1 a b) ∙ e))
+      (λ a b l m e w f. inl (sym (same.1 a b) ∙ e, f))

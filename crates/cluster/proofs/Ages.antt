@@ -1,12 +1,13 @@
 -- What the way back of nodes rests on, along each run of the whole rules: which of two lives began later
-use Rattle.std.proofs.Common.{◌≡◌, ◌≢◌, inl, inr, ℕ, ◌<◌, ◌≤◌, length, Bool, true, false, refl, sym, ap, ◌∙◌, arith}
+use Rattle.std.proofs.Common.{◌≡◌, ◌≢◌, inl, inr, ℕ, ◌<◌, ◌≤◌, length, Bool, true, false, refl, sym, ap, ◌∙◌, subst, arith}
 use Rattle.std.specs.Prelude.{◌⊎◌, [], ◌∷◌, Option, Some, None}
 use Rattle.world.specs.declared.message.Message.{Message}
-use Rattle.world.specs.Phases.{Phase, Up, Down, Replaying, Resync}
+use Rattle.world.specs.Phases.{Phase, Up, Down, Replaying, Resync, is_up}
 use Rattle.cluster.specs.Parcels.{Body, Ask, Told, Restored, parcel, In, reaches}
 use Rattle.cluster.specs.Cluster.{Stage, Live, Dead, Collecting, Collected, Cluster, runs, is_well}
 use Rattle.cluster.specs.Rules.{IsNode}
 use Rattle.cluster.specs.Exact.{Telling, Flagged, Said}
+use Rattle.cluster.proofs.Facts.{is-well, true-not-false}
 use Rattle.cluster.proofs.Sane.{Low, Todo}
 
 -- a phase that a node is in
@@ -40,6 +41,12 @@ Plain c =
       own : (p : ℕ) → c.told p p ≡ None;
     }
 
+-- the gateway is up
+pub un-gate : (c : Cluster) → Plain c → (p : ℕ) → is_well c p ≡ false → 0 ≢ p
+un-gate c h p w e =
+    let P : ℕ → Type 0 = λ i. is_well c i ≡ false in
+    true-not-false (is-well c 0 (ap runs h.gateway.0) h.gateway.1 (ap is_up h.gateway.2)) (subst P (sym e) w)
+
 -- where none is opened: incarnations stay, more was heard, those that were up are so or dead, and the dead are
 abbrev pub On : Cluster → Cluster → Type 0
 On c d =
@@ -51,6 +58,10 @@ On c d =
       well : (p : ℕ) → is_well c p ≡ true → (is_well d p ≡ true) ⊎ (d.stage p ≡ Dead);
       dead : (p : ℕ) → c.stage p ≡ Dead → d.stage p ≡ Dead;
     }
+
+-- where nothing happens
+pub on-self : (c : Cluster) → Low c → On c c
+on-self c low = record { count = refl; stored = λ p. refl; heard = λ p q. omega arith; low = low; well = λ p w. inl w; dead = λ p e. e }
 
 abbrev pub is_some : Option Collected → Bool
 is_some None = false
@@ -82,17 +93,19 @@ module _ (born : ℕ → ℕ) where
   Fine c p d (Restored i j n s u f) = j ≤ c.stored p
   Fine c p d other = Unit {0}
 
-  -- and a Told in which nothing is lost is of one that was up in its receiver's life
-  abbrev pub Real : Cluster → ℕ → ℕ → Body → Type 0
-  Real c p d (Told i j k u f) = (i ≤ c.stored d) × (i ≡ c.stored d → Later c d p)
-  Real c p d other = Unit {0}
+  -- what is said of them: an answer that all is lost is of another, and speaks so too; a Told in which nothing is lost is of one that was
+  -- up in its receiver's life
+  abbrev pub Real : Cluster → Bool → ℕ → ℕ → Body → Type 0
+  Real c true p d x = (p ≢ d) × Fine c p d x
+  Real c false p d (Told i j k u f) = (i ≤ c.stored d) × (i ≡ c.stored d → Later c d p)
+  Real c false p d other = Unit {0}
 
   -- as of this time
   pub record Aged (now : ℕ) (s : Telling) : Type 0 where
     pub past : (p : ℕ) → born p ≤ now
     pub plain : Plain s.cluster
     pub parcels : (p d : ℕ) (x : Body) → In (parcel p d x) s.cluster.parcels → (p ≢ d) × Fine s.cluster p d x
-    pub said : (y : Flagged) → Said y s.said → y.lost ≡ false → Real s.cluster y.packet.from y.packet.to y.packet.body
+    pub said : (y : Flagged) → Said y s.said → Real s.cluster y.lost y.packet.from y.packet.to y.packet.body
     pub knows : (p q : ℕ) → q ≤ s.cluster.world.count → p ≢ q → has_told s.cluster p q ≡ true → Knows s.cluster p q
     -- of those that p asked and has no loss of, while it isn't up
     pub later : (p q : ℕ) → q ≤ s.cluster.world.count → p ≢ q → has_told s.cluster p q ≡ true → is_well s.cluster p ≡ false → s.lost p q ≡ false → Later s.cluster p q
@@ -123,17 +136,18 @@ module _ (born : ℕ → ℕ) where
     fine-on p q (Restored i j n s u g) f = let a : d.stored p ≡ c.stored p = o.stored p in let l : j ≤ c.stored p = f in omega arith
     fine-on p q other f = tt
 
-    pub real-on : (p q : ℕ) (x : Body) → Real c p q x → Real d p q x
-    real-on p q (Told i j k u g) f =
+    pub real-on : (lost : Bool) (p q : ℕ) (x : Body) → Real c lost p q x → Real d lost p q x
+    real-on true p q x f = (f.0, fine-on p q x f.1)
+    real-on false p q (Told i j k u g) f =
         let b : d.stored q ≡ c.stored q = o.stored q in
         let l : i ≤ c.stored q = f.0 in
         ((omega arith), λ e. later-on q p (f.1 (e ∙ b)))
-    real-on p q other f = tt
+    real-on false p q other f = tt
 
   -- so all of it goes on, with what is new
   pub aged-on : (now : ℕ) (s t : Telling) → Aged now s → On s.cluster t.cluster → Plain t.cluster
       → ((p d : ℕ) (x : Body) → In (parcel p d x) t.cluster.parcels → In (parcel p d x) s.cluster.parcels ⊎ ((p ≢ d) × Fine t.cluster p d x))
-      → ((y : Flagged) → Said y t.said → y.lost ≡ false → Said y s.said ⊎ Real t.cluster y.packet.from y.packet.to y.packet.body)
+      → ((y : Flagged) → Said y t.said → Said y s.said ⊎ Real t.cluster y.lost y.packet.from y.packet.to y.packet.body)
       → ((p q : ℕ) → q ≤ s.cluster.world.count → p ≢ q → has_told t.cluster p q ≡ true → (has_told s.cluster p q ≡ true) ⊎ Knows t.cluster p q)
       → ((p q : ℕ) → q ≤ s.cluster.world.count → p ≢ q → has_told t.cluster p q ≡ true → is_well t.cluster p ≡ false → t.lost p q ≡ false → ((has_told s.cluster p q ≡ true) × (s.lost p q ≡ false)) ⊎ Later t.cluster p q)
       → Aged now t
@@ -142,7 +156,7 @@ module _ (born : ℕ → ℕ) where
         past = h.past;
         plain = plain;
         parcels = λ p d x i. elim (parcels p d x i) [ inl e ↦ let f = h.parcels p d x e in (f.0, fine-on s.cluster t.cluster o p d x f.1) | inr f ↦ f ];
-        said = λ y i e. elim (said y i e) [ inl f ↦ real-on s.cluster t.cluster o y.packet.from y.packet.to y.packet.body (h.said y f e) | inr f ↦ f ];
+        said = λ y i. elim (said y i) [ inl f ↦ real-on s.cluster t.cluster o y.lost y.packet.from y.packet.to y.packet.body (h.said y f) | inr f ↦ f ];
         knows = λ p q l n e. let m : q ≤ s.cluster.world.count = (let c : t.cluster.world.count ≡ s.cluster.world.count = o.count in omega arith) in elim (knows p q m n e) [ inl f ↦ knows-on s.cluster t.cluster o p q (h.knows p q m n f) | inr f ↦ f ];
         later = λ p q l n e w f.
             let m : q ≤ s.cluster.world.count = (let c : t.cluster.world.count ≡ s.cluster.world.count = o.count in omega arith) in

@@ -10,7 +10,7 @@ use Rattle.cluster.proofs.Facts.{true-not-false}
 use Rattle.cluster.specs.Overlap.{Event}
 use Rattle.cluster.specs.Exact.{Telling, starts, step, after_steps}
 use Rattle.cluster.specs.Return.{is_quiet, AllUp, AllComeBack}
-use Rattle.cluster.proofs.Ages.{is_some, at_stage, has_told, Aged}
+use Rattle.cluster.proofs.Ages.{un-gate, is_some, at_stage, has_told, Aged}
 use Rattle.cluster.proofs.Births.{Orderly, always-orderly}
 use Rattle.cluster.proofs.WakeUps.{Calm, Goes, go-on, IsAwake, AllReady, rouse-all}
 use Rattle.cluster.proofs.Recoveries.{AllAwake, recover-all}
@@ -71,15 +71,11 @@ module _ (born : ℕ → ℕ) (now : ℕ) where
       split go false e false f = go s h awake (omega arith) old (past s refl (λ q w. w) (λ w. let d : born m ≢ b = grind (arith, nat_tests) in let o : born m ≤ b = old m (omega arith) w in omega arith))
       split go false e true f =
           let is : born m ≡ b = grind (arith, nat_tests) in
-          let node : IsNode s.cluster m = (some m e, omega arith) in
+          let node : IsNode s.cluster m = (let n : 0 ≢ m = un-gate s.cluster h.plain m e in omega arith, omega arith) in
           go-on s (Raised born now m s) Ends (raise born now m s (stands s h awake m node e (λ q a w. let o : born q ≤ b = old q a w in omega arith))) (λ t r.
           let same : t.cluster.world.count ≡ s.cluster.world.count = r.0.count in
           go t r.0.aged (raised-awake m s t r awake) (omega arith) (λ q a w. old q (omega arith) (raised-un m s t r q w).1)
           (past t same (λ q w. (raised-un m s t r q w).1) (λ w. absurd ((raised-un m s t r m w).0 refl))))
-        where
-          some : (m : ℕ) → is_well s.cluster m ≡ false → 0 < m
-          some zero w = let g = h.plain.gateway in absurd (true-not-false (rw (g.0, g.1, g.2) refl) w)
-          some (suc m) w = omega arith
 
   -- those that began later come first
   latest-first : (b : ℕ) (s : Telling) → Aged born now s → AllAwake s.cluster → Old b s.cluster → Goes s Ends

@@ -10,11 +10,11 @@ use Rattle.cluster.specs.Parcels.{Body, Ask, Told, Restored}
 use Rattle.cluster.specs.Cluster.{Collecting, Collected, runs, is_well}
 use Rattle.cluster.specs.Rules.{Opens, May, does}
 use Rattle.cluster.proofs.Facts.{true-not-false}
-use Rattle.cluster.specs.Overlap.{Event, Acts, Meets, Loses, Leaves}
+use Rattle.cluster.specs.Overlap.{Event, Acts, Meets, Loses, Lacks, Leaves, Doubts}
 use Rattle.cluster.specs.Exact.{Telling, starts, MayStep, step, Steps, after_steps}
 use Rattle.cluster.proofs.Ages.{IsEnding, Plain, is_some, at_stage, has_told, Knows, Later, Fine, Real, Aged}
 use Rattle.cluster.proofs.DurableTurns.{put-other, opens}
-use Rattle.cluster.proofs.Age.{takes-aged, meets-aged, loses-aged, leaves-aged}
+use Rattle.cluster.proofs.Age.{takes-aged, meets-aged, loses-aged, lacks-aged, leaves-aged, doubts-aged}
 
 pub put-same : {X : Type 0} (f : ℕ → X) (p : ℕ) (x : X) → put f p x p ≡ x
 put-same f p x = at-itself p (λ b. (if b then x else f p) ≡ x) refl
@@ -98,12 +98,13 @@ module _ (born : ℕ → ℕ) (now : ℕ) (s : Telling) (h : Aged born now s) (r
   fine-same p q (Restored i j m t u g) f = let a : s.cluster.stored p ≤ (does s.cluster (Opens r n)).stored p = more p in let l : j ≤ s.cluster.stored p = f in omega arith
   fine-same p q other f = tt
 
-  real-same : (p q : ℕ) (x : Body) → Real born s.cluster p q x → Real (put born r (suc now)) (does s.cluster (Opens r n)) p q x
-  real-same p q (Told i j k u g) f =
+  real-same : (lost : Bool) (p q : ℕ) (x : Body) → Real born s.cluster lost p q x → Real (put born r (suc now)) (does s.cluster (Opens r n)) lost p q x
+  real-same true p q x f = (f.0, fine-same p q x f.1)
+  real-same false p q (Told i j k u g) f =
       let b : s.cluster.stored q ≤ (does s.cluster (Opens r n)).stored q = more q in
       let l : i ≤ s.cluster.stored q = f.0 in
       ((omega arith), λ e. let o : q ≢ r = not-now i q l e in later-same q p o (f.1 (e ∙ stored-same q o)))
-  real-same p q other f = tt
+  real-same false p q other f = tt
 
   -- whoever has an answer isn't r
   told-before : (p q : ℕ) → has_told (does s.cluster (Opens r n)) p q ≡ true → (p ≢ r) × (has_told s.cluster p q ≡ true)
@@ -117,13 +118,13 @@ module _ (born : ℕ → ℕ) (now : ℕ) (s : Telling) (h : Aged born now s) (r
       let b : put s.cluster.told r none p ≡ s.cluster.told p = put-other s.cluster.told r none p m in
       (m, sym (ap (λ x. at_stage x (is_some (s.cluster.told p q))) a) ∙ sym (ap (λ (x : ℕ → Option Collected). at_stage (put s.cluster.stage r Collecting p) (is_some (x q))) b) ∙ e)) p
 
-  pub opens-aged : (exact lost : Bool) → Aged (put born r (suc now)) (suc now) (step s (Acts exact lost (Opens r n)))
-  opens-aged exact lost =
+  pub opens-aged : (exact : Bool) → Aged (put born r (suc now)) (suc now) (step s (Acts exact (Opens r n)))
+  opens-aged exact =
       record {
         past = choose r (λ j b. (if b then suc now else born j) ≤ suc now) (omega arith) (λ j _. let a : born j ≤ now = h.past j in omega arith);
         plain = plain;
         parcels = λ p q x i. let f = h.parcels p q x i in (f.0, fine-same p q x f.1);
-        said = λ y i e. real-same y.packet.from y.packet.to y.packet.body (h.said y i e);
+        said = λ y i. real-same y.lost y.packet.from y.packet.to y.packet.body (h.said y i);
         knows = λ p q l m e. let t = told-before p q e in choose r (λ q _. q ≤ s.cluster.world.count → p ≢ q → has_told s.cluster p q ≡ true → Knows (put born r (suc now)) (does s.cluster (Opens r n)) p q) (λ _ _ _. inr (newest p t.0))
             (λ q z l m u. elim (h.knows p q l m u) [ inl v ↦ inl (known-same p q t.0 z v.0, known-same q p z t.0 v.1) | inr v ↦ inr (less-same p q t.0 z v) ]) q l m t.1;
         later = λ p q l m e w f.
@@ -136,17 +137,19 @@ module _ (born : ℕ → ℕ) (now : ℕ) (s : Telling) (h : Aged born now s) (r
       }
 
 pub step-aged : (born : ℕ → ℕ) (now : ℕ) (s : Telling) (x : Event) → opens x ≡ false → Aged born now s → MayStep s x → Aged born now (step s x)
-step-aged born now s (Acts exact lost a) n h may = takes-aged born now s h exact lost a n may
+step-aged born now s (Acts exact a) n h may = takes-aged born now s h exact a n may
 step-aged born now s (Meets q p i k) n h may = meets-aged born now s h q p i k may.0
 step-aged born now s (Loses q p i j k) n h may = loses-aged born now s h q p i j k may.0
+step-aged born now s (Lacks q p i j k) n h may = lacks-aged born now s h q p i j k may
 step-aged born now s (Leaves p q) n h may = leaves-aged born now s h p q may.0
+step-aged born now s (Doubts q p x) n h may = doubts-aged born now s h q p x may.0
 
 -- at some time, with lives that began at some time
 abbrev pub Orderly : Telling → Type 0
 Orderly s = (born : ℕ → ℕ) × (now : ℕ) × Aged born now s
 
 pub orderly-step : (s : Telling) (x : Event) → Orderly s → MayStep s x → Orderly (step s x)
-orderly-step s (Acts exact lost (Opens r n)) h may = (put h.0 r (suc h.1), suc h.1, opens-aged h.0 h.1 s h.2 r n may.0.0 exact lost)
+orderly-step s (Acts exact (Opens r n)) h may = (put h.0 r (suc h.1), suc h.1, opens-aged h.0 h.1 s h.2 r n may.0.0 exact)
 orderly-step s x h may = (h.0, h.1, step-aged h.0 h.1 s x refl h.2 may)
 
 starts-orderly : (n : ℕ) (f : Handlers) (durable : ℕ → Bool) → Orderly (starts n f durable)
@@ -167,7 +170,7 @@ starts-orderly n f durable = (
       own = λ p. refl;
     };
     parcels = λ p d x i. absurd (i);
-    said = λ y i e. absurd (i);
+    said = λ y i. absurd (i);
     knows = λ p q l m e. inl (refl, refl);
     later = λ p q l m e w f. absurd (let z : true ≡ false = w in cc);
   },

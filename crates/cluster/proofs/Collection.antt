@@ -10,11 +10,12 @@ use Rattle.cluster.specs.Parcels.{Body, Ask, Told, parcel, In}
 use Rattle.cluster.specs.Cluster.{Live, Collecting, Collected, runs, is_well, takes}
 use Rattle.cluster.specs.Rules.{Puts, Arrives, IsNode, Asks, IsAll, entry_of, with_page, put2}
 use Rattle.cluster.proofs.Facts.{true-not-false, unphased}
-use Rattle.cluster.specs.Overlap.{Event, Acts, Meets, Loses, restores_anew, goes}
+use Rattle.cluster.specs.Overlap.{Event, Acts, Meets, Loses, Lacks, restores_anew, goes}
 use Rattle.cluster.specs.Exact.{flagged, Said, Telling, MayStep, step}
+use Rattle.cluster.proofs.Ages.{un-gate}
 use Rattle.cluster.proofs.DurableTurns.{put2-same}
 use Rattle.cluster.proofs.Births.{Orderly, orderly-step}
-use Rattle.cluster.proofs.WakeUps.{Goes, two-down, go-first, go-last, go-on, AllReady}
+use Rattle.cluster.proofs.WakeUps.{AllBut, Goes, two-down, go-first, go-last, go-on, AllReady}
 
 put2-row : {X : Type 0} (f : ℕ → ℕ → X) (a b : ℕ) (x : X) (r c : ℕ) → r ≢ a → put2 f a b x r c ≡ f r c
 put2-row f a b x r c n = let m : (r == a) ≡ false = grind (arith, nat_tests) in rw m refl
@@ -26,9 +27,9 @@ put2-column {X} f a b x r c n = let m : (c == b) ≡ false = grind (arith, nat_t
     off true = refl
     off false = refl
 
-anew-up : (x : Phase) (p : ℕ) → is_up (restores_anew x p) ≡ false
-anew-up Up p = refl
-anew-up other p = refl
+anew-up : (count : ℕ) (x : Phase) (p : ℕ) → is_up (restores_anew count x p) ≡ false
+anew-up count Up p = refl
+anew-up count other p = refl
 
 -- as many run as before, and all are ready
 abbrev pub Still : Telling → Telling → Type 0
@@ -49,35 +50,35 @@ Answered p q s u = Still s u × IsAll (u.cluster.told p q) × ((r : ℕ) → r �
 module _ (p q : ℕ) (ne : q ≢ p) where
   module _ (s : Telling) (h : Orderly s) (node : IsNode s.cluster p) (a : q ≤ s.cluster.world.count) (ready : AllReady s.cluster) (coll : s.cluster.stage p ≡ Collecting) where
     abbrev ask : ℕ → Event
-    ask k = Acts true false (Puts p q (Ask (s.cluster.stored p) k))
+    ask k = Acts true (Puts p q (Ask (s.cluster.stored p) k))
 
     abbrev asked : ℕ → Telling
-    asked k = step s (Acts true false (Puts p q (Ask (s.cluster.stored p) k)))
+    asked k = step s (Acts true (Puts p q (Ask (s.cluster.stored p) k)))
 
     hear : (k : ℕ) → Asks (s.cluster.world.saved p) (s.cluster.told p q) k → Goes s (Heard p q k s)
     hear k asks = go-first s (Heard p q k s) (ask k) may (refl, λ _ _. refl) (split (nat_lt (s.cluster.heard q p) (s.cluster.stored p)) refl)
       where
-        may : MayStep s (Acts true false (Puts p q (Ask (s.cluster.stored p) k)))
+        may : MayStep s (Acts true (Puts p q (Ask (s.cluster.stored p) k)))
         may = (((node.1, a, (λ e. ne (sym e)), (coll, refl, asks)), tt), tt)
 
-        g : Orderly (step s (Acts true false (Puts p q (Ask (s.cluster.stored p) k))))
-        g = orderly-step s (Acts true false (Puts p q (Ask (s.cluster.stored p) k))) h may
+        g : Orderly (step s (Acts true (Puts p q (Ask (s.cluster.stored p) k))))
+        g = orderly-step s (Acts true (Puts p q (Ask (s.cluster.stored p) k))) h may
 
         -- it hears that
         hears : nat_lt (s.cluster.heard q p) (s.cluster.stored p) ≡ true → (takes s.cluster q ≡ true) ⊎ (s.cluster.stage q ≡ Collecting) → Goes (asked k) (Heard p q k s)
         hears e t =
-            let m : MayStep (asked k) (Acts true false (Arrives p q (Ask (s.cluster.stored p) k))) = (((inl refl, (grind (arith, nat_tests), t)), tt), tt) in
+            let m : MayStep (asked k) (Acts true (Arrives p q (Ask (s.cluster.stored p) k))) = (((inl refl, (grind (arith, nat_tests), t)), tt), tt) in
             let P : Option Collected → Type 0 = λ x. Asks (s.cluster.world.saved p) x k in
             let row : (r : ℕ) → put2 s.cluster.told q p None p r ≡ s.cluster.told p r = λ r. put2-row s.cluster.told q p None p r (λ z. ne (sym z)) in
-            go-last (asked k) (Heard p q k s) (Acts true false (Arrives p q (Ask (s.cluster.stored p) k))) m (refl, λ _ _. refl)
-            (record { orderly = orderly-step (asked k) (Acts true false (Arrives p q (Ask (s.cluster.stored p) k))) g m; count = refl; stage = λ r. refl; ready = ready }, put2-same s.cluster.heard q p (s.cluster.stored p), row, inl refl, subst P (sym (row q)) asks)
+            go-last (asked k) (Heard p q k s) (Acts true (Arrives p q (Ask (s.cluster.stored p) k))) m (refl, λ _ _. refl)
+            (record { orderly = orderly-step (asked k) (Acts true (Arrives p q (Ask (s.cluster.stored p) k))) g m; count = refl; stage = λ r. refl; ready = ready }, put2-same s.cluster.heard q p (s.cluster.stored p), row, inl refl, subst P (sym (row q)) asks)
 
         -- or, as it comes back itself, meets p
         meets : nat_lt (s.cluster.heard q p) (s.cluster.stored p) ≡ true → s.cluster.stage q ≡ Live → is_well s.cluster q ≡ false → Goes (asked k) (Heard p q k s)
         meets e live un =
             let m : MayStep (asked k) (Meets q p (s.cluster.stored p) k) = ((inl refl, (live, un), grind (arith, nat_tests)), tt) in
-            let x : Phase = restores_anew (s.cluster.world.phase q) p in
-            let down : (runs (s.cluster.stage q) && (s.cluster.greeted q && is_up x)) ≡ false = unphased (runs (s.cluster.stage q)) (s.cluster.greeted q) (is_up x) (anew-up (s.cluster.world.phase q) p) in
+            let x : Phase = restores_anew s.cluster.world.count (s.cluster.world.phase q) p in
+            let down : (runs (s.cluster.stage q) && (s.cluster.greeted q && is_up x)) ≡ false = unphased (runs (s.cluster.stage q)) (s.cluster.greeted q) (is_up x) (anew-up s.cluster.world.count (s.cluster.world.phase q) p) in
             let all : AllReady (goes s.cluster (Meets q p (s.cluster.stored p) k)) = choose q (λ j b. j ≤ s.cluster.world.count → (s.cluster.stage j ≡ Collecting) ⊎ ((s.cluster.stage j ≡ Live)
             × ((runs (s.cluster.stage j) && (s.cluster.greeted j && is_up (if b then x else s.cluster.world.phase j))) ≡ true → (if b then x else s.cluster.world.phase j) ≡ Up))) (λ _. inr (live, λ w. absurd (true-not-false w down))) (λ j _. ready j) in
             go-last (asked k) (Heard p q k s) (Meets q p (s.cluster.stored p) k) m (refl, λ r o. absurd (two-down s.cluster p q r ne node.1 a (rw coll refl) un o))
@@ -97,14 +98,14 @@ module _ (p q : ℕ) (ne : q ≢ p) where
                 meets e live (same ∙ t)
 
     -- a page is collected
-    collect : (i j k : ℕ) (f : ℕ → Option Message) (exact lost : Bool) → In (parcel q p (Told i j k None f)) s.cluster.parcels → Said (flagged (parcel q p (Told i j k None f)) exact lost) s.said
+    collect : (i j k : ℕ) (f : ℕ → Option Message) (exact : Bool) → In (parcel q p (Told i j k None f)) s.cluster.parcels → Said (flagged (parcel q p (Told i j k None f)) exact false) s.said
         → i ≡ s.cluster.stored p → s.cluster.heard p q ≤ j → Asks (s.cluster.world.saved p) (s.cluster.told p q) k → Goes s (Answered p q s)
-    collect i j k f exact lost there said e low asks =
-        let m : MayStep s (Acts exact lost (Arrives q p (Told i j k None f))) = (((there, (coll, e, low, asks)), tt), said) in
+    collect i j k f exact there said e low asks =
+        let m : MayStep s (Acts exact (Arrives q p (Told i j k None f))) = (((there, (coll, e, low, asks)), tt), said) in
         let page : Option Collected = Some (with_page (s.cluster.told p q) k None f) in
         let P : Option Collected → Type 0 = λ t. IsAll t in
-        go-last s (Answered p q s) (Acts exact lost (Arrives q p (Told i j k None f))) m (refl, λ _ _. refl)
-        (record { orderly = orderly-step s (Acts exact lost (Arrives q p (Told i j k None f))) h m; count = refl; stage = λ r. refl; ready = ready }, subst P (sym (put2-same s.cluster.told p q page)) refl, λ r n. put2-column s.cluster.told p q page p r n)
+        go-last s (Answered p q s) (Acts exact (Arrives q p (Told i j k None f))) m (refl, λ _ _. refl)
+        (record { orderly = orderly-step s (Acts exact (Arrives q p (Told i j k None f))) h m; count = refl; stage = λ r. refl; ready = ready }, subst P (sym (put2-same s.cluster.told p q page)) refl, λ r n. put2-column s.cluster.told p q page p r n)
 
   module _ (s : Telling) (h : Orderly s) (node : IsNode s.cluster p) (a : q ≤ s.cluster.world.count) (ready : AllReady s.cluster) (coll : s.cluster.stage p ≡ Collecting) where
     -- q tells what its log holds where it is up, and else that it lost that
@@ -113,9 +114,19 @@ module _ (p q : ℕ) (ne : q ≢ p) where
       where
         loses : (j : ℕ) → (((s.cluster.stage q ≡ Live) × (is_well s.cluster q ≡ false)) × (j ≡ s.cluster.world.incarnation q)) ⊎ ((s.cluster.stage q ≡ Collecting) × (j ≡ s.cluster.stored q)) → s.cluster.heard p q ≤ j → Goes s (Answered p q s)
         loses j back low =
+            let un : is_well s.cluster q ≡ false = elim back [ inl v ↦ v.0.1 | inr v ↦ (rw v.0 refl) ] in
+            let is : j ≡ s.cluster.stored q = elim back [ inl v ↦ v.1 ∙ h.2.plain.settled q (ap runs v.0.0) | inr v ↦ v.1 ] in
+            let none : (r : ℕ) → AllBut r s.cluster → ⊥ = λ r o. two-down s.cluster p q r ne node.1 a (rw coll refl) un o in
             let m : MayStep s (Loses q p (s.cluster.stored p) j k) = ((there, sym e, back), tt) in
-            go-first s (Answered p q s) (Loses q p (s.cluster.stored p) j k) m (refl, λ r o. absurd (two-down s.cluster p q r ne node.1 a (rw coll refl) (elim back [ inl v ↦ v.0.1 | inr v ↦ (rw v.0 refl) ]) o))
-            (collect (step s (Loses q p (s.cluster.stored p) j k)) (orderly-step s (Loses q p (s.cluster.stored p) j k) h m) node a ready coll (s.cluster.stored p) j k (λ _. None) false true (inl refl) (inl refl) refl low asks)
+            let t : MayStep (step s (Loses q p (s.cluster.stored p) j k)) (Lacks q p (s.cluster.stored p) j k) = (((let n : 0 ≢ q = un-gate s.cluster h.2.plain q un in omega arith, a), ne, (omega arith), (coll, refl, low, asks)), inl refl) in
+            let page : Option Collected = Some (with_page (s.cluster.told p q) k None (λ _. None)) in
+            let P : Option Collected → Type 0 = λ t. IsAll t in
+            go-first s (Answered p q s) (Loses q p (s.cluster.stored p) j k) m (refl, λ r o. absurd (none r o))
+            (go-last (step s (Loses q p (s.cluster.stored p) j k)) (Answered p q s) (Lacks q p (s.cluster.stored p) j k) t (refl, λ r o. absurd (none r o)) (
+              record { orderly = orderly-step (step s (Loses q p (s.cluster.stored p) j k)) (Lacks q p (s.cluster.stored p) j k) (orderly-step s (Loses q p (s.cluster.stored p) j k) h m) t; count = refl; stage = λ r. refl; ready = ready },
+              subst P (sym (put2-same s.cluster.told p q page)) refl,
+              λ r n. put2-column s.cluster.told p q page p r n,
+            ))
 
         split : s.cluster.stage q ≡ Live → (b : Bool) → is_well s.cluster q ≡ b → Goes s (Answered p q s)
         split live b f =
@@ -127,12 +138,12 @@ module _ (p q : ℕ) (ne : q ≢ p) where
             one false f low = loses (s.cluster.world.incarnation q) (inl ((live, f), refl)) low
             one true f low =
                 let x : Body = Told (s.cluster.stored p) (s.cluster.world.incarnation q) k None (entry_of s.cluster q p) in
-                let m : MayStep s (Acts true false (Puts q p (Told (s.cluster.stored p) (s.cluster.world.incarnation q) k None (entry_of s.cluster q p)))) =
+                let m : MayStep s (Acts true (Puts q p (Told (s.cluster.stored p) (s.cluster.world.incarnation q) k None (entry_of s.cluster q p)))) =
                 (((a, node.1, ne, (f, sym e, refl, (λ v z. absurd (let y : None ≡ Some v = z in cc)), (λ m _ _. refl))), tt), tt) in
-                go-first s (Answered p q s) (Acts true false (Puts q p (Told (s.cluster.stored p) (s.cluster.world.incarnation q) k None (entry_of s.cluster q p)))) m (refl, λ _ _. refl)
-                (collect (step s (Acts true false (Puts q p (Told (s.cluster.stored p) (s.cluster.world.incarnation q) k None (entry_of s.cluster q p)))))
-                (orderly-step s (Acts true false (Puts q p (Told (s.cluster.stored p) (s.cluster.world.incarnation q) k None (entry_of s.cluster q p)))) h m) node a ready coll
-                (s.cluster.stored p) (s.cluster.world.incarnation q) k (entry_of s.cluster q p) (s.exact q) false (inl refl) (inl refl) refl low asks)
+                go-first s (Answered p q s) (Acts true (Puts q p (Told (s.cluster.stored p) (s.cluster.world.incarnation q) k None (entry_of s.cluster q p)))) m (refl, λ _ _. refl)
+                (collect (step s (Acts true (Puts q p (Told (s.cluster.stored p) (s.cluster.world.incarnation q) k None (entry_of s.cluster q p)))))
+                (orderly-step s (Acts true (Puts q p (Told (s.cluster.stored p) (s.cluster.world.incarnation q) k None (entry_of s.cluster q p)))) h m) node a ready coll
+                (s.cluster.stored p) (s.cluster.world.incarnation q) k (entry_of s.cluster q p) (s.exact q) (inl refl) (inl refl) refl low asks)
 
   -- so p asks it
   module _ (s : Telling) (h : Orderly s) (node : IsNode s.cluster p) (a : q ≤ s.cluster.world.count) (ready : AllReady s.cluster) (coll : s.cluster.stage p ≡ Collecting) where

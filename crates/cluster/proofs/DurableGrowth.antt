@@ -6,19 +6,28 @@ use Rattle.world.specs.Handlers.{Handlers}
 use Rattle.theorems.specs.Growth.{Begins, Grows}
 use Rattle.theorems.proofs.ListLemmas.{begins-trans}
 use Rattle.cluster.specs.Cluster.{Cluster}
-use Rattle.cluster.proofs.Settings.{does-handlers}
+use Rattle.cluster.proofs.Settings.{does-handlers, does-durable}
 use Rattle.cluster.proofs.Growth.{Continues, still, same-begins, does-continue}
-use Rattle.cluster.specs.Overlap.{Event, Acts, goes, kept_sends}
+use Rattle.cluster.specs.Rules.{Arrives}
+use Rattle.cluster.specs.Overlap.{Event, Acts, Doubts, cut, goes, kept_sends}
 use Rattle.cluster.proofs.Firsts.{append_nil}
 
 -- an act takes back no input, and nothing that was shown or that a checkpoint covers; nor does an event
 pub goes-continue : (c : Cluster) (e : Event) → ((p : ℕ) → c.world.saved p ≤ length (c.world.history p)) → Continues c (goes c e)
-goes-continue c (Acts exact lost a) within = does-continue c a within
+goes-continue c (Acts exact a) within = does-continue c a within
+goes-continue c (Doubts q p x) within = does-continue c (Arrives q p (cut c p q x)) within
 goes-continue c other within = still c
 
 pub goes-handlers : (c : Cluster) (e : Event) → (goes c e).world.handlers ≡ c.world.handlers
-goes-handlers c (Acts exact lost a) = does-handlers c a
+goes-handlers c (Acts exact a) = does-handlers c a
+goes-handlers c (Doubts q p x) = does-handlers c (Arrives q p (cut c p q x))
 goes-handlers c other = refl
+
+-- nor does it change which nodes are durable
+pub goes-durable : (c : Cluster) (e : Event) → (goes c e).durable ≡ c.durable
+goes-durable c (Acts exact a) = does-durable c a
+goes-durable c (Doubts q p x) = does-durable c (Arrives q p (cut c p q x))
+goes-durable c other = refl
 
 -- more messages send no less
 sends-more : (f : Handlers) → Grows f → (p d : ℕ) (g rest : List Message) → Begins (f.sends p g d) (f.sends p (g ++ rest) d)

@@ -1,5 +1,5 @@
 -- What each node received, and what was shown, has each sender's messages in the order of their SSN
-use Rattle.std.proofs.Common.{◌≡◌, inl, inr, ℕ, zero, suc, ◌+◌, ◌-◌, ◌<◌, List, [], ◌∷◌, ◌++◌, length, take, Bool, refl, subst, arith}
+use Rattle.std.proofs.Common.{◌≡◌, inl, inr, ℕ, zero, suc, ◌+◌, ◌-◌, ◌<◌, List, [], ◌∷◌, ◌++◌, length, take, refl, subst, arith}
 use Rattle.std.specs.Prelude.{Option, Some, None, slice_get, nat_lt, if◌then◌else◌}
 use Rattle.world.specs.declared.message.Message.{Message}
 use Rattle.world.specs.History.{count_of}
@@ -9,14 +9,13 @@ use Rattle.world.specs.World.{put}
 use Rattle.theorems.proofs.Changes.{choose}
 use Rattle.theorems.proofs.ListLemmas.{get-push, get-take, take-all, take-push, take-take}
 use Rattle.cluster.specs.Parcels.{Delivery, Restored}
-use Rattle.cluster.specs.Cluster.{Cluster, opening}
+use Rattle.cluster.specs.Cluster.{Cluster, durable_opening}
 use Rattle.cluster.specs.Rules.{Act, Arrives, Works, Replays, Recovers, May, does, message, plan, told_by, kept_by}
 use Rattle.cluster.proofs.Growth.{either-way}
-use Rattle.cluster.specs.Overlap.{Event, Acts, Might, goes, Events, after_events}
-use Rattle.cluster.specs.DurablePromises.{lasts, InOrder, AlwaysInOrder}
+use Rattle.cluster.specs.Overlap.{Event, Acts, Doubts, Might, goes, Events, after_events}
+use Rattle.cluster.specs.DurablePromises.{InOrder, AlwaysInOrder}
 use Rattle.cluster.proofs.Firsts.{if_next-is}
-use Rattle.cluster.proofs.Firm.{Firm}
-use Rattle.cluster.proofs.DurablePromised.{opens-firm, step-firm}
+use Rattle.cluster.proofs.DurablePromised.{IsFirm, opens-firm, step-firm}
 
 none-in-order : InOrder []
 none-in-order i m e = absurd (let t : None ≡ Some m = e in cc)
@@ -62,13 +61,17 @@ does-order c (Recovers p k) jobs may o =
 does-order c (Arrives zero p (Restored i j n s None f)) jobs may o = o
 does-order c act jobs may o = o
 
-goes-order : (durable : ℕ → Bool) (c : Cluster) (e : Event) → Firm (lasts durable) c → Might durable c e → Ordered c → Ordered (goes c e)
-goes-order durable c (Acts exact lost a) h may o = does-order c a (λ d m e. (h.jobs d m e).1) may.0 o
-goes-order durable c other h may o = o
+goes-order : (c : Cluster) (e : Event) → IsFirm c → Might c e → Ordered c → Ordered (goes c e)
+goes-order c (Acts exact a) h may o = does-order c a (λ d m e. (h.jobs d m e).1) may.0 o
+goes-order c (Doubts q p (Restored i j n s (Some u) f)) h may o = o
+goes-order c (Doubts zero p (Restored i j n s None f)) h may o = o
+goes-order c (Doubts (suc q) p (Restored i j n s None f)) h may o = o
+goes-order c (Doubts q p x) h may o = absurd (may.0)
+goes-order c other h may o = o
 
-events-order : (durable : ℕ → Bool) (c : Cluster) (es : List Event) → Firm (lasts durable) c → Events durable c es → Ordered c → Ordered (after_events c es)
-events-order durable c [] h r o = o
-events-order durable c (e ∷ es) h r o = events-order durable (goes c e) es (step-firm durable c e h r.0) r.1 (goes-order durable c e h r.0 o)
+events-order : (c : Cluster) (es : List Event) → IsFirm c → Events c es → Ordered c → Ordered (after_events c es)
+events-order c [] h r o = o
+events-order c (e ∷ es) h r o = events-order (goes c e) es (step-firm c e h r.0) r.1 (goes-order c e h r.0 o)
 
 pub always-in-order : AlwaysInOrder
-always-in-order n f durable es g r = events-order durable (opening n f) es (opens-firm n f (lasts durable) g) r (λ p. none-in-order, none-in-order)
+always-in-order n f durable es g r = events-order (durable_opening n f durable) es (opens-firm n f durable g) r (λ p. none-in-order, none-in-order)

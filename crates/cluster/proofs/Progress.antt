@@ -20,10 +20,10 @@ use Rattle.theorems.proofs.PlanLemmas.{first_below-at, logged_as-at}
 use Rattle.theorems.proofs.Recoveries.{up_to-is}
 use Rattle.cluster.specs.Parcels.{Body, Delivery, Number, Acknowledgement, Ask, Told, Resume, Restored, Parcel, parcel, In, reaches}
 use Rattle.cluster.specs.Cluster.{Collected, Cluster, is_well}
-use Rattle.cluster.specs.Rules.{Act, Input, Puts, Arrives, Works, Replays, Recovers, Keeps, Opens, MayPut, May, does, message, entry_of, entry_in, with_page, Asks, IsAll, told_by, kept_by, entered, put2, goes_on, takes_in, taken_back}
-use Rattle.cluster.proofs.Facts.{choose2, well-is}
+use Rattle.cluster.specs.Rules.{Act, Input, Puts, Arrives, Works, Replays, Recovers, Keeps, Opens, MayPut, MayTake, May, arrived, does, message, entry_of, entry_in, with_page, Asks, IsAll, told_by, kept_by, entered, put2, goes_on, takes_in, taken_back}
+use Rattle.cluster.proofs.Facts.{choose2, well-is, cut-taken}
 use Rattle.cluster.proofs.Growth.{either-way, plan-begins, takes-back}
-use Rattle.cluster.specs.Overlap.{Event, Acts, Meets, Loses, Leaves, IsKept, Might, restores_anew, goes, kept_sends}
+use Rattle.cluster.specs.Overlap.{Event, Acts, Meets, Loses, Lacks, Leaves, Doubts, IsKept, Might, loss, cut, restores_anew, goes, kept_sends}
 use Rattle.cluster.specs.DurablePromises.{AreFirst}
 use Rattle.cluster.proofs.Firsts.{first-push, first-take, first-plan}
 use Rattle.cluster.proofs.Firm.{Sends, IsGood, IsThere, IsTrue, IsGoodSoFar, Firm, good-more, firm-more}
@@ -39,9 +39,14 @@ with-idle [] m e = let t : false ≡ true = ap is_busy e in cc
 with-idle (r ∷ rs) m e = let t : false ≡ true = ap is_busy e in cc
 
 -- who restores anew has no other job open than before
-anew-idle : (x : Phase) (p : ℕ) → (m : Message) → restores_anew x p ≡ Busy m → x ≡ Busy m
-anew-idle (Replaying j w a) p m e = e
-anew-idle other p m e = absurd (let t : false ≡ true = ap is_busy e in cc)
+anew-idle : (count : ℕ) (x : Phase) (p : ℕ) → (m : Message) → restores_anew count x p ≡ Busy m → x ≡ Busy m
+anew-idle count (Replaying j w a) p m e = e
+anew-idle count other p m e = absurd (let t : false ≡ true = ap is_busy e in cc)
+
+-- those of these nodes send only what their checkpoints cover
+abbrev pub IsSafe : (ℕ → Bool) → Cluster → Event → Type 0
+IsSafe last c (Acts exact a) = IsKept last c a
+IsSafe last c e = Unit {0}
 
 module _ (last : ℕ → Bool) (c : Cluster) (h : Firm last c) where
   abbrev k : Sends
@@ -164,65 +169,83 @@ module _ (last : ℕ → Bool) (c : Cluster) (h : Firm last c) where
   with-numbers : (f : ℕ → ℕ → ℕ → Option ℕ) → ((s d ssn m : ℕ) → f s d ssn ≡ Some m → IsThere last k s d ssn) → Firm last (record c { world = record c.world { numbers = f } })
   with-numbers f g = these c.parcels c.world.phase f c.told h.parcels h.jobs g h.told h.own
 
-  starts : (p d i ssn : ℕ) (x : Payload) → May c (Arrives p (suc d) (Delivery i ssn x)) → Firm last (does c (Arrives p (suc d) (Delivery i ssn x)))
-  starts p e i ssn x may =
+  starts : (p d i ssn : ℕ) (x : Payload) → IsGood last k (suc d) (message p ssn x) → MayTake c p (suc d) (Delivery i ssn x) → Firm last (arrived c p (suc d) (Delivery i ssn x))
+  starts p e i ssn x g may =
       let d : ℕ = suc e in
-      let g : IsGood last k d (message p ssn x) = (h.parcels p d (Delivery i ssn x) may.0).1 in
-      let n : ssn ≡ suc (count_of p (c.world.history d)) = may.1.4 in
+      let n : ssn ≡ suc (count_of p (c.world.history d)) = may.4 in
       these c.parcels (put c.world.phase d (Busy (message p ssn x))) c.world.numbers c.told h.parcels
       (choose d (λ j t. (m : Message) → (if t then Busy (message p ssn x) else c.world.phase j) ≡ Busy m → IsGood last k j m × (m.ssn ≡ suc (count_of m.sender (c.world.history j))))
       (λ m e. let same : message p ssn x ≡ m = cc in let P : Message → Type 0 = λ y. IsGood last k d y × (y.ssn ≡ suc (count_of y.sender (c.world.history d))) in subst P same (g, n)) (λ j _. h.jobs j)) h.numbers h.told h.own
 
-  shows : (p i ssn : ℕ) (x : Payload) → May c (Arrives p zero (Delivery i ssn x)) → Firm last (does c (Arrives p zero (Delivery i ssn x)))
-  shows p i ssn x may =
-      let g : IsGood last k 0 (message p ssn x) = (h.parcels p 0 (Delivery i ssn x) may.0).1 in
-      let shown : (q : ℕ) → last q ≡ true → AreFirst (c.world.shown ++ message p ssn x ∷ []) q (k q 0) = λ q l. first-push c.world.shown (message p ssn x) q (k q 0) may.1.1 (λ e. let P : ℕ → Type 0 = λ z. (last z ≡ true → nth (k z 0) ssn ≡ Some x) in subst P e g l) (h.shown q l) in
+  shows : (p i ssn : ℕ) (x : Payload) → IsGood last k 0 (message p ssn x) → MayTake c p zero (Delivery i ssn x) → Firm last (arrived c p zero (Delivery i ssn x))
+  shows p i ssn x g may =
+      let shown : (q : ℕ) → last q ≡ true → AreFirst (c.world.shown ++ message p ssn x ∷ []) q (k q 0) = λ q l. first-push c.world.shown (message p ssn x) q (k q 0) may.1 (λ e. let P : ℕ → Type 0 = λ z. (last z ≡ true → nth (k z 0) ssn ≡ Some x) in subst P e g l) (h.shown q l) in
       record { grows = h.grows; within = h.within; parcels = h.parcels; jobs = h.jobs; numbers = h.numbers; told = h.told; own = h.own; received = h.received; shown = shown }
 
-  records : (r s i ssn n : ℕ) → May c (Arrives r s (Number i ssn n)) → Firm last (does c (Arrives r s (Number i ssn n)))
-  records r s i ssn n may =
-      let t = h.parcels r s (Number i ssn n) may.0 in
-      these (parcel s r (Acknowledgement i n) ∷ c.parcels) c.world.phase (put2 c.world.numbers s r (put (c.world.numbers s r) ssn (Some n))) c.told (parcel-more s r (Acknowledgement i n) (λ e. t.0 (sym e)) tt) h.jobs
+  records : (r s i ssn n : ℕ) → r ≢ s → IsThere last k s r ssn → Firm last (arrived c r s (Number i ssn n))
+  records r s i ssn n ne there =
+      these (parcel s r (Acknowledgement i n) ∷ c.parcels) c.world.phase (put2 c.world.numbers s r (put (c.world.numbers s r) ssn (Some n))) c.told (parcel-more s r (Acknowledgement i n) (λ e. ne (sym e)) tt) h.jobs
       (choose2 s r (λ a b y. (j m : ℕ) → (if y then put (c.world.numbers s r) ssn (Some n) else c.world.numbers a b) j ≡ Some m → IsThere last k a b j)
-      (choose ssn (λ j y. (m : ℕ) → (if y then Some n else c.world.numbers s r j) ≡ Some m → IsThere last k s r j) (λ m _. t.1) (λ j _ m e. h.numbers s r j m e)) (λ a b _ j m e. h.numbers a b j m e)) h.told h.own
+      (choose ssn (λ j y. (m : ℕ) → (if y then Some n else c.world.numbers s r j) ≡ Some m → IsThere last k s r j) (λ m _. there) (λ j _ m e. h.numbers s r j m e)) (λ a b _ j m e. h.numbers a b j m e)) h.told h.own
 
-  obeys : (p q i n s : ℕ) → Firm last (does c (Arrives p q (Resume i n s)))
+  obeys : (p q i n s : ℕ) → Firm last (arrived c p q (Resume i n s))
   obeys p q i n s =
       with-numbers (put2 c.world.numbers q p (λ ssn. up_to n (c.world.numbers q p ssn)))
       (choose2 q p (λ a b t. (ssn m : ℕ) → (if t then (λ ssn. up_to n (c.world.numbers q p ssn)) else c.world.numbers a b) ssn ≡ Some m → IsThere last k a b ssn)
       (λ ssn m e. h.numbers q p ssn m (up_to-is n m (c.world.numbers q p ssn) e).0) (λ a b _ ssn m e. h.numbers a b ssn m e))
 
-  restores : (q p i j n s : ℕ) (f : ℕ → Option ℕ) → In (parcel q p (Restored i j n s None f)) c.parcels → Firm last (goes_on (takes_in c p q j n s None f) p (without (todo_of (c.world.phase p)) q))
-  restores q p i j n s f there =
+  restores : (q p i j n s : ℕ) (f : ℕ → Option ℕ) → IsTrue last k q p (Restored i j n s None f) → Firm last (goes_on (takes_in c p q j n s None f) p (without (todo_of (c.world.phase p)) q))
+  restores q p i j n s f page =
       let x : Phase = phase_with (without (todo_of (c.world.phase p)) q) in
-      these c.parcels (put c.world.phase p x) (put2 c.world.numbers p q (entered c p q s None f)) c.told h.parcels (jobs-idle p x (with-idle _)) (page-there p q s None f (h.parcels q p (Restored i j n s None f) there).1) h.told h.own
+      these c.parcels (put c.world.phase p x) (put2 c.world.numbers p q (entered c p q s None f)) c.told h.parcels (jobs-idle p x (with-idle _)) (page-there p q s None f page) h.told h.own
 
   opens : (p n : ℕ) → Firm last (does c (Opens p n))
   opens p n =
       these c.parcels c.world.phase c.world.numbers (put c.told p (λ _. None)) h.parcels h.jobs h.numbers (λ a b. choose p (λ j t. IsGoodSoFar last k j ((if t then (λ _. None) else c.told j) b)) tt (λ j _. h.told j b) a)
       (λ a. choose p (λ j t. (if t then (λ _. None) else c.told j) j ≡ None) refl (λ j _. h.own j) a)
 
+  -- a packet is taken that is true
+  takes-firm : (q p : ℕ) (x : Body) → q ≢ p → IsTrue last k q p x → MayTake c q p x → Firm last (arrived c q p x)
+  takes-firm q p (Restored i j n s (Some u) f) ne t may = with-numbers (put2 c.world.numbers p q (entered c p q s (Some u) f)) (page-there p q s (Some u) f t)
+  takes-firm p (suc d) (Delivery i ssn x) ne t may = starts p d i ssn x t may
+  takes-firm p zero (Delivery i ssn x) ne t may = shows p i ssn x t may
+  takes-firm r s (Number i ssn n) ne t may = records r s i ssn n ne t
+  takes-firm p q (Ask i n) ne t may = with-told q p None (λ _. refl) tt
+  takes-firm q p (Told i j n u f) ne t may = with-told p q (Some (with_page (c.told p q) n u f)) (λ e. absurd (ne (sym e))) (page-good p q n u f may.3 t)
+  takes-firm p q (Resume i n s) ne t may = obeys p q i n s
+  takes-firm (suc q) p (Restored i j n s None f) ne t may = restores (suc q) p i j n s f t
+  takes-firm q p x ne t may = h
+
+  -- and so is what it is cut to
+  cut-true : (q p : ℕ) (x : Body) → IsTrue last k q p x → IsTrue last k q p (cut c p q x)
+  cut-true q p (Restored i j n s u f) t = λ ssn m a b. split ssn m a b (nat_le ssn (length (sent c.world p q)))
+    where
+      split : (ssn m : ℕ) → s < ssn → reaches u ssn ≡ true → (y : Bool) → (if y then f ssn else None) ≡ Some m → IsThere last k p q ssn
+      split ssn m a b true e = t ssn m a b e
+      split ssn m a b false e = absurd (let z : None ≡ Some m = e in cc)
+  cut-true q p x t = t
+
   meets : (q p i n : ℕ) → Firm last (goes c (Meets q p i n))
   meets q p i n =
-      these c.parcels (put c.world.phase q (restores_anew (c.world.phase q) p)) (put2 c.world.numbers q p (λ _. None)) c.told h.parcels
-      (choose q (λ j t. (m : Message) → (if t then restores_anew (c.world.phase q) p else c.world.phase j) ≡ Busy m → IsGood last k j m × (m.ssn ≡ suc (count_of m.sender (c.world.history j)))) (λ m e. h.jobs q m (anew-idle (c.world.phase q) p m e)) (λ j _. h.jobs j))
+      these c.parcels (put c.world.phase q (restores_anew c.world.count (c.world.phase q) p)) (put2 c.world.numbers q p (λ _. None)) c.told h.parcels
+      (choose q (λ j t. (m : Message) → (if t then restores_anew c.world.count (c.world.phase q) p else c.world.phase j) ≡ Busy m → IsGood last k j m × (m.ssn ≡ suc (count_of m.sender (c.world.history j)))) (λ m e. h.jobs q m (anew-idle c.world.count (c.world.phase q) p m e)) (λ j _. h.jobs j))
       (choose2 q p (λ a b t. (ssn m : ℕ) → (if t then (λ _. None) else c.world.numbers a b) ssn ≡ Some m → IsThere last k a b ssn) (λ ssn m e. absurd (let z : None ≡ Some m = e in cc)) (λ a b _ ssn m e. h.numbers a b ssn m e)) h.told h.own
 
   -- Events by which they do
 
   input-firm : (d : ℕ) (x : Payload) → Firm last (does c (Input d x))
-  input-firm d x = firm-more last k (kept_sends (does c (Input d x))) (goes-sends c (Acts true false (Input d x)) h.grows h.within) c h
+  input-firm d x = firm-more last k (kept_sends (does c (Input d x))) (goes-sends c (Acts true (Input d x)) h.grows h.within) c h
 
   keeps : (p : ℕ) → Firm last (does c (Keeps p))
   keeps p =
-      let r = firm-more last k (kept_sends (does c (Keeps p))) (goes-sends c (Acts true false (Keeps p)) h.grows h.within) c h in
+      let r = firm-more last k (kept_sends (does c (Keeps p))) (goes-sends c (Acts true (Keeps p)) h.grows h.within) c h in
       let within = choose p (λ j t. (if t then length (c.world.history p) else c.world.saved j) ≤ length (c.world.history j)) (omega arith) (λ j _. h.within j) in
       record { grows = h.grows; within = within; parcels = r.parcels; jobs = r.jobs; numbers = r.numbers; told = r.told; own = h.own; received = r.received; shown = r.shown }
 
   works : (p : ℕ) (m : Message) → May c (Works p m) → Firm last (does c (Works p m))
   works p m may =
       let l : Sends = kept_sends (does c (Works p m)) in
-      let r = firm-more last k (kept_sends (does c (Works p m))) (goes-sends c (Acts true false (Works p m)) h.grows h.within) c h in
+      let r = firm-more last k (kept_sends (does c (Works p m))) (goes-sends c (Acts true (Works p m)) h.grows h.within) c h in
       let job : IsGood last l p m × (m.ssn ≡ suc (count_of m.sender (c.world.history p))) = r.jobs p m may.2 in
       let long : length (c.world.history p ++ m ∷ []) ≡ length (c.world.history p) + 1 = length-append _ _ in
       let low : c.world.saved p ≤ length (c.world.history p) = h.within p in
@@ -274,28 +297,21 @@ module _ (last : ℕ → Bool) (c : Cluster) (h : Firm last c) where
         more = sends-continue c (taken_back c p n) h.grows refl (takes-back c p n (h.within p))
 
   does-firm : (a : Act) → May c a → IsKept last c a → Firm last (does c a)
-  does-firm (Arrives q p (Restored i j n s (Some u) f)) may kept = with-numbers (put2 c.world.numbers p q (entered c p q s (Some u) f)) (page-there p q s (Some u) f (h.parcels q p (Restored i j n s (Some u) f) may.0).1)
   does-firm (Input d x) may kept = input-firm d x
   does-firm (Puts p d x) may kept = with-parcel p d x may.2 (put-true p d x may.3 kept)
-  does-firm (Arrives p (suc d) (Delivery i ssn x)) may kept = starts p d i ssn x may
-  does-firm (Arrives p zero (Delivery i ssn x)) may kept = shows p i ssn x may
+  does-firm (Arrives q p x) may kept = let t = h.parcels q p x may.0 in takes-firm q p x t.0 t.1 may.1
   does-firm (Works p m) may kept = works p m may
   does-firm (Replays p j) may kept = either-way (nat_lt (c.world.saved p + suc j) (length (c.world.history p))) _ _ (Firm last)
       (with-phase p (Replaying (suc j) false false) (λ m e. let t : false ≡ true = ap is_busy e in cc)) (with-phase p (phase_with (peers c.world p false)) (with-idle (peers c.world p false)))
-  does-firm (Arrives r s (Number i ssn n)) may kept = records r s i ssn n may
-  does-firm (Arrives p q (Ask i n)) may kept = with-told q p None (λ _. refl) tt
-  does-firm (Arrives q p (Told i j n u f)) may kept =
-      let t = h.parcels q p (Told i j n u f) may.0 in
-      with-told p q (Some (with_page (c.told p q) n u f)) (λ e. absurd (t.0 (sym e))) (page-good p q n u f may.1.3 t.1)
   does-firm (Recovers p n) may kept = recovers-firm p n may
-  does-firm (Arrives p q (Resume i n s)) may kept = obeys p q i n s
-  does-firm (Arrives (suc q) p (Restored i j n s None f)) may kept = restores (suc q) p i j n s f may.0
   does-firm (Keeps p) may kept = keeps p
   does-firm (Opens p n) may kept = opens p n
   does-firm act may kept = h
 
-  pub goes-firm : (e : Event) → Might last c e → Firm last (goes c e)
-  goes-firm (Acts exact lost a) may = does-firm a may.0 may.1
-  goes-firm (Meets q p i n) may = meets q p i n
-  goes-firm (Loses q p i j n) may = with-parcel q p (Told i j n None (λ _. None)) (λ e. (h.parcels p q (Ask i n) may.0).0 (sym e)) (λ m x _ _ e. absurd (let z : None ≡ Some x = e in cc))
-  goes-firm (Leaves p q) may = with-phase p (phase_with (without (todo_of (c.world.phase p)) q)) (with-idle (without (todo_of (c.world.phase p)) q))
+  pub goes-firm : (e : Event) → Might c e → IsSafe last c e → Firm last (goes c e)
+  goes-firm (Acts exact a) may kept = does-firm a may.0 kept
+  goes-firm (Meets q p i n) may kept = meets q p i n
+  goes-firm (Loses q p i j n) may kept = h
+  goes-firm (Lacks q p i j n) may kept = takes-firm q p (loss i j n) may.1 (λ m x _ _ e. absurd (let z : None ≡ Some x = e in cc)) may.3
+  goes-firm (Leaves p q) may kept = with-phase p (phase_with (without (todo_of (c.world.phase p)) q)) (with-idle (without (todo_of (c.world.phase p)) q))
+  goes-firm (Doubts q p x) may kept = let t = h.parcels q p x may.1 in takes-firm q p (cut c p q x) t.0 (cut-true q p x t.1) (cut-taken c q p x may.2)

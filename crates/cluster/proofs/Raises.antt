@@ -98,16 +98,16 @@ module _ (born : ℕ → ℕ) (now p : ℕ) where
     resume = Resume (s.cluster.world.incarnation p) (length (s.cluster.world.history p)) (s.cluster.restoring p q)
 
     abbrev asked : Telling
-    asked = step s (Acts true false (Puts p q resume))
+    asked = step s (Acts true (Puts p q resume))
 
     obeys : Goes s (Obeyed q s)
-    obeys = go-first s (Obeyed q s) (Acts true false (Puts p q resume)) may (refl, λ _ _. refl) (split (s.cluster.resumed q p) refl)
+    obeys = go-first s (Obeyed q s) (Acts true (Puts p q resume)) may (refl, λ _ _. refl) (split (s.cluster.resumed q p) refl)
       where
-        may : MayStep s (Acts true false (Puts p q resume))
+        may : MayStep s (Acts true (Puts p q resume))
         may = (((h.node.1, a, (λ e. n (sym e)), (h.live, un, refl, refl, refl)), tt), tt)
 
         aged : Aged born now asked
-        aged = step-aged born now s (Acts true false (Puts p q resume)) refl h.aged may
+        aged = step-aged born now s (Acts true (Puts p q resume)) refl h.aged may
 
         split : (b : Bool) → s.cluster.resumed q p ≡ b → Goes asked (Obeyed q s)
         split true e = ([], tt, tt, (record { aged = aged; count = refl; stage = λ r. refl; greeted = λ r _. refl; phase = λ r _. refl; lost = λ r. refl }, refl, refl, e))
@@ -115,16 +115,16 @@ module _ (born : ℕ → ℕ) (now p : ℕ) where
             let w = h.awake q a n in
             let up : s.cluster.world.phase q ≡ Up = w.1 well in
             let g : s.cluster.greeted q ≡ true = (well-is s.cluster q well).1 in
-            let m : MayStep asked (Acts true false (Arrives p q resume)) = (((inl refl, ((rw (w.0, g, up) refl), sym (heard-life s h q a n), e, (λ x f. absurd (not-busy s.cluster q up x f)))), tt), tt) in
-            let later : Aged born now (step asked (Acts true false (Arrives p q resume))) = step-aged born now asked (Acts true false (Arrives p q resume)) refl aged m in
-            go-last asked (Obeyed q s) (Acts true false (Arrives p q resume)) m (refl, λ _ _. refl)
+            let m : MayStep asked (Acts true (Arrives p q resume)) = (((inl refl, ((rw (w.0, g, up) refl), sym (heard-life s h q a n), e, (λ x f. absurd (not-busy s.cluster q up x f)))), tt), tt) in
+            let later : Aged born now (step asked (Acts true (Arrives p q resume))) = step-aged born now asked (Acts true (Arrives p q resume)) refl aged m in
+            go-last asked (Obeyed q s) (Acts true (Arrives p q resume)) m (refl, λ _ _. refl)
             (record { aged = later; count = refl; stage = λ r. refl; greeted = λ r _. refl; phase = λ r _. refl; lost = λ r. refl }, refl, refl, put2-same s.cluster.resumed q p true)
 
     -- what it answers then
     abbrev answer : Body
     answer = Restored (s.cluster.world.incarnation p) (s.cluster.world.incarnation q) (covered s.cluster.world p q) (s.cluster.restoring p q) None (rsn_of (s.cluster.world.history q) p)
 
-    may-answer : s.cluster.resumed q p ≡ true → MayStep s (Acts true false (Puts q p answer))
+    may-answer : s.cluster.resumed q p ≡ true → MayStep s (Acts true (Puts q p answer))
     may-answer e =
         let up : s.cluster.world.phase q ≡ Up = (h.awake q a n).1 well in
         (((a, h.node.1, n, (well, sym (heard-life s h q a n), e, (λ m f. absurd (not-busy s.cluster q up m f)), refl, refl, (λ v f. absurd (let z : None ≡ Some v = f in cc)), (λ ssn _ _. refl))), tt), tt)
@@ -133,18 +133,18 @@ module _ (born : ℕ → ℕ) (now p : ℕ) where
     low = let l : s.cluster.heard p q ≤ s.cluster.stored q = h.aged.plain.low p q in let e : s.cluster.world.incarnation q ≡ s.cluster.stored q = h.aged.plain.settled q (ap runs (h.awake q a n).0) in omega arith
 
     abbrev told : Telling
-    told = step s (Acts true false (Puts q p answer))
+    told = step s (Acts true (Puts q p answer))
 
     abbrev taken : Telling
-    taken = step told (Acts (s.exact q) false (Arrives q p answer))
+    taken = step told (Acts (s.exact q) (Arrives q p answer))
 
     -- and p takes in
     answers : s.cluster.resumed q p ≡ true → (P : Telling → Type 0) → MayTake told.cluster q p answer → (Aged born now taken → P taken) → Goes s P
     answers e P take more =
-        let first : Aged born now told = step-aged born now s (Acts true false (Puts q p answer)) refl h.aged (may-answer e) in
-        let m : MayStep told (Acts (s.exact q) false (Arrives q p answer)) = (((inl refl, take), tt), inl refl) in
-        go-first s P (Acts true false (Puts q p answer)) (may-answer e) (refl, λ _ _. refl)
-        (go-last told P (Acts (s.exact q) false (Arrives q p answer)) m (refl, λ _ _. refl) (more (step-aged born now told (Acts (s.exact q) false (Arrives q p answer)) refl first m)))
+        let first : Aged born now told = step-aged born now s (Acts true (Puts q p answer)) refl h.aged (may-answer e) in
+        let m : MayStep told (Acts (s.exact q) (Arrives q p answer)) = (((inl refl, take), tt), inl refl) in
+        go-first s P (Acts true (Puts q p answer)) (may-answer e) (refl, λ _ _. refl)
+        (go-last told P (Acts (s.exact q) (Arrives q p answer)) m (refl, λ _ _. refl) (more (step-aged born now told (Acts (s.exact q) (Arrives q p answer)) refl first m)))
 
   -- of another node
   restores-one : (s : Telling) (h : Stand s) (un : is_well s.cluster p ≡ false) (q : ℕ) (a : q ≤ s.cluster.world.count) (n : q ≢ p) (well : is_well s.cluster q ≡ true)
@@ -188,11 +188,11 @@ module _ (born : ℕ → ℕ) (now p : ℕ) where
       split : (x : Phase) → s.cluster.world.phase p ≡ x → is_up x ≡ true → Goes s (Raised s)
       split Up e u = ([], tt, tt, (kept-here s h, (rw (h.live, g, e) refl), e))
       split (Busy m) e u =
-          let may : MayStep s (Acts true false (Works p m)) = (((h.node, (rw (h.live, g, e) refl), e), tt), tt) in
+          let may : MayStep s (Acts true (Works p m)) = (((h.node, (rw (h.live, g, e) refl), e), tt), tt) in
           let there : put s.cluster.world.phase p Up p ≡ Up = put-same s.cluster.world.phase p Up in
-          go-last s (Raised s) (Acts true false (Works p m)) may (refl, λ _ _. refl) (
-            record { aged = step-aged born now s (Acts true false (Works p m)) refl h.aged may; count = refl; stage = λ r. refl; greeted = λ r _. refl; phase = λ r n. put-other s.cluster.world.phase p Up r n; lost = λ r. refl },
-            is-well (step s (Acts true false (Works p m))).cluster p (ap runs h.live) g (ap is_up there),
+          go-last s (Raised s) (Acts true (Works p m)) may (refl, λ _ _. refl) (
+            record { aged = step-aged born now s (Acts true (Works p m)) refl h.aged may; count = refl; stage = λ r. refl; greeted = λ r _. refl; phase = λ r n. put-other s.cluster.world.phase p Up r n; lost = λ r. refl },
+            is-well (step s (Acts true (Works p m))).cluster p (ap runs h.live) g (ap is_up there),
             there,
           )
       split x e u = absurd (cc)
@@ -262,9 +262,9 @@ module _ (born : ℕ → ℕ) (now p : ℕ) where
 
   replays-one : (s : Telling) → Stand s → (j : ℕ) → s.cluster.world.phase p ≡ Replaying j false false → Goes s (λ t. Aged born now t × Replayed j s t.cluster × ((q : ℕ) → t.lost p q ≡ s.lost p q))
   replays-one s h j e =
-      let m : MayStep s (Acts true false (Replays p j)) = (((h.node, h.live, e), tt), tt) in
-      go-first s (λ t. Aged born now t × Replayed j s t.cluster × ((q : ℕ) → t.lost p q ≡ s.lost p q)) (Acts true false (Replays p j)) m (refl, λ _ _. refl)
-      ([], tt, tt, (step-aged born now s (Acts true false (Replays p j)) refl h.aged m, split (nat_lt (s.cluster.world.saved p + suc j) (length (s.cluster.world.history p))) refl, λ q. refl))
+      let m : MayStep s (Acts true (Replays p j)) = (((h.node, h.live, e), tt), tt) in
+      go-first s (λ t. Aged born now t × Replayed j s t.cluster × ((q : ℕ) → t.lost p q ≡ s.lost p q)) (Acts true (Replays p j)) m (refl, λ _ _. refl)
+      ([], tt, tt, (step-aged born now s (Acts true (Replays p j)) refl h.aged m, split (nat_lt (s.cluster.world.saved p + suc j) (length (s.cluster.world.history p))) refl, λ q. refl))
     where
       turned : (x : Phase) → ((s.cluster.world.saved p + suc j < length (s.cluster.world.history p)) × (x ≡ Replaying (suc j) false false)) ⊎ (x ≡ phase_with (peers s.cluster.world p false)) → Replayed j s (record s.cluster { world = record s.cluster.world { phase = put s.cluster.world.phase p x } })
       turned x n =

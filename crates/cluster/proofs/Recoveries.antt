@@ -91,9 +91,9 @@ module _ (p : ℕ) (s : Telling) (h : Orderly s) (node : IsNode s.cluster p) (re
     where
       go : (k : ℕ) × Stops (told_by s.cluster p) had (s.cluster.world.saved p) long k → Goes s (λ t. Orderly t × Recovered p s t.cluster)
       go e =
-          let m : MayStep s (Acts true false (Recovers p e.0)) = (((node, coll, all, e.1.0, e.1.1, e.1.2), tt), tt) in
-          go-last s (λ t. Orderly t × Recovered p s t.cluster) (Acts true false (Recovers p e.0)) m (refl, λ _ _. refl) (
-            orderly-step s (Acts true false (Recovers p e.0)) h m,
+          let m : MayStep s (Acts true (Recovers p e.0)) = (((node, coll, all, e.1.0, e.1.1, e.1.2), tt), tt) in
+          go-last s (λ t. Orderly t × Recovered p s t.cluster) (Acts true (Recovers p e.0)) m (refl, λ _ _. refl) (
+            orderly-step s (Acts true (Recovers p e.0)) h m,
             either-way (nat_lt (s.cluster.world.saved p) e.0) (record (taken_back s.cluster p e.0) { world = record (taken_back s.cluster p e.0).world { phase = put s.cluster.world.phase p (Replaying 0 false false) } })
                 (goes_on (taken_back s.cluster p e.0) p (peers s.cluster.world p false)) (Recovered p s) (turned e.0 (Replaying 0 false false)) (turned e.0 (phase_with (peers s.cluster.world p false))),
           )

@@ -17,7 +17,7 @@ abbrev pub AllBut : ℕ → Cluster → Type 0
 AllBut p c = (q : ℕ) → q ≤ c.world.count → q ≢ p → is_well c q ≡ true
 
 abbrev pub is_act : Event → Bool
-is_act (Acts exact lost a) = true
+is_act (Acts exact a) = true
 is_act e = false
 
 -- quiet events, which are acts while all but one are up
@@ -81,9 +81,9 @@ module _ (q : ℕ) where
       split false g x e = stays (inr (live, λ w. absurd (true-not-false (well-is s.cluster q w).1 g)))
       split true g Up e = stays (inr (live, λ _. e))
       split true g (Busy m) e =
-          let may : MayStep s (Acts true false (Works q m)) = (((node, (rw (live, g, e) refl), e), tt), tt) in
-          go-last s (Roused q s) (Acts true false (Works q m)) may (refl, λ _ _. refl) (record {
-            orderly = orderly-step s (Acts true false (Works q m)) h may;
+          let may : MayStep s (Acts true (Works q m)) = (((node, (rw (live, g, e) refl), e), tt), tt) in
+          go-last s (Roused q s) (Acts true (Works q m)) may (refl, λ _ _. refl) (record {
+            orderly = orderly-step s (Acts true (Works q m)) h may;
             count = refl;
             ready = inr (live, λ _. put-same s.cluster.world.phase q Up);
             others = λ r n. (refl, refl, put-other s.cluster.world.phase q Up r n);
@@ -99,20 +99,20 @@ module _ (q : ℕ) where
       split Live e = awake s h node e
       split Collecting e = ([], tt, tt, record { orderly = h; count = refl; ready = inl e; others = λ r _. (refl, refl, refl) })
       split Dead e =
-          let may : MayStep s (Acts true false (Opens q 0)) = (((node, e), tt), tt) in
-          go-last s (Roused q s) (Acts true false (Opens q 0)) may (refl, λ _ _. refl) (record {
-            orderly = orderly-step s (Acts true false (Opens q 0)) h may;
+          let may : MayStep s (Acts true (Opens q 0)) = (((node, e), tt), tt) in
+          go-last s (Roused q s) (Acts true (Opens q 0)) may (refl, λ _ _. refl) (record {
+            orderly = orderly-step s (Acts true (Opens q 0)) h may;
             count = refl;
             ready = inl (put-same s.cluster.stage q Collecting);
             others = λ r n. (put-other s.cluster.stage q Collecting r n, refl, refl);
           })
       split Frozen e =
-          let may : MayStep s (Acts true false (Keeps q)) = (((node, e), tt), tt) in
-          let thaws : MayStep (step s (Acts true false (Keeps q))) (Acts true false (Thaws q)) = (((node, e, put-same s.cluster.world.saved q _), tt), tt) in
-          let g : Orderly (step (step s (Acts true false (Keeps q))) (Acts true false (Thaws q))) = orderly-step _ (Acts true false (Thaws q)) (orderly-step s (Acts true false (Keeps q)) h may) thaws in
-          go-first s (Roused q s) (Acts true false (Keeps q)) may (refl, λ _ _. refl)
-          (go-first (step s (Acts true false (Keeps q))) (Roused q s) (Acts true false (Thaws q)) thaws (refl, λ _ _. refl)
-          (go-on (step (step s (Acts true false (Keeps q))) (Acts true false (Thaws q))) (Roused q (step (step s (Acts true false (Keeps q))) (Acts true false (Thaws q)))) (Roused q s) (awake (step (step s (Acts true false (Keeps q))) (Acts true false (Thaws q))) g node (put-same s.cluster.stage q Live)) (λ v r. (
+          let may : MayStep s (Acts true (Keeps q)) = (((node, e), tt), tt) in
+          let thaws : MayStep (step s (Acts true (Keeps q))) (Acts true (Thaws q)) = (((node, e, put-same s.cluster.world.saved q _), tt), tt) in
+          let g : Orderly (step (step s (Acts true (Keeps q))) (Acts true (Thaws q))) = orderly-step _ (Acts true (Thaws q)) (orderly-step s (Acts true (Keeps q)) h may) thaws in
+          go-first s (Roused q s) (Acts true (Keeps q)) may (refl, λ _ _. refl)
+          (go-first (step s (Acts true (Keeps q))) (Roused q s) (Acts true (Thaws q)) thaws (refl, λ _ _. refl)
+          (go-on (step (step s (Acts true (Keeps q))) (Acts true (Thaws q))) (Roused q (step (step s (Acts true (Keeps q))) (Acts true (Thaws q)))) (Roused q s) (awake (step (step s (Acts true (Keeps q))) (Acts true (Thaws q))) g node (put-same s.cluster.stage q Live)) (λ v r. (
             [],
             tt,
             tt,

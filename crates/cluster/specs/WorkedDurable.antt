@@ -1,6 +1,6 @@
 -- Runs in which both nodes die at once and their recoveries meet: in one a message is lost, and a node says so; in the other both are
 -- durable
-use Rattle.std.specs.Prelude.{◌≡◌, ℕ, List, [], ◌∷◌, ◌++◌, None, Bool, true, false, map}
+use Rattle.std.specs.Prelude.{◌≡◌, ℕ, List, [], ◌∷◌, ◌++◌, Bool, true, false, map}
 use Rattle.world.specs.declared.message.Message.{Message}
 use Rattle.world.specs.History.{Payload}
 use Rattle.theorems.specs.WorkedOverlap.{passing}

@@ -8,7 +8,7 @@ pub fn meeting_failures_lose()
     ensures { MeetingFailuresLose }
 {}
 
-/// The node that lost it was told so, and is no longer exact.
+/// The node that lost it was told so, and is no longer exact once it took that answer.
 pub fn loss_is_told()
     ensures { LossIsTold }
 {}

@@ -2,7 +2,8 @@
 
 ghost use Rattle.cluster.specs.Exact.{ExactRunsDontMeet, ExactRunsKeep, StepsAreEvents};
 
-/// A run in which every node was always exact is a run in which no recoveries meet.
+/// A run in which every node was always exact is a run in which no recoveries meet, of nodes that
+/// need not be durable.
 pub fn exact_runs_dont_meet()
     ensures { ExactRunsDontMeet }
 {}
