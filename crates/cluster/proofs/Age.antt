@@ -202,10 +202,10 @@ module _ (born : ℕ → ℕ) (now : ℕ) (s : Telling) (h : Aged born now s) wh
       let r : Real born s.cluster true q p (loss i j k) = h.said (flagged (parcel q p (loss i j k)) false true) may.1 in
       let page : Option Collected = Some (with_page (s.cluster.told p q) k None (λ _. None)) in
       let d : Cluster = arrived s.cluster q p (loss i j k) in
-      let o : On s.cluster (arrived s.cluster q p (loss i j k)) = on-takes born s.cluster h.plain h.parcels q p (loss i j k) r.1 may.0.3 in
-      aged-on born now s (step s (Lacks q p i j k)) h o (plain-takes born s.cluster h.plain h.parcels q p (loss i j k) r.0 r.1 may.0.3) (λ a b y i. inl i) (λ y i. inl i)
+      let o : On s.cluster (arrived s.cluster q p (loss i j k)) = on-takes born s.cluster h.plain h.parcels q p (loss i j k) r.1 may.0.1 in
+      aged-on born now s (step s (Lacks q p i j k)) h o (plain-takes born s.cluster h.plain h.parcels q p (loss i j k) r.0 r.1 may.0.1) (λ a b y i. inl i) (λ y i. inl i)
       (λ a b l m. choose2 p q (λ a b t. at_stage (s.cluster.stage a) (is_some (if t then page else s.cluster.told a b)) ≡ true → (has_told s.cluster a b ≡ true) ⊎ Knows born d a b)
-      (λ _. inr (told-knows q p i j k None (λ _. None) r.1 may.0.3.1 o)) (λ a b _ e. inl e) a b)
+      (λ _. inr (told-knows q p i j k None (λ _. None) r.1 may.0.1.1 o)) (λ a b _ e. inl e) a b)
       (λ a b l m e w. choose2 p q (λ a b t. at_stage (s.cluster.stage a) (is_some (if t then page else s.cluster.told a b)) ≡ true → (if t then true else s.lost a b) ≡ false → ((has_told s.cluster a b ≡ true) × (s.lost a b ≡ false)) ⊎ Later born d a b)
       (λ _ f. absurd (true-not-false refl f)) (λ a b _ e f. inl (e, f)) a b e)
 

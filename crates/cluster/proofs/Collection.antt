@@ -118,7 +118,7 @@ module _ (p q : ℕ) (ne : q ≢ p) where
             let is : j ≡ s.cluster.stored q = elim back [ inl v ↦ v.1 ∙ h.2.plain.settled q (ap runs v.0.0) | inr v ↦ v.1 ] in
             let none : (r : ℕ) → AllBut r s.cluster → ⊥ = λ r o. two-down s.cluster p q r ne node.1 a (rw coll refl) un o in
             let m : MayStep s (Loses q p (s.cluster.stored p) j k) = ((there, sym e, back), tt) in
-            let t : MayStep (step s (Loses q p (s.cluster.stored p) j k)) (Lacks q p (s.cluster.stored p) j k) = (((let n : 0 ≢ q = un-gate s.cluster h.2.plain q un in omega arith, a), ne, (omega arith), (coll, refl, low, asks)), inl refl) in
+            let t : MayStep (step s (Loses q p (s.cluster.stored p) j k)) (Lacks q p (s.cluster.stored p) j k) = ((ne, (coll, refl, low, asks)), inl refl) in
             let page : Option Collected = Some (with_page (s.cluster.told p q) k None (λ _. None)) in
             let P : Option Collected → Type 0 = λ t. IsAll t in
             go-first s (Answered p q s) (Loses q p (s.cluster.stored p) j k) m (refl, λ r o. absurd (none r o))

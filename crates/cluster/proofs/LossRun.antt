@@ -37,6 +37,6 @@ told-of-loss g x =
     ▸ (((omega arith, omega arith, (λ e. omega arith), (refl, refl, refl)), tt), tt)
     ▸ (((inl refl, (omega arith, inr refl)), tt), tt)
     ▸ ((inl refl, refl, inr (refl, refl)), tt)
-    ▸ (((omega arith, omega arith), (λ e. omega arith), omega arith, (refl, refl, omega arith, refl)), inl refl)
+    ▸ (((λ e. omega arith), (refl, refl, omega arith, refl)), inl refl)
     ▸ ((((omega arith, omega arith), refl, for-two _ refl refl, omega arith, refl, refl), tt), tt)
     ▸ tt

@@ -312,6 +312,6 @@ module _ (last : ℕ → Bool) (c : Cluster) (h : Firm last c) where
   goes-firm (Acts exact a) may kept = does-firm a may.0 kept
   goes-firm (Meets q p i n) may kept = meets q p i n
   goes-firm (Loses q p i j n) may kept = h
-  goes-firm (Lacks q p i j n) may kept = takes-firm q p (loss i j n) may.1 (λ m x _ _ e. absurd (let z : None ≡ Some x = e in cc)) may.3
+  goes-firm (Lacks q p i j n) may kept = takes-firm q p (loss i j n) may.0 (λ m x _ _ e. absurd (let z : None ≡ Some x = e in cc)) may.1
   goes-firm (Leaves p q) may kept = with-phase p (phase_with (without (todo_of (c.world.phase p)) q)) (with-idle (without (todo_of (c.world.phase p)) q))
   goes-firm (Doubts q p x) may kept = let t = h.parcels q p x may.1 in takes-firm q p (cut c p q x) t.0 (cut-true q p x t.1) (cut-taken c q p x may.2)

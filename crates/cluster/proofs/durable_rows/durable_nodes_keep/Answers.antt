@@ -31,7 +31,7 @@ returns c g x = (
       ▸ ((omega arith, omega arith, (λ e. omega arith), (refl, refl, refl)), tt)
       ▸ ((inl refl, (omega arith, inr refl)), tt)
       ▸ (inl refl, refl, inr (refl, refl))
-      ▸ ((omega arith, omega arith), (λ e. omega arith), omega arith, (refl, refl, omega arith, refl))
+      ▸ ((λ e. omega arith), (refl, refl, omega arith, refl))
       ▸ (((omega arith, omega arith), refl, for-two _ refl refl, omega arith, refl, refl), tt)
       ▸ tt,
   refl,
