@@ -1,5 +1,4 @@
 pub mod Lists
-pub mod Acts
 pub mod Preservation
 pub mod Holds
 pub mod Pages

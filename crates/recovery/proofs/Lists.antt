@@ -5,6 +5,11 @@ use Rattle.std.proofs.lemmas.Bool.Decides.{nat_tests}
 use Rattle.std.proofs.lemmas.List.{get_or-set_same, get_or-set_other}
 use Rattle.node.specs.Stands.{Each}
 
+-- what holds of both holds of the one that is taken
+pub either : {X : Type 0} (P : X → Type 0) (b : Bool) (x y : X) → P x → P y → P (if b then x else y)
+either P true x y h g = h
+either P false x y h g = g
+
 -- what holds by place of a list and a function holds when both are changed at q
 pub at-changed : {X Y : Type 0} (P : ℕ → X → Y → Type 0) (xs : List X) (d : X) (f : ℕ → Y) (q : ℕ) (x : X) (y : Y) (k : ℕ) → q < length xs → P q x y → P k (slice_index_or xs k d) (f k)
     → P k (slice_index_or (slice_set xs q x) k d) (if k == q then y else f k)

@@ -20,9 +20,10 @@ use Rattle.recovery.specs.Stands.{HasOwn, StandsCollecting, GoesTo}
 use Rattle.recovery.specs.Plan.{has_all, told_under, IsPlan, Plans, MayRecover}
 use Rattle.recovery.specs.Replays.{TheReplaying, receipts_of, is_over}
 use Rattle.recovery.specs.StandsAtReplay.{StandsReplaying, IsInOrder, ComesBack, phase_of}
-use Rattle.recovery.proofs.Acts.{goes-one}
+use Rattle.node.proofs.Goes.{goes-act}
 use Rattle.recovery.proofs.Orders.{in-order-first, follows-in-order, senders-of, front-part, back-part}
 use Rattle.recovery.proofs.Plans.{recovering}
+use Rattle.recovery.proofs.Posts.{outs-still}
 
 -- where it stands
 abbrev pub AtReplaying : TheReplaying → ℕ → Cluster → Type 0
@@ -123,8 +124,11 @@ module _ (n : TheCollecting) (jobs : List OpenJob) (all : has_all n ≡ true) (p
                 held = s.own.held;
                 grown = s.own.grown;
                 heard = s.own.heard;
+                stored = s.own.stored;
+                durable = s.own.durable;
                 sure = s.own.sure;
-                out = s.own.out;
+                greets = s.own.greets;
+                out = outs-still c (record back { world = record back.world { phase = ph; released = rel } }) me n.own.out refl (λ x i. i) (omega arith) s.own.out;
               }));
           behind = ap (drop base) history-is ∙ back-part h ms base long;
           received = (let P : List Message → Type 0 = λ z. HasReceived n.own.count base n.own.covered (receipts_of jobs) z (back.world.acknowledged me) in
@@ -160,8 +164,8 @@ module _ (n : TheCollecting) (jobs : List OpenJob) (all : has_all n ≡ true) (p
   stands-begun : StandsReplaying r (does c (Recovers me k)) me
   stands-begun = by-cluster (AtReplaying r me) (nat_lt (c.world.saved me) k) (record back { world = record back.world { phase = put c.world.phase me (Replaying 0 false false) } }) (goes_on back me others) stands-some stands-none
 
-  goes-back : GoesTo me (AtReplaying r me) c
-  goes-back = goes-one me (AtReplaying r me) c (Recovers me k) may-recover.may refl stands-begun
+  goes-back : GoesTo true me (AtReplaying r me) c
+  goes-back = goes-act true me (AtReplaying r me) c (Recovers me k) may-recover.may tt refl stands-begun
 
 pub comes-back : (n : TheCollecting) (jobs : List OpenJob) → has_all n ≡ true → Plans n jobs → ComesBack n (begins_with n jobs)
 comes-back n jobs all plans c s ordered = goes-back n jobs all plans c s ordered

@@ -1,4 +1,4 @@
--- Acts of others leave what a process stands for that comes back
+-- Events of others leave what a process stands for that comes back
 use Rattle.std.proofs.Common.{◌≡◌, ℕ, ◌+◌, ◌<◌, ◌≤◌, Bool, List, [], ◌∷◌, take, drop, false, refl, sym, ap, ◌∙◌, subst, arith}
 use Rattle.std.specs.Prelude.{Option, None, ◌==◌}
 use Rattle.std.proofs.lemmas.Bool.Decides.{nat_tests}
@@ -6,17 +6,16 @@ use Rattle.world.specs.declared.message.Message.{Message}
 use Rattle.world.specs.Logs.{sent_in_all}
 use Rattle.world.specs.Calls.{peers}
 use Rattle.cluster.specs.Cluster.{Cluster}
-use Rattle.cluster.specs.Rules.{does}
-use Rattle.node.specs.Stands.{HasReceived, actor}
-use Rattle.node.proofs.Lists.{all-more}
-use Rattle.node.proofs.Beside.{Same, same}
+use Rattle.cluster.specs.Overlap.{goes}
+use Rattle.node.specs.Stands.{HasReceived, doer}
+use Rattle.node.proofs.Beside.{Same, same-event}
 use Rattle.recovery.specs.Own.{TheOwn}
 use Rattle.recovery.specs.Collection.{TheCollecting}
 use Rattle.recovery.specs.Replays.{TheReplaying, receipts_of}
-use Rattle.recovery.specs.Stands.{HasOwn, IsSent, StandsCollecting}
+use Rattle.recovery.specs.Stands.{HasOwn, StandsCollecting}
 use Rattle.recovery.specs.StandsAtReplay.{StandsReplaying, phase_of}
 use Rattle.recovery.specs.Beside.{OthersStand, ReplayingStands}
-use Rattle.recovery.proofs.Posts.{sent-still}
+use Rattle.recovery.proofs.Posts.{outs-still}
 
 -- where the cluster has the same of it, what it has of its own is what the cluster has
 pub own-same : (o : TheOwn) (c d : Cluster) (p : ℕ) (h : List Message) (t u : ℕ → ℕ) (f g : ℕ → ℕ → Option ℕ) → Same c d p → ((k : ℕ) → t k ≡ u k) → ((k : ℕ) → f k ≡ g k) → HasOwn o c p h t f → HasOwn o d p h u g
@@ -33,8 +32,11 @@ own-same o c d p h t u f g e a b s =
       held = λ k l o. rw (sym e.handlers) (s.held k (subst (λ m. k ≤ m) (sym e.count) l) o);
       grown = λ k. rw (sym e.handlers) (s.grown k);
       heard = λ q l. rw (sym (e.heard q)) (s.heard q (subst (λ m. q ≤ m) (sym e.count) l));
-      sure = s.sure;
-      out = all-more (IsSent c.world.count c.parcels p) (IsSent d.world.count d.parcels p) o.out (λ x. sent-still c d p x e.count (λ y i. e.parcels _ i)) s.out;
+      stored = (let l = s.stored in omega (arith, l, e.stored));
+      durable = λ z. s.durable (ap (λ (f : ℕ → Bool). f p) e.durable ∙ z);
+      sure = λ z q l. s.sure z q (subst (λ m. q ≤ m) (sym e.count) l);
+      greets = s.greets;
+      out = outs-still c d p o.out e.count e.parcels (omega (arith, e.stored)) s.out;
     }
 
 -- so it stands
@@ -49,12 +51,12 @@ stands-same n c d p e s =
       told = λ q l. rw (sym (e.told q)) (s.told q (subst (λ m. q ≤ m) (sym e.count) l));
     }
 
--- it stands after the acts of another
+-- it stands after the events of another
 pub others-stand : OthersStand
 others-stand n p q [] c other by s = s
-others-stand n p q (a ∷ acts) c other by s =
-    let apart : (p == actor a) ≡ false = (let f : actor a ≡ q = by.0 in grind (arith, nat_tests)) in
-    others-stand n p q acts (does c a) other by.1 (stands-same n c (does c a) p (same c a p apart) s)
+others-stand n p q (e ∷ es) c other by s =
+    let apart : (p == doer e) ≡ false = (let f : doer e ≡ q = by.0 in grind (arith, nat_tests)) in
+    others-stand n p q es (goes c e) other by.1 (stands-same n c (goes c e) p (same-event c e p apart) s)
 
 -- one that replays does so where the cluster has the same of it
 replaying-same : (n : TheReplaying) (c d : Cluster) (p : ℕ) → Same c d p → StandsReplaying n c p → StandsReplaying n d p
@@ -88,6 +90,6 @@ replaying-same n c d p e s =
 
 pub replaying-stands : ReplayingStands
 replaying-stands n p q [] c other by s = s
-replaying-stands n p q (a ∷ acts) c other by s =
-    let apart : (p == actor a) ≡ false = (let f : actor a ≡ q = by.0 in grind (arith, nat_tests)) in
-    replaying-stands n p q acts (does c a) other by.1 (replaying-same n c (does c a) p (same c a p apart) s)
+replaying-stands n p q (e ∷ es) c other by s =
+    let apart : (p == doer e) ≡ false = (let f : doer e ≡ q = by.0 in grind (arith, nat_tests)) in
+    replaying-stands n p q es (goes c e) other by.1 (replaying-same n c (goes c e) p (same-event c e p apart) s)

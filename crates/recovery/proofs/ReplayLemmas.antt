@@ -25,9 +25,9 @@ use Rattle.recovery.specs.Collection.{TheCollecting}
 use Rattle.recovery.specs.Stands.{HasOwn, IsHeldBack, IsSent, GoesTo, Takes as CollectingTakes}
 use Rattle.recovery.specs.Replays.{TheReplaying, next_job, next_number, is_over, did_replay}
 use Rattle.recovery.specs.StandsAtReplay.{StandsReplaying, AnswersAfter, Handles, Owes, Takes, Ends, phase_of, replayed_of}
-use Rattle.recovery.proofs.Acts.{goes-self, goes-one}
+use Rattle.node.proofs.Goes.{goes-self, goes-act}
 use Rattle.recovery.proofs.Moments.{AtReplaying, by-cluster}
-use Rattle.recovery.proofs.Posts.{replaying-out, collecting-out}
+use Rattle.recovery.proofs.Posts.{outs-still, replaying-out, collecting-out}
 
 get-inside : {X : Type 0} (xs : List X) (i : ℕ) (x : X) → slice_get xs i ≡ Some x → i < length xs
 get-inside [] i x e = absurd (cc)
@@ -127,8 +127,11 @@ module _ (n : TheReplaying) (c : Cluster) (j : OpenJob) (state : List ℕ) (give
                 held = held-ran;
                 grown = grown-ran;
                 heard = s.own.heard;
+                stored = s.own.stored;
+                durable = s.own.durable;
                 sure = s.own.sure;
-                out = s.own.out;
+                greets = s.own.greets;
+                out = outs-still c (record c { world = record c.world { phase = ph; released = rel } }) me n.own.out refl (λ x i. i) (omega arith) s.own.out;
               }));
           behind = s.behind;
           received = s.received;
@@ -166,8 +169,8 @@ module _ (n : TheReplaying) (c : Cluster) (j : OpenJob) (state : List ℕ) (give
   stands-next : StandsReplaying more (does c (Replays me n.done)) me
   stands-next = by-cluster (AtReplaying more me) (nat_lt (c.world.saved me + suc n.done) (length (c.world.history me))) (record c { world = record c.world { phase = put c.world.phase me (Replaying (suc n.done) false false) } }) (goes_on c me others) stands-some stands-last
 
-  goes-replayed : GoesTo me (AtReplaying more me) c
-  goes-replayed = goes-one me (AtReplaying more me) c (Replays me n.done) may refl stands-next
+  goes-replayed : GoesTo n.own.exact me (AtReplaying more me) c
+  goes-replayed = goes-act n.own.exact me (AtReplaying more me) c (Replays me n.done) may tt refl stands-next
 
 -- what a handler gives has a log
 given-inside : (n : TheReplaying) (given : List Given) → length n.own.logs ≡ suc n.own.count → MayGive n.own given → (i : ℕ) (g : Given) → slice_get given i ≡ Some g → g.to < length n.own.logs
@@ -176,8 +179,8 @@ given-inside n given wide may i g e = omega (arith, wide, (may.others i g e).0)
 pub replays-so : (n : TheReplaying) (state : List ℕ) (given : List Given) → length n.own.logs ≡ suc n.own.count → MayGive n.own given → Owes (Handles state given n) n (did_replay state given (next_job n) n)
 replays-so n state given wide may c s answers = by-job (next_job n) refl
   where
-    by-job : (o : Option OpenJob) → next_job n ≡ o → GoesTo n.own.me (AtReplaying (did_replay state given o n) n.own.me) c
-    by-job None e = goes-self n.own.me (AtReplaying n n.own.me) c s
+    by-job : (o : Option OpenJob) → next_job n ≡ o → GoesTo (did_replay state given o n).own.exact n.own.me (AtReplaying (did_replay state given o n) n.own.me) c
+    by-job None e = goes-self n.own.exact n.own.me (AtReplaying n n.own.me) c s
     by-job (Some j) e = goes-replayed n c j state given s e (given-inside n given wide may) (answers j e)
 
 -- where all are replayed, it has replayed all
@@ -205,7 +208,7 @@ replaying-takes None n rest e =
     (e.0, ap (λ xs. record n { own = record n.own { out = xs } }) e.1 ∙ ap (λ xs. record n { own = record n.own { out = xs } }) (let back : [] ≡ n.own.out = (cc) in back))
 replaying-takes (Some x) n rest e = (
   ap (λ xs. record n { own = record n.own { out = xs } }) e,
-  λ c s. (let out : Each (IsSent c.world.count c.parcels n.own.me) (x ∷ rest) = subst (Each (IsSent c.world.count c.parcels n.own.me)) e s.own.out in (out.0, replaying-out n c n.own.me rest out.1 s)),
+  λ c s. (let out : Each (IsSent c n.own.me) (x ∷ rest) = subst (Each (IsSent c n.own.me)) e s.own.out in (out.0, replaying-out n c n.own.me rest out.1 s)),
 )
 
 pub collecting-takes : (o : Option NodePacket) (n : TheCollecting) (rest : List NodePacket) → Pops o n.own.out rest → CollectingTakes o n (record n { own = record n.own { out = rest } })
@@ -213,5 +216,5 @@ collecting-takes None n rest e =
     (e.0, ap (λ xs. record n { own = record n.own { out = xs } }) e.1 ∙ ap (λ xs. record n { own = record n.own { out = xs } }) (let back : [] ≡ n.own.out = (cc) in back))
 collecting-takes (Some x) n rest e = (
   ap (λ xs. record n { own = record n.own { out = xs } }) e,
-  λ c s. (let out : Each (IsSent c.world.count c.parcels n.own.me) (x ∷ rest) = subst (Each (IsSent c.world.count c.parcels n.own.me)) e s.own.out in (out.0, collecting-out n c n.own.me rest out.1 s)),
+  λ c s. (let out : Each (IsSent c n.own.me) (x ∷ rest) = subst (Each (IsSent c n.own.me)) e s.own.out in (out.0, collecting-out n c n.own.me rest out.1 s)),
 )

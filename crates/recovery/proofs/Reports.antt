@@ -7,7 +7,8 @@ use Rattle.theorems.proofs.Changes.{at-itself}
 use Rattle.theorems.proofs.Tests.{both}
 use Rattle.cluster.specs.Parcels.{Body, Ask, Told, In, parcel, reaches}
 use Rattle.cluster.specs.Cluster.{Cluster, Collected}
-use Rattle.cluster.specs.Rules.{Act, Arrives, Asks, May, does, with_page as with_told}
+use Rattle.cluster.specs.Rules.{Act, Arrives, Asks, May, MayTake, arrived, does, with_page as with_told}
+use Rattle.cluster.specs.Overlap.{Event, Acts, Lacks, Might, goes}
 use Rattle.packets.specs.Packet.{is_done, is_lost, is_exact, in_range}
 use Rattle.packets.specs.declared.page.LoggedMessage.{LoggedMessage}
 use Rattle.packets.specs.declared.page.Flags.{Flags}
@@ -19,13 +20,14 @@ use Rattle.recovery.specs.Overlap.{heard_of, tells_loss}
 use Rattle.packets.specs.Says.{WasSaid, told_end, first_told}
 use Rattle.recovery.specs.Collected.{TheCollected, with_page, none_told}
 use Rattle.recovery.specs.Collection.{TheCollecting, told_of, answers, took_page, asks_anew, asked_by, heard, handed}
+use Rattle.node.specs.Stands.{own_event, IsAct}
 use Rattle.recovery.specs.Stands.{IsTold, IsSaid, StandsCollecting, GoesTo, IsHanded}
 use Rattle.recovery.proofs.Lists.{at-changed}
-use Rattle.recovery.proofs.Acts.{goes-self, goes-one, goes-then}
+use Rattle.node.proofs.Goes.{goes-self, goes-one, goes-act, goes-then, goes-any}
 use Rattle.recovery.proofs.Pages.{IsPage, page-in-range}
 use Rattle.recovery.proofs.Told.{told-none, told-page}
 use Rattle.recovery.proofs.Posts.{own-with, collecting-out, loss-out, for-own}
-use Rattle.recovery.proofs.Meetings.{off-set}
+use Rattle.recovery.proofs.Meetings.{off-set, was-asked}
 use Rattle.recovery.proofs.Inquiries.{At, by-branch, asks-at, only-asks}
 
 -- what a page has that answers what was asked last
@@ -54,19 +56,19 @@ is-answer n from i j k e =
     }
 
 module _ (n : TheCollecting) (c : Cluster) (from i j k : ℕ) (flags : Flags) (page : List LoggedMessage) (f : ℕ → Option Message) (s : StandsCollecting n c n.own.me) (low : from ≤ n.own.count) (other : from ≢ n.own.me)
-    (told_wide : length n.told ≡ suc n.own.count) (heard_wide : length n.own.heard ≡ suc n.own.count) (ok : IsAnswer n from i j k) (fits : IsPage k page) (given : In (parcel from n.own.me (Told i j k (told_end flags k page) f)) c.parcels)
-    (says : (m : ℕ) → k < m → reaches (told_end flags k page) m ≡ true → f m ≡ first_told from page m) (exact : n.own.exact && (not (is_lost flags) && is_exact flags) ≡ true) (kept : is_lost flags ≡ false) where
+    (told_wide : length n.told ≡ suc n.own.count) (heard_wide : length n.own.heard ≡ suc n.own.count) (ok : IsAnswer n from i j k) (fits : IsPage k page) (process : is_lost flags ≡ true → 0 < from)
+    (says : (m : ℕ) → k < m → reaches (told_end flags k page) m ≡ true → f m ≡ first_told from page m) where
   abbrev me : ℕ
   me = n.own.me
 
   abbrev base : ℕ
   base = n.own.base
 
-  abbrev act : Act
-  act = Arrives from me (Told i j k (told_end flags k page) f)
+  abbrev brings : Body
+  brings = Told i j k (told_end flags k page) f
 
   abbrev c' : Cluster
-  c' = does c act
+  c' = arrived c from me brings
 
   abbrev more : TheCollected
   more = with_page (is_done flags) page (told_of n.told from)
@@ -80,8 +82,8 @@ module _ (n : TheCollecting) (c : Cluster) (from i j k : ℕ) (flags : Flags) (p
   asked : Asks (c.world.saved me) (c.told me from) k
   asked = rw (s.own.saved, ok.cursor) ((s.told from within).asks ok.open_is)
 
-  may : May c act
-  may = (given, (s.stage, ok.life ∙ sym s.life, (let e = s.own.heard from within in omega (arith, e, ok.young)), asked))
+  may-take : MayTake c from me brings
+  may-take = (s.stage, ok.life ∙ sym s.life, (let e = s.own.heard from within in omega (arith, e, ok.young)), asked)
 
   heard-is : (q : ℕ) → q ≤ c.world.count → c'.heard me q ≡ slice_index_or (slice_set n.own.heard from j) q 0
   heard-is q l = at-itself me (λ t. (if t && (q == from) then j else c.heard me q) ≡ slice_index_or (slice_set n.own.heard from j) q 0)
@@ -99,18 +101,34 @@ module _ (n : TheCollecting) (c : Cluster) (from i j k : ℕ) (flags : Flags) (p
       let apart : (me == from) ≡ false = (let f : me ≢ from = λ e. other (sym e) in grind (arith, nat_tests)) in
       at-itself me (λ t. (if t && (me == from) then Some (with_told (c.told me from) k (told_end flags k page) f) else c.told me me) ≡ None) (rw apart s.alone)
 
+  -- where it is still exact, no flag says that one lost what it had
+  sure-is : n.own.exact && (not (is_lost flags) && is_exact flags) ≡ true → (q : ℕ) → q ≤ c.world.count → slice_index_or (slice_set n.own.lost from (is_lost flags)) q true ≡ false
+  sure-is e q l =
+      let two = both n.own.exact (not (is_lost flags) && is_exact flags) e in
+      off-set n.own.lost from q (is_lost flags) (λ z. off (is_lost flags) (both (not (is_lost flags)) (is_exact flags) two.1).0) (s.own.sure two.0 q l)
+
+  -- and the gateway never does
+  not-lost : (b : Bool) → is_lost flags ≡ b → 0 ≡ from → b ≡ false
+  not-lost true is e = absurd (let some : 0 < from = process is in omega (arith, some, e))
+  not-lost false is e = refl
+
   stands-mid : StandsCollecting mid c' me
   stands-mid = record {
     stage = s.stage;
     life = s.life;
-    own = own-with n.own c c' me _ refl refl refl s.own s.own.logs s.own.held heard-is (record { exact_is = exact; none_lost = λ q l. off-set n.own.lost from q (is_lost flags) kept (s.own.sure.none_lost from low) (s.own.sure.none_lost q l) }) s.own.out;
+    own = own-with n.own c c' me _ refl refl refl refl refl (λ y l. l) s.own s.own.logs s.own.held heard-is sure-is
+        (off-set n.own.lost from 0 (is_lost flags) (λ e. not-lost (is_lost flags) refl e) s.own.greets) s.own.out;
     told = told-is;
     alone = alone-is;
   }
 
-  goes-page : GoesTo me (At (took_page from j flags page n) me) c
-  goes-page = goes-then me (At mid me) (At (took_page from j flags page n) me) c (goes-one me (At mid me) c act may refl stands-mid)
-      (λ d t. asks-at mid d from t low other)
+  -- by any event that brings the page
+  goes-page : (e : Event) → Might c e → own_event e ≡ Some me → (n.own.exact && (not (is_lost flags) && is_exact flags) ≡ true → IsAct e) → goes c e ≡ c' → GoesTo (took_page from j flags page n).own.exact me (At (took_page from j flags page n) me) c
+  goes-page e might by acts is =
+      let m = took_page from j flags page n in
+      let same : m.own.exact ≡ n.own.exact && (not (is_lost flags) && is_exact flags) = ap (λ (z : TheCollecting). z.own.exact) (only-asks mid from) in
+      goes-then m.own.exact me (At mid me) (At m me) c (goes-one m.own.exact me (At mid me) c e might by (λ z. acts (sym same ∙ z)) (subst (At mid me) (sym is) stands-mid))
+      (λ d t. goes-any true m.own.exact me (At m me) d (λ z. refl) (asks-at mid d from t low other))
 
 -- a peer that comes back too asks in a newer incarnation
 module _ (n : TheCollecting) (c : Cluster) (from i k : ℕ) (s : StandsCollecting n c n.own.me) (low : from ≤ n.own.count) (other : from ≢ n.own.me) (told_wide : length n.told ≡ suc n.own.count)
@@ -151,68 +169,80 @@ module _ (n : TheCollecting) (c : Cluster) (from i k : ℕ) (s : StandsCollectin
   stands-anew = record {
     stage = s.stage;
     life = s.life;
-    own = own-with n.own c d' p _ refl refl refl s.own s.own.logs s.own.held heard-anew (record { exact_is = s.own.sure.exact_is; none_lost = λ q l. off-set n.own.lost from q false refl (s.own.sure.none_lost from low) (s.own.sure.none_lost q l) }) s.own.out;
+    own = own-with n.own c d' p _ refl refl refl refl refl (λ y l. l) s.own s.own.logs s.own.held heard-anew (λ e q l. off-set n.own.lost from q false (λ z. refl) (s.own.sure e q l)) (off-set n.own.lost from 0 false (λ z. refl) s.own.greets) s.own.out;
     told = told-anew;
     alone = alone-anew;
   }
 
-  goes-anew : GoesTo p (At (asks_anew from i n) p) c
-  goes-anew = goes-then p (At anew p) (At (asks_anew from i n) p) c (goes-one p (At anew p) c hear may-hear refl stands-anew) (λ d t. asks-at anew d from t low other)
+  goes-anew : GoesTo true p (At (asks_anew from i n) p) c
+  goes-anew = goes-then true p (At anew p) (At (asks_anew from i n) p) c (goes-act true p (At anew p) c hear may-hear tt refl stands-anew) (λ d t. asks-at anew d from t low other)
 
 -- it stands where it tells that all is lost
-tells-so : (n : TheCollecting) (p q i k : ℕ) (c : Cluster) → GoesTo p (At n p) c → GoesTo p (At (record n { own = tells_loss q i k n.own }) p) c
-tells-so n p q i k c g = goes-then p (At n p) (At (record n { own = tells_loss q i k n.own }) p) c g
-    (λ d t. goes-self p (At (record n { own = tells_loss q i k n.own }) p) d (collecting-out n d p (tells_loss q i k n.own).out (loss-out n.own d p q i k t.own.out) t))
+tells-so : (n : TheCollecting) (p q i k : ℕ) (c : Cluster) → GoesTo true p (At n p) c → GoesTo n.own.exact p (At (record n { own = tells_loss q i k n.own }) p) c
+tells-so n p q i k c g =
+    let m : TheCollecting = record n { own = tells_loss q i k n.own } in
+    goes-any true n.own.exact p (At m p) c (λ e. refl) (goes-then true p (At n p) (At m p) c g (λ d t. goes-self true p (At m p) d (collecting-out n d p m.own.out (loss-out n.own d p q i k t.own) t)))
 
--- where it stays exact, it goes on to where it stands
+-- it goes on to where it stands
 abbrev pub Onward : ℕ → Cluster → TheCollecting → Type 0
-Onward p c m = m.own.exact ≡ true → GoesTo p (At m p) c
+Onward p c m = GoesTo m.own.exact p (At m p) c
 
 -- what is said to it
 module _ (n : TheCollecting) (c : Cluster) (from : ℕ) (s : StandsCollecting n c n.own.me) (low : from ≤ n.own.count) (other : from ≢ n.own.me) (wide : length n.told ≡ suc n.own.count) (heard_wide : length n.own.heard ≡ suc n.own.count) where
   none-heard : Onward n.own.me c n
-  none-heard e = goes-self n.own.me (At n n.own.me) c s
+  none-heard = goes-self n.own.exact n.own.me (At n n.own.me) c s
 
   asking-heard : (i k : ℕ) → In (parcel from n.own.me (Ask i k)) c.parcels → Onward n.own.me c (asked_by from i k n)
   asking-heard i k given =
       by-branch (Onward n.own.me c) (nat_lt i (heard_of from n.own)) n (let m : TheCollecting = if nat_lt (heard_of from n.own) i then asks_anew from i n else n in record m { own = tells_loss from i k m.own }) (λ e. none-heard)
       (λ e. by-branch (λ m. Onward n.own.me c (record m { own = tells_loss from i k m.own })) (nat_lt (heard_of from n.own) i) (asks_anew from i n) n
-      (λ newer z. tells-so (asks_anew from i n) n.own.me from i k c (goes-anew n c from i k s low other wide heard_wide newer given))
-      (λ old z. tells-so n n.own.me from i k c (goes-self n.own.me (At n n.own.me) c s)))
+      (λ newer. tells-so (asks_anew from i n) n.own.me from i k c (goes-anew n c from i k s low other wide heard_wide newer given))
+      (λ old. tells-so n n.own.me from i k c (goes-self true n.own.me (At n n.own.me) c s)))
 
-  exact-page : (j : ℕ) (flags : Flags) (page : List LoggedMessage) → (took_page from j flags page n).own.exact ≡ n.own.exact && (not (is_lost flags) && is_exact flags)
-  exact-page j flags page = ap (λ (z : TheCollecting). z.own.exact) (only-asks (record { own = learns from j flags n.own; told = slice_set n.told from (with_page (is_done flags) page (told_of n.told from)) }) from)
-
-  page-heard : (i j k : ℕ) (flags : Flags) (page : List LoggedMessage) → IsSaid c.parcels from n.own.me (packets.Told i j k flags page) → Onward n.own.me c (heard from (packets.Told i j k flags page) n)
+  -- it says that all is lost, which nobody put out, or it was put out
+  page-heard : (i j k : ℕ) (flags : Flags) (page : List LoggedMessage) → IsSaid c from n.own.me (packets.Told i j k flags page) → Onward n.own.me c (heard from (packets.Told i j k flags page) n)
   page-heard i j k flags page said =
-      by-branch (Onward n.own.me c) (in_range (packets.Told i j k flags page) && answers from i j k n) (took_page from j flags page n) n
-      (λ e z. let two = both (in_range (packets.Told i j k flags page)) (answers from i j k n) e in
-      let exact : n.own.exact && (not (is_lost flags) && is_exact flags) ≡ true = sym (exact-page j flags page) ∙ z in
-      let kept : is_lost flags ≡ false = off (is_lost flags) (both (not (is_lost flags)) (is_exact flags) (both n.own.exact (not (is_lost flags) && is_exact flags) exact).1).0 in
-      let was : WasSaid c.parcels from n.own.me (packets.Told i j k flags page) = said kept in
-      let f = was.1.0 in
-      let given : In (parcel from n.own.me (Told i j k (told_end flags k page) f)) c.parcels = (let P : Body → Type 0 = λ b. In (parcel from n.own.me b) c.parcels in subst P was.1.1 was.2) in
-      goes-page n c from i j k flags page f s low other wide heard_wide (is-answer n from i j k two.1) (page-in-range i j k flags page two.0) given was.1.3 exact kept)
+      let me = n.own.me in
+      by-branch (Onward me c) (in_range (packets.Told i j k flags page) && answers from i j k n) (took_page from j flags page n) n
+      (λ e. let two = both (in_range (packets.Told i j k flags page)) (answers from i j k n) e in
+      takes-page (is-answer n from i j k two.1) (page-in-range i j k flags page two.0) (is_lost flags) refl)
       (λ e. none-heard)
+    where
+      takes-page : IsAnswer n from i j k → IsPage k page → (b : Bool) → is_lost flags ≡ b → Onward n.own.me c (took_page from j flags page n)
+      takes-page ok fits true lost =
+          let me = n.own.me in
+          let t = said.0 lost in
+          let end : told_end flags k page ≡ None = (let done : is_done flags ≡ true = ap is_done t.flags_are in rw done refl) in
+          let f : ℕ → Option Message = λ m. None in
+          let P : (m : ℕ) → None ≡ first_told from page m = λ m. ap (λ xs. first_told from xs m) (sym t.none) in
+          goes-page n c from i j k flags page f s low other wide heard_wide ok fits (λ e. t.process) (λ m above r. P m) (Lacks from me i j k)
+          ((t.process, omega (arith, low, s.own.count)), other, t.stored, may-take n c from i j k flags page f s low other wide heard_wide ok fits (λ e. t.process) (λ m above r. P m)) refl
+          (λ e. absurd (let kept : is_lost flags ≡ false = off (is_lost flags) (both (not (is_lost flags)) (is_exact flags) (both n.own.exact (not (is_lost flags) && is_exact flags) e).1).0 in cc (lost, kept)))
+          (ap (λ u. arrived c from me (Told i j k u f)) (sym end))
+      takes-page ok fits false kept =
+          let me = n.own.me in
+          let was : WasSaid c.parcels from me (packets.Told i j k flags page) = said.1 kept in
+          let f = was.1.0 in
+          let given : In (parcel from me (Told i j k (told_end flags k page) f)) c.parcels = (let P : Body → Type 0 = λ b. In (parcel from me b) c.parcels in subst P was.1.1 was.2) in
+          let process : is_lost flags ≡ true → 0 < from = λ e. absurd (cc (kept, e)) in
+          goes-page n c from i j k flags page f s low other wide heard_wide ok fits process was.1.3 (Acts (is_exact flags) (Arrives from me (Told i j k (told_end flags k page) f)))
+          ((given, may-take n c from i j k flags page f s low other wide heard_wide ok fits process was.1.3), tt) refl (λ e. tt) refl
 
-  ask-heard : (i k : ℕ) → IsSaid c.parcels from n.own.me (packets.Ask i k) → Onward n.own.me c (heard from (packets.Ask i k) n)
-  ask-heard i k said =
-      let was : WasSaid c.parcels from n.own.me (packets.Ask i k) = said refl in
-      let given : In (parcel from n.own.me (Ask i k)) c.parcels = (let same : was.0 ≡ Ask i k = cc (was.1) in let P : Body → Type 0 = λ b. In (parcel from n.own.me b) c.parcels in subst P same was.2) in
-      by-branch (Onward n.own.me c) (in_range (packets.Ask i k)) (asked_by from i k n) n (λ e. asking-heard i k given) (λ e. none-heard)
+  ask-heard : (i k : ℕ) → IsSaid c from n.own.me (packets.Ask i k) → Onward n.own.me c (heard from (packets.Ask i k) n)
+  ask-heard i k said = by-branch (Onward n.own.me c) (in_range (packets.Ask i k)) (asked_by from i k n) n (λ e. asking-heard i k (was-asked c from n.own.me i k said)) (λ e. none-heard)
 
-  hearing : (x : bodies.Body) → IsSaid c.parcels from n.own.me x → Onward n.own.me c (heard from x n)
+  hearing : (x : bodies.Body) → IsSaid c from n.own.me x → Onward n.own.me c (heard from x n)
   hearing (packets.Told i j k flags page) said = page-heard i j k flags page said
   hearing (packets.Ask i k) said = ask-heard i k said
   hearing other said = none-heard
 
 -- a packet comes
 pub handing : (n : TheCollecting) (x : NodePacket) → length n.told ≡ suc n.own.count → length n.own.heard ≡ suc n.own.count → IsHanded x n (handed x n)
-handing n x wide heard_wide exact c s said =
+handing n x wide heard_wide c s said =
     let me = n.own.me in
     let o = n.own in
     by-branch (Onward me c) (is_for o x) (heard x.from x.body n) n
     (λ e. let it = for-own o x e in
-    let P : ℕ → Type 0 = λ z. IsSaid c.parcels x.from z x.body in
+    let P : ℕ → Type 0 = λ z. IsSaid c x.from z x.body in
     hearing n c x.from s it.1.0 it.1.1 wide heard_wide x.body (subst P it.0 said))
-    (λ e z. goes-self me (At n me) c s) exact
+    (λ e. goes-self o.exact me (At n me) c s)

@@ -1,4 +1,4 @@
--- Acts of others leave what a process stands for that comes back
+-- Events of others leave what a process stands for that comes back
 use Rattle.std.proofs.Common.{◌≡◌, ℕ, ◌<◌, ◌≤◌, List, [], ◌∷◌, length, Bool, false, refl, sym, ap, ◌∙◌, subst, arith}
 use Rattle.std.specs.Prelude.{◌==◌}
 use Rattle.std.proofs.lemmas.Bool.Decides.{nat_tests}
@@ -6,9 +6,9 @@ use Rattle.world.specs.declared.message.Message.{Message}
 use Rattle.world.specs.Logs.{sent_in_all}
 use Rattle.world.specs.Calls.{phase_with, peers}
 use Rattle.cluster.specs.Cluster.{Cluster}
-use Rattle.cluster.specs.Rules.{does}
-use Rattle.node.specs.Stands.{HasReceived, actor}
-use Rattle.node.proofs.Beside.{Same, same}
+use Rattle.cluster.specs.Overlap.{goes}
+use Rattle.node.specs.Stands.{HasReceived, doer}
+use Rattle.node.proofs.Beside.{Same, same-event}
 use Rattle.recovery.specs.Own.{TheOwn}
 use Rattle.recovery.specs.Stands.{HasOwn}
 use Rattle.recovery.specs.Replayed.{TheReplayed, StandsReplayed}
@@ -65,6 +65,7 @@ module _ (c d : Cluster) (p : ℕ) (e : Same c d p) where
         own = own-here n.own s.own;
         received = received-same n.own.count n.own.base n.own.covered n.receipts s.received;
         acknowledged = λ k l. rw (sym e.acknowledged) (s.acknowledged k (rw e.history l));
+        known = λ d l o. s.known d (subst (λ m. d ≤ m) (sym e.count) l) o;
         fresh = λ q i l open_is above. rw (sym (e.numbers q)) (s.fresh q i (subst (λ m. q ≤ m) (sym e.count) l) open_is above);
         resumed = λ q. sym (e.resumed q) ∙ s.resumed q;
         restoring = λ q l. sym (e.restoring q) ∙ s.restoring q (subst (λ m. q ≤ m) (sym e.count) l);
@@ -73,12 +74,12 @@ module _ (c d : Cluster) (p : ℕ) (e : Same c d p) where
 
 pub replayed-stands : ReplayedStands
 replayed-stands n p q [] c other by s = s
-replayed-stands n p q (a ∷ acts) c other by s =
-    let apart : (p == actor a) ≡ false = (let f : actor a ≡ q = by.0 in grind (arith, nat_tests)) in
-    replayed-stands n p q acts (does c a) other by.1 (replayed-same c (does c a) p (same c a p apart) n s)
+replayed-stands n p q (e ∷ es) c other by s =
+    let apart : (p == doer e) ≡ false = (let f : doer e ≡ q = by.0 in grind (arith, nat_tests)) in
+    replayed-stands n p q es (goes c e) other by.1 (replayed-same c (goes c e) p (same-event c e p apart) n s)
 
 pub restoring-stands : RestoringStands
 restoring-stands n p q [] c other by s = s
-restoring-stands n p q (a ∷ acts) c other by s =
-    let apart : (p == actor a) ≡ false = (let f : actor a ≡ q = by.0 in grind (arith, nat_tests)) in
-    restoring-stands n p q acts (does c a) other by.1 (restoring-same c (does c a) p (same c a p apart) n s)
+restoring-stands n p q (e ∷ es) c other by s =
+    let apart : (p == doer e) ≡ false = (let f : doer e ≡ q = by.0 in grind (arith, nat_tests)) in
+    restoring-stands n p q es (goes c e) other by.1 (restoring-same c (goes c e) p (same-event c e p apart) n s)

@@ -8,8 +8,11 @@ use Rattle.packets.specs.Packet.{is_positive, is_pair_above, pair_before, ascend
 use Rattle.packets.specs.declared.page.Pair.{Pair}
 use Rattle.packets.specs.declared.page.Flags.{Flags}
 use Rattle.packets.specs.declared.packet.Body.TheVariants.{Restored}
+use Rattle.packets.specs.Says.{first_number}
 use Rattle.recovery.specs.Intake.{AscendFrom, IsSmallPair}
 use Rattle.recovery.specs.Restoration.{last_ssn}
+use Rattle.recovery.specs.RestorationStands.{IsKnown}
+use Rattle.recovery.proofs.Notes.{pairs-known}
 
 all-ascend : (s : ℕ) (xs : List Pair) → list_all (is_pair_above s) xs ≡ true → ascends pair_before xs ≡ true → AscendFrom s xs
 all-ascend s [] a b = tt
@@ -25,15 +28,18 @@ all-ascend s (x ∷ xs) a b = (first s x (both (is_pair_above s x) (list_all (is
         let next : x.ssn < y.ssn = (let f : nat_lt x.ssn y.ssn ≡ true = two.0 in grind (arith, nat_tests)) in
         (next, on y ys two.1)
 
-is-page : (s : ℕ) (flags : Flags) (page : List Pair) → pairs_in_range s flags page ≡ true → AscendFrom s page
+-- its pairs lie above where it begins, and ascend
+above-all : (s : ℕ) (flags : Flags) (page : List Pair) → pairs_in_range s flags page ≡ true → (list_all (is_pair_above s) page ≡ true) × (ascends pair_before page ≡ true)
 unfolding pairs_in_range
-is-page s flags page e =
+above-all s flags page e =
     let a = both (nat_lt flags.bits 8 && not (is_lost flags) && goes_on flags page && list_all (is_pair_above s) page) (ascends pair_before page) e in
-    let b = both (nat_lt flags.bits 8 && not (is_lost flags) && goes_on flags page) (list_all (is_pair_above s) page) a.0 in
-    all-ascend s page b.1 a.1
+    ((both (nat_lt flags.bits 8 && not (is_lost flags) && goes_on flags page) (list_all (is_pair_above s) page) a.0).1, a.1)
 
 pub page-in-range : (i j c s : ℕ) (flags : Flags) (page : List Pair) → in_range (Restored i j c s flags page) ≡ true → AscendFrom s page
-page-in-range i j c s flags page e = is-page s flags page (both _ (pairs_in_range s flags page) e).1
+page-in-range i j c s flags page e = let t = above-all s flags page (both _ (pairs_in_range s flags page) e).1 in all-ascend s page t.0 t.1
+
+pub page-known : (i j c s : ℕ) (flags : Flags) (page : List Pair) → in_range (Restored i j c s flags page) ≡ true → (ssn : ℕ) → IsKnown (first_number page ssn)
+page-known i j c s flags page e = pairs-known s page (above-all s flags page (both _ (pairs_in_range s flags page) e).1).0
 
 all-small : (s : ℕ) (xs : List Pair) → list_all (is_pair_above s) xs ≡ true → AllByRecursion IsSmallPair xs
 all-small s [] a = tt
@@ -43,14 +49,8 @@ all-small s (x ∷ xs) a =
     let small : nat_lt x.number (2 ^ 63) ≡ true = (both (nat_lt 0 x.number) (nat_lt x.number (2 ^ 63)) one.0).1 in
     (grind (arith, nat_tests), all-small s xs two.1)
 
-is-small : (s : ℕ) (flags : Flags) (page : List Pair) → pairs_in_range s flags page ≡ true → AllByRecursion IsSmallPair page
-unfolding pairs_in_range
-is-small s flags page e =
-    let a = both (nat_lt flags.bits 8 && not (is_lost flags) && goes_on flags page && list_all (is_pair_above s) page) (ascends pair_before page) e in
-    all-small s page (both (nat_lt flags.bits 8 && not (is_lost flags) && goes_on flags page) (list_all (is_pair_above s) page) a.0).1
-
 pub page-small : (i j c s : ℕ) (flags : Flags) (page : List Pair) → in_range (Restored i j c s flags page) ≡ true → AllByRecursion IsSmallPair page
-page-small i j c s flags page e = is-small s flags page (both _ (pairs_in_range s flags page) e).1
+page-small i j c s flags page e = all-small s page (above-all s flags page (both _ (pairs_in_range s flags page) e).1).0
 
 -- the SSN of the last pair
 pub last-at : (s : ℕ) (xs : List Pair) (x : Pair) → slice_get xs (length xs - 1) ≡ Some x → last_ssn s xs ≡ x.ssn

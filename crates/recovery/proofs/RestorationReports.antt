@@ -1,65 +1,62 @@
 -- An answer comes to a process that restores its numbers
-use Rattle.std.proofs.Common.{◌≡◌, ◌≢◌, ℕ, ◌<◌, ◌≤◌, List, [], length, max, Bool, true, false, refl, sym, ap, ◌∙◌, subst, arith}
+use Rattle.std.proofs.Common.{◌≡◌, ◌≢◌, ℕ, zero, suc, ◌+◌, ◌<◌, ◌≤◌, List, [], ◌∷◌, ◌++◌, length, take, min, max, Bool, true, false, refl, sym, ap, ◌∙◌, subst, arith}
 use Rattle.std.specs.Prelude.{Option, Some, None, not, slice_index_or, slice_set, ◌&&◌, ◌==◌, nat_lt, nat_le, if◌then◌else◌}
 use Rattle.std.proofs.lemmas.Bool.Decides.{nat_tests}
-use Rattle.std.proofs.lemmas.List.{get_or-set_same, get_or-set_other}
+use Rattle.std.specs.List.{list_all}
+use Rattle.std.proofs.lemmas.List.{get_or-set_same, get_or-set_other, take_all, length-append}
 use Rattle.world.specs.Phases.{is_replaying, todo_of, has, without}
 use Rattle.world.specs.Calls.{phase_with, released_with}
-use Rattle.world.specs.Logs.{sent_in_all}
+use Rattle.world.specs.Logs.{length_in, length_of, sent, sent_in_all}
 use Rattle.theorems.proofs.Changes.{at-itself}
 use Rattle.theorems.proofs.Tests.{both}
-use Rattle.cluster.specs.Parcels.{Body, Restored, In, parcel, reaches}
-use Rattle.cluster.specs.Cluster.{Cluster}
-use Rattle.cluster.specs.Rules.{Act, Arrives, Awaits, May, IsNode, does, goes_on, entered, takes_in as taken_in}
-use Rattle.cluster.proofs.Nodes.{may-restore, restores}
+use Rattle.cluster.specs.Parcels.{Body, Ask, Restored, In, parcel, reaches}
+use Rattle.cluster.specs.Cluster.{Cluster, is_well}
+use Rattle.cluster.specs.Rules.{Arrives, Awaits, MayTake, IsNode, arrived, goes_on, entered, takes_in as taken_in}
+use Rattle.cluster.specs.Overlap.{Event, Acts, Meets, Doubts, Might, goes, restores_anew}
+use Rattle.cluster.proofs.Nodes.{restores}
 use Rattle.packets.specs.Packet.{is_done, is_exact, in_range}
 use Rattle.packets.specs.declared.page.Pair.{Pair}
 use Rattle.packets.specs.declared.page.Flags.{Flags}
 use Rattle.packets.specs.declared.packet.Body as bodies
 use Rattle.packets.specs.declared.packet.Body.TheVariants as packets
 use Rattle.packets.specs.declared.packet.NodePacket.{NodePacket}
-use Rattle.node.specs.Queue.{TheQueue, dropped_to}
+use Rattle.node.specs.Queue.{TheQueue, no_queue, dropped_to, forgotten_above}
 use Rattle.node.specs.Node.{log_at}
 use Rattle.packets.specs.Says.{WasSaid, restored_end, first_number}
-use Rattle.node.specs.Stands.{KeepsOf, sent_by}
+use Rattle.node.specs.Stands.{Each, KeepsOf, own_event, IsAct, sent_by}
 use Rattle.node.proofs.Logs.{changed-at}
 use Rattle.recovery.specs.Own.{TheOwn, hears, is_for}
-use Rattle.recovery.specs.Overlap.{heard_of}
+use Rattle.recovery.specs.Overlap.{heard_of, tells_loss, meets}
 use Rattle.recovery.specs.Overlap as meeting
 use Rattle.recovery.specs.Intake.{sent_to, noted, takes_in, trusts, AscendFrom}
 use Rattle.recovery.specs.Stands.{HasOwn, IsHeldBack, IsSaid, GoesTo}
-use Rattle.recovery.proofs.Meetings.{asks as ask-tells, newer-doubts}
+use Rattle.recovery.proofs.Meetings.{inside-off, was-asked, asks as ask-tells, phase-met, numbers-met, resumed-met, may-meet, own-met}
 use Rattle.recovery.proofs.Lists.{at-changed}
-use Rattle.recovery.proofs.Acts.{goes-self, goes-one, goes-then}
-use Rattle.recovery.proofs.Posts.{own-with, for-own}
-use Rattle.recovery.proofs.Notes.{keeps-page, keeps-covered, last-above}
+use Rattle.node.proofs.Goes.{goes-self, goes-one, goes-then, goes-any}
+use Rattle.recovery.proofs.Posts.{own-with, loss-out, for-own}
+use Rattle.recovery.proofs.Notes.{keeps-page, keeps-covered, known-told, known-forgotten, last-above, number-high, ascend-lower}
 use Rattle.recovery.proofs.Holds.{held-told}
-use Rattle.recovery.specs.Restoration.{TheRestoring, IsRestoring, above_of, has_answered, left, asks, last_ssn, answers, is_reply, page_of, doubted, told, greeted, waits_anew, asked_by, heard, handed}
-use Rattle.recovery.specs.RestorationStands.{StandsRestoring, IsHanded}
-use Rattle.recovery.proofs.Left.{without-those, those-same, todo-is, not-replaying}
-use Rattle.recovery.proofs.RestorationPages.{page-in-range}
-use Rattle.recovery.proofs.RestorationInquiries.{At, by-branch, left-has, only-asks, asks-at, restoring-out}
+use Rattle.recovery.specs.Restoration.{TheRestoring, IsRestoring, above_of, has_answered, left, asks, last_ssn, answers, is_reply, page_of, doubted, told, greeted, waits_anew, asked_by, heard, handed, is_up}
+use Rattle.recovery.specs.RestorationStands.{IsKnown, StandsRestoring, IsHanded}
+use Rattle.recovery.proofs.Left.{anew-is, without-those, those-same, todo-is, not-replaying}
+use Rattle.recovery.proofs.RestorationPages.{page-in-range, page-known}
+use Rattle.recovery.proofs.RestorationInquiries.{At, by-branch, left-has, not-well, asks-at, restoring-out}
 
 -- what a page has that answers what was asked last
-pub record IsAnswer (n : TheRestoring) (from i j covered s : ℕ) (pairs : List Pair) : Type 0 where
+pub record IsReply (n : TheRestoring) (from i j s : ℕ) : Type 0 where
   pub life : i ≡ n.own.life
   pub young : slice_index_or n.own.heard from 0 ≤ j
   pub open_is : has_answered from n ≡ false
   pub place : s ≡ above_of from n
-  pub some : covered ≤ sent_to from n.own
-  pub last : last_ssn 0 pairs ≤ sent_to from n.own
 
 off : (b : Bool) → not b ≡ true → b ≡ false
 off true e = absurd (cc)
 off false e = refl
 
-pub is-answer : (n : TheRestoring) (from i j covered s : ℕ) (pairs : List Pair) → answers from i j covered s pairs n ≡ true → IsAnswer n from i j covered s pairs
-is-answer n from i j covered s pairs e =
+pub replies : (n : TheRestoring) (from i j s : ℕ) → is_reply from i j s n ≡ true → IsReply n from i j s
+replies n from i j s e =
     let h = slice_index_or n.own.heard from 0 in
-    let many = sent_to from n.own in
-    let a = both ((i == n.own.life) && nat_le h j && not (has_answered from n) && (s == above_of from n) && nat_le covered many) (nat_le (last_ssn 0 pairs) many) e in
-    let b = both ((i == n.own.life) && nat_le h j && not (has_answered from n) && (s == above_of from n)) (nat_le covered many) a.0 in
-    let d = both ((i == n.own.life) && nat_le h j && not (has_answered from n)) (s == above_of from n) b.0 in
+    let d = both ((i == n.own.life) && nat_le h j && not (has_answered from n)) (s == above_of from n) e in
     let f = both ((i == n.own.life) && nat_le h j) (not (has_answered from n)) d.0 in
     let g = both (i == n.own.life) (nat_le h j) f.0 in
     record {
@@ -67,24 +64,27 @@ is-answer n from i j covered s pairs e =
       young = (let z : nat_le h j ≡ true = g.1 in grind (arith, nat_tests));
       open_is = off (has_answered from n) f.1;
       place = (let z : (s == above_of from n) ≡ true = d.1 in grind (arith, nat_tests));
-      some = (let z : nat_le covered many ≡ true = b.1 in grind (arith, nat_tests));
-      last = (let z : nat_le (last_ssn 0 pairs) many ≡ true = a.1 in grind (arith, nat_tests));
     }
+
+-- where it tells of no more than was sent
+fits-in : (n : TheRestoring) (from i j covered s : ℕ) (pairs : List Pair) → answers from i j covered s pairs n ≡ true → (covered ≤ sent_to from n.own) × (last_ssn 0 pairs ≤ sent_to from n.own)
+fits-in n from i j covered s pairs e =
+    let many = sent_to from n.own in
+    let a = both (is_reply from i j s n && nat_le covered many) (nat_le (last_ssn 0 pairs) many) e in
+    let b = both (is_reply from i j s n) (nat_le covered many) a.0 in
+    ((let z : nat_le covered many ≡ true = b.1 in grind (arith, nat_tests)), (let z : nat_le (last_ssn 0 pairs) many ≡ true = a.1 in grind (arith, nat_tests)))
 
 -- what is left when one more has answered
 answered-other : (n : TheRestoring) (from q : ℕ) → q ≢ from → slice_index_or (slice_set n.answered from true) q true ≡ has_answered q n
 answered-other n from q other = get_or-set_other n.answered from q true true other
 
-module _ (n : TheRestoring) (c : Cluster) (from i j covered s : ℕ) (flags : Flags) (pairs : List Pair) (f : ℕ → Option ℕ) (st : StandsRestoring n c n.own.me) (low : from ≤ n.own.count) (w : IsRestoring n.own n.above n.answered)
-    (ok : IsAnswer n from i j covered s pairs) where
+-- the log for one changes
+module _ (n : TheRestoring) (c : Cluster) (from : ℕ) (st : StandsRestoring n c n.own.me) (low : from ≤ n.own.count) (other : from ≢ n.own.me) (w : IsRestoring n.own n.above n.answered) where
   abbrev me : ℕ
   me = n.own.me
 
   abbrev within : from ≤ c.world.count
   within = omega (arith, low, st.own.count)
-
-  other-of : from ≢ me
-  other-of e = let P : ℕ → Type 0 = λ z. has_answered z n ≡ false in let g : has_answered me n ≡ false = subst P e ok.open_is in let h : true ≡ false = sym w.alone ∙ g in absurd (cc)
 
   abbrev q : TheQueue
   q = log_at n.own.logs from
@@ -92,7 +92,7 @@ module _ (n : TheRestoring) (c : Cluster) (from i j covered s : ℕ) (flags : Fl
   inside : from < length n.own.logs
   inside = omega (arith, low, w.logs_wide)
 
-  -- the log for one changes, and so do how many entries it dropped and its numbers
+  -- and so do how many entries it dropped and its numbers
   logs-changed : (x : TheQueue) (trims : ℕ) (numbers : ℕ → Option ℕ) → KeepsOf x trims (c.world.handlers.sends me (c.world.history me) from) numbers
       → (d : ℕ) → d ≤ c.world.count → d ≢ me → KeepsOf (log_at (slice_set n.own.logs from x) d) (if d == from then trims else c.world.trims me d) (c.world.handlers.sends me (c.world.history me) d) (if d == from then numbers else c.world.numbers me d)
   logs-changed x trims numbers k d l o =
@@ -103,26 +103,37 @@ module _ (n : TheRestoring) (c : Cluster) (from i j covered s : ℕ) (flags : Fl
       (λ apart. let e : (d == from) ≡ false = grind (arith, nat_tests) in rw e (st.own.logs d l o))
 
   -- what it has released of it stays, and what waits
-  held-changed : (some : List Pair) (d : ℕ) → d ≤ c.world.count → d ≢ me → IsHeldBack (log_at (slice_set n.own.logs from (noted some (dropped_to covered q))) d) (length (c.world.history me)) n.own.base (sent_by c.world.handlers me (c.world.history me) d)
-  held-changed some d l o =
-      changed-at (λ z. IsHeldBack z (length (c.world.history me)) n.own.base (sent_by c.world.handlers me (c.world.history me) d)) n.own.logs from (noted some (dropped_to covered q)) d inside
-      (λ same. let P : ℕ → Type 0 = λ z. IsHeldBack (noted some (dropped_to covered q)) (length (c.world.history me)) n.own.base (sent_by c.world.handlers me (c.world.history me) z) in
-      subst P (sym same) (held-told q covered (length (c.world.history me)) n.own.base (sent_by c.world.handlers me (c.world.history me) from) some (st.own.held from within other-of)))
-      (λ apart. st.own.held d l o)
+  held-changed : (covered : ℕ) (some : List Pair) (d : ℕ) → d ≤ c.world.count → d ≢ me → IsHeldBack (log_at (slice_set n.own.logs from (noted some (dropped_to covered q))) d) (length (c.world.history me)) n.own.base (sent_by c.world.handlers me (c.world.history me) d)
+  held-changed covered some d l o =
+      at-changed (λ z x (y : Unit {0}). IsHeldBack x (length (c.world.history me)) n.own.base (sent_by c.world.handlers me (c.world.history me) z)) n.own.logs no_queue (λ z. tt) from (noted some (dropped_to covered q)) tt d inside
+      (held-told q covered (length (c.world.history me)) n.own.base (sent_by c.world.handlers me (c.world.history me) from) some (st.own.held from within other)) (st.own.held d l o)
+
+  known-changed : (x : TheQueue) → Each IsKnown x.numbers → (d : ℕ) → d ≤ c.world.count → d ≢ me → Each IsKnown (log_at (slice_set n.own.logs from x) d).numbers
+  known-changed x known d l o = at-changed (λ z x (y : Unit {0}). Each IsKnown x.numbers) n.own.logs no_queue (λ z. tt) from x tt d inside known (st.known d l o)
+
+  -- how many messages it sent there
+  sent-is : length (sent c.world me from) ≡ sent_to from n.own
+  sent-is =
+      let t = st.own.logs from within other in
+      let inner : (me == 0) ≡ false = (let some : 0 < me = st.own.inside.0 in grind (arith, nat_tests)) in
+      let long : length_of c.world me ≡ length (c.world.history me) = ap (length_in (c.world.history me) (c.world.saved me)) st.phase ∙ all-kept (left n) in
+      let whole : take (length_of c.world me) (c.world.history me) ≡ c.world.history me = take_all (length_of c.world me) (c.world.history me) (omega (arith, long)) in
+      let all : sent c.world me from ≡ t.before ++ q.payloads = rw (inner, whole) (sym t.joined) in
+      let many : length (t.before ++ q.payloads) ≡ length t.before + length q.payloads = length-append t.before q.payloads in
+      ap length all ∙ omega (arith, many, t.many)
+    where
+      all-kept : (ps : List ℕ) → length_in (c.world.history me) (c.world.saved me) (phase_with ps) ≡ length (c.world.history me)
+      all-kept [] = refl
+      all-kept (r ∷ rs) = refl
 
 -- a page of a process
-module _ (n : TheRestoring) (c : Cluster) (from i j covered s : ℕ) (flags : Flags) (pairs : List Pair) (f : ℕ → Option ℕ) (st : StandsRestoring n c n.own.me) (low : from ≤ n.own.count) (some : 0 < from) (w : IsRestoring n.own n.above n.answered)
-    (ok : IsAnswer n from i j covered s pairs) (page : AscendFrom s pairs) (given : In (parcel from n.own.me (Restored i j covered s (restored_end flags s pairs) f)) c.parcels)
-    (says : (ssn : ℕ) → s < ssn → covered < ssn → reaches (restored_end flags s pairs) ssn ≡ true → f ssn ≡ first_number pairs ssn) (exact : n.own.exact && is_exact flags ≡ true) where
+module _ (n : TheRestoring) (c : Cluster) (from i j covered s : ℕ) (flags : Flags) (pairs : List Pair) (st : StandsRestoring n c n.own.me) (low : from ≤ n.own.count) (some : 0 < from) (other : from ≢ n.own.me) (w : IsRestoring n.own n.above n.answered)
+    (ok : IsReply n from i j s) (page : AscendFrom s pairs) (positive : (ssn : ℕ) → IsKnown (first_number pairs ssn)) where
   abbrev p : ℕ
   p = n.own.me
 
   abbrev upto : Option ℕ
   upto = restored_end flags s pairs
-
-  -- what the process has in the cluster when it took in the page
-  abbrev t : Cluster
-  t = taken_in c p from j covered s upto f
 
   abbrev own : TheOwn
   own = trusts flags (hears from j (takes_in from covered pairs n.own))
@@ -145,150 +156,161 @@ module _ (n : TheRestoring) (c : Cluster) (from i j covered s : ℕ) (flags : Fl
   waited : Awaits c p from i j s
   waited = (node, st.stage, ok.life ∙ sym st.life, to-do, place-is, heard-low)
 
-  page-keeps : KeepsOf (noted pairs (dropped_to covered (log_at n.own.logs from))) (max (c.world.trims p from) covered) (c.world.handlers.sends p (c.world.history p) from) (entered c p from s upto f)
-  page-keeps =
-      keeps-page (log_at n.own.logs from) (c.world.trims p from) covered s (c.world.handlers.sends p (c.world.history p) from) (c.world.numbers p from) f flags pairs (st.own.logs from from-in (other-of n c from i j covered s flags pairs f st low w ok)) ok.some page ok.last
-      (λ ssn above. st.fresh from ssn from-in ok.open_is (omega (arith, above, ok.place))) says
+  -- it takes whatever such a page tells
+  may-take : (m : ℕ) (f : ℕ → Option ℕ) → MayTake c from p (Restored i j m s upto f)
+  may-take m f = take-at from upto some waited
+    where
+      take-at : (q : ℕ) (u : Option ℕ) → 0 < q → Awaits c p q i j s → MayTake c q p (Restored i j m s u f)
+      take-at q (Some v) l a = a
+      take-at zero None l a = absurd (omega (arith, l))
+      take-at (suc q) None l a = a
 
-  logs-are : (d : ℕ) → d ≤ c.world.count → d ≢ p → KeepsOf (log_at own.logs d) (t.world.trims p d) (c.world.handlers.sends p (c.world.history p) d) (t.world.numbers p d)
-  logs-are d l o =
-      at-itself p (λ b. KeepsOf (log_at own.logs d) (if b && (d == from) then max (c.world.trims p from) covered else c.world.trims p d) (c.world.handlers.sends p (c.world.history p) d) (if b && (d == from) then entered c p from s upto f else c.world.numbers p d))
-      (logs-changed n c from i j covered s flags pairs f st low w ok (noted pairs (dropped_to covered (log_at n.own.logs from))) (max (c.world.trims p from) covered) (entered c p from s upto f) page-keeps d l o)
+  -- of what the page tells the cluster has what was sent
+  module _ (m : ℕ) (f : ℕ → Option ℕ) (most : m ≡ min covered (sent_to from n.own)) (says : (ssn : ℕ) → s < ssn → m < ssn → ssn ≤ sent_to from n.own → reaches (restored_end flags s pairs) ssn ≡ true → f ssn ≡ first_number pairs ssn)
+      (none : (ssn : ℕ) → s < ssn → sent_to from n.own < ssn → reaches (restored_end flags s pairs) ssn ≡ true → f ssn ≡ None) where
+    -- what the process has in the cluster when it took in the page
+    abbrev t : Cluster
+    t = taken_in c p from j m s upto f
 
-  heard-is : (q : ℕ) → q ≤ c.world.count → t.heard p q ≡ slice_index_or own.heard q 0
-  heard-is q l = at-itself p (λ b. (if b && (q == from) then j else c.heard p q) ≡ slice_index_or (slice_set n.own.heard from j) q 0)
-      (at-changed (λ z x y. y ≡ x) n.own.heard 0 (c.heard p) from j j q (omega (arith, low, w.heard_wide)) refl (st.own.heard q l))
+    page-keeps : KeepsOf (noted pairs (dropped_to covered (log_at n.own.logs from))) (max (c.world.trims p from) m) (c.world.handlers.sends p (c.world.history p) from) (entered c p from s upto f)
+    page-keeps =
+        keeps-page (log_at n.own.logs from) (c.world.trims p from) covered m s (c.world.handlers.sends p (c.world.history p) from) (c.world.numbers p from) f flags pairs (st.own.logs from from-in other) most page
+        (λ ssn above. st.fresh from ssn from-in ok.open_is (omega (arith, above, ok.place))) says none
 
-  -- of another peer nothing changes
-  numbers-other : (q ssn : ℕ) → q ≢ from → t.world.numbers p q ssn ≡ c.world.numbers p q ssn
-  numbers-other q ssn apart =
-      let e : (q == from) ≡ false = grind (arith, nat_tests) in
-      at-itself p (λ b. (if b && (q == from) then entered c p from s upto f else c.world.numbers p q) ssn ≡ c.world.numbers p q ssn) (rw e refl)
+    logs-are : (d : ℕ) → d ≤ c.world.count → d ≢ p → KeepsOf (log_at own.logs d) (t.world.trims p d) (c.world.handlers.sends p (c.world.history p) d) (t.world.numbers p d)
+    logs-are d l o =
+        at-itself p (λ b. KeepsOf (log_at own.logs d) (if b && (d == from) then max (c.world.trims p from) m else c.world.trims p d) (c.world.handlers.sends p (c.world.history p) d) (if b && (d == from) then entered c p from s upto f else c.world.numbers p d))
+        (logs-changed n c from st low other w (noted pairs (dropped_to covered (log_at n.own.logs from))) (max (c.world.trims p from) m) (entered c p from s upto f) page-keeps d l o)
 
-  -- the last page
-  module _ (done : is_done flags ≡ true) where
-    abbrev last : Act
-    last = Arrives from p (Restored i j covered s None f)
+    heard-is : (q : ℕ) → q ≤ c.world.count → t.heard p q ≡ slice_index_or own.heard q 0
+    heard-is q l = at-itself p (λ b. (if b && (q == from) then j else c.heard p q) ≡ slice_index_or (slice_set n.own.heard from j) q 0)
+        (at-changed (λ z x y. y ≡ x) n.own.heard 0 (c.heard p) from j j q (omega (arith, low, w.heard_wide)) refl (st.own.heard q l))
 
-    abbrev c' : Cluster
-    c' = goes_on (taken_in c p from j covered s None f) p (without (todo_of (c.world.phase p)) from)
+    sure-is : n.own.exact && is_exact flags ≡ true → (q : ℕ) → q ≤ c.world.count → slice_index_or n.own.lost q true ≡ false
+    sure-is e = st.own.sure (both n.own.exact (is_exact flags) e).0
 
-    abbrev m : TheRestoring
-    m = record n { own = own; answered = slice_set n.answered from true }
+    known-are : (d : ℕ) → d ≤ c.world.count → d ≢ p → Each IsKnown (log_at own.logs d).numbers
+    known-are = known-changed n c from st low other w (noted pairs (dropped_to covered (log_at n.own.logs from))) (known-told (log_at n.own.logs from) covered pairs positive (st.known from from-in other))
 
-    end-is : upto ≡ None
-    end-is = rw done refl
+    -- of another peer nothing changes
+    numbers-other : (q ssn : ℕ) → q ≢ from → t.world.numbers p q ssn ≡ c.world.numbers p q ssn
+    numbers-other q ssn apart =
+        let e : (q == from) ≡ false = grind (arith, nat_tests) in
+        at-itself p (λ b. (if b && (q == from) then entered c p from s upto f else c.world.numbers p q) ssn ≡ c.world.numbers p q ssn) (rw e refl)
 
-    may-last : May c last
-    may-last = let P : Option ℕ → Type 0 = λ u. In (parcel from p (Restored i j covered s u f)) c.parcels in may-restore c from p i j covered s f (subst P end-is given) waited
+    -- the last page
+    module _ (done : is_done flags ≡ true) where
+      abbrev c' : Cluster
+      c' = goes_on (taken_in c p from j m s None f) p (without (todo_of (c.world.phase p)) from)
 
-    left-is : without (todo_of (c.world.phase p)) from ≡ left m
-    left-is =
-        ap (λ x. without (todo_of x) from) st.phase ∙ ap (λ x. without x from) (todo-is (left n))
-        ∙ without-those (λ q. not (has_answered q n)) (λ q. not (has_answered q m)) n.own.count from (λ q apart. ap not (answered-other n from q apart)) (ap not (get_or-set_same n.answered from true true (omega (arith, low, w.answered_wide))))
+      abbrev last : TheRestoring
+      last = record n { own = own; answered = slice_set n.answered from true }
 
-    -- the cluster after the last page, where that goes to the end
-    stands-last : StandsRestoring m c' p
-    stands-last = record {
-      stage = st.stage;
-      greeted = st.greeted ∙ sym (answered-other n from 0 (λ e. absurd (omega (arith, e, some))));
-      phase = at-itself p (λ b. (if b then phase_with (without (todo_of (c.world.phase p)) from) else c.world.phase p) ≡ phase_with (left m)) (ap phase_with left-is);
-      life = st.life;
-      own = (let P : Option ℕ → Type 0 = λ u. HasOwn own (record (taken_in c p from j covered s u f) { world = record (taken_in c p from j covered s u f).world { phase = c'.world.phase; released = c'.world.released } }) p (c.world.history p) ((taken_in c p from j covered s u f).world.trims p) ((taken_in c p from j covered s u f).world.numbers p) in subst P end-is (own-with n.own c _ p _ refl refl refl st.own logs-are (held-changed n c from i j covered s flags pairs f st low w ok pairs) heard-is (record { exact_is = exact; none_lost = st.own.sure.none_lost }) st.own.out));
-      received = st.received;
-      acknowledged = st.acknowledged;
-      fresh = λ q ssn l open_is above. fresh-last q ssn l open_is above (q == from) refl;
-      resumed = st.resumed;
-      restoring = st.restoring;
-      released = λ none d. at-itself p (λ b. (if b then released_with (taken_in c p from j covered s None f).world p (without (todo_of (c.world.phase p)) from) else c.world.released p) d ≡ sent_in_all c'.world p d)
-          (let e : without (todo_of (c.world.phase p)) from ≡ [] = left-is ∙ none in rw e refl);
-    }
-      where
-        fresh-last : (q ssn : ℕ) → q ≤ c.world.count → has_answered q m ≡ false → above_of q n < ssn → (b : Bool) → (q == from) ≡ b → c'.world.numbers p q ssn ≡ None
-        fresh-last q ssn l open_is above true e =
-            let same : q ≡ from = grind (arith, nat_tests) in
-            let is : has_answered from m ≡ true = get_or-set_same n.answered from true true (omega (arith, low, w.answered_wide)) in
-            absurd (let P : ℕ → Type 0 = λ z. has_answered z m ≡ false in let g : has_answered from m ≡ false = subst P same open_is in let h : true ≡ false = sym is ∙ g in cc)
-        fresh-last q ssn l open_is above false e =
-            let apart : q ≢ from = grind (arith, nat_tests) in
-            let P : Option ℕ → Type 0 = λ u. (taken_in c p from j covered s u f).world.numbers p q ssn ≡ None in
-            subst P end-is (numbers-other q ssn apart ∙ st.fresh q ssn l (sym (answered-other n from q apart) ∙ open_is) above)
+      end-is : upto ≡ None
+      end-is = rw done refl
 
-    goes-last : GoesTo p (At m p) c
-    goes-last = goes-one p (At m p) c last may-last refl (subst (At m p) (sym (restores c from p i j covered s f some)) stands-last)
+      left-is : without (todo_of (c.world.phase p)) from ≡ left last
+      left-is =
+          ap (λ x. without (todo_of x) from) st.phase ∙ ap (λ x. without x from) (todo-is (left n))
+          ∙ without-those (λ q. not (has_answered q n)) (λ q. not (has_answered q last)) n.own.count from (λ q apart. ap not (answered-other n from q apart)) (ap not (get_or-set_same n.answered from true true (omega (arith, low, w.answered_wide))))
 
-  -- one that isn't the last
-  module _ (more : is_done flags ≡ false) where
-    abbrev u : ℕ
-    u = last_ssn s pairs
+      -- the cluster after the last page, where that goes to the end
+      stands-last : StandsRestoring last c' p
+      stands-last = record {
+        stage = st.stage;
+        greeted = st.greeted ∙ sym (answered-other n from 0 (λ e. absurd (omega (arith, e, some))));
+        phase = at-itself p (λ b. (if b then phase_with (without (todo_of (c.world.phase p)) from) else c.world.phase p) ≡ phase_with (left last)) (ap phase_with left-is);
+        life = st.life;
+        own = (let P : Option ℕ → Type 0 = λ u. HasOwn own (record (taken_in c p from j m s u f) { world = record (taken_in c p from j m s u f).world { phase = c'.world.phase; released = c'.world.released } }) p (c.world.history p) ((taken_in c p from j m s u f).world.trims p) ((taken_in c p from j m s u f).world.numbers p) in subst P end-is (own-with n.own c _ p _ refl refl refl refl refl (λ x l. l) st.own logs-are (held-changed n c from st low other w covered pairs) heard-is sure-is st.own.greets st.own.out));
+        received = st.received;
+        acknowledged = st.acknowledged;
+        known = known-are;
+        fresh = λ q ssn l open_is above. fresh-last q ssn l open_is above (q == from) refl;
+        resumed = st.resumed;
+        restoring = st.restoring;
+        released = λ none d. at-itself p (λ b. (if b then released_with (taken_in c p from j m s None f).world p (without (todo_of (c.world.phase p)) from) else c.world.released p) d ≡ sent_in_all c'.world p d)
+            (let e : without (todo_of (c.world.phase p)) from ≡ [] = left-is ∙ none in rw e refl);
+      }
+        where
+          fresh-last : (q ssn : ℕ) → q ≤ c.world.count → has_answered q last ≡ false → above_of q n < ssn → (b : Bool) → (q == from) ≡ b → c'.world.numbers p q ssn ≡ None
+          fresh-last q ssn l open_is above true e =
+              let same : q ≡ from = grind (arith, nat_tests) in
+              let is : has_answered from last ≡ true = get_or-set_same n.answered from true true (omega (arith, low, w.answered_wide)) in
+              absurd (let P : ℕ → Type 0 = λ z. has_answered z last ≡ false in let g : has_answered from last ≡ false = subst P same open_is in let h : true ≡ false = sym is ∙ g in cc)
+          fresh-last q ssn l open_is above false e =
+              let apart : q ≢ from = grind (arith, nat_tests) in
+              let P : Option ℕ → Type 0 = λ u. (taken_in c p from j m s u f).world.numbers p q ssn ≡ None in
+              subst P end-is (numbers-other q ssn apart ∙ st.fresh q ssn l (sym (answered-other n from q apart) ∙ open_is) above)
 
-    abbrev next : Act
-    next = Arrives from p (Restored i j covered s (Some u) f)
+      arrived-last : arrived c from p (Restored i j m s upto f) ≡ c'
+      arrived-last = ap (λ u. arrived c from p (Restored i j m s u f)) end-is ∙ restores c from p i j m s f some
 
-    abbrev cn : Cluster
-    cn = does c next
+    -- one that isn't the last
+    module _ (more : is_done flags ≡ false) where
+      abbrev u : ℕ
+      u = last_ssn s pairs
 
-    abbrev mn : TheRestoring
-    mn = record n { own = own; above = slice_set n.above from u }
+      abbrev cn : Cluster
+      cn = arrived c from p (Restored i j m s (Some u) f)
 
-    end-next : upto ≡ Some u
-    end-next = rw more refl
+      abbrev mn : TheRestoring
+      mn = record n { own = own; above = slice_set n.above from u }
 
-    may-next : May c next
-    may-next = let P : Option ℕ → Type 0 = λ v. In (parcel from p (Restored i j covered s v f)) c.parcels in (subst P end-next given, waited)
+      end-next : upto ≡ Some u
+      end-next = rw more refl
 
-    above-is : (q : ℕ) → q ≤ c.world.count → cn.restoring p q ≡ above_of q mn
-    above-is q l = at-itself p (λ b. (if b && (q == from) then u else c.restoring p q) ≡ slice_index_or (slice_set n.above from u) q 0)
-        (at-changed (λ z x y. y ≡ x) n.above 0 (c.restoring p) from u u q (omega (arith, low, w.wide)) refl (st.restoring q l))
+      above-is : (q : ℕ) → q ≤ c.world.count → cn.restoring p q ≡ above_of q mn
+      above-is q l = at-itself p (λ b. (if b && (q == from) then u else c.restoring p q) ≡ slice_index_or (slice_set n.above from u) q 0)
+          (at-changed (λ z x y. y ≡ x) n.above 0 (c.restoring p) from u u q (omega (arith, low, w.wide)) refl (st.restoring q l))
 
-    stands-next : StandsRestoring mn cn p
-    stands-next = record {
-      stage = st.stage;
-      greeted = st.greeted;
-      phase = st.phase;
-      life = st.life;
-      own = (let P : Option ℕ → Type 0 = λ v. HasOwn own (record (taken_in c p from j covered s v f) { restoring = cn.restoring }) p (c.world.history p) ((taken_in c p from j covered s v f).world.trims p) ((taken_in c p from j covered s v f).world.numbers p) in subst P end-next (own-with n.own c _ p _ refl refl refl st.own logs-are (held-changed n c from i j covered s flags pairs f st low w ok pairs) heard-is (record { exact_is = exact; none_lost = st.own.sure.none_lost }) st.own.out));
-      received = st.received;
-      acknowledged = st.acknowledged;
-      fresh = λ q ssn l open_is above. fresh-next q ssn l open_is above (q == from) refl;
-      resumed = st.resumed;
-      restoring = above-is;
-      released = st.released;
-    }
-      where
-        fresh-next : (q ssn : ℕ) → q ≤ c.world.count → has_answered q n ≡ false → above_of q mn < ssn → (b : Bool) → (q == from) ≡ b → cn.world.numbers p q ssn ≡ None
-        fresh-next q ssn l open_is above true e =
-            let same : q ≡ from = grind (arith, nat_tests) in
-            let new : above_of from mn ≡ u = get_or-set_same n.above from u 0 (omega (arith, low, w.wide)) in
-            let over : u < ssn = (let P : ℕ → Type 0 = λ z. above_of z mn < ssn in let g : above_of from mn < ssn = subst P same above in omega (arith, g, new)) in
-            let least : s ≤ u = last-above s pairs page in
-            let past : nat_le ssn u ≡ false = grind (arith, nat_tests) in
-            let behind : nat_lt s ssn ≡ true = (let g : s < ssn = omega (arith, over, least) in grind (arith, nat_tests)) in
-            let was : c.world.numbers p from ssn ≡ None = st.fresh from ssn from-in ok.open_is (omega (arith, ok.place, over, least)) in
-            at-itself p (λ b. (if b && (q == from) then entered c p from s (Some u) f else c.world.numbers p q) ssn ≡ None) (rw (e, behind, past) was)
-        fresh-next q ssn l open_is above false e =
-            let apart : q ≢ from = grind (arith, nat_tests) in
-            let old : above_of q mn ≡ above_of q n = get_or-set_other n.above from q u 0 apart in
-            let P : Option ℕ → Type 0 = λ v. (taken_in c p from j covered s v f).world.numbers p q ssn ≡ None in
-            subst P end-next (numbers-other q ssn apart ∙ st.fresh q ssn l open_is (omega (arith, old, above)))
+      stands-next : StandsRestoring mn cn p
+      stands-next = record {
+        stage = st.stage;
+        greeted = st.greeted;
+        phase = st.phase;
+        life = st.life;
+        own = (let P : Option ℕ → Type 0 = λ v. HasOwn own (record (taken_in c p from j m s v f) { restoring = cn.restoring }) p (c.world.history p) ((taken_in c p from j m s v f).world.trims p) ((taken_in c p from j m s v f).world.numbers p) in subst P end-next (own-with n.own c _ p _ refl refl refl refl refl (λ x l. l) st.own logs-are (held-changed n c from st low other w covered pairs) heard-is sure-is st.own.greets st.own.out));
+        received = st.received;
+        acknowledged = st.acknowledged;
+        known = known-are;
+        fresh = λ q ssn l open_is above. fresh-next q ssn l open_is above (q == from) refl;
+        resumed = st.resumed;
+        restoring = above-is;
+        released = st.released;
+      }
+        where
+          fresh-next : (q ssn : ℕ) → q ≤ c.world.count → has_answered q n ≡ false → above_of q mn < ssn → (b : Bool) → (q == from) ≡ b → cn.world.numbers p q ssn ≡ None
+          fresh-next q ssn l open_is above true e =
+              let same : q ≡ from = grind (arith, nat_tests) in
+              let new : above_of from mn ≡ u = get_or-set_same n.above from u 0 (omega (arith, low, w.wide)) in
+              let over : u < ssn = (let P : ℕ → Type 0 = λ z. above_of z mn < ssn in let g : above_of from mn < ssn = subst P same above in omega (arith, g, new)) in
+              let least : s ≤ u = last-above s pairs page in
+              let past : nat_le ssn u ≡ false = grind (arith, nat_tests) in
+              let behind : nat_lt s ssn ≡ true = (let g : s < ssn = omega (arith, over, least) in grind (arith, nat_tests)) in
+              let was : c.world.numbers p from ssn ≡ None = st.fresh from ssn from-in ok.open_is (omega (arith, ok.place, over, least)) in
+              at-itself p (λ b. (if b && (q == from) then entered c p from s (Some u) f else c.world.numbers p q) ssn ≡ None) (rw (e, behind, past) was)
+          fresh-next q ssn l open_is above false e =
+              let apart : q ≢ from = grind (arith, nat_tests) in
+              let old : above_of q mn ≡ above_of q n = get_or-set_other n.above from q u 0 apart in
+              let P : Option ℕ → Type 0 = λ v. (taken_in c p from j m s v f).world.numbers p q ssn ≡ None in
+              subst P end-next (numbers-other q ssn apart ∙ st.fresh q ssn l open_is (omega (arith, old, above)))
 
-    goes-next : GoesTo p (At (asks from mn) p) c
-    goes-next = goes-then p (At mn p) (At (asks from mn) p) c (goes-one p (At mn p) c next may-next refl stands-next) (λ d z. asks-at mn d from z low w.alone)
-
-  goes-page : GoesTo p (At (told from j covered s flags pairs n) p) c
-  goes-page = by-branch (λ z. GoesTo p (At z p) c) (is_done flags) _ _ (λ e. goes-last e) (λ e. goes-next e)
+    -- by any event that brings the page
+    goes-page : (b : Bool) (e : Event) → Might c e → own_event e ≡ Some p → (b ≡ true → IsAct e) → goes c e ≡ arrived c from p (Restored i j m s upto f) → GoesTo b p (At (told from j covered s flags pairs n) p) c
+    goes-page b e might by act is =
+        by-branch (λ z. GoesTo b p (At z p) c) (is_done flags) _ _
+        (λ done. goes-one b p (At (last done) p) c e might by act (subst (At (last done) p) (sym (is ∙ arrived-last done)) (stands-last done)))
+        (λ more. goes-then b p (At (mn more) p) (At (asks from (mn more)) p) c
+        (goes-one b p (At (mn more) p) c e might by act (subst (At (mn more) p) (sym (is ∙ ap (λ v. arrived c from p (Restored i j m s v f)) (end-next more))) (stands-next more)))
+        (λ d z. goes-any true b p (At (asks from (mn more)) p) d (λ y. refl) (asks-at (mn more) d from z low w.alone)))
 
 -- the answer of the gateway
-module _ (n : TheRestoring) (c : Cluster) (i j covered s : ℕ) (flags : Flags) (pairs : List Pair) (f : ℕ → Option ℕ) (st : StandsRestoring n c n.own.me) (w : IsRestoring n.own n.above n.answered) (ok : IsAnswer n 0 i j covered s pairs)
-    (given : In (parcel 0 n.own.me (Restored i j covered s (restored_end flags s pairs) f)) c.parcels) (done : is_done flags ≡ true) (exact : n.own.exact && is_exact flags ≡ true) where
+module _ (n : TheRestoring) (c : Cluster) (i j covered s : ℕ) (flags : Flags) (pairs : List Pair) (st : StandsRestoring n c n.own.me) (w : IsRestoring n.own n.above n.answered) (ok : IsReply n 0 i j s) (done : is_done flags ≡ true) where
   abbrev g : ℕ
   g = n.own.me
 
-  abbrev greets : Act
-  greets = Arrives 0 g (Restored i j covered s None f)
-
-  abbrev d' : Cluster
-  d' = does c greets
+  abbrev end : Option ℕ
+  end = restored_end flags s pairs
 
   abbrev o : TheOwn
   o = trusts flags (takes_in 0 covered [] n.own)
@@ -296,24 +318,16 @@ module _ (n : TheRestoring) (c : Cluster) (i j covered s : ℕ) (flags : Flags) 
   abbrev r : TheRestoring
   r = record n { own = o; answered = slice_set n.answered 0 true }
 
-  may-greet : May c greets
-  may-greet =
-      let end : restored_end flags s pairs ≡ None = rw done refl in
-      let P : Option ℕ → Type 0 = λ u. In (parcel 0 g (Restored i j covered s u f)) c.parcels in
-      (subst P end given, (st.stage, ok.life ∙ sym st.life, st.greeted ∙ ok.open_is, ap is_replaying st.phase ∙ not-replaying (left n)))
+  end-done : end ≡ None
+  end-done = rw done refl
 
-  covered-keeps : KeepsOf (noted [] (dropped_to covered (log_at n.own.logs 0))) (max (c.world.trims g 0) covered) (c.world.handlers.sends g (c.world.history g) 0) (c.world.numbers g 0)
-  covered-keeps = keeps-covered (log_at n.own.logs 0) (c.world.trims g 0) covered (c.world.handlers.sends g (c.world.history g) 0) (c.world.numbers g 0) (st.own.logs 0 (omega arith) (other-of n c 0 i j covered s flags pairs f st (omega arith) w ok)) ok.some
+  may-greet : (m : ℕ) (f : ℕ → Option ℕ) → MayTake c 0 g (Restored i j m s end f)
+  may-greet m f =
+      let P : Option ℕ → Type 0 = λ u. MayTake c 0 g (Restored i j m s u f) in
+      subst P (sym end-done) (st.stage, ok.life ∙ sym st.life, st.greeted ∙ ok.open_is, ap is_replaying st.phase ∙ not-replaying (left n))
 
-  same-numbers : (d : ℕ) (b : Bool) → (d == 0) ≡ b → (if b then c.world.numbers g 0 else c.world.numbers g d) ≡ c.world.numbers g d
-  same-numbers d true e = ap (c.world.numbers g) (let z : 0 ≡ d = grind (arith, nat_tests) in z)
-  same-numbers d false e = refl
-
-  logs-greeted : (d : ℕ) → d ≤ c.world.count → d ≢ g → KeepsOf (log_at o.logs d) (d'.world.trims g d) (c.world.handlers.sends g (c.world.history g) d) (c.world.numbers g d)
-  logs-greeted d l apart =
-      let P : (ℕ → Option ℕ) → Type 0 = λ z. KeepsOf (log_at o.logs d) (if d == 0 then max (c.world.trims g 0) covered else c.world.trims g d) (c.world.handlers.sends g (c.world.history g) d) z in
-      at-itself g (λ b. KeepsOf (log_at o.logs d) (if b && (d == 0) then max (c.world.trims g 0) covered else c.world.trims g d) (c.world.handlers.sends g (c.world.history g) d) (c.world.numbers g d))
-      (subst P (same-numbers d (d == 0) refl) (logs-changed n c 0 i j covered s flags pairs f st (omega arith) w ok (noted [] (dropped_to covered (log_at n.own.logs 0))) (max (c.world.trims g 0) covered) (c.world.numbers g 0) covered-keeps d l apart))
+  me-inside : 0 ≢ g
+  me-inside e = let some : 0 < g = st.own.inside.0 in absurd (omega (arith, some, e))
 
   answered-gateway : has_answered 0 r ≡ true
   answered-gateway = get_or-set_same n.answered 0 true true (omega (arith, w.answered_wide))
@@ -321,87 +335,208 @@ module _ (n : TheRestoring) (c : Cluster) (i j covered s : ℕ) (flags : Flags) 
   left-same : left n ≡ left r
   left-same = those-same (λ q. not (has_answered q n)) (λ q. not (has_answered q r)) n.own.count (λ q some low. ap not (sym (answered-other n 0 q (λ e. absurd (omega (arith, e, some))))))
 
-  stands-greeted : StandsRestoring r d' g
-  stands-greeted = record {
-    stage = st.stage;
-    greeted = at-itself g (λ b. (if b then true else c.greeted g) ≡ has_answered 0 r) (sym answered-gateway);
-    phase = st.phase ∙ ap phase_with left-same;
-    life = st.life;
-    own = own-with n.own c d' g _ refl refl refl st.own logs-greeted (held-changed n c 0 i j covered s flags pairs f st (omega arith) w ok []) st.own.heard (record { exact_is = exact; none_lost = st.own.sure.none_lost }) st.own.out;
-    received = st.received;
-    acknowledged = st.acknowledged;
-    fresh = λ q ssn l open_is above. st.fresh q ssn l (still q open_is (q == 0) refl) above;
-    resumed = st.resumed;
-    restoring = st.restoring;
-    released = λ none d. st.released (left-same ∙ none) d;
-  }
-    where
-      still : (q : ℕ) → has_answered q r ≡ false → (b : Bool) → (q == 0) ≡ b → has_answered q n ≡ false
-      still q open_is true e =
-          let same : q ≡ 0 = grind (arith, nat_tests) in
-          absurd (let P : ℕ → Type 0 = λ z. has_answered z r ≡ false in let h : has_answered 0 r ≡ false = subst P same open_is in let k : true ≡ false = sym answered-gateway ∙ h in cc)
-      still q open_is false e = let apart : q ≢ 0 = grind (arith, nat_tests) in sym (answered-other n 0 q apart) ∙ open_is
+  module _ (m : ℕ) (f : ℕ → Option ℕ) (most : m ≡ min covered (sent_to 0 n.own)) where
+    abbrev d' : Cluster
+    d' = arrived c 0 g (Restored i j m s None f)
 
-  goes-greeted : GoesTo g (At r g) c
-  goes-greeted = goes-one g (At r g) c greets may-greet refl stands-greeted
+    logs-greeted : (d : ℕ) → d ≤ c.world.count → d ≢ g → KeepsOf (log_at o.logs d) (d'.world.trims g d) (c.world.handlers.sends g (c.world.history g) d) (c.world.numbers g d)
+    logs-greeted d l apart =
+        at-itself g (λ b. KeepsOf (log_at o.logs d) (if b && (d == 0) then max (c.world.trims g 0) m else c.world.trims g d) (c.world.handlers.sends g (c.world.history g) d) (c.world.numbers g d))
+        (at-changed (λ z x y. KeepsOf x y (c.world.handlers.sends g (c.world.history g) z) (c.world.numbers g z)) n.own.logs no_queue (c.world.trims g) 0 (noted [] (dropped_to covered (log_at n.own.logs 0))) (max (c.world.trims g 0) m) d (omega (arith, w.logs_wide))
+        (keeps-covered (log_at n.own.logs 0) (c.world.trims g 0) covered m (c.world.handlers.sends g (c.world.history g) 0) (c.world.numbers g 0) (st.own.logs 0 (omega arith) me-inside) most) (st.own.logs d l apart))
 
--- where it stays exact, it goes on to where it stands
+    stands-greeted : StandsRestoring r d' g
+    stands-greeted = record {
+      stage = st.stage;
+      greeted = at-itself g (λ b. (if b then true else c.greeted g) ≡ has_answered 0 r) (sym answered-gateway);
+      phase = st.phase ∙ ap phase_with left-same;
+      life = st.life;
+      own = own-with n.own c d' g _ refl refl refl refl refl (λ x l. l) st.own logs-greeted (held-changed n c 0 st (omega arith) me-inside w covered []) st.own.heard (λ e. st.own.sure (both n.own.exact (is_exact flags) e).0) st.own.greets st.own.out;
+      received = st.received;
+      acknowledged = st.acknowledged;
+      known = known-changed n c 0 st (omega arith) me-inside w (noted [] (dropped_to covered (log_at n.own.logs 0))) (known-told (log_at n.own.logs 0) covered [] (λ ssn. tt) (st.known 0 (omega arith) me-inside));
+      fresh = λ q ssn l open_is above. st.fresh q ssn l (still q open_is (q == 0) refl) above;
+      resumed = st.resumed;
+      restoring = st.restoring;
+      released = λ none d. st.released (left-same ∙ none) d;
+    }
+      where
+        still : (q : ℕ) → has_answered q r ≡ false → (b : Bool) → (q == 0) ≡ b → has_answered q n ≡ false
+        still q open_is true e =
+            let same : q ≡ 0 = grind (arith, nat_tests) in
+            absurd (let P : ℕ → Type 0 = λ z. has_answered z r ≡ false in let h : has_answered 0 r ≡ false = subst P same open_is in let k : true ≡ false = sym answered-gateway ∙ h in cc)
+        still q open_is false e = let apart : q ≢ 0 = grind (arith, nat_tests) in sym (answered-other n 0 q apart) ∙ open_is
+
+    goes-greeted : (b : Bool) (e : Event) → Might c e → own_event e ≡ Some g → (b ≡ true → IsAct e) → goes c e ≡ arrived c 0 g (Restored i j m s end f) → GoesTo b g (At r g) c
+    goes-greeted b e might by act is = goes-one b g (At r g) c e might by act (subst (At r g) (sym (is ∙ ap (λ u. arrived c 0 g (Restored i j m s u f)) end-done)) stands-greeted)
+
+-- it goes on to where it stands
 abbrev pub Onward : ℕ → Cluster → TheRestoring → Type 0
-Onward p c m = m.own.exact ≡ true → GoesTo p (At m p) c
+Onward p c m = GoesTo m.own.exact p (At m p) c
+
+-- one that is no longer exact stands where it stood
+doubted-stands : (n : TheRestoring) (c : Cluster) (p : ℕ) → StandsRestoring n c p → StandsRestoring (doubted n) c p
+doubted-stands n c p s = record {
+  stage = s.stage;
+  greeted = s.greeted;
+  phase = s.phase;
+  life = s.life;
+  own = own-with n.own c c p _ refl refl refl refl refl (λ x i. i) s.own s.own.logs s.own.held s.own.heard (λ e. absurd (let f : false ≡ true = (both n.own.exact false e).1 in cc)) s.own.greets s.own.out;
+  received = s.received;
+  acknowledged = s.acknowledged;
+  known = s.known;
+  fresh = s.fresh;
+  resumed = s.resumed;
+  restoring = s.restoring;
+  released = s.released;
+}
+
+-- one whose peers haven't all answered
+some-off : (xs : List Bool) → list_all (λ b. b) xs ≡ false → (q : ℕ) × (slice_index_or xs q true ≡ false)
+some-off [] e = absurd (cc)
+some-off (true ∷ xs) e = let t = some-off xs e in (suc t.0, t.1)
+some-off (false ∷ xs) e = (0, refl)
 
 -- what is said to it
-module _ (n : TheRestoring) (c : Cluster) (from : ℕ) (st : StandsRestoring n c n.own.me) (low : from ≤ n.own.count) (w : IsRestoring n.own n.above n.answered) where
-  none-heard : Onward n.own.me c n
-  none-heard e = goes-self n.own.me (At n n.own.me) c st
+module _ (n : TheRestoring) (c : Cluster) (from : ℕ) (st : StandsRestoring n c n.own.me) (low : from ≤ n.own.count) (other : from ≢ n.own.me) (w : IsRestoring n.own n.above n.answered) where
+  abbrev number : ℕ
+  number = n.own.me
 
-  exact-told : (j covered s : ℕ) (flags : Flags) (pairs : List Pair) → (told from j covered s flags pairs n).own.exact ≡ n.own.exact && is_exact flags
-  exact-told j covered s flags pairs =
-      by-branch (λ z. z.own.exact ≡ n.own.exact && is_exact flags) (is_done flags) _ _ (λ e. refl)
-      (λ e. ap (λ (z : TheRestoring). z.own.exact) (only-asks (record n { own = trusts flags (hears from j (takes_in from covered pairs n.own)); above = slice_set n.above from (last_ssn s pairs) }) from))
+  none-heard : Onward number c n
+  none-heard = goes-self n.own.exact number (At n number) c st
 
-  page-heard : (i j covered s : ℕ) (flags : Flags) (pairs : List Pair) → IsSaid c.parcels from n.own.me (packets.Restored i j covered s flags pairs) → Onward n.own.me c (heard from (packets.Restored i j covered s flags pairs) n)
+  -- a page of a process or of the gateway
+  module _ (i j covered s : ℕ) (flags : Flags) (pairs : List Pair) (f : ℕ → Option ℕ) (ok : IsReply n from i j s) (fits : in_range (packets.Restored i j covered s flags pairs) ≡ true)
+      (given : In (parcel from n.own.me (Restored i j covered s (restored_end flags s pairs) f)) c.parcels) (says : (ssn : ℕ) → s < ssn → covered < ssn → reaches (restored_end flags s pairs) ssn ≡ true → f ssn ≡ first_number pairs ssn) where
+    abbrev brings : Body
+    brings = Restored i j covered s (restored_end flags s pairs) f
+
+    abbrev taken : TheRestoring
+    taken = page_of from j covered s flags pairs n
+
+    page : AscendFrom s pairs
+    page = page-in-range i j covered s flags pairs fits
+
+    brought : (m : ℕ) (g : ℕ → Option ℕ) → m ≡ min covered (sent_to from n.own) → ((ssn : ℕ) → s < ssn → m < ssn → ssn ≤ sent_to from n.own → reaches (restored_end flags s pairs) ssn ≡ true → g ssn ≡ first_number pairs ssn)
+        → ((ssn : ℕ) → s < ssn → sent_to from n.own < ssn → reaches (restored_end flags s pairs) ssn ≡ true → g ssn ≡ None) → (b : Bool) (e : Event) → (MayTake c from number brings → Might c e) → own_event e ≡ Some number → (b ≡ true → IsAct e)
+        → goes c e ≡ arrived c from number (Restored i j m s (restored_end flags s pairs) g) → GoesTo b number (At taken number) c
+    brought m g most told_is none b e might by act is =
+        by-branch (λ z. GoesTo b number (At z number) c) (from == 0) (greeted covered flags n) (told from j covered s flags pairs n)
+        (λ z. let zero_is : from ≡ 0 = grind (arith, nat_tests) in
+        let own : IsReply n 0 i j s = subst (λ k. IsReply n k i j s) zero_is ok in
+        let P : ℕ → Type 0 = λ k. MayTake c k number brings → Might c e in
+        let Q : ℕ → Type 0 = λ k. goes c e ≡ arrived c k number (Restored i j m s (restored_end flags s pairs) g) in
+        by-branch (λ z. GoesTo b number (At z number) c) (is_done flags) _ n
+        (λ d. goes-greeted n c i j covered s flags pairs st w own d m g (subst (λ k. m ≡ min covered (sent_to k n.own)) zero_is most) b e
+        (subst P zero_is might (may-greet n c i j covered s flags pairs st w own d covered f)) by act (subst Q zero_is is))
+        (λ d. goes-self b number (At n number) c st))
+        (λ z. let some : 0 < from = grind (arith, nat_tests) in
+        let known = page-known i j covered s flags pairs fits in
+        goes-page n c from i j covered s flags pairs st low some other w ok page known m g most told_is none b e (might (may-take n c from i j covered s flags pairs st low some other w ok page known covered f)) by act is)
+
+    -- it tells of no more than was sent
+    page-fits : (covered ≤ sent_to from n.own) × (last_ssn 0 pairs ≤ sent_to from n.own) → Onward number c taken
+    page-fits few =
+        brought covered f (omega (arith, few.0)) (λ ssn above new under r. says ssn above new r)
+        (λ ssn above far r. says ssn above (omega (arith, far, few.0)) r ∙ number-high 0 ssn pairs (ascend-lower 0 s pairs (omega arith) page) (omega (arith, far, few.1)))
+        taken.own.exact (Acts (is_exact flags) (Arrives from number brings)) (λ t. ((given, t), tt)) refl (λ e. tt) refl
+
+    -- it tells of more
+    page-doubted : Onward number c (doubted taken)
+    page-doubted =
+        let many = length (sent c.world number from) in
+        let size : many ≡ sent_to from n.own = sent-is n c from st low other w in
+        goes-any false (doubted taken).own.exact number (At (doubted taken) number) c (λ e. (both taken.own.exact false e).1)
+        (goes-then false number (At taken number) (At (doubted taken) number) c
+        (brought (min covered many) (λ ssn. if nat_le ssn many then f ssn else None) (ap (min covered) size)
+        (λ ssn above new under r. let inside : nat_le ssn many ≡ true = grind (arith, nat_tests) in rw inside (says ssn above (omega (arith, new, under, size)) r))
+        (λ ssn above far r. let past : nat_le ssn many ≡ false = grind (arith, nat_tests) in rw past refl)
+        false (Doubts from number brings) (λ t. (tt, given, t)) refl (λ e. absurd (let f : false ≡ true = e in cc)) refl)
+        (λ d t. goes-self false number (At (doubted taken) number) d (doubted-stands taken d number t)))
+
+  page-heard : (i j covered s : ℕ) (flags : Flags) (pairs : List Pair) → IsSaid c from number (packets.Restored i j covered s flags pairs) → Onward number c (heard from (packets.Restored i j covered s flags pairs) n)
   page-heard i j covered s flags pairs said =
-      let me = n.own.me in
-      let was : WasSaid c.parcels from me (packets.Restored i j covered s flags pairs) = said refl in
+      let was : WasSaid c.parcels from number (packets.Restored i j covered s flags pairs) = said.1 refl in
       let f = was.1.0 in
-      let given : In (parcel from me (Restored i j covered s (restored_end flags s pairs) f)) c.parcels = (let P : Body → Type 0 = λ b. In (parcel from me b) c.parcels in subst P was.1.1 was.2) in
-      let says = was.1.2 in
-      by-branch (Onward me c) (in_range (packets.Restored i j covered s flags pairs) && is_reply from i j s n)
+      let given : In (parcel from number (Restored i j covered s (restored_end flags s pairs) f)) c.parcels = (let P : Body → Type 0 = λ b. In (parcel from number b) c.parcels in subst P was.1.1 was.2) in
+      by-branch (Onward number c) (in_range (packets.Restored i j covered s flags pairs) && is_reply from i j s n)
       (if answers from i j covered s pairs n then page_of from j covered s flags pairs n else doubted (page_of from j covered s flags pairs n)) n
       (λ e. let two = both (in_range (packets.Restored i j covered s flags pairs)) (is_reply from i j s n) e in
-      by-branch (Onward me c) (answers from i j covered s pairs n) (page_of from j covered s flags pairs n) (doubted (page_of from j covered s flags pairs n))
-      (λ a. let ok = is-answer n from i j covered s pairs a in
-      by-branch (Onward me c) (from == 0) (greeted covered flags n) (told from j covered s flags pairs n)
-      (λ z. let none : from ≡ 0 = grind (arith, nat_tests) in
-      let P : ℕ → Type 0 = λ k. In (parcel k me (Restored i j covered s (restored_end flags s pairs) f)) c.parcels in
-      let Q : ℕ → Type 0 = λ k. IsAnswer n k i j covered s pairs in
-      by-branch (Onward me c) (is_done flags) _ n (λ d exact. goes-greeted n c i j covered s flags pairs f st w (subst Q none ok) (subst P none given) d exact) (λ d. none-heard))
-      (λ z exact. let some : 0 < from = grind (arith, nat_tests) in
-      goes-page n c from i j covered s flags pairs f st low some w ok (page-in-range i j covered s flags pairs two.0) given says (sym (exact-told j covered s flags pairs) ∙ exact)))
-      (λ d exact. absurd (let f : false ≡ true = (both (page_of from j covered s flags pairs n).own.exact false exact).1 in cc)))
+      let ok = replies n from i j s two.1 in
+      by-branch (Onward number c) (answers from i j covered s pairs n) (page_of from j covered s flags pairs n) (doubted (page_of from j covered s flags pairs n))
+      (λ a. page-fits i j covered s flags pairs f ok two.0 given was.1.2 (fits-in n from i j covered s pairs a))
+      (λ a. page-doubted i j covered s flags pairs f ok two.0 given was.1.2))
       (λ e. none-heard)
 
-  -- a peer that comes back too asks: where that is no news, it only tells that all is lost
-  asking-heard : (i k : ℕ) → Onward n.own.me c (asked_by from i k n)
-  asking-heard i k =
-      by-branch (λ m. Onward n.own.me c (record m { own = meeting.asked_by from i k n.own })) (nat_lt (heard_of from n.own) i) (waits_anew from n) n
-      (λ newer exact. absurd (let e : (meeting.asked_by from i k n.own).exact ≡ false = newer-doubts from i k n.own newer in let f : false ≡ true = sym e ∙ exact in cc))
-      (λ old exact. let t = ask-tells n.own c n.own.me st.own.out from i k exact in
-      let P : TheOwn → Type 0 = λ o. StandsRestoring (record n { own = o }) c n.own.me in
-      goes-self n.own.me (At (record n { own = meeting.asked_by from i k n.own }) n.own.me) c (subst P (sym t.1.0) (restoring-out n c n.own.me t.0 t.1.1 st)))
+  -- a peer that comes back too asks in a newer incarnation
+  module _ (i k : ℕ) (some : 0 < from) (waits : is_up n ≡ false) (given : In (parcel from n.own.me (Ask i k)) c.parcels) (newer : nat_lt (heard_of from n.own) i ≡ true) where
+    abbrev anew : TheRestoring
+    anew = record (waits_anew from n) { own = meets from i n.own }
 
-  hearing : (x : bodies.Body) → IsSaid c.parcels from n.own.me x → Onward n.own.me c (heard from x n)
-  hearing (packets.Restored i j covered s flags pairs) said = page-heard i j covered s flags pairs said
-  hearing (packets.Ask i k) said = by-branch (Onward n.own.me c) (in_range (packets.Ask i k)) (asked_by from i k n) n (λ e. asking-heard i k) (λ e. none-heard)
-  hearing other said = none-heard
+    abbrev wide : (length n.own.heard ≡ suc n.own.count) × (length n.own.logs ≡ suc n.own.count)
+    wide = (w.heard_wide, w.logs_wide)
+
+    known-here : Each IsKnown (log_at n.own.logs from).numbers
+    known-here = st.known from (let e = st.own.count in omega (arith, low, e)) other
+
+    answered-still : (q : ℕ) → q ≢ from → has_answered q anew ≡ has_answered q n
+    answered-still q apart = get_or-set_other n.answered from q false true apart
+
+    open-anew : has_answered from anew ≡ false
+    open-anew = get_or-set_same n.answered from false true (omega (arith, low, w.answered_wide))
+
+    phase-anew : restores_anew c.world.count (c.world.phase number) from ≡ phase_with (left anew)
+    phase-anew =
+        ap (λ x. restores_anew c.world.count x from) st.phase
+        ∙ subst (λ z. restores_anew z (phase_with (left n)) from ≡ phase_with (left anew)) st.own.count
+        (anew-is (λ q. not (has_answered q n)) (λ q. not (has_answered q anew)) n.own.count from some low (ap not open-anew) (λ q apart. ap not (answered-still q apart)))
+
+    stands-anew : StandsRestoring anew (goes c (Meets number from i k)) number
+    stands-anew = record {
+      stage = st.stage;
+      greeted = st.greeted ∙ sym (answered-still 0 (λ e. absurd (omega (arith, e, some))));
+      phase = phase-met c number from i k (phase_with (left anew)) phase-anew;
+      life = st.life;
+      own = own-met n.own c number from i k (c.world.history number) st.own low other wide known-here;
+      received = st.received;
+      acknowledged = st.acknowledged;
+      known = known-changed n c from st low other w (forgotten_above 0 (log_at n.own.logs from)) (known-forgotten (log_at n.own.logs from) known-here);
+      fresh = λ q ssn l open_is above. numbers-met c number from i k q ssn
+          (λ apart. st.fresh q ssn l (sym (answered-still q apart) ∙ open_is) (let e : above_of q anew ≡ above_of q n = get_or-set_other n.above from q 0 0 apart in omega (arith, e, above)));
+      resumed = λ q. resumed-met c number from i k q (st.resumed q);
+      restoring = λ q l. at-itself number (λ b. (if b && (q == from) then 0 else c.restoring number q) ≡ slice_index_or (slice_set n.above from 0) q 0)
+          (at-changed (λ z x y. y ≡ x) n.above 0 (c.restoring number) from 0 0 q (omega (arith, low, w.wide)) refl (st.restoring q l));
+      released = λ none d. absurd (let P : List ℕ → Type 0 = λ ps. has ps from ≡ true in let e : false ≡ true = subst P none (left-has anew from some low open-anew) in cc);
+    }
+
+    goes-anew : GoesTo false number (At anew number) c
+    goes-anew =
+        let off = some-off n.answered waits in
+        let unwell : is_well c number ≡ false = not-well n c number off.0 st (let l = inside-off n.answered off.0 off.1 in omega (arith, l, w.answered_wide)) off.1 in
+        goes-one false number (At anew number) c (Meets number from i k) (may-meet n.own c number from i k (c.world.history number) st.own low other wide given st.stage unwell (let l : heard_of from n.own < i = grind (arith, nat_tests) in l)) refl
+        (λ e. absurd (let f : false ≡ true = e in cc)) stands-anew
+
+  -- where that is no news, it only tells that all is lost
+  asking-heard : (i k : ℕ) → 0 < from → is_up n ≡ false → In (parcel from number (Ask i k)) c.parcels → Onward number c (asked_by from i k n)
+  asking-heard i k some waits given =
+      let tells : (m : TheRestoring) (q i k : ℕ) (o : TheOwn) (d : Cluster) → At (record m { own = o }) number d → At (record m { own = tells_loss q i k o }) number d =
+      λ m q i k o d t. restoring-out (record m { own = o }) d number (tells_loss q i k o).out (loss-out o d number q i k t.own) t in
+      by-branch (λ m. Onward number c (record m { own = meeting.asked_by from i k n.own })) (nat_lt (heard_of from n.own) i) (waits_anew from n) n
+      (λ newer. ask-tells (λ o. At (record (waits_anew from n) { own = o }) number) number n.own c (tells (waits_anew from n)) from i k (λ old. absurd (cc (newer, old))) (λ e. goes-anew i k some waits given newer))
+      (λ old. ask-tells (λ o. At (record n { own = o }) number) number n.own c (tells n) from i k (λ e. st) (λ newer. absurd (cc (newer, old))))
+
+  hearing : is_up n ≡ false → (x : bodies.Body) → IsSaid c from number x → Onward number c (heard from x n)
+  hearing waits (packets.Restored i j covered s flags pairs) said = page-heard i j covered s flags pairs said
+  hearing waits (packets.Ask i k) said = by-branch (Onward number c) (in_range (packets.Ask i k)) (asked_by from i k n) n (λ e. asking-heard i k said.0 waits (was-asked c from number i k said)) (λ e. none-heard)
+  hearing waits other said = none-heard
 
 -- a packet comes
 pub handing : (n : TheRestoring) (x : NodePacket) → IsRestoring n.own n.above n.answered → IsHanded x n (handed x n)
-handing n x w exact c st said =
+handing n x w waits c st said =
     let me = n.own.me in
     let o = n.own in
     by-branch (Onward me c) (is_for o x) (heard x.from x.body n) n
     (λ e. let it = for-own o x e in
-    let P : ℕ → Type 0 = λ z. IsSaid c.parcels x.from z x.body in
-    hearing n c x.from st it.1.0 w x.body (subst P it.0 said))
-    (λ e z. goes-self me (At n me) c st) exact
+    let P : ℕ → Type 0 = λ z. IsSaid c x.from z x.body in
+    hearing n c x.from st it.1.0 it.1.1 w waits x.body (subst P it.0 said))
+    (λ e. goes-self o.exact me (At n me) c st)

@@ -1,6 +1,6 @@
 -- What the bytes of a suspended node are read as, and the node that they make
 use Rattle.std.proofs.Common.{◌≡◌, ℕ, zero, suc, ◌+◌, ◌-◌, ◌^◌, ◌<◌, ◌≤◌, List, [], ◌∷◌, ◌++◌, length, map, replicate, take, drop, Bool, true, false, Result, Ok, Err, IfOk, refl, sym, ap, ◌∙◌, subst, append_assoc, arith}
-use Rattle.std.specs.Prelude.{Option, Some, None, is_some, ◌&&◌, ◌==◌, nat_lt, nat_le, slice_index_or}
+use Rattle.std.specs.Prelude.{Option, Some, None, ◌&&◌, ◌==◌, nat_lt, nat_le, slice_index_or}
 use Rattle.std.specs.List.{flat_map, list_all, AllByRecursion}
 use Rattle.std.proofs.lemmas.Bool.Decides.{nat_tests}
 use Rattle.std.proofs.lemmas.List.{length-map, get_or-map, nil_from_length}
@@ -19,15 +19,13 @@ use Rattle.packets.proofs.Codecs.{IsBytes, bind_ok, ok_is, not_both, Codec, word
 use Rattle.packets.proofs.KeptLemmas.{one_kept}
 use Rattle.node.specs.declared.limit.Limits.{Limits}
 use Rattle.node.specs.declared.job.OpenJob.{OpenJob}
-use Rattle.node.specs.declared.suspension.Unsuspended.{Unsuspended}
-use Rattle.node.specs.declared.suspension.Unsuspended.TheVariants as kept
 use Rattle.node.specs.Limit.{AreAllowed}
 use Rattle.node.specs.Queue.{TheQueue, IsSmall, no_queue, released_again}
 use Rattle.node.specs.Node.{TheNode, Within, log_at}
 use Rattle.node.specs.Checkpoints.{counts_from}
 use Rattle.node.specs.Stands.{Each}
 use Rattle.node.specs.Kept.{with_own, without_own, log_of, kept_of, queue_of}
-use Rattle.node.specs.Suspension.{suspension_magic, flag_byte, number_code, codes_of, codes_bytes, rest_bytes, is_sent, is_unused, is_covered, IsWhole, CanSuspend, IsSuspended, IsUnsuspended, woken, joined_by, number_of_code, numbered_by}
+use Rattle.node.specs.Suspension.{suspension_magic, flag_byte, number_code, codes_of, codes_bytes, rest_bytes, is_sent, is_unused, IsWhole, CanSuspend, IsSuspended, woken, joined_by, number_of_code, numbered_by}
 use Rattle.node.proofs.Counts.{own-again}
 use Rattle.node.proofs.Preservation.{map-without}
 use Rattle.node.proofs.Views.{none-is}
@@ -37,7 +35,7 @@ use Rattle.recovery.specs.Replayed.{IsReplayed}
 use Rattle.recovery.specs.declared.rest.Rest.{Rest}
 use Rattle.recovery.specs.declared.resumption.Unresumed.{Unresumed}
 use Rattle.recovery.specs.declared.resumption.Unresumed.TheVariants as why
-use Rattle.recovery.specs.Resumption.{text_at, codes_at, rest_at, unread, unmade, Finds, is_set, rest_of, MakesNode, made, IsOneNode}
+use Rattle.recovery.specs.Resumption.{text_at, codes_at, rest_at, unread, Finds, is_set, rest_of, MakesNode, made, IsOneNode}
 use Rattle.recovery.proofs.Lists.{each-append}
 use Rattle.recovery.proofs.Preservation.{can-come, own-long, counts-low, from-own, logs-short, each-take, each-drop}
 

@@ -96,6 +96,7 @@ module _ (n : TheRestoring) (c : Cluster) (s : StandsRestoring n c n.own.me) (al
     life = s.life;
     state = s.own.state;
     saved = s.own.saved;
+    durable = s.own.durable;
     received = s.received;
     waits = nothing-waits;
     logs = λ d l o. rw (log-released n.own.limits.durable n.own.logs d) (keeps-released n.own.limits.durable (log_at n.own.logs d) (c.world.trims p d) (c.world.handlers.sends p h d) (c.world.numbers p d) (s.own.logs d l o));
@@ -114,5 +115,5 @@ pub takes-so : (o : Option NodePacket) (n : TheRestoring) (rest : List NodePacke
 takes-so None n rest e = (e.0, ap (λ xs. record n { own = record n.own { out = xs } }) e.1 ∙ ap (λ xs. record n { own = record n.own { out = xs } }) (let back : [] ≡ n.own.out = (cc) in back))
 takes-so (Some x) n rest e = (
   ap (λ xs. record n { own = record n.own { out = xs } }) e,
-  λ c s. (let out : Each (IsSent c.world.count c.parcels n.own.me) (x ∷ rest) = subst (Each (IsSent c.world.count c.parcels n.own.me)) e s.own.out in (out.0, restoring-out n c n.own.me rest out.1 s)),
+  λ c s. (let out : Each (IsSent c n.own.me) (x ∷ rest) = subst (Each (IsSent c n.own.me)) e s.own.out in (out.0, restoring-out n c n.own.me rest out.1 s)),
 )

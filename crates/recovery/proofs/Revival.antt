@@ -11,11 +11,11 @@ use Rattle.cluster.specs.Rules.{Opens, IsNode, does}
 use Rattle.packets.specs.declared.kept.Kept.{Kept}
 use Rattle.node.specs.declared.limit.Limits.{Limits}
 use Rattle.recovery.specs.Collected.{none_told}
-use Rattle.recovery.specs.Collection.{told_of, begins, revived}
+use Rattle.recovery.specs.Collection.{TheCollecting, told_of, begins, revived}
 use Rattle.recovery.specs.Stands.{IsTold, StandsCollecting, IsKeptOf, Reopens, Revives}
 use Rattle.recovery.proofs.Told.{told-none}
 use Rattle.node.specs.Stands.{sent_by}
-use Rattle.recovery.proofs.Inquiries.{At, asking}
+use Rattle.recovery.proofs.Inquiries.{At, asking-all, only-below}
 use Rattle.recovery.proofs.Holds.{held-kept}
 
 abbrev zeros : ℕ → List ℕ
@@ -30,7 +30,7 @@ none_at (suc n) (suc j) = none_at n j
 abbrev first_heard : ℕ → ℕ
 first_heard q = if q == 0 then 1 else 0
 
-module _ (limits : Limits) (k : Kept) (life : ℕ) (c : Cluster) (dead : c.stage k.me ≡ Dead) (early : c.stored k.me < life) (s : IsKeptOf k c k.me) (inside : IsNode c k.me) where
+module _ (limits : Limits) (k : Kept) (life : ℕ) (c : Cluster) (durable : c.durable k.me ≡ true → limits.durable ≡ true) (dead : c.stage k.me ≡ Dead) (early : c.stored k.me < life) (s : IsKeptOf k c k.me) (inside : IsNode c k.me) where
   abbrev me : ℕ
   me = k.me
 
@@ -86,15 +86,20 @@ module _ (limits : Limits) (k : Kept) (life : ℕ) (c : Cluster) (dead : c.stage
       held = λ d l o. held-kept k c.world.handlers me h d (c.world.saved_trims me d) (omega (arith, long)) (s.logs d l o);
       grown = λ d. (let e = first-all d in omega (arith, e));
       heard = λ q l. heard-is q;
-      sure = record { exact_is = refl; none_lost = λ q l. get_or-replicate (k.count + 1) q false true (omega (arith, l)) };
+      stored = omega (arith, stored-is);
+      durable = durable;
+      sure = λ e q l. get_or-replicate (k.count + 1) q false true (omega (arith, l, s.count));
+      greets = get_or-replicate (k.count + 1) 0 false true (omega arith);
       out = tt;
     };
     told = told-is;
     alone = at-itself me (λ b. (if b then (λ _. None) else c.told me) me ≡ None) refl;
   }
 
-  goes-revived : Reopens me life (At (revived limits k life) me) c
-  goes-revived = record { skipped = skipped; opens = (inside, dead); incarnation = omega (arith, early); goes = asking (begins limits k life) c' stands-begun tt }
+  pub goes-revived : Reopens me life (At (revived limits k life) me) c
+  goes-revived = record { skipped = skipped; opens = (inside, dead); incarnation = omega (arith, early); goes = asking-all (begins limits k life) c' stands-begun }
 
 pub revives : (limits : Limits) (k : Kept) (life : ℕ) → Revives k life (revived limits k life)
-revives limits k life c dead early s inside = goes-revived limits k life c dead early s inside
+revives limits k life c durable dead early s inside =
+    let same : (revived limits k life).own.limits ≡ limits = ap (λ (z : TheCollecting). z.own.limits) (only-below (begins limits k life) k.me (k.count + 1)) in
+    goes-revived limits k life c (λ e. ap (λ (z : Limits). z.durable) (sym same) ∙ durable e) dead early s inside

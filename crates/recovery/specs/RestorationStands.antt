@@ -1,14 +1,19 @@
 -- When a process that restores RSNs agrees with a cluster, and what a call owes
-use Rattle.std.specs.Prelude.{◌≡◌, ℕ, ◌<◌, ◌≤◌, [], ◌∷◌, length, Option, Some, None, true, false}
+use Rattle.std.specs.Prelude.{◌≡◌, ◌≢◌, ℕ, ◌<◌, ◌≤◌, [], ◌∷◌, length, Option, Some, None, true, false}
 use Rattle.world.specs.Logs.{sent_in_all}
 use Rattle.world.specs.Calls.{phase_with}
 use Rattle.cluster.specs.Cluster.{Cluster, Live}
 use Rattle.packets.specs.declared.packet.NodePacket.{NodePacket}
-use Rattle.node.specs.Node.{TheNode}
-use Rattle.node.specs.Stands.{HasReceived, Stands}
+use Rattle.node.specs.Node.{TheNode, log_at}
+use Rattle.node.specs.Stands.{Each, HasReceived, Stands}
 use Rattle.recovery.specs.Stands.{HasOwn, IsSaid, IsSent, GoesTo}
 use Rattle.recovery.specs.Replayed.{TheReplayed, StandsReplayed}
 use Rattle.recovery.specs.Restoration.{TheRestoring, above_of, has_answered, left, is_up}
+
+-- an RSN that is known is above 0
+abbrev pub IsKnown : Option ℕ → Type 0
+IsKnown None = Unit {0}
+IsKnown (Some k) = 0 < k
 
 -- it agrees with a cluster in which p restores its RSNs and waits for the same peers: all that p received is acknowledged; from a peer that
 -- it waits for it has the RSNs up to the SSN up to which that told them; and if it waits for no process, all that it sent is released
@@ -20,6 +25,7 @@ pub record StandsRestoring (n : TheRestoring) (c : Cluster) (p : ℕ) : Type 0 w
   pub own : HasOwn n.own c p (c.world.history p) (c.world.trims p) (c.world.numbers p)
   pub received : HasReceived n.own.count n.own.base n.own.covered n.receipts (c.world.history p) (c.world.acknowledged p)
   pub acknowledged : (k : ℕ) → k ≤ length (c.world.history p) → c.world.acknowledged p k ≡ true
+  pub known : (d : ℕ) → d ≤ c.world.count → d ≢ p → Each IsKnown (log_at n.own.logs d).numbers
   pub fresh : (q ssn : ℕ) → q ≤ c.world.count → has_answered q n ≡ false → above_of q n < ssn → c.world.numbers p q ssn ≡ None
   pub resumed : (q : ℕ) → c.resumed p q ≡ true
   pub restoring : (q : ℕ) → q ≤ c.world.count → c.restoring p q ≡ above_of q n

@@ -105,8 +105,8 @@ pub record Reopens (p life : ℕ) (P : Cluster → Type 0) (c : Cluster) : Type 
 -- what a process owes that comes back: if p is dead, the kept state is what its checkpoint covers, and no incarnation from this one on was
 -- stored, then it is opened in this one, and goes on to a cluster with which it agrees; a durable one must be durable by its limits
 abbrev pub Revives : Kept → ℕ → TheCollecting → Type 0
-Revives k life n = (c : Cluster) → (c.durable k.me ≡ true → n.own.limits.durable ≡ true) → c.stage k.me ≡ Dead → c.stored k.me < life → IsKeptOf k c k.me → IsNode c k.me
-    → Reopens k.me life (λ d. StandsCollecting n d k.me) c
+Revives k life n = (c : Cluster) → (c.durable k.me ≡ true → n.own.limits.durable ≡ true) → c.stage k.me ≡ Dead → c.stored k.me < life
+    → IsKeptOf k c k.me → IsNode c k.me → Reopens k.me life (λ d. StandsCollecting n d k.me) c
 
 -- what a call owes of a process that collects: from each cluster with which it agreed, and for which `given` holds, to one with which it
 -- agrees

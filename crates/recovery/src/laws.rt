@@ -6,7 +6,7 @@ ghost use Rattle.recovery.specs.Moment.{KeepsWhatItHad};
 ghost use Rattle.recovery.specs.Resumption.{IsOneNode};
 ghost use Rattle.recovery.specs.StandsAtReplay.{OnlyReplays};
 
-/// A process that collects still agrees with the cluster after the acts of another.
+/// A process that collects still agrees with the cluster after the events of another.
 pub fn others_stand()
     ensures { OthersStand }
 {}

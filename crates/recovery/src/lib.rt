@@ -15,15 +15,16 @@
 //! A [`Lifecycle`] is a process in any of these stages, or up; [`Lifecycle::passed`] goes on from stage
 //! to stage as far as it can.
 //!
-//! The promise: each call is none, one or more acts of the process that the rules of crate `cluster`
-//! allow, and what it then holds is what the cluster has of it. A call that is refused memory changes
-//! nothing; of a restoring process only the first needs memory, and gives back what was handed in.
+//! The promise: each call is none, one or more events of the process that crate `cluster` allows, and
+//! what it then holds is what the cluster has of it, whatever failed. As long as it is exact, they are
+//! acts by the rules for recoveries that don't meet. A call that is refused memory changes nothing; of a
+//! restoring process only the first needs memory, and gives back what was handed in.
 //!
 //! Two that come back at the same time meet: one that hears the Ask of another answers that all that
 //! its log held for it is lost, and the other doesn't wait for it. One that was told so isn't exact any
-//! more, nor is one that had recovered already when it heard of the other: it owes no acts then. Its
-//! calls stay what the definitions say. A restoring process that hears such an Ask of a peer which it
-//! didn't know to come back waits for it anew, and isn't exact any more.
+//! more, nor is one that had recovered already when it heard of the other. A restoring process that
+//! hears such an Ask of a peer which it didn't know to come back waits for it anew, and isn't exact any
+//! more.
 //!
 //! A packet that isn't the answer to what was asked last is dropped. A page that tells a restoring
 //! process of more messages than it sent is taken, and it isn't exact any more; while failures come one

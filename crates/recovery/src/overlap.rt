@@ -1,6 +1,6 @@
 //! A recovering process answers a peer that is recovering too.
 
-ghost use Rattle.std.specs.Prelude.{◌≡◌, ℕ, ◌≤◌};
+ghost use Rattle.std.specs.Prelude.{◌≡◌, ℕ, suc, ◌≤◌, length};
 ghost use Rattle.recovery.specs.Own.{posts, IsShort};
 ghost use Rattle.recovery.specs.Overlap.{loss_of, meets, asked_by, handed};
 
@@ -12,9 +12,12 @@ impl Own {
     /// A process that has recovered takes a packet: it answers an Ask, and drops anything else.
     pub(crate) fn receive(&mut self, alloc: Global, packet: &NodePacket)
         ensures value { self.new ≡ handed packet.now self.old }
+        ensures wide { (length self.old.heard ≡ suc self.old.count) × (length self.old.logs ≡ suc self.old.count) }
         ensures same { (self.new.me ≡ self.old.me) × ((self.new.count ≡ self.old.count) × (self.new.base ≡ self.old.base)) }
         ensures short { (k : ℕ) → IsShort self.old.logs k → IsShort self.new.logs k }
     {
+        // For the proof: reading a field gives the invariant.
+        let _known = self.heard.len();
         if !self.is_for(packet) || !packet.body.is_in_range() {
             return;
         }

@@ -3,7 +3,7 @@
 ghost use Rattle.recovery.specs.RestorationBeside.{ReplayedStands, RestoringStands};
 ghost use Rattle.recovery.specs.Fits.{PagesFit};
 
-/// A process that has finished its replay still agrees with the cluster after the acts of another.
+/// A process that has finished its replay still agrees with the cluster after the events of another.
 pub fn replayed_stands()
     ensures { ReplayedStands }
 {}

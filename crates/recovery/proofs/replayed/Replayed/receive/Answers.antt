@@ -1,10 +1,10 @@
-use Rattle.std.proofs.Common.{◌≡◌, ◌+◌, ℕ, length, sym, ap, ◌∙◌, subst, arith}
+use Rattle.std.proofs.Common.{◌≡◌, ◌+◌, ℕ, suc, length, sym, ap, ◌∙◌, subst, arith}
 use Rattle.std.specs.List.{AllByRecursion}
 use Rattle.node.specs.Node.{IsPeer}
 use Rattle.recovery.specs.Own.{TheOwn}
 use Rattle.recovery.specs.Overlap.{handed}
-use Rattle.recovery.specs.Replayed.{TheReplayed, Stays}
-use Rattle.recovery.proofs.Meetings.{replayed-stays}
+use Rattle.recovery.specs.Replayed.{TheReplayed, IsHanded}
+use Rattle.recovery.proofs.Meetings.{replayed-handed}
 use Rattle.recovery.proofs.replayed.Replayed.receive.Goals as goal
 
 pub invariant_of-self : goal.invariant_of-self
@@ -20,12 +20,13 @@ invariant_of-self c =
       peers = subst Q (sym same.1.0) (subst P (sym same.0) i.peers);
     }
 
-pub returns-clause-stands : goal.returns-clause-stands
-returns-clause-stands c =
+pub returns-clause-acts : goal.returns-clause-acts
+returns-clause-acts c =
     let n = c.args.self.now in
     let was = c.self.inside in
     let x = c.args.packet.now in
+    let W : TheReplayed → Type 0 = λ v. (length v.own.heard ≡ suc v.own.count) × (length v.own.logs ≡ suc v.own.count) in
     let with_own : TheOwn → TheReplayed = λ o. record { own = o; receipts = was.receipts } in
     let is : with_own c.receive.new.self ≡ record n { own = handed x n.own } = ap with_own c.receive.ensures.value ∙ ap (λ (z : TheReplayed). record z { own = handed x z.own }) c.self.view_is in
-    let P : TheReplayed → Type 0 = λ v. Stays n v in
-    subst P (sym is) (replayed-stays n x)
+    let P : TheReplayed → Type 0 = λ v. IsHanded x n v in
+    subst P (sym is) (replayed-handed n x (subst W c.self.view_is c.receive.ensures.wide))
