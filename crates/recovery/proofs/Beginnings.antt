@@ -135,7 +135,7 @@ module _ (r : TheReplayed) (c : Cluster) (s : StandsReplayed r c r.own.me) where
         greeted = s.greeted ∙ sym gateway;
         phase = t.phase ∙ ap phase_with left-is;
         life = s.life;
-        own = own-with r.own c d p _ refl refl refl refl refl (λ x i. i) s.own s.own.logs s.own.held s.own.heard s.own.sure s.own.greets s.own.out;
+        own = own-with r.own c d p _ refl refl refl refl (λ x i. i) s.own s.own.logs s.own.held s.own.heard s.own.sure s.own.greets s.own.out;
         received = s.received;
         acknowledged = s.acknowledged;
         known = λ d l o. (let k = s.own.logs d l o in each-none (log_at r.own.logs d).numbers (λ i inside. k.numbers_are i (omega (arith, inside, k.as_many)) ∙ s.numbers d (suc ((log_at r.own.logs d).dropped + i))));

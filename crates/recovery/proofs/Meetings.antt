@@ -136,7 +136,7 @@ module _ (o : TheOwn) (c : Cluster) (p from i k : ℕ) (h : List Message) (s : H
       (at-changed (λ z x y. y ≡ x) o.heard 0 (c.heard p) from i i q (omega (arith, low, wide.0)) refl (s.heard q l))
 
   pub own-met : Each IsKnown (log_at o.logs from).numbers → HasOwn (meets from i o) (met c p from i k) p h (c.world.trims p) ((met c p from i k).world.numbers p)
-  own-met known = own-with o c (met c p from i k) p h refl refl refl refl refl (λ x j. j) s (logs-met known) held-met heard-met (λ e. absurd (let f : false ≡ true = e in cc)) s.greets s.out
+  own-met known = own-with o c (met c p from i k) p h refl refl refl refl (λ x j. j) s (logs-met known) held-met heard-met (λ e. absurd (let f : false ≡ true = e in cc)) s.greets s.out
 
   -- one that has no RSNs yet has none to forget, and waits for that peer already
   own-none : ((d ssn : ℕ) → c.world.numbers p d ssn ≡ None) → HasOwn (meets from i o) (met c p from i k) p h (c.world.trims p) ((met c p from i k).world.numbers p)

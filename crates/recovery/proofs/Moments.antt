@@ -124,11 +124,10 @@ module _ (n : TheCollecting) (jobs : List OpenJob) (all : has_all n ≡ true) (p
                 held = s.own.held;
                 grown = s.own.grown;
                 heard = s.own.heard;
-                stored = s.own.stored;
                 durable = s.own.durable;
                 sure = s.own.sure;
                 greets = s.own.greets;
-                out = outs-still c (record back { world = record back.world { phase = ph; released = rel } }) me n.own.out refl (λ x i. i) (omega arith) s.own.out;
+                out = outs-still c (record back { world = record back.world { phase = ph; released = rel } }) me n.own.out refl (λ x i. i) s.own.out;
               }));
           behind = ap (drop base) history-is ∙ back-part h ms base long;
           received = (let P : List Message → Type 0 = λ z. HasReceived n.own.count base n.own.covered (receipts_of jobs) z (back.world.acknowledged me) in

@@ -32,11 +32,10 @@ own-same o c d p h t u f g e a b s =
       held = λ k l o. rw (sym e.handlers) (s.held k (subst (λ m. k ≤ m) (sym e.count) l) o);
       grown = λ k. rw (sym e.handlers) (s.grown k);
       heard = λ q l. rw (sym (e.heard q)) (s.heard q (subst (λ m. q ≤ m) (sym e.count) l));
-      stored = (let l = s.stored in omega (arith, l, e.stored));
       durable = λ z. s.durable (ap (λ (f : ℕ → Bool). f p) e.durable ∙ z);
       sure = λ z q l. s.sure z q (subst (λ m. q ≤ m) (sym e.count) l);
       greets = s.greets;
-      out = outs-still c d p o.out e.count e.parcels (omega (arith, e.stored)) s.out;
+      out = outs-still c d p o.out e.count e.parcels s.out;
     }
 
 -- so it stands

@@ -24,23 +24,18 @@ use Rattle.recovery.specs.Replayed.{TheReplayed, StandsReplayed}
 use Rattle.recovery.specs.Stands.{HasOwn, IsHeldBack, IsSent, OfProcess, StandsCollecting}
 use Rattle.recovery.specs.StandsAtReplay.{StandsReplaying}
 
--- what the process says that asks or lost all it still says
-pub of-still : (c d : Cluster) (p : ℕ) → c.stored p ≤ d.stored p → (x : bodies.Body) → OfProcess c p x → OfProcess d p x
-of-still c d p later (packets.Told i j k flags entries) s = λ e. (let t = s e in record { process = t.process; stored = omega (arith, later, t.stored); flags_are = t.flags_are; none = t.none })
-of-still c d p later other s = s
-
 -- packets that were put out still are among more parcels
-pub outs-still : (c d : Cluster) (p : ℕ) (xs : List NodePacket) → c.world.count ≡ d.world.count → ((x : Parcel) → In x c.parcels → In x d.parcels) → c.stored p ≤ d.stored p → Each (IsSent c p) xs → Each (IsSent d p) xs
-outs-still c d p xs same more later all = all-more (IsSent c p) (IsSent d p) xs (λ x s. (s.0, of-still c d p later x.body s.1, λ e. put-still c d p x same (λ b i. more (parcel p x.to b) i) (s.2 e))) all
+pub outs-still : (c d : Cluster) (p : ℕ) (xs : List NodePacket) → c.world.count ≡ d.world.count → ((x : Parcel) → In x c.parcels → In x d.parcels) → Each (IsSent c p) xs → Each (IsSent d p) xs
+outs-still c d p xs same more all = all-more (IsSent c p) (IsSent d p) xs (λ x s. (s.0, s.1, λ e. put-still c d p x same (λ b i. more (parcel p x.to b) i) (s.2 e))) all
 
 -- with other logs, other marks of its peers and other packets, in a cluster that has them too
 pub own-with : (o : TheOwn) (c d : Cluster) (p : ℕ) (h : List Message) {trims trims2 : ℕ → ℕ} {numbers numbers2 : ℕ → ℕ → Option ℕ} {queues : List TheQueue} {hears : List ℕ} {lost : List Bool} {exact : Bool} {xs : List NodePacket}
-    → d.world.count ≡ c.world.count → d.world.handlers ≡ c.world.handlers → d.world.saved p ≡ c.world.saved p → d.stored p ≡ c.stored p → d.durable p ≡ c.durable p → ((x : Parcel) → In x c.parcels → In x d.parcels) → HasOwn o c p h trims numbers
+    → d.world.count ≡ c.world.count → d.world.handlers ≡ c.world.handlers → d.world.saved p ≡ c.world.saved p → d.durable p ≡ c.durable p → ((x : Parcel) → In x c.parcels → In x d.parcels) → HasOwn o c p h trims numbers
     → ((e : ℕ) → e ≤ d.world.count → e ≢ p → KeepsOf (log_at queues e) (trims2 e) (d.world.handlers.sends p h e) (numbers2 e))
     → ((e : ℕ) → e ≤ d.world.count → e ≢ p → IsHeldBack (log_at queues e) (length h) o.base (sent_by d.world.handlers p h e))
     → ((q : ℕ) → q ≤ d.world.count → d.heard p q ≡ slice_index_or hears q 0) → (exact ≡ true → (q : ℕ) → q ≤ d.world.count → slice_index_or lost q true ≡ false) → slice_index_or lost 0 true ≡ false → Each (IsSent c p) xs
     → HasOwn (record o { logs = queues; heard = hears; lost = lost; exact = exact; out = xs }) d p h trims2 numbers2
-own-with o c d p h {xs = xs} count handlers saved stored durable more s logs held heard sure greets out =
+own-with o c d p h {xs = xs} count handlers saved durable more s logs held heard sure greets out =
     record {
       me = s.me;
       count = s.count ∙ sym count;
@@ -53,17 +48,16 @@ own-with o c d p h {xs = xs} count handlers saved stored durable more s logs hel
       held = held;
       grown = λ e. rw handlers (s.grown e);
       heard = heard;
-      stored = (let l = s.stored in omega (arith, l, stored));
       durable = λ e. s.durable (sym durable ∙ e);
       sure = sure;
       greets = greets;
-      out = outs-still c d p xs (sym count) more (omega (arith, stored)) out;
+      out = outs-still c d p xs (sym count) more out;
     }
 
 -- with other packets that were put out
 pub own-out : (o : TheOwn) (c : Cluster) (p : ℕ) (h : List Message) (trims : ℕ → ℕ) (numbers : ℕ → ℕ → Option ℕ) (rest : List NodePacket)
     → Each (IsSent c p) rest → HasOwn o c p h trims numbers → HasOwn (record o { out = rest }) c p h trims numbers
-own-out o c p h trims numbers rest out s = own-with o c c p h refl refl refl refl refl (λ x i. i) s s.logs s.held s.heard s.sure s.greets out
+own-out o c p h trims numbers rest out s = own-with o c c p h refl refl refl refl (λ x i. i) s s.logs s.held s.heard s.sure s.greets out
 
 pub collecting-out : (n : TheCollecting) (c : Cluster) (p : ℕ) (rest : List NodePacket) → Each (IsSent c p) rest → StandsCollecting n c p → StandsCollecting (record n { own = record n.own { out = rest } }) c p
 collecting-out n c p rest out s =
@@ -79,18 +73,18 @@ replayed-out n c p rest out s =
 
 -- what it puts out was put out
 pub own-posted : (o : TheOwn) (c : Cluster) (p to : ℕ) (x : bodies.Body) (b : Body) (h : List Message) (trims : ℕ → ℕ) (numbers : ℕ → ℕ → Option ℕ)
-    → Says p x b → OfProcess c p x → HasOwn o c p h trims numbers → HasOwn (posts to x o) (does c (Puts p to b)) p h trims numbers
+    → Says p x b → OfProcess p x → HasOwn o c p h trims numbers → HasOwn (posts to x o) (does c (Puts p to b)) p h trims numbers
 own-posted o c p to x b h trims numbers says of s =
     let d : Cluster = does c (Puts p to b) in
-    let t : HasOwn o d p h trims numbers = own-with o c d p h refl refl refl refl refl (λ y i. inr i) s s.logs s.held s.heard s.sure s.greets s.out in
+    let t : HasOwn o d p h trims numbers = own-with o c d p h refl refl refl refl (λ y i. inr i) s s.logs s.held s.heard s.sure s.greets s.out in
     own-out o d p h trims numbers (posts to x o).out
     (all-pushed (IsSent d p) o.out (packet_of o to x) t.out
-    (s.me, of-still c d p (omega arith) x of, λ e. record { count_is = s.count; from = s.me; said = (b, says, inl refl) })) t
+    (s.me, of, λ e. record { count_is = s.count; from = s.me; said = (b, says, inl refl) })) t
 
 -- and what says that all is lost is no packet of the cluster
 pub loss-out : (o : TheOwn) (c : Cluster) (p to i k : ℕ) {h : List Message} {trims : ℕ → ℕ} {numbers : ℕ → ℕ → Option ℕ} → HasOwn o c p h trims numbers → Each (IsSent c p) (tells_loss to i k o).out
 loss-out o c p to i k s = all-pushed (IsSent c p) o.out (packet_of o to (loss_of i k o)) s.out
-    (s.me, (λ e. record { process = s.inside.0; stored = s.stored; flags_are = refl; none = refl }), λ e. absurd (let z : true ≡ false = e in cc))
+    (s.me, (λ e. record { process = s.inside.0; flags_are = refl; none = refl }), λ e. absurd (let z : true ≡ false = e in cc))
 
 -- a packet that is for it is to it, from another process
 pub for-own : (o : TheOwn) (x : NodePacket) → is_for o x ≡ true → (x.to ≡ o.me) × ((x.from ≤ o.count) × (x.from ≢ o.me))

@@ -127,11 +127,10 @@ module _ (n : TheReplaying) (c : Cluster) (j : OpenJob) (state : List ℕ) (give
                 held = held-ran;
                 grown = grown-ran;
                 heard = s.own.heard;
-                stored = s.own.stored;
                 durable = s.own.durable;
                 sure = s.own.sure;
                 greets = s.own.greets;
-                out = outs-still c (record c { world = record c.world { phase = ph; released = rel } }) me n.own.out refl (λ x i. i) (omega arith) s.own.out;
+                out = outs-still c (record c { world = record c.world { phase = ph; released = rel } }) me n.own.out refl (λ x i. i) s.own.out;
               }));
           behind = s.behind;
           received = s.received;

@@ -116,7 +116,7 @@ module _ (n : TheCollecting) (c : Cluster) (from i j k : ℕ) (flags : Flags) (p
   stands-mid = record {
     stage = s.stage;
     life = s.life;
-    own = own-with n.own c c' me _ refl refl refl refl refl (λ y l. l) s.own s.own.logs s.own.held heard-is sure-is
+    own = own-with n.own c c' me _ refl refl refl refl (λ y l. l) s.own s.own.logs s.own.held heard-is sure-is
         (off-set n.own.lost from 0 (is_lost flags) (λ e. not-lost (is_lost flags) refl e) s.own.greets) s.own.out;
     told = told-is;
     alone = alone-is;
@@ -169,7 +169,7 @@ module _ (n : TheCollecting) (c : Cluster) (from i k : ℕ) (s : StandsCollectin
   stands-anew = record {
     stage = s.stage;
     life = s.life;
-    own = own-with n.own c d' p _ refl refl refl refl refl (λ y l. l) s.own s.own.logs s.own.held heard-anew (λ e q l. off-set n.own.lost from q false (λ z. refl) (s.own.sure e q l)) (off-set n.own.lost from 0 false (λ z. refl) s.own.greets) s.own.out;
+    own = own-with n.own c d' p _ refl refl refl refl (λ y l. l) s.own s.own.logs s.own.held heard-anew (λ e q l. off-set n.own.lost from q false (λ z. refl) (s.own.sure e q l)) (off-set n.own.lost from 0 false (λ z. refl) s.own.greets) s.own.out;
     told = told-anew;
     alone = alone-anew;
   }
@@ -216,7 +216,7 @@ module _ (n : TheCollecting) (c : Cluster) (from : ℕ) (s : StandsCollecting n 
           let f : ℕ → Option Message = λ m. None in
           let P : (m : ℕ) → None ≡ first_told from page m = λ m. ap (λ xs. first_told from xs m) (sym t.none) in
           goes-page n c from i j k flags page f s low other wide heard_wide ok fits (λ e. t.process) (λ m above r. P m) (Lacks from me i j k)
-          ((t.process, omega (arith, low, s.own.count)), other, t.stored, may-take n c from i j k flags page f s low other wide heard_wide ok fits (λ e. t.process) (λ m above r. P m)) refl
+          (other, may-take n c from i j k flags page f s low other wide heard_wide ok fits (λ e. t.process) (λ m above r. P m)) refl
           (λ e. absurd (let kept : is_lost flags ≡ false = off (is_lost flags) (both (not (is_lost flags)) (is_exact flags) (both n.own.exact (not (is_lost flags) && is_exact flags) e).1).0 in cc (lost, kept)))
           (ap (λ u. arrived c from me (Told i j k u f)) (sym end))
       takes-page ok fits false kept =

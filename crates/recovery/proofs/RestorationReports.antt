@@ -221,7 +221,7 @@ module _ (n : TheRestoring) (c : Cluster) (from i j covered s : ℕ) (flags : Fl
         greeted = st.greeted ∙ sym (answered-other n from 0 (λ e. absurd (omega (arith, e, some))));
         phase = at-itself p (λ b. (if b then phase_with (without (todo_of (c.world.phase p)) from) else c.world.phase p) ≡ phase_with (left last)) (ap phase_with left-is);
         life = st.life;
-        own = (let P : Option ℕ → Type 0 = λ u. HasOwn own (record (taken_in c p from j m s u f) { world = record (taken_in c p from j m s u f).world { phase = c'.world.phase; released = c'.world.released } }) p (c.world.history p) ((taken_in c p from j m s u f).world.trims p) ((taken_in c p from j m s u f).world.numbers p) in subst P end-is (own-with n.own c _ p _ refl refl refl refl refl (λ x l. l) st.own logs-are (held-changed n c from st low other w covered pairs) heard-is sure-is st.own.greets st.own.out));
+        own = (let P : Option ℕ → Type 0 = λ u. HasOwn own (record (taken_in c p from j m s u f) { world = record (taken_in c p from j m s u f).world { phase = c'.world.phase; released = c'.world.released } }) p (c.world.history p) ((taken_in c p from j m s u f).world.trims p) ((taken_in c p from j m s u f).world.numbers p) in subst P end-is (own-with n.own c _ p _ refl refl refl refl (λ x l. l) st.own logs-are (held-changed n c from st low other w covered pairs) heard-is sure-is st.own.greets st.own.out));
         received = st.received;
         acknowledged = st.acknowledged;
         known = known-are;
@@ -269,7 +269,7 @@ module _ (n : TheRestoring) (c : Cluster) (from i j covered s : ℕ) (flags : Fl
         greeted = st.greeted;
         phase = st.phase;
         life = st.life;
-        own = (let P : Option ℕ → Type 0 = λ v. HasOwn own (record (taken_in c p from j m s v f) { restoring = cn.restoring }) p (c.world.history p) ((taken_in c p from j m s v f).world.trims p) ((taken_in c p from j m s v f).world.numbers p) in subst P end-next (own-with n.own c _ p _ refl refl refl refl refl (λ x l. l) st.own logs-are (held-changed n c from st low other w covered pairs) heard-is sure-is st.own.greets st.own.out));
+        own = (let P : Option ℕ → Type 0 = λ v. HasOwn own (record (taken_in c p from j m s v f) { restoring = cn.restoring }) p (c.world.history p) ((taken_in c p from j m s v f).world.trims p) ((taken_in c p from j m s v f).world.numbers p) in subst P end-next (own-with n.own c _ p _ refl refl refl refl (λ x l. l) st.own logs-are (held-changed n c from st low other w covered pairs) heard-is sure-is st.own.greets st.own.out));
         received = st.received;
         acknowledged = st.acknowledged;
         known = known-are;
@@ -351,7 +351,7 @@ module _ (n : TheRestoring) (c : Cluster) (i j covered s : ℕ) (flags : Flags) 
       greeted = at-itself g (λ b. (if b then true else c.greeted g) ≡ has_answered 0 r) (sym answered-gateway);
       phase = st.phase ∙ ap phase_with left-same;
       life = st.life;
-      own = own-with n.own c d' g _ refl refl refl refl refl (λ x l. l) st.own logs-greeted (held-changed n c 0 st (omega arith) me-inside w covered []) st.own.heard (λ e. st.own.sure (both n.own.exact (is_exact flags) e).0) st.own.greets st.own.out;
+      own = own-with n.own c d' g _ refl refl refl refl (λ x l. l) st.own logs-greeted (held-changed n c 0 st (omega arith) me-inside w covered []) st.own.heard (λ e. st.own.sure (both n.own.exact (is_exact flags) e).0) st.own.greets st.own.out;
       received = st.received;
       acknowledged = st.acknowledged;
       known = known-changed n c 0 st (omega arith) me-inside w (noted [] (dropped_to covered (log_at n.own.logs 0))) (known-told (log_at n.own.logs 0) covered [] (λ ssn. tt) (st.known 0 (omega arith) me-inside));
@@ -381,7 +381,7 @@ doubted-stands n c p s = record {
   greeted = s.greeted;
   phase = s.phase;
   life = s.life;
-  own = own-with n.own c c p _ refl refl refl refl refl (λ x i. i) s.own s.own.logs s.own.held s.own.heard (λ e. absurd (let f : false ≡ true = (both n.own.exact false e).1 in cc)) s.own.greets s.own.out;
+  own = own-with n.own c c p _ refl refl refl refl (λ x i. i) s.own s.own.logs s.own.held s.own.heard (λ e. absurd (let f : false ≡ true = (both n.own.exact false e).1 in cc)) s.own.greets s.own.out;
   received = s.received;
   acknowledged = s.acknowledged;
   known = s.known;

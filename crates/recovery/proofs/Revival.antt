@@ -86,7 +86,6 @@ module _ (limits : Limits) (k : Kept) (life : ℕ) (c : Cluster) (durable : c.du
       held = λ d l o. held-kept k c.world.handlers me h d (c.world.saved_trims me d) (omega (arith, long)) (s.logs d l o);
       grown = λ d. (let e = first-all d in omega (arith, e));
       heard = λ q l. heard-is q;
-      stored = omega (arith, stored-is);
       durable = durable;
       sure = λ e q l. get_or-replicate (k.count + 1) q false true (omega (arith, l, s.count));
       greets = get_or-replicate (k.count + 1) 0 false true (omega arith);

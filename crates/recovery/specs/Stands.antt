@@ -24,26 +24,25 @@ pub use Rattle.node.specs.Kept.{IsKeptOf}
 use Rattle.recovery.specs.Collected.{TheCollected}
 use Rattle.recovery.specs.Collection.{TheCollecting, told_of}
 
--- the process p, in an incarnation that was stored, says that all is lost; that is no packet of the cluster
-pub record IsLoss (c : Cluster) (p j : ℕ) (flags : Flags) (entries : List LoggedMessage) : Type 0 where
+-- the process p says that all is lost; that is no packet of the cluster
+pub record IsLoss (p : ℕ) (flags : Flags) (entries : List LoggedMessage) : Type 0 where
   pub process : 0 < p
-  pub stored : j ≤ c.stored p
   pub flags_are : flags ≡ flags_of true true false
   pub none : entries ≡ []
 
 -- a process asks, or says that all is lost; the gateway never does
-abbrev pub OfProcess : Cluster → ℕ → Body → Type 0
-OfProcess c p (Ask i k) = 0 < p
-OfProcess c p (Told i j k flags entries) = is_lost flags ≡ true → IsLoss c p j flags entries
-OfProcess c p body = Unit {0}
+abbrev pub OfProcess : ℕ → Body → Type 0
+OfProcess p (Ask i k) = 0 < p
+OfProcess p (Told i j k flags entries) = is_lost flags ≡ true → IsLoss p flags entries
+OfProcess p body = Unit {0}
 
 -- what the packet says was sent, unless it says that all is lost
 abbrev pub IsSaid : Cluster → ℕ → ℕ → Body → Type 0
-IsSaid c from to body = OfProcess c from body × (is_loss body ≡ false → WasSaid c.parcels from to body)
+IsSaid c from to body = OfProcess from body × (is_loss body ≡ false → WasSaid c.parcels from to body)
 
 -- it was sent, as a packet of the process p, unless it says that
 abbrev pub IsSent : Cluster → ℕ → NodePacket → Type 0
-IsSent c p x = (x.from ≡ p) × OfProcess c p x.body × (is_loss x.body ≡ false → PutOut c.world.count c.parcels p x)
+IsSent c p x = (x.from ≡ p) × OfProcess p x.body × (is_loss x.body ≡ false → PutOut c.world.count c.parcels p x)
 
 -- of what n messages send to one destination, a queue has released what the first `base` of them send, and so what the checkpoint covers;
 -- the rest waits, each for a later RSN
@@ -65,7 +64,6 @@ pub record HasOwn (o : TheOwn) (c : Cluster) (p : ℕ) (h : List Message) (trims
   pub held : (d : ℕ) → d ≤ c.world.count → d ≢ p → IsHeldBack (log_at o.logs d) (length h) o.base (sent_by c.world.handlers p h d)
   pub grown : (d : ℕ) → sent_by c.world.handlers p h d o.base ≤ length (c.world.handlers.sends p h d)
   pub heard : (q : ℕ) → q ≤ c.world.count → c.heard p q ≡ slice_index_or o.heard q 0
-  pub stored : o.life ≤ c.stored p
   -- a durable process of the cluster is durable by its limits
   pub durable : c.durable p ≡ true → o.limits.durable ≡ true
   -- if it is exact, no peer said that it lost what it had; the gateway never does
