@@ -78,21 +78,21 @@ module _ (r : TheReplayed) (c : Cluster) (s : StandsReplayed r c r.own.me) where
   waits-next : (d q : ℕ) → q ≢ d → waits (suc d) q ≡ waits d q
   waits-next d q other = let e : nat_lt q (suc d) ≡ nat_lt q d = grind (arith, nat_tests) in rw e refl
 
-  abbrev At_first : ℕ → Cluster → Type 0
-  At_first d = Waits c p (those (waits d) count)
+  abbrev AtFirst : ℕ → Cluster → Type 0
+  AtFirst d = Waits c p (those (waits d) count)
 
   -- who waits for the same goes on as it is
-  still : (d : ℕ) (e : Cluster) → waits d d ≡ waits (suc d) d → At_first d e → GoesTo r.own.exact p (At_first (suc d)) e
-  still d e here t = goes-self r.own.exact p (At_first (suc d)) e (subst (λ ps. Waits c p ps e) (those-same (waits d) (waits (suc d)) count (λ q above under. each q (q == d) refl)) t)
+  still : (d : ℕ) (e : Cluster) → waits d d ≡ waits (suc d) d → AtFirst d e → GoesTo r.own.exact p (AtFirst (suc d)) e
+  still d e here t = goes-self r.own.exact p (AtFirst (suc d)) e (subst (λ ps. Waits c p ps e) (those-same (waits d) (waits (suc d)) count (λ q above under. each q (q == d) refl)) t)
     where
       each : (q : ℕ) (b : Bool) → (q == d) ≡ b → waits d q ≡ waits (suc d) q
       each q true z = let same : d ≡ q = grind (arith, nat_tests) in let P : ℕ → Type 0 = λ y. waits d y ≡ waits (suc d) y in subst P same here
       each q false z = let other : q ≢ d = grind (arith, nat_tests) in sym (waits-next d q other)
 
-  step : (d : ℕ) → d ≤ count → (e : Cluster) → At_first d e → GoesTo r.own.exact p (At_first (suc d)) e
+  step : (d : ℕ) → d ≤ count → (e : Cluster) → AtFirst d e → GoesTo r.own.exact p (AtFirst (suc d)) e
   step d under e t = split (has_answered d n) refl (d == p) refl
     where
-      split : (b : Bool) → has_answered d n ≡ b → (x : Bool) → (d == p) ≡ x → GoesTo r.own.exact p (At_first (suc d)) e
+      split : (b : Bool) → has_answered d n ≡ b → (x : Bool) → (d == p) ≡ x → GoesTo r.own.exact p (AtFirst (suc d)) e
       split false unanswered x z = still d e (rw (unanswered, both-off (nat_lt d d), both-off (nat_lt d (suc d))) refl) t
       split true gone true z = still d e (rw z refl) t
       split true was false z =
@@ -105,16 +105,16 @@ module _ (r : TheReplayed) (c : Cluster) (s : StandsReplayed r c r.own.me) where
           let here : waits d d ≡ true = rw (z, same) refl in
           let gone : waits (suc d) d ≡ false = rw (z, next, was) refl in
           let to_do : has (todo_of (t.ph p)) d ≡ true = ap (λ x. has (todo_of x) d) t.phase ∙ ap (λ x. has x d) (todo-is (those (waits d) count)) ∙ has-is (waits d) count d (omega (arith, none)) under ∙ here in
-          subst (GoesTo r.own.exact p (At_first (suc d))) (sym t.is)
-          (goes-one r.own.exact p (At_first (suc d)) (record c { world = record c.world { phase = t.ph; released = t.rel } }) (Leaves p d) (s.stage, to_do) refl (λ exact. absurd (let off = s.own.sure exact d under in cc (lost, off)))
+          subst (GoesTo r.own.exact p (AtFirst (suc d))) (sym t.is)
+          (goes-one r.own.exact p (AtFirst (suc d)) (record c { world = record c.world { phase = t.ph; released = t.rel } }) (Leaves p d) (s.stage, to_do) refl (λ exact. absurd (let off = s.own.sure exact d under in cc (lost, off)))
           (let P : List ℕ → Type 0 = λ ps. Waits c p ps (goes (record c { world = record c.world { phase = t.ph; released = t.rel } }) (Leaves p d)) in
           subst P (without-those (waits d) (waits (suc d)) count d (waits-next d) gone) (leaves-one c p (those (waits d) count) t.ph t.rel d t.phase)))
 
-  leaving : (d : ℕ) → d ≤ suc count → GoesTo r.own.exact p (At_first d) c
-  leaving zero l = goes-self r.own.exact p (At_first 0) c
+  leaving : (d : ℕ) → d ≤ suc count → GoesTo r.own.exact p (AtFirst d) c
+  leaving zero l = goes-self r.own.exact p (AtFirst 0) c
       (subst (λ ps. Waits c p ps c) (those-same (λ q. not (q == p) && true) (waits 0) count (λ q above under. (let e : nat_lt q 0 ≡ false = grind (arith, nat_tests) in rw e refl)))
       (record { ph = c.world.phase; rel = c.world.released; is = refl; phase = s.phase; released = s.released }))
-  leaving (suc d) l = goes-then r.own.exact p (At_first d) (At_first (suc d)) c (leaving d (omega (arith, l))) (λ e t. step d (omega (arith, l)) e t)
+  leaving (suc d) l = goes-then r.own.exact p (AtFirst d) (AtFirst (suc d)) c (leaving d (omega (arith, l))) (λ e t. step d (omega (arith, l)) e t)
 
   left-is : those (waits (suc count)) count ≡ left n
   left-is = those-same (waits (suc count)) (λ q. not (has_answered q n)) count (λ q above under. each q under (q == p) refl) ∙ ap (those (λ q. not (has_answered q n))) (sym s.own.count)
@@ -127,7 +127,7 @@ module _ (r : TheReplayed) (c : Cluster) (s : StandsReplayed r c r.own.me) where
           rw (e, is) refl
       each q l false e = let inside : nat_lt q (suc count) ≡ true = grind (arith, nat_tests) in rw (e, inside) refl
 
-  stands-begun : (e : Cluster) → At_first (suc count) e → StandsRestoring n e p
+  stands-begun : (e : Cluster) → AtFirst (suc count) e → StandsRestoring n e p
   stands-begun e t =
       let d : Cluster = record c { world = record c.world { phase = t.ph; released = t.rel } } in
       subst (At n p) (sym t.is) (record {
@@ -149,7 +149,7 @@ module _ (r : TheReplayed) (c : Cluster) (s : StandsReplayed r c r.own.me) where
   goes-begun =
       let same : (begun r).own.exact ≡ r.own.exact = ap (λ (z : TheRestoring). z.own.exact) (only-below n (r.own.count + 1)) in
       goes-then (begun r).own.exact p (At n p) (At (begun r) p) c
-      (goes-any r.own.exact (begun r).own.exact p (At n p) c (λ z. sym same ∙ z) (goes-then r.own.exact p (At_first (suc count)) (At n p) c (leaving (suc count) (omega arith)) (λ e t. goes-self r.own.exact p (At n p) e (stands-begun e t))))
+      (goes-any r.own.exact (begun r).own.exact p (At n p) c (λ z. sym same ∙ z) (goes-then r.own.exact p (AtFirst (suc count)) (At n p) c (leaving (suc count) (omega arith)) (λ e t. goes-self r.own.exact p (At n p) e (stands-begun e t))))
       (λ e t. asking n alone e t tt)
 
 pub beginning : (r : TheReplayed) → Begins r (begun r)
