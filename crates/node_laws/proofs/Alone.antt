@@ -61,14 +61,13 @@ module _ (f : Answering) (states : ℕ → List ℕ) (n : ℕ) (s : System) (act
       let v = both ((i == m.own.life) && nat_le (slice_index_or m.own.heard x.from 0) j) (not (has_answered x.from m)) u.0 in
       let w = both (i == m.own.life) (nat_le (slice_index_or m.own.heard x.from 0) j) v.0 in
       let now : i ≡ m.own.life = (let z = w.0 in grind (arith, nat_tests)) in
-      let h = r.holds in
       let here : StandsRestoring m c m.own.me = subst (StandsRestoring m c) (sym st.own.me) st in
       let P : Body → Type 0 = λ b. WasSaid c.parcels x.from m.own.me b in
       let Q : ℕ → Type 0 = λ z. WasSaid c.parcels x.from z x.body in
       let R : ℕ → Type 0 = λ z. P (Restored z j k a flags pairs) in
-      let said : R m.own.life = subst R now (subst P e (subst Q q.0 (was (ap is_loss e)).said)) in
+      let said : R m.own.life = subst R now (subst P e (subst Q q.0 (was.2 (ap is_loss e)).said)) in
       let S : ℕ → Type 0 = λ z. in_range (Restored z j k a flags pairs) ≡ true in
-      let fit = pages-fit n g acts m x.from j k a flags pairs h.few (grows f states) r.run here q.1.0 (not-true (has_answered x.from m) v.1) (subst S now range) said in
+      let fit = pages-fit n g acts m x.from j k a flags pairs r.few (grows f states) r.run here q.1.0 (not-true (has_answered x.from m) v.1) (subst S now range) said in
       let one : nat_le k (sent_to x.from m.own) ≡ true = (let l = fit.0 in grind (arith, nat_tests)) in
       let two : nat_le (last_ssn 0 pairs) (sent_to x.from m.own) ≡ true = (let l = fit.1 in grind (arith, nat_tests)) in
       rw (reply, one, two) refl

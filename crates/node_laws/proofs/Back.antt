@@ -8,17 +8,21 @@ use Rattle.theorems.proofs.ListLemmas.{take-take}
 use Rattle.world.specs.Handlers.{Handlers}
 use Rattle.cluster.specs.Cluster.{Cluster, opening}
 use Rattle.cluster.specs.Rules.{Act, Run, after_run}
+use Rattle.cluster.specs.Overlap.{Events, after_events}
+use Rattle.cluster.specs.Exact.{acts_of}
+use Rattle.cluster.proofs.Runs as worlds
 use Rattle.cluster.specs.Promises.{AllAcknowledged}
 use Rattle.cluster.proofs.Promised.{acknowledged-stay}
 use Rattle.rsn.specs.Receipts.{run_of}
 use Rattle.rsn.proofs.ReceiptLemmas.{run_of-bound}
 use Rattle.node.specs.Node.{TheNode}
 use Rattle.node.specs.Transmission.{run_at}
-use Rattle.node.specs.Stands.{Stands}
+use Rattle.node.specs.Stands.{Each, Stands}
 use Rattle.node.specs.Runs.{Answering, handlers_of}
 use Rattle.node.proofs.Commits.{long}
 use Rattle.node.proofs.Runs.{grows}
 use Rattle.node.proofs.Steps.{run-on}
+use Rattle.node.proofs.Goes.{acts-run}
 use Rattle.recovery.specs.Collection.{TheCollecting}
 use Rattle.recovery.specs.Replays.{TheReplaying}
 use Rattle.recovery.specs.Stands.{StandsCollecting}
@@ -38,10 +42,13 @@ use Rattle.node_laws.specs.Back.{length_of, received, HasBack}
 use Rattle.node_laws.proofs.HostStep.{IsPart}
 use Rattle.node_laws.proofs.Moments.{kept_of}
 use Rattle.node_laws.proofs.Views.{AreGood, is-up}
-use Rattle.node_laws.proofs.Lives.{Holds, Onward, call-goes, all-stand}
+use Rattle.node_laws.proofs.Events.{as_events, acts-happen}
+use Rattle.node_laws.proofs.Led.{Led, onward}
+use Rattle.node_laws.proofs.Lives.{Holds, Onward, all-stand}
 
 -- a run of the cluster leads to where all of a system stand
 pub record Reached (f : Handlers) (n : ℕ) (s : System) (acts : List Act) : Type 0 where
+  pub few : n ≤ 15
   pub run : Run (opening n f) acts
   pub holds : Holds f n s (after_run (opening n f) acts)
 
@@ -56,13 +63,25 @@ none-on f n s acts r = record { more = []; reached = subst (Reached f n s) (sym 
 pub joined : (f : Handlers) (n : ℕ) (s : System) (acts more : List Act) → GoesOn f n s (acts ++ more) → GoesOn f n s acts
 joined f n s acts more b = record { more = more ++ b.more; reached = subst (Reached f n s) (append_assoc acts more b.more) b.reached }
 
--- by a call, and by parts of a call of a host
+-- acts from the opening on are events where no process is durable
+exact-events : (n : ℕ) (f : Handlers) (acts : List Act) → Run (opening n f) acts → Events (opening n f) (as_events acts) × (after_events (opening n f) (as_events acts) ≡ after_run (opening n f) acts)
+exact-events n f acts r = acts-happen (opening n f) acts (nobody acts) r
+  where
+    nobody : (xs : List Act) → Each (λ (a : Act). false ≡ false) xs
+    nobody [] = tt
+    nobody (x ∷ xs) = (refl, nobody xs)
+
+-- by a call, and by parts of a call of a host: where all are exact behind it, its events are acts
 pub one-on : (f : Answering) (states : ℕ → List ℕ) (n : ℕ) (s : System) (acts : List Act) (k : Call) → Reached (handlers_of f states) n s acts → DoesIt f n s k → AreExact n (after_call s k) → GoesOn (handlers_of f states) n (after_call s k) acts
 one-on f states n s acts k r does exact =
     let g : Handlers = handlers_of f states in
-    let one : Onward g n (after_run (opening n g) acts) (after_call s k) = call-goes f states n s (after_run (opening n g) acts) k r.holds does exact in
-    let both = run-on (opening n g) acts one.acts r.run one.run in
-    record { more = one.acts; reached = record { run = both.0; holds = subst (Holds g n (after_call s k)) (sym both.1) one.holds } }
+    let c : Cluster = after_run (opening n g) acts in
+    let e = exact-events n g acts r.run in
+    let led : Led g n (λ q. false) s (as_events acts) = record { run = e.0; holds = subst (Holds g n s) (sym e.1) r.holds } in
+    let one : Onward g n c (after_call s k) = subst (λ z. Onward g n z (after_call s k)) e.1 (onward f states n (λ q. false) s (as_events acts) k led does (λ p t. absurd (cc (t)))) in
+    let t = acts-run c one.events (one.acts exact) one.run in
+    let both = run-on (opening n g) acts (acts_of one.events) r.run t.0 in
+    record { more = acts_of one.events; reached = record { few = r.few; run = both.0; holds = subst (Holds g n (after_call s k)) (sym (both.1 ∙ t.1)) one.holds } }
 
 pub goes-on : (f : Answering) (states : ℕ → List ℕ) (n : ℕ) (X A : Type 0) (E : ℕ → Type 0) → X → (s : System) (acts : List Act) (ks : List Call) → Reached (handlers_of f states) n s acts → Along (IsPart f n X A E) s ks → GoesOn (handlers_of f states) n (after_calls s ks) acts
 goes-on f states n X A E x s acts [] r m = none-on (handlers_of f states) n s acts r
@@ -211,9 +230,8 @@ module _ (n : ℕ) (f : Handlers) (p : ℕ) (old : TheCollecting) (new : TheRepl
       ap (f.state p) (sym stays-so ∙ whole) ∙ ap (λ (g : Handlers). g.state p (d.world.history p)) (sym handlers) ∙ t.state
 
 -- what it covers is acknowledged
-acknowledged-covered : (f : Handlers) (n : ℕ) (s : System) (c : Cluster) (p : ℕ) (old : TheCollecting) → Holds f n s c → StandsCollecting old c p → AllAcknowledged c p old.own.base
-acknowledged-covered f n s c p old h t =
-    let b = h.believed in
+acknowledged-covered : (c : Cluster) (p : ℕ) (old : TheCollecting) → worlds.Holds c → StandsCollecting old c p → AllAcknowledged c p old.own.base
+acknowledged-covered c p old b t =
     (omega (arith, t.own.many, length-take old.own.base (c.world.history p)), λ m some low. (b.lawful.tidy p).covered (b.agrees.phases.live p) m some (omega (arith, low, t.own.saved)))
 
 -- all that one has that replays
@@ -247,7 +265,7 @@ recovers-exactly f states n few s t p old new acts one is_old does two three =
     let recovers : Recovers old new = recovery-is old new (subst (λ z. Acts z (Replays new)) is_old does.1) in
     let P : ℕ → Type 0 = λ q. HadReceived c q old.own.base new.plan in
     let had : HadReceived c p old.own.base new.plan = subst P collects.own.me (keeps-what-it-had n g acts old new few (grows f states) one.run (subst (StandsCollecting old c) (sym collects.own.me) collects) recovers.all recovers.is) in
-    let first_same : take old.own.base (b.world.history p) ≡ take old.own.base (c.world.history p) = acknowledged-stay n g acts two.more p old.own.base few (grows f states) two.reached.run (acknowledged-covered g n s c p old one.holds collects) in
+    let first_same : take old.own.base (b.world.history p) ≡ take old.own.base (c.world.history p) = acknowledged-stay n g acts two.more p old.own.base few (grows f states) two.reached.run (acknowledged-covered c p old (worlds.run-holds n g acts few (grows f states) one.run) collects) in
     let many : length (b.world.history p) ≡ kept_of old new = (let long = replays.long new b p replays_so in let e : new.own.base ≡ old.own.base = ap (λ z. z.base) recovers.is.own in omega (arith, long, e)) in
     let assoc : (acts ++ two.more) ++ three.more ≡ acts ++ (two.more ++ three.more) = append_assoc acts two.more three.more in
     let last : Reached g n (view t) (acts ++ (two.more ++ three.more)) = subst (λ xs. Reached g n (view t) xs) assoc three.reached in

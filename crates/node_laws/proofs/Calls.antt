@@ -17,7 +17,7 @@ use Rattle.node.specs.Runs.{Answer}
 use Rattle.recovery.specs.Replayed.{TheReplayed}
 use Rattle.recovery.specs.Collection.{TheCollecting}
 use Rattle.recovery.specs.Replays.{next_job}
-use Rattle.recovery.specs.Restoration.{TheRestoring}
+use Rattle.recovery.specs.Restoration.{TheRestoring, is_up}
 use Rattle.recovery.specs.declared.lifecycle.Lifecycle.{Lifecycle}
 use Rattle.recovery.specs.declared.lifecycle.Lifecycle.TheVariants.{Up, Collecting, Replaying, Replayed, Restoring, Passing}
 use Rattle.process.specs.Process.{is_settled, state_of}
@@ -30,7 +30,7 @@ use Rattle.node_laws.specs.HostProcess.{Checkpoint, Absent, Pending, Durable}
 use Rattle.node_laws.specs.HostReplies.{who_of, answer_of, answering}
 use Rattle.node_laws.proofs.Chains.{Chain, ticked-exact, froze-exact, asked-exact, restores-exact}
 use Rattle.node_laws.proofs.Losses.{handed-rests, ticked-rests, froze-rests}
-use Rattle.node_laws.proofs.Stages.{unsettled, Fits, GoesOn, on}
+use Rattle.node_laws.proofs.Stages.{unsettled, Fits, Waits, GoesOn, on}
 
 -- such a call, of the process as it is seen
 abbrev pub Is : (Process → Process → Type 0) → Checkpoint → Lifecycle → Lifecycle → Type 0
@@ -38,24 +38,24 @@ Is Does w c d = (is_settled d ≡ true) × (Fits w d × Does (seen w c) (seen w 
 
 -- ---- a packet comes
 
-handed-absent : (x : NodePacket) (c d : Lifecycle) → is_settled c ≡ true → IsHanded x c d → Is (Hears x) Absent c d
-handed-absent x (Up n) (Up m) s g = (refl, (tt, (m, (refl, g))))
-handed-absent x (Collecting n) (Collecting m) s g = (refl, (tt, (m, (refl, g))))
-handed-absent x (Replaying n) (Replaying m) s g = (refl, (tt, (m, (refl, g))))
-handed-absent x (Replayed n) (Replayed m) s g = (refl, (tt, (m, (refl, g))))
-handed-absent x (Restoring n) (Restoring m) s g = (refl, (tt, (m, (refl, g))))
-handed-absent x Passing d s g = unsettled s
-handed-absent x other d s g = absurd g
+handed-absent : (x : NodePacket) (c d : Lifecycle) → is_settled c ≡ true → Waits c → IsHanded x c d → Is (Hears x) Absent c d
+handed-absent x (Up n) (Up m) s t g = (refl, (tt, (m, (refl, g))))
+handed-absent x (Collecting n) (Collecting m) s t g = (refl, (tt, (m, (refl, g))))
+handed-absent x (Replaying n) (Replaying m) s t g = (refl, (tt, (m, (refl, g))))
+handed-absent x (Replayed n) (Replayed m) s t g = (refl, (tt, (m, (refl, g))))
+handed-absent x (Restoring n) (Restoring m) s t g = (refl, (tt, (m, (refl, (g.0, (t, g.1))))))
+handed-absent x Passing d s t g = unsettled s
+handed-absent x other d s t g = absurd g
 
 handed-frozen : (x : NodePacket) (n m : TheNode) → n.frozen ≡ true → m ≡ handed x n → m ≡ n
 handed-frozen x n m f e = e ∙ handed-rests x n f
 
-pub handed-is : (x : NodePacket) (w : Checkpoint) (c d : Lifecycle) → is_settled c ≡ true → Fits w c → IsHanded x c d → Is (Hears x) w c d
-handed-is x Absent c d s f g = handed-absent x c d s g
-handed-is x (Pending bytes) (Up n) (Up m) s f g = (refl, (subst (λ (z : TheNode). (z.frozen ≡ true) × AreOf bytes z) (sym (handed-frozen x n m f.0 g.0)) f, (m, (refl, g))))
-handed-is x Durable (Up n) (Up m) s f g = (refl, (subst (λ (z : TheNode). z.frozen ≡ true) (sym (handed-frozen x n m f g.0)) f, (m, (refl, g.0))))
-handed-is x w (Up n) other s f g = absurd g
-handed-is x w c d s f g = absurd f
+pub handed-is : (x : NodePacket) (w : Checkpoint) (c d : Lifecycle) → is_settled c ≡ true → Fits w c → Waits c → IsHanded x c d → Is (Hears x) w c d
+handed-is x Absent c d s f t g = handed-absent x c d s t g
+handed-is x (Pending bytes) (Up n) (Up m) s f t g = (refl, (subst (λ (z : TheNode). (z.frozen ≡ true) × AreOf bytes z) (sym (handed-frozen x n m f.0 g.0)) f, (m, (refl, g))))
+handed-is x Durable (Up n) (Up m) s f t g = (refl, (subst (λ (z : TheNode). z.frozen ≡ true) (sym (handed-frozen x n m f g.0)) f, (m, (refl, g.0))))
+handed-is x w (Up n) other s f t g = absurd g
+handed-is x w c d s f t g = absurd f
 
 -- ---- a packet is taken
 
@@ -75,6 +75,13 @@ taken-is x (Pending bytes) (Up n) (Up m) s f g = (refl, (subst (λ (z : TheNode)
 taken-is x Durable (Up n) (Up m) s f g = (refl, (subst (λ (z : TheNode). z.frozen ≡ true) g.0 f, (m, (refl, g))))
 taken-is x w (Up n) other s f g = absurd g
 taken-is x w c d s f g = absurd f
+
+pub taken-waits : (x : NodePacket) (c d : Lifecycle) → Takes (Some x) c d → Waits c → Waits d
+taken-waits x (Restoring n) (Restoring m) g t = subst (λ (z : TheRestoring). is_up z ≡ false) g.0 t
+taken-waits x (Restoring n) other g t = absurd g
+taken-waits x Passing d g t = absurd (cc (g.0))
+taken-waits x c (Restoring m) g t = absurd g
+taken-waits x c other g t = tt
 
 -- ---- what isn't answered is sent again
 
@@ -188,6 +195,11 @@ paused-is Absent Passing d s f g = unsettled s
 paused-is Absent c d s f g = on Absent c d s f g
 paused-is w c d s f g = absurd f
 
+pub froze-waits : (c d : Lifecycle) → Freezes c d → Waits c → Waits d
+froze-waits (Up n) (Up m) g t = tt
+froze-waits (Up n) other g t = absurd g
+froze-waits c d g t = subst Waits (sym g) t
+
 -- what is pending is stored
 pub stored-is : (bytes : List ℕ) (c : Lifecycle) → Fits (Pending bytes) c → Fits Durable c
 stored-is bytes (Up n) f = f.0
@@ -198,3 +210,8 @@ pub saved-is : (c d : Lifecycle) → Fits Durable c → Thaws c d → (is_settle
 saved-is (Up n) (Up m) f g = (refl, (m, (refl, g)))
 saved-is (Up n) other f g = absurd g
 saved-is c d f g = absurd f
+
+pub thawed-waits : (c d : Lifecycle) → Thaws c d → Waits c → Waits d
+thawed-waits (Up n) (Up m) g t = tt
+thawed-waits (Up n) other g t = absurd g
+thawed-waits c d g t = subst Waits (sym g) t

@@ -57,7 +57,7 @@ hosted-recovers h calls more k few g e p now w l was is rec =
     let here : u.processes p ≡ Collects m.collected = ap (λ (z : Lived). z.processes p) m.stand ∙ ap as_process (raised-here s2.processes p new) in
     let b : IsBack n F end p m.collected m.replays acts = recovers-exactly f h.states n few u end p m.collected m.replays acts first.reached here parts.1.0.does two rest in
     let c : Cluster = after_run (opening n F) acts in
-    let goods : AreGood h.images n (still s2 p now m.collected) = choose p (λ j d. IsFirst n j → IsGood (h.images j) (if d then new else s2.processes j)) (λ q. ((subst (IsGood (h.images p)) is (steps.good p l)).0, (refl, tt))) (λ j o q. steps.good j q) in
+    let goods : AreGood h.images n (still s2 p now m.collected) = choose p (λ j d. IsFirst n j → IsGood (h.images j) (if d then new else s2.processes j)) (λ q. ((subst (IsGood (h.images p)) is (steps.good p l)).0, (refl, (tt, tt)))) (λ j o q. steps.good j q) in
     record {
       collected = m.collected;
       acts = acts;

@@ -31,8 +31,8 @@ use Rattle.node_laws.specs.Inside.Process as stages
 use Rattle.node_laws.specs.Inside.System.{System as Lived, Call, AreExact, KeepsDurable, view}
 use Rattle.node_laws.specs.Inside.System as called
 use Rattle.node_laws.proofs.Chains.{Chain, chain-append, revived-limits}
-use Rattle.node_laws.proofs.Stages.{GoesOn, passes-on}
-use Rattle.node_laws.proofs.Calls.{Is, IsHere, answered, handed-is, taken-is, ticks-is, works-is, froze-is, paused-is, stored-is, saved-is}
+use Rattle.node_laws.proofs.Stages.{Waits, GoesOn, passes-on, passed}
+use Rattle.node_laws.proofs.Calls.{Is, IsHere, answered, handed-is, taken-is, ticks-is, works-is, froze-is, paused-is, stored-is, saved-is, taken-waits, froze-waits, thawed-waits}
 use Rattle.node_laws.proofs.Wakings.{still-seen, wakes-up}
 use Rattle.node_laws.proofs.Moments.{not-collecting}
 use Rattle.node_laws.proofs.Durability.{IsFor, giving}
@@ -73,22 +73,22 @@ module _ (images : ℕ → AnyImage) (states : ℕ → List ℕ) (n : ℕ) (s : 
   took : (p : ℕ) (x : NodePacket) (old new : TheProcess) (w : Checkpoint) → IsFirst n p → s.processes p ≡ Runs old w → Stays (Takes (Some x)) old new → Steps images n s (record s { processes = put s.processes p (Runs new w); given = x ∷ s.given }) (Unit {0}) free (λ q. if p == q then x ∷ [] else [])
   took p x old new w l e g =
       let good = good-of p (Runs old w) l e in
-      let a1 : Is (Gives x) w old.lifecycle new.lifecycle = taken-is x w old.lifecycle new.lifecycle good.1.0 good.1.1 g.does in
+      let a1 : Is (Gives x) w old.lifecycle new.lifecycle = taken-is x w old.lifecycle new.lifecycle good.1.0 good.1.1.0 g.does in
       let to : Process = seen w new.lifecycle in
       let does : Gives x (as_process (s.processes p)) to = subst (λ z. Gives x (as_process z) to) (sym e) a1.1.1 in
       let own : x.from ≡ p = (giving f states n p false false (λ q. false) (sent_to (handlers_of f states) H p) l.1 (H p) x (as_process (s.processes p)) to does (a.each p l).holds).0.0 in
-      by-call images n s goods (record s { given = x ∷ s.given }) (Unit {0}) free p l (Runs new w) (ap as_image g.image ∙ good.0, (a1.0, a1.1.0)) (λ q. if p == q then x ∷ [] else [])
+      by-call images n s goods (record s { given = x ∷ s.given }) (Unit {0}) free p l (Runs new w) (ap as_image g.image ∙ good.0, (a1.0, (a1.1.0, taken-waits x old.lifecycle new.lifecycle g.does good.1.1.1))) (λ q. if p == q then x ∷ [] else [])
       (λ q. by-if (Each (λ (y : NodePacket). y.from ≡ q)) (p == q) (x ∷ []) [] (λ d. let same : p ≡ q = grind (arith, nat_tests) in (own ∙ same, tt)) (λ d. tt))
       (called.Gave p x to) to [] (l, does) refl (λ z. tt) (λ q z. tt) refl (λ from c. let it = subst (λ z. Gives x z to) c does in inl (it.0, it.1.0))
 
   heard : (p : ℕ) (x : NodePacket) (old new : TheProcess) (w : Checkpoint) → IsFirst n p → IsOne x s.given → s.processes p ≡ Runs old w → process.Calls (IsHanded x) old new → Steps images n s (put_at p (Runs new w)) (Unit {0}) free none
   heard p x old new w l one e g =
       let good = good-of p (Runs old w) l e in
-      let a1 : Is (Hears x) w old.lifecycle g.mid = handed-is x w old.lifecycle g.mid good.1.0 good.1.1 g.does in
+      let a1 : Is (Hears x) w old.lifecycle g.mid = handed-is x w old.lifecycle g.mid good.1.0 good.1.1.0 good.1.1.1 g.does in
       let c : GoesOn w g.mid new.lifecycle = passes-on w g.mid new.lifecycle a1.0 a1.1.0 g.passes in
       let to : Process = seen w g.mid in
       let does : Hears x (as_process (s.processes p)) to = subst (λ z. Hears x (as_process z) to) (sym e) a1.1.1 in
-      by-call images n s goods s (Unit {0}) free p l (Runs new w) (ap as_image g.image ∙ good.0, (c.0, c.1.0)) none (λ q. tt) (called.Handed p x to) to c.1.1.0 (l, (one, does)) refl (λ z. tt) (λ q z. tt) c.1.1.1
+      by-call images n s goods s (Unit {0}) free p l (Runs new w) (ap as_image g.image ∙ good.0, (c.0, (c.1.0, passed g.mid new.lifecycle g.passes))) none (λ q. tt) (called.Handed p x to) to c.1.1.0 (l, (one, does)) refl (λ z. tt) (λ q z. tt) c.1.1.1
       (λ from at. let it = subst (λ z. Hears x z to) at does in inl (it.0, it.1.0))
 
   -- ---- its handler, and what is sent again
@@ -98,61 +98,61 @@ module _ (images : ℕ → AnyImage) (states : ℕ → List ℕ) (n : ℕ) (s : 
       let good = good-of p (Runs old w) l e in
       let am : IsHere n p (seen w old.lifecycle) = subst (λ z. IsHere n p (as_process z)) e (here-of f states n p l H (as_process (s.processes p)) (a.each p l).holds) in
       let answer : Answer = answered g.who g.answer in
-      let a1 : Is (Works f p answer) w old.lifecycle g.mid = works-is images old.image n p w old.lifecycle g.mid g.job g.who g.answer good.0 good.1.0 good.1.1 am g.next g.answers g.takes in
+      let a1 : Is (Works f p answer) w old.lifecycle g.mid = works-is images old.image n p w old.lifecycle g.mid g.job g.who g.answer good.0 good.1.0 good.1.1.0 am g.next g.answers g.takes in
       let c : GoesOn w g.mid new.lifecycle = passes-on w g.mid new.lifecycle a1.0 a1.1.0 g.passes in
       let to : Process = seen w g.mid in
       let does : Works f p answer (as_process (s.processes p)) to = subst (λ z. Works f p answer (as_process z) to) (sym e) a1.1.1 in
-      by-call images n s goods s (Unit {0}) free p l (Runs new w) (ap as_image g.image ∙ good.0, (c.0, c.1.0)) none (λ q. tt) (called.Worked p answer to) to c.1.1.0 (l, does) refl (λ z. tt) (λ q z. tt) c.1.1.1
+      by-call images n s goods s (Unit {0}) free p l (Runs new w) (ap as_image g.image ∙ good.0, (c.0, (c.1.0, passed g.mid new.lifecycle g.passes))) none (λ q. tt) (called.Worked p answer to) to c.1.1.0 (l, does) refl (λ z. tt) (λ q z. tt) c.1.1.1
       (λ from at. absurd (subst (λ z. Works f p answer z to) at does))
 
   ticks : (p : ℕ) (old new : TheProcess) (w : Checkpoint) → IsFirst n p → s.processes p ≡ Runs old w → process.Calls Ticks old new → Steps images n s (put_at p (Runs new w)) (Unit {0}) free none
   ticks p old new w l e g =
       let good = good-of p (Runs old w) l e in
-      let b : GoesOn w old.lifecycle g.mid = ticks-is w old.lifecycle g.mid good.1.0 good.1.1 g.does in
+      let b : GoesOn w old.lifecycle g.mid = ticks-is w old.lifecycle g.mid good.1.0 good.1.1.0 g.does in
       let c : GoesOn w g.mid new.lifecycle = passes-on w g.mid new.lifecycle b.0 b.1.0 g.passes in
-      acts p (Runs old w) (Runs new w) (b.1.1.0 ++ c.1.1.0) l e (ap as_image g.image ∙ good.0, (c.0, c.1.0)) (chain-append (seen w old.lifecycle) b.1.1.0 (seen w g.mid) c.1.1.0 (seen w new.lifecycle) b.1.1.1 c.1.1.1)
+      acts p (Runs old w) (Runs new w) (b.1.1.0 ++ c.1.1.0) l e (ap as_image g.image ∙ good.0, (c.0, (c.1.0, passed g.mid new.lifecycle g.passes))) (chain-append (seen w old.lifecycle) b.1.1.0 (seen w g.mid) c.1.1.0 (seen w new.lifecycle) b.1.1.1 c.1.1.1)
 
   -- ---- checkpoints
 
   freezes : (p : ℕ) (bytes : List ℕ) (old new : TheProcess) (w : Checkpoint) → IsFirst n p → s.processes p ≡ Runs old w → IsSavable old.lifecycle → Keeps old.lifecycle bytes → Stays Freezes old new → Steps images n s (put_at p (Runs new (Pending bytes))) (Unit {0}) free none
   freezes p bytes old new w l e may kept g =
       let good = good-of p (Runs old w) l e in
-      let b = froze-is bytes w old.lifecycle new.lifecycle good.1.1 may kept g.does in
-      acts p (Runs old w) (Runs new (Pending bytes)) b.1.1.0 l e (ap as_image g.image ∙ good.0, (b.0, b.1.0)) b.1.1.1
+      let b = froze-is bytes w old.lifecycle new.lifecycle good.1.1.0 may kept g.does in
+      acts p (Runs old w) (Runs new (Pending bytes)) b.1.1.0 l e (ap as_image g.image ∙ good.0, (b.0, (b.1.0, froze-waits old.lifecycle new.lifecycle g.does good.1.1.1))) b.1.1.1
 
   pauses : (p : ℕ) (old new : TheProcess) (w : Checkpoint) → IsFirst n p → s.processes p ≡ Runs old w → Stays Freezes old new → Steps images n s (put_at p (Runs new w)) (Unit {0}) free none
   pauses p old new w l e g =
       let good = good-of p (Runs old w) l e in
-      let b : GoesOn w old.lifecycle new.lifecycle = paused-is w old.lifecycle new.lifecycle good.1.0 good.1.1 g.does in
-      acts p (Runs old w) (Runs new w) b.1.1.0 l e (ap as_image g.image ∙ good.0, (b.0, b.1.0)) b.1.1.1
+      let b : GoesOn w old.lifecycle new.lifecycle = paused-is w old.lifecycle new.lifecycle good.1.0 good.1.1.0 g.does in
+      acts p (Runs old w) (Runs new w) b.1.1.0 l e (ap as_image g.image ∙ good.0, (b.0, (b.1.0, froze-waits old.lifecycle new.lifecycle g.does good.1.1.1))) b.1.1.1
 
   stores : (p : ℕ) (bytes : List ℕ) (old : TheProcess) → IsFirst n p → s.processes p ≡ Runs old (Pending bytes) → Steps images n s (record s { processes = put s.processes p (Runs old Durable); stored = put s.stored p bytes }) (Unit {0}) free none
   stores p bytes old l e =
       let good = good-of p (Runs old (Pending bytes)) l e in
       let to : Process = covered (as_process (s.processes p)) in
-      let waits : WaitsFor bytes (as_process (s.processes p)) = subst (λ z. WaitsFor bytes (as_process z)) (sym e) good.1.1 in
-      by-call images n s goods (record s { stored = put s.stored p bytes }) (Unit {0}) free p l (Runs old Durable) (good.0, (good.1.0, stored-is bytes old.lifecycle good.1.1)) none (λ q. tt) (called.Stored p bytes) to [] (l, waits) refl (λ z. tt) (λ q z. tt)
+      let waits : WaitsFor bytes (as_process (s.processes p)) = subst (λ z. WaitsFor bytes (as_process z)) (sym e) good.1.1.0 in
+      by-call images n s goods (record s { stored = put s.stored p bytes }) (Unit {0}) free p l (Runs old Durable) (good.0, (good.1.0, (stored-is bytes old.lifecycle good.1.1.0, good.1.1.1))) none (λ q. tt) (called.Stored p bytes) to [] (l, waits) refl (λ z. tt) (λ q z. tt)
       (ap (λ z. covered (as_process z)) (sym e)) (λ from at. absurd (subst (WaitsFor bytes) at waits))
 
   saves : (p : ℕ) (old new : TheProcess) → IsFirst n p → s.processes p ≡ Runs old Durable → Stays Thaws old new → Steps images n s (put_at p (Runs new Absent)) (Unit {0}) free none
   saves p old new l e g =
       let good = good-of p (Runs old Durable) l e in
-      let b = saved-is old.lifecycle new.lifecycle good.1.1 g.does in
+      let b = saved-is old.lifecycle new.lifecycle good.1.1.0 g.does in
       let to : Process = stage_of new.lifecycle in
       let does : IsTold (as_process (s.processes p)) to = subst (λ z. IsTold (as_process z) to) (sym e) b.1 in
-      by-call images n s goods s (Unit {0}) free p l (Runs new Absent) (ap as_image g.image ∙ good.0, (b.0, tt)) none (λ q. tt) (called.Saved p to) to [] (l, does) refl (λ z. tt) (λ q z. tt) refl (λ from at. absurd (subst (λ z. IsTold z to) at does))
+      by-call images n s goods s (Unit {0}) free p l (Runs new Absent) (ap as_image g.image ∙ good.0, (b.0, (tt, thawed-waits old.lifecycle new.lifecycle g.does good.1.1.1))) none (λ q. tt) (called.Saved p to) to [] (l, does) refl (λ z. tt) (λ q z. tt) refl (λ from at. absurd (subst (λ z. IsTold z to) at does))
 
   -- ---- it is suspended, and resumed
 
   suspends : (p : ℕ) (bytes : List ℕ) (old : TheProcess) (w : Checkpoint) → IsFirst n p → s.processes p ≡ Runs old w → Suspends old.lifecycle bytes → Steps images n s (put_at p (Sleeps old bytes)) (Unit {0}) free none
-  suspends p bytes old w l e g = acts p (Runs old w) (Sleeps old bytes) [] l e g (still-seen w old.lifecycle bytes (good-of p (Runs old w) l e).1.1 g)
+  suspends p bytes old w l e g = acts p (Runs old w) (Sleeps old bytes) [] l e g (still-seen w old.lifecycle bytes (good-of p (Runs old w) l e).1.1.0 g)
 
   resumes : (p : ℕ) (limits : Limits) (old new : TheProcess) (bytes : List ℕ) → IsFirst n p → s.processes p ≡ Sleeps old bytes → ResumesAs (images p) limits bytes new → StepsBy images n s (Resumed p limits new)
   resumes p limits old new bytes l e g =
       let r = g.1.1 in
       let to : Process = stages.Up r.node in
       let wakes : Wakes limits (as_process (s.processes p)) to = subst (λ z. Wakes limits (as_process z) to) (sym e) (wakes-up limits g.0 old.lifecycle bytes new (good-of p (Sleeps old bytes) l e) r) in
-      by-call images n s goods s (Unit {0}) (λ q. q ≡ p → limits.durable ≡ true) p l (Runs new Absent) (ap as_image r.image_is ∙ g.1.0, (ap is_settled r.lifecycle_is, tt)) none (λ q. tt) (called.Resumed p limits to) to [] (l, wakes) refl (λ z. tt) (λ q d. d)
+      by-call images n s goods s (Unit {0}) (λ q. q ≡ p → limits.durable ≡ true) p l (Runs new Absent) (ap as_image r.image_is ∙ g.1.0, (ap is_settled r.lifecycle_is, (tt, subst Waits (sym r.lifecycle_is) tt))) none (λ q. tt) (called.Resumed p limits to) to [] (l, wakes) refl (λ z. tt) (λ q d. d)
       (ap stage_of r.lifecycle_is) (λ from at. absurd (subst (λ z. Wakes limits z to) at wakes))
 
   -- ---- it is killed, and comes back
@@ -166,7 +166,7 @@ module _ (images : ℕ → AnyImage) (states : ℕ → List ℕ) (n : ℕ) (s : 
       let g = comes.1.1 in
       let n2 : TheCollecting = revived limits g.kept life in
       let dead : IsKilled (as_process (s.processes p)) = subst (λ z. IsKilled (as_process z)) (sym e) tt in
-      by-call images n s goods (record s { lives = put s.lives p life }) (Unit {0}) (λ q. q ≡ p → limits.durable ≡ true) p l (Runs new Absent) (ap as_image g.image_is ∙ comes.1.0, (ap is_settled g.lifecycle_is, tt)) none (λ q. tt) (called.Revived p life n2)
+      by-call images n s goods (record s { lives = put s.lives p life }) (Unit {0}) (λ q. q ≡ p → limits.durable ≡ true) p l (Runs new Absent) (ap as_image g.image_is ∙ comes.1.0, (ap is_settled g.lifecycle_is, (tt, subst Waits (sym g.lifecycle_is) tt))) none (λ q. tt) (called.Revived p life n2)
       (stages.Collects n2) [] (l, (dead, (above, (g.kept, (g.is_kept.bytes_are, ((limits, refl), g.revives)))))) refl (λ z. tt) (λ q d same. ap (λ (z : Limits). z.durable) (revived-limits limits g.kept life) ∙ d same) (ap stage_of g.lifecycle_is)
       (λ from at. absurd (subst IsKilled at dead))
 

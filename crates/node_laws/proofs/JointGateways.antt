@@ -1,11 +1,15 @@
 -- The gateway beside nodes
-use Rattle.std.proofs.Common.{◌≡◌, ℕ, ◌<◌, ◌≤◌, List, [], ◌∷◌, refl, sym, ◌∙◌, subst}
+use Rattle.std.proofs.Common.{◌≡◌, ℕ, ◌<◌, ◌≤◌, List, [], ◌∷◌, false, refl, sym, ◌∙◌, subst, arith}
+use Rattle.std.specs.Prelude.{◌==◌}
+use Rattle.std.proofs.lemmas.Bool.Decides.{nat_tests}
 use Rattle.std.specs.List.{AllByRecursion}
 use Rattle.cluster.specs.Parcels.{Delivery, Number, Ask, Resume, Saved, parcel}
 use Rattle.cluster.specs.Cluster.{Cluster}
-use Rattle.cluster.specs.Rules.{Act, Input, Puts, Arrives, after_run, IsNode}
+use Rattle.cluster.specs.Rules.{Act, Input, Puts, Arrives, IsNode}
+use Rattle.cluster.specs.Overlap.{Event, Acts, Lacks, Doubts, loss, cut, goes, after_events}
 use Rattle.packets.specs.declared.packet.NodePacket.{NodePacket}
-use Rattle.node.specs.Stands.{Each, actor}
+use Rattle.node.specs.Stands.{Each, actor, doer}
+use Rattle.node.proofs.Beside.{same-event}
 use Rattle.node.proofs.Outside.{SameOutside, outside-self, outside-still}
 use Rattle.gateway.specs.Acts.{IsByGateway}
 use Rattle.gateway.specs.Gateway.{TheGateway}
@@ -36,9 +40,20 @@ stands-same g c d e s =
     still : (x : NodePacket) → PutOut c.world.count c.parcels x → PutOut d.world.count d.parcels x
     still x o = record { count_is = o.count_is ∙ e.count; from = o.from; said = record { body = o.said.body; says = o.said.says; among = e.parcels (parcel 0 x.to o.said.body) o.said.among } }
 
--- it stands after the acts of a node
-pub gateway-stands : (g : TheGateway) (c : Cluster) (p : ℕ) (acts : List Act) → 0 < p → Each (λ (a : Act). actor a ≡ p) acts → Stands g c → Stands g (after_run c acts)
-gateway-stands g c p acts some by s = stands-same g c (after_run c acts) (outside-still c c p acts some by (outside-self c)) s
+-- it has the same after an event of a node
+outside-event : (c : Cluster) (p : ℕ) (e : Event) → 0 < p → doer e ≡ p → SameOutside c (goes c e)
+outside-event c p (Acts exact a) some by = outside-still c c p (a ∷ []) some (by, tt) (outside-self c)
+outside-event c p (Lacks q d i j k) some by = outside-still c c p (Arrives q d (loss i j k) ∷ []) some (by, tt) (outside-self c)
+outside-event c p (Doubts q d x) some by = outside-still c c p (Arrives q d (cut c d q x) ∷ []) some (by, tt) (outside-self c)
+outside-event c p e some by =
+    let apart : (0 == doer e) ≡ false = (let f : doer e ≡ p = by in grind (arith, nat_tests)) in
+    let s = same-event c e 0 apart in
+    record { count = s.count; handlers = s.handlers; stage = s.stage; greeted = s.greeted; phase = s.phase; life = s.life; history = s.history; trims = s.trims; numbers = s.numbers; heard = s.heard; resumed = s.resumed; inputs = λ k. refl; shown = refl; parcels = s.parcels }
+
+-- so it stands after the events of a node
+pub gateway-stands : (g : TheGateway) (c : Cluster) (p : ℕ) (es : List Event) → 0 < p → Each (λ (e : Event). doer e ≡ p) es → Stands g c → Stands g (after_events c es)
+gateway-stands g c p [] some by s = s
+gateway-stands g c p (e ∷ es) some by s = gateway-stands g (goes c e) p es some by.1 (stands-same g c (goes c e) (outside-event c p e some by.0) s)
 
 -- its acts are those of node 0
 by-gateway : (a : Act) → IsByGateway a → actor a ≡ 0

@@ -4,6 +4,9 @@ pub mod Steps
 pub mod HeldGateway
 pub mod Untaken
 pub mod Gateways
+pub mod Events
+pub mod Believed
+pub mod First
 pub mod Along
 pub mod Losses
 pub mod Sound
@@ -28,12 +31,14 @@ pub mod Durability
 pub mod Durable
 pub mod Preservation
 pub mod Lives
+pub mod Led
 pub mod Back
 pub mod Lone
 pub mod LoneCalls
 pub mod Alone
 pub mod HostSteps
 pub mod Promised
+pub mod HostEvents
 pub mod HostBack
 pub mod Turns
 pub mod Outputs

@@ -39,6 +39,7 @@ use Rattle.node_laws.proofs.Durable.{begins-now, after-of}
 use Rattle.node_laws.proofs.Preservation.{All, Ends, IsTrue, IsShown, AreShown, sent_to, true-more, shown-more, shows, up-knows}
 use Rattle.node_laws.proofs.Preservation as durables
 use Rattle.node_laws.proofs.HeldGateway.{OfGateway}
+use Rattle.node_laws.proofs.Stages.{Waits}
 use Rattle.node_laws.proofs.Views.{AreGood, exact-here, is-up}
 use Rattle.node_laws.proofs.HostStep.{StepsBy}
 use Rattle.node_laws.proofs.HostSteps.{steps}
@@ -169,13 +170,13 @@ opened-all h D lasting =
 pub made : (h : Hosting) (calls : List HostCall) → Makes h calls → Trace h.images h.states h.n (start h) calls
 made h calls g =
     trace h.images h.states h.n (start h) calls (record {
-      good = λ p l. (ap as_image (h.opens.opened p l).image_is, (ap is_settled (h.opens.opened p l).lifecycle_is, tt));
+      good = λ p l. (ap as_image (h.opens.opened p l).image_is, (ap is_settled (h.opens.opened p l).lifecycle_is, (tt, subst Waits (sym (h.opens.opened p l).lifecycle_is) tt)));
       messages = λ p. [];
       all = opened-all h (λ q. false) (λ p e. absurd (cc (e)));
     }) g
 
 pub reached : (h : Hosting) → h.n ≤ 15 → Reached (handlers h) h.n (view (start h)) []
-reached h few = record { run = tt; holds = begins h few }
+reached h few = record { few = few; run = tt; holds = begins h (λ _. false) (λ p e. absurd (cc (e))) }
 
 -- ---- while failures come one at a time
 

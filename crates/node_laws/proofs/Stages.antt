@@ -1,8 +1,8 @@
 -- A process passes from stage to stage
-use Rattle.std.proofs.Common.{◌≡◌, inl, inr, List, [], ◌∷◌, ◌++◌, true, refl, sym, ap, ◌∙◌, subst}
+use Rattle.std.proofs.Common.{◌≡◌, inl, inr, List, [], ◌∷◌, ◌++◌, true, false, refl, sym, ap, ◌∙◌, subst}
 use Rattle.node.specs.Node.{TheNode}
 use Rattle.node.specs.Transmission.{ticked}
-use Rattle.recovery.specs.Restoration.{up}
+use Rattle.recovery.specs.Restoration.{up, is_up}
 use Rattle.recovery.specs.declared.lifecycle.Lifecycle.{Lifecycle}
 use Rattle.recovery.specs.declared.lifecycle.Lifecycle.TheVariants.{Up, Collecting, Replaying, Replayed, Restoring, Passing}
 use Rattle.process.specs.Process.{is_settled}
@@ -66,6 +66,23 @@ passes-up n d g =
     let two : g.ran ≡ Up n = subst (λ z. Finishes z g.ran) one g.finishes in
     let three : g.asks ≡ Up n = subst (λ z. Begun z g.asks) two g.begins in
     subst (λ z. Returns z d) three g.returns
+
+-- between two calls one that restores its RSNs still waits for an answer
+abbrev pub Waits : Lifecycle → Type 0
+Waits (Restoring n) = is_up n ≡ false
+Waits c = Unit {0}
+
+returned : (c d : Lifecycle) → Returns c d → Waits d
+returned (Restoring n) (Up m) g = tt
+returned (Restoring n) d g = subst Waits (sym g.1) g.0
+returned (Up n) d g = subst Waits (sym g) tt
+returned (Collecting n) d g = subst Waits (sym g) tt
+returned (Replaying n) d g = subst Waits (sym g) tt
+returned (Replayed n) d g = subst Waits (sym g) tt
+returned Passing d g = subst Waits (sym g) tt
+
+pub passed : (c d : Lifecycle) → Passes c d → Waits d
+passed c d g = returned g.asks d g.returns
 
 -- ---- with its checkpoint
 

@@ -22,11 +22,11 @@ use Rattle.node_laws.specs.HostLaws as laws
 use Rattle.node_laws.specs.Inside.System as called
 use Rattle.node_laws.specs.Inside.System.{view}
 use Rattle.node_laws.specs.Inside.Process.{covered, stage_of, seen, as_process}
-use Rattle.node_laws.proofs.Stages.{Fits, unsettled}
+use Rattle.node_laws.proofs.Stages.{Fits, Waits, unsettled}
 
--- it has such an image, is in some stage, and waits for what is pending; or it was suspended as its bytes say
+-- it has such an image, is in some stage, and waits for what is pending, or for an answer; or it was suspended as its bytes say
 abbrev pub IsGood : AnyImage → Hosted → Type 0
-IsGood image (Runs old w) = (as_image old.image ≡ as_image image) × ((is_settled old.lifecycle ≡ true) × Fits w old.lifecycle)
+IsGood image (Runs old w) = (as_image old.image ≡ as_image image) × ((is_settled old.lifecycle ≡ true) × (Fits w old.lifecycle × Waits old.lifecycle))
 IsGood image (Sleeps old bytes) = Suspends old.lifecycle bytes
 IsGood image Killed = Unit {0}
 
@@ -87,7 +87,7 @@ asleep-settled (Up n) bytes s = refl
 asleep-settled other bytes s = absurd s
 
 pub agrees : (k : Kept) (image : AnyImage) (h : Hosted) (d : Cluster) (p : ℕ) → IsGood image h → lives.StandsAs (as_process h) d p → lives.IsStoredOf k (as_process h) d p → StandsAs h d p × IsStoredOf k h d p
-agrees k image (Runs process Durable) d p good g h = when-durable k process.lifecycle d p good.1.1 g h
+agrees k image (Runs process Durable) d p good g h = when-durable k process.lifecycle d p good.1.1.0 g h
 agrees k image (Runs process w) d p good g h = in-stage k process.lifecycle d p good.1.0 g h
 agrees k image (Sleeps process bytes) d p good g h = in-stage k process.lifecycle d p (asleep-settled process.lifecycle bytes good) g h
 agrees k image Killed d p good g h = (g, h)

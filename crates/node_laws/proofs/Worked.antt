@@ -50,8 +50,7 @@ use Rattle.node_laws.specs.HostSystem.{System, Opens, HostCall, Died, RevivesAs,
 use Rattle.node_laws.specs.HostLaws.{FailsAlone, OneAtATime}
 use Rattle.node_laws.specs.WorkedMessages.{gave, quiet, collects, restores, input, delivery, number, acknowledgement, covers, ask, told, resume, restored, g1, g2, g3, g4, g5, g6, g7, g8, n0, n1, n2, n3, n4, n5, n6, n7, n8, n9, n10, comes, has_all, job, replays, replays_more, replayed, begins, has_answer}
 use Rattle.node_laws.specs.Worked.{copies, IsCopying, process, before, behind, opened, IsWorked, HostsCanCall}
-use Rattle.node_laws.proofs.Lives.{usual-allowed}
-use Rattle.node_laws.proofs.WorkedMessages.{fits, suspended-5, gives-none, recovers, is-restoring, first-of, first, early, within-n0, within-n1, within-q2, within-n4, within-q5, within-n6, within-q7, within-n8, within-q9, gives-nothing}
+use Rattle.node_laws.proofs.WorkedMessages.{usual-allowed, fits, suspended-5, gives-none, recovers, is-restoring, first-of, first, early, within-n0, within-n1, within-q2, within-n4, within-q5, within-n6, within-q7, within-n8, within-q9, gives-nothing}
 use Rattle.node_laws.proofs.Promised.{hosted-alone}
 use Rattle.node_laws.proofs.CopyingLemmas.{r0, r1, r2, copying-loads}
 use Rattle.rsn.specs.declared.receipts.TheConstants.{LIMIT}
@@ -123,7 +122,7 @@ revives-as image limits k bytes life kept comes long =
 pub opens-as : (image : AnyImage) (limits : Limits) (n p : ℕ) (initial bytes : List ℕ) → AreAllowed limits → IsFirst n p → n ≤ 15 → length initial ≡ state_of image → IsKept (kept_of (new_node usual p n initial)) bytes
     → IsOpened image limits p n initial (process image (Up (new_node limits p n initial))) × Keeps (Up (new_node limits p n initial)) bytes
 opens-as image limits n p initial bytes allowed l few long kept = (
-  record { long = long; image_is = refl; lifecycle_is = refl; stands = λ f b. stands-opened limits p n initial f l.0 l.1 b },
+  record { long = long; image_is = refl; lifecycle_is = refl; stands = stands-opened limits p n initial l.0 l.1 },
   (kept, kept-covers (new_node limits p n initial) (within-begun limits p n initial allowed l.0 l.1 few)),
 )
 

@@ -33,10 +33,9 @@ use Rattle.recovery.proofs.Preservation.{at-each}
 use Rattle.node_laws.specs.HostProcess.{IsFirst}
 use Rattle.node_laws.specs.WorkedMessages.{gave, quiet, collects, restores}
 use Rattle.node_laws.specs.WorkedBeside.{ask, told, resume, restored, asked, resumed, other_asked, other_resumed, comes, hears, has_all, begins, enters, has_answers, Open, MayOpen, HostsComeBackBeside}
-use Rattle.node_laws.proofs.WorkedMessages.{early}
+use Rattle.node_laws.proofs.WorkedMessages.{usual-allowed, early}
 use Rattle.node_laws.proofs.Worked.{hears-up, gives-up, revives-as, opens-as}
 use Rattle.node_laws.specs.Inside.Process.{Recovers}
-use Rattle.node_laws.proofs.Lives.{usual-allowed}
 
 abbrev replays : List ℕ → TheReplaying
 replays initial = record { own = (has_all initial).own; plan = []; done = 0 }

@@ -13,7 +13,7 @@ use Rattle.world.specs.Plan.{if_next}
 use Rattle.rsn.specs.Receipts.{Received}
 use Rattle.stores.specs.Store.{IsOf}
 use Rattle.node.specs.declared.job.OpenJob.{OpenJob}
-use Rattle.node.specs.Limit.{usual}
+use Rattle.node.specs.Limit.{usual, AreAllowed}
 use Rattle.node.specs.Queue.{TheQueue, no_queue}
 use Rattle.node.specs.Node.{TheNode, IsWithin, Within, IsPeer, OfPeer, HasSsn, MaySend, log_at}
 use Rattle.node.specs.Kept.{log_of, kept_of}
@@ -29,7 +29,10 @@ use Rattle.recovery.proofs.Preservation.{at-each}
 use Rattle.node_laws.specs.HostProcess.{IsFirst}
 use Rattle.node_laws.specs.Inside.Process.{Recovers}
 use Rattle.node_laws.specs.WorkedMessages.{quiet, restores, n0, n1, n2, n4, n5, n6, n7, n8, n9, has_all, job, replays, begins}
-use Rattle.node_laws.proofs.Lives.{usual-allowed}
+
+-- the usual limits are in their ranges
+pub usual-allowed : AreAllowed usual
+usual-allowed = record { page = (omega arith, omega arith); tick = omega arith; numbers = (omega arith, omega arith); receipts = (omega arith, omega arith) }
 
 -- ---- what the node keeps, which sends nothing
 

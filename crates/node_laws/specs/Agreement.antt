@@ -1,9 +1,10 @@
 -- How processes and the gateway agree with a cluster
-use Rattle.std.specs.Prelude.{◌≡◌, ℕ, ◌≤◌, List, true}
+use Rattle.std.specs.Prelude.{◌≡◌, ℕ, ◌≤◌, List, Bool, true}
 use Rattle.world.specs.History.{count_of}
 use Rattle.world.specs.Handlers.{Handlers}
-use Rattle.cluster.specs.Cluster.{Cluster, Dead, opening}
+use Rattle.cluster.specs.Cluster.{Cluster, Dead, opening, durable_opening}
 use Rattle.cluster.specs.Rules.{Act, Run, May, does, Keeps, IsNode, after_run}
+use Rattle.cluster.specs.Overlap.{Event, Events, after_events}
 use Rattle.cluster.specs.Promises.{NoOrphanNode, OutputOnce, ReceivedOnce}
 use Rattle.packets.specs.declared.kept.Kept.{Kept}
 use Rattle.packets.specs.Kept.{IsKept}
@@ -65,3 +66,9 @@ pub record IsRunOf (n : ℕ) (f : Handlers) (Agrees : Cluster → Type 0) : Type
   pub no_orphan : NoOrphanNode (after_run (opening n f) acts)
   pub output_once : OutputOnce (after_run (opening n f) acts)
   pub received_once : ReceivedOnce (after_run (opening n f) acts)
+
+-- a cluster of n, of which these are durable, comes by events from its opening to one that agrees
+pub record AreEventsOf (n : ℕ) (f : Handlers) (durable : ℕ → Bool) (Agrees : Cluster → Type 0) : Type 0 where
+  pub events : List Event
+  pub run : Events (durable_opening n f durable) events
+  pub stand : Agrees (after_events (durable_opening n f durable) events)

@@ -8,7 +8,7 @@ use Rattle.process.specs.Process.{TheProcess}
 use Rattle.node_laws.specs.HostProcess.{IsFirst, Checkpoint, Runs, Alive, is_exact, IsUp}
 use Rattle.node_laws.specs.HostSystem.{System, Hosting, start, after, Makes, handlers, HostCall, Gave, GaveBytes, Resumed, Died, Revived}
 use Rattle.node_laws.specs.HostSystem.{DidOut, RevivedOut, handed_out, after_call}
-use Rattle.node_laws.specs.Agreement.{AllStand, IsRunOf}
+use Rattle.node_laws.specs.Agreement.{AllStand, IsRunOf, AreEventsOf}
 use Rattle.node_laws.specs.Back.{HasBack}
 use Rattle.node_laws.specs.HostBack.{Collects, has_recovered, HasRecovered}
 use Rattle.node_laws.specs.Durable.{Stays, Lasts, Keep}
@@ -133,6 +133,11 @@ HostedRecoversAlone = (h : Hosting) (calls more : List HostCall) (k : HostCall) 
     → OneAtATime h.n (start h) (calls ++ k ∷ more) → RecoversIn h calls k more
 
 -- ---- whatever fails, all processes at once too, and whichever recoveries meet
+
+-- the calls are events of a cluster of which these processes are durable
+abbrev pub HostedEvents : Type 0
+HostedEvents = (h : Hosting) (calls : List HostCall) (durable : ℕ → Bool) → Makes h calls → AreDurable h durable calls
+    → AreEventsOf h.n (handlers h) durable (AllStand h.n (after h calls))
 
 -- what is stored of a process only grows, and when it is up, it has no less
 abbrev pub HostedStays : Type 0

@@ -1,6 +1,6 @@
 //! What holds of the calls that hosts make.
 
-ghost use Rattle.node_laws.specs.HostLaws.{HostedAgree, HostedAlone, HostedBack, HostedBackAlone, HostedInOrder, HostedKeep, HostedLast};
+ghost use Rattle.node_laws.specs.HostLaws.{HostedAgree, HostedAlone, HostedBack, HostedBackAlone, HostedEvents, HostedInOrder, HostedKeep, HostedLast};
 ghost use Rattle.node_laws.specs.HostLaws.{HostedRecovers, HostedRecoversAlone, HostedRun, HostedRunAlone, HostedStayOut, HostedStays, HostedWithoutGap};
 ghost use Rattle.node_laws.specs.Losses.{LossIsDropped};
 ghost use Rattle.node_laws.specs.Worked.{HostsCanCall};
@@ -50,6 +50,12 @@ pub fn hosted_recovers()
 /// So it recovers if processes fail one at a time.
 pub fn hosted_recovers_alone()
     ensures { HostedRecoversAlone }
+{}
+
+/// Whatever fails, and whichever recoveries meet, the calls are events of a cluster of which these
+/// processes are durable, and at their end all agree with it.
+pub fn hosted_events()
+    ensures { HostedEvents }
 {}
 
 /// Whatever fails, all processes at once too, and whichever recoveries meet: what is stored of a

@@ -6,7 +6,8 @@
 //! process keeps only its bytes: it resumes it at most once, and not if it revives it. Calls of hosts and
 //! of the gateway, in any order, with packets that come late, twice or never, are a run of a cluster as
 //! long as each process that is alive tells that it is exact ([`hosted_run`]); if one at a time fails, all
-//! tell that they are ([`hosted_alone`]). So its promises are promises of this code.
+//! tell that they are ([`hosted_alone`]). So its promises are promises of this code. Whatever fails, they
+//! are events of a cluster in which recoveries may meet ([`hosted_events`]).
 //!
 //! What comes back is the process that was lost ([`hosted_back`], [`hosted_recovers`]). Whatever fails,
 //! what is stored of a process only grows ([`hosted_stays`]), and nobody has anything of a durable one
@@ -18,8 +19,8 @@
 mod host_laws;
 
 pub use host_laws::{
-    hosted_agree, hosted_alone, hosted_back, hosted_back_alone, hosted_in_order, hosted_keep,
-    hosted_last, hosted_recovers, hosted_recovers_alone, hosted_run, hosted_run_alone,
+    hosted_agree, hosted_alone, hosted_back, hosted_back_alone, hosted_events, hosted_in_order,
+    hosted_keep, hosted_last, hosted_recovers, hosted_recovers_alone, hosted_run, hosted_run_alone,
     hosted_stay_out, hosted_stays, hosted_without_gap, hosts_can_call, hosts_come_back_beside,
     hosts_meet, loss_is_dropped,
 };

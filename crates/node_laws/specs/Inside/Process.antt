@@ -96,14 +96,15 @@ Gives x (Replayed n) new =
 Gives x (Restores n) new = Becomes Restores new (λ m. restoring.Takes (Some x) n m)
 Gives x Killed new = ⊥
 
--- it was handed this packet
+-- it was handed this packet. One that restores RSNs and has all its answers is up before the next call
 abbrev pub Hears : NodePacket → Process → Process → Type 0
 Hears x (Up n) new = Becomes Up new (λ m. (m ≡ handed x n) × nodes.IsHanded x n m)
 Hears x (Covered n) new = Becomes Covered new (λ m. m ≡ handed x n)
 Hears x (Collects n) new = Becomes Collects new (λ m. (m ≡ collects.handed x n) × collecting.IsHanded x n m)
-Hears x (Replays n) new = Becomes Replays new (λ m. (m ≡ record n { own = meeting.handed x n.own }) × replaying.Stays n m)
-Hears x (Replayed n) new = Becomes Replayed new (λ m. (m ≡ record n { own = meeting.handed x n.own }) × replayed.Stays n m)
-Hears x (Restores n) new = Becomes Restores new (λ m. (m ≡ restores.handed x n) × restoring.IsHanded x n m)
+Hears x (Replays n) new = Becomes Replays new (λ m. (m ≡ record n { own = meeting.handed x n.own }) × replaying.IsHanded x n m)
+Hears x (Replayed n) new = Becomes Replayed new (λ m. (m ≡ record n { own = meeting.handed x n.own }) × replayed.IsHanded x n m)
+Hears x (Restores n) new =
+    Becomes Restores new (λ m. (m ≡ restores.handed x n) × ((restores.is_up n ≡ false) × restoring.IsHanded x n m))
 Hears x Killed new = ⊥
 
 -- the answer is that of the handler, if there is a message to replay
