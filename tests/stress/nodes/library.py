@@ -8,7 +8,7 @@ from images import TOP
 
 MOST_ROOM = 1 << 20
 TOO_SHORT = 19
-BLANK = 0xA5
+BLANK = b"\xA5"
 BLANKS = {c_uint8: 0xA5, c_uint32: 0xA5A5A5A5, c_size_t: 0xA5A5A5A5A5A5A5A5, c_uint64: 0xA5A5A5A5A5A5A5A5}
 BYTES = [ctypes.c_char_p, c_size_t]
 OUT = [c_void_p, c_size_t, POINTER(c_size_t)]
@@ -71,10 +71,11 @@ class Buffer:
     """Bytes that a call may write, and how many it says there are."""
 
     memory = ctypes.create_string_buffer(MOST_ROOM + 64)
+    view = memoryview(memory).cast("B")
 
     def __init__(self, room):
         self.room, self.looked_at = room, room + 64
-        ctypes.memset(self.memory, BLANK, self.looked_at)
+        self.view[: self.looked_at] = BLANK * self.looked_at
         self.size = Cell(c_size_t)
 
     def arguments(self):
@@ -82,10 +83,9 @@ class Buffer:
 
     def written(self, code):
         """The size and the bytes; nothing else may have been written."""
-        size = self.size.value()
-        data = ctypes.string_at(self.memory, self.looked_at)
+        size, data = self.size.value(), self.memory[: self.looked_at]
         taken = size if code == 0 else 0
-        if data.count(BLANK, taken) != len(data) - taken:
+        if taken > self.room or data[taken:] != BLANK * (self.looked_at - taken):
             raise Wrong("bytes behind those that were asked for")
         return size, data[:taken] if code == 0 else None
 
@@ -155,7 +155,7 @@ class Node(Held):
         words = (c_uint64 * 10)()
         if self.on("standing", words) != 0:
             raise Wrong("no standing of an open node")
-        return list(words)
+        return words[:]
 
 
 class Gateway(Held):

@@ -15,7 +15,7 @@ class Difference(Exception):
 
 
 def spelled(value):
-    return value.hex() if isinstance(value, bytes) else str(value)
+    return value.hex() if isinstance(value, bytes) else " ".join(map(spelled, value)) if isinstance(value, tuple) else str(value)
 
 
 def answer_of(value):
@@ -25,7 +25,7 @@ def answer_of(value):
 def compare(call, found, wanted):
     if found != wanted:
         sides = "".join(f"\n  {side} {tuple(map(spelled, answer_of(of)))}" for side, of in (("library", found), ("model  ", wanted)))
-        raise Difference(f"{call}{sides}")
+        raise Difference(f"{spelled(call)}{sides}")
     return found
 
 
@@ -36,7 +36,7 @@ class Pair:
         self.name, self.of_library, self.of_model, self.trace, self.calls = name, of_library, of_model, trace, 0
 
     def make(self, call, *arguments):
-        words = f"{self.name} {call} {' '.join(map(spelled, arguments))}"
+        words = (self.name, call, *arguments)
         self.trace(words)
         self.calls += 1
         found = getattr(self.of_library, call)(*arguments)
@@ -62,15 +62,15 @@ class NodePair(Pair):
         found, wanted = self.of_library.standing(), self.of_model.standing()
         if found != wanted:
             names = [name for name, one, other in zip(WORDS_OF_STANDING, found, wanted) if one != other]
-            raise Difference(f"{words}\n  then {names}\n  library {found}\n  model   {wanted}")
-        compare(f"{words}, state", self.of_library.state(1024), self.of_model.state(1024))
+            raise Difference(f"{spelled(words)}\n  then {names}\n  library {found}\n  model   {wanted}")
+        compare((words, "then state"), self.of_library.state(1024), self.of_model.state(1024))
 
 
 class GatewayPair(Pair):
     def look(self, words):
         if self.calls % STORE_IS_COMPARED_EVERY == 0:
-            size = self.of_model.store(0)[1]
-            compare(f"{words}, store", self.of_library.store(size), self.of_model.store(size))
+            wanted = self.of_model.store(library.MOST_ROOM)
+            compare((words, "then store"), self.of_library.store(wanted[1]), wanted)
 
 
 class Pairs:
