@@ -22,6 +22,7 @@ pub mod Had
 pub mod Left
 pub mod RestorationPages
 pub mod RestorationInquiries
+pub mod RestorationAnswers
 pub mod RestorationReports
 pub mod Beginnings
 pub mod RestorationOthers

@@ -8,7 +8,6 @@ use Rattle.cluster.specs.Parcels.{Body, Parcel, In, parcel}
 use Rattle.cluster.specs.Cluster.{Cluster}
 use Rattle.cluster.specs.Rules.{Puts, does}
 use Rattle.packets.specs.declared.packet.Body as bodies
-use Rattle.packets.specs.declared.packet.Body.TheVariants as packets
 use Rattle.packets.specs.declared.packet.NodePacket.{NodePacket}
 use Rattle.packets.specs.Says.{Says}
 use Rattle.node.specs.Queue.{TheQueue}
