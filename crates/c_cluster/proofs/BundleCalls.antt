@@ -6,7 +6,7 @@ use Rattle.verifier.specs.declared.any_image.AnyImage.{AnyImage}
 use Rattle.packets.specs.declared.packet.NodePacket.{NodePacket}
 use Rattle.packets.specs.Format.{IsPacket}
 use Rattle.packets.proofs.WholeLemmas.{one_packet}
-use Rattle.node.specs.Runs.{IsOne}
+use Rattle.node.specs.Answering.{IsOne}
 use Rattle.process.specs.Process.{TheProcess}
 use Rattle.process.specs.Calls.{Calls, IsHanded}
 use Rattle.process.specs.Packets.{GivesBytes}

@@ -10,9 +10,9 @@ use Rattle.cluster.specs.Cluster.{Cluster}
 use Rattle.cluster.specs.Rules.{Act, Input, Puts, Arrives, Works, Replays, Recovers, Keeps, Opens, does, after_run, goes_on, taken_back}
 use Rattle.cluster.specs.Overlap.{Event, Acts, Meets, Loses, Lacks, Leaves, Doubts, loss, cut, goes}
 use Rattle.node.specs.Node.{TheNode}
-use Rattle.node.specs.Stands.{Each, Stands, Goes, PutOut, actor, doer}
+use Rattle.node.specs.Stands.{Each, Stands, PutOut, actor, doer}
 use Rattle.cluster.proofs.Settings.{does-count}
-use Rattle.node.specs.Beside.{OthersStand, AllStand, NodesRun}
+use Rattle.node.specs.Beside.{OthersStand}
 use Rattle.node.proofs.Lists.{all-more}
 use Rattle.node.proofs.Puts.{put-still}
 
@@ -103,13 +103,6 @@ stands-same n c d p e s =
       out = all-more (PutOut c.world.count c.parcels p) (PutOut d.world.count d.parcels p) n.out (λ o. put-still c d p o e.count (λ b i. e.parcels _ i)) s.out;
     }
 
--- a node stands after the acts of another
-pub stands-still : (n : TheNode) (p q : ℕ) (acts : List Act) (c : Cluster) → q ≢ p → Each (λ (a : Act). actor a ≡ q) acts → Stands n c p → Stands n (after_run c acts) p
-stands-still n p q [] c other by s = s
-stands-still n p q (a ∷ acts) c other by s =
-    let apart : (p == actor a) ≡ false = (let f : actor a ≡ q = by.0 in grind (arith, nat_tests)) in
-    stands-still n p q acts (does c a) other by.1 (stands-same n c (does c a) p (same c a p apart) s)
-
 -- and after the events of another
 pub stands-after : OthersStand
 stands-after n p q [] c other by s = s
@@ -120,16 +113,3 @@ stands-after n p q (e ∷ es) c other by s =
 pub count-after : (c : Cluster) (acts : List Act) → (after_run c acts).world.count ≡ c.world.count
 count-after c [] = refl
 count-after c (a ∷ acts) = count-after (does c a) acts ∙ does-count c a
-
--- where one node goes on, all stand
-pub all-stand : (nodes : ℕ → TheNode) (c : Cluster) (p : ℕ) (new : TheNode) → AllStand nodes c → (g : Goes p new c) → AllStand (put nodes p new) (after_run c g.acts)
-all-stand nodes c p new all g q some low = each (q == p) refl
-  where
-    each : (b : Bool) → (q == p) ≡ b → Stands (if b then new else nodes q) (after_run c g.acts) q
-    each true e = let same : p ≡ q = grind (arith, nat_tests) in subst (Stands new (after_run c g.acts)) same g.stands
-    each false e =
-        let apart : p ≢ q = grind (arith, nat_tests) in
-        stands-still (nodes q) q p g.acts c apart g.by (all q some (omega (arith, low, count-after c g.acts)))
-
-pub nodes-run : NodesRun
-nodes-run nodes c p new all g = record { acts = g.acts; run = g.run; stand = all-stand nodes c p new all g }

@@ -63,8 +63,3 @@ pub acts-run : (c : Cluster) (es : List Event) → Each IsAct es → Events c es
 acts-run c [] are r = (tt, refl)
 acts-run c (Acts exact a ∷ es) are r = let t = acts-run (does c a) es are.1 r.1 in ((r.0.0, t.0), t.1)
 acts-run c (event ∷ es) are r = absurd are.0
-
-pub acts-own : (p : ℕ) (es : List Event) → Each (λ (e : Event). own_event e ≡ Some p) es → Each (λ (a : Act). actor a ≡ p) (acts_of es)
-acts-own p [] by = tt
-acts-own p (Acts exact a ∷ es) by = (own-actor p a by.0, acts-own p es by.1)
-acts-own p (event ∷ es) by = acts-own p es by.1

@@ -15,7 +15,6 @@ pub mod Acknowledgements
 pub mod Drops
 pub mod Sendings
 pub mod Openings
-pub mod Opened
 pub mod PageLemmas
 pub mod Reports
 pub mod PairRanges
@@ -27,7 +26,7 @@ pub mod Freezes
 pub mod Counts
 pub mod Preservation
 pub mod Outside
-pub mod Runs
+pub mod Answering
 pub mod Releases
 pub mod Changes
 pub mod Handed

@@ -12,7 +12,6 @@ use Rattle.cluster.specs.Parcels.{Body, Delivery, Number, Acknowledgement, Ask, 
 use Rattle.cluster.specs.Cluster.{Cluster, Collected}
 use Rattle.cluster.specs.Rules.{Act, Input, Puts, Arrives, Replays, Recovers, May, MayPut, entry_of, does, after_run, goes_on, taken_back}
 use Rattle.node.specs.Stands.{Each, actor}
-use Rattle.node.specs.Runs.{IsGateway}
 use Rattle.node.proofs.Beside.{Same, same}
 
 -- the gateway of c has what that of g has, and all that was put out in g was put out in c
@@ -85,76 +84,3 @@ outside-still g c p [] some by e = e
 outside-still g c p (a ∷ acts) some by e =
     let other : (0 == actor a) ≡ false = (let f : actor a ≡ p = by.0 in grind (arith, nat_tests)) in
     outside-still g (does c a) p acts some by.1 (outside-act g c a other e)
-
-in-more : (x y : Parcel) (ps qs : List Parcel) → (In x ps → In x qs) → In x (y ∷ ps) → In x (y ∷ qs)
-in-more x y ps qs more (inl e) = inl e
-in-more x y ps qs more (inr i) = inr (more i)
-
-first-same : {X : Type 0} (f g : ℕ → Option X) (n : ℕ) → ((i : ℕ) → f i ≡ g i) → first_below f n ≡ first_below g n
-first-same f g zero e = refl
-first-same f g (suc n) e = rw (first-same f g n e, e n) refl
-
--- its log has the same entries
-entry-same : (g c : Cluster) → SameOutside g c → (d m : ℕ) → entry_of g 0 d m ≡ entry_of c 0 d m
-entry-same g c e d m =
-    let logged : (i : ℕ) → logged_as g.world d m 0 i ≡ logged_as c.world d m 0 i = λ i. rw (e.phase, e.trims d, e.inputs d, e.numbers d) refl in
-    first-same (logged_as g.world d m 0) (logged_as c.world d m 0) (suc (length (g.world.inputs d))) logged
-    ∙ ap (λ (xs : List Payload). first_below (logged_as c.world d m 0) (suc (length xs))) (e.inputs d)
-
--- what the gateway may put out by what it sees, it may
-may-put : (g c : Cluster) → SameOutside g c → (d : ℕ) (x : Body) → IsGateway (Puts 0 d x) → MayPut g 0 d x → MayPut c 0 d x
-may-put g c e d (Delivery i ssn y) o m = rw (sym e.stage, sym e.greeted, sym e.phase, sym e.life, sym (e.inputs d), sym (e.trims d)) m
-may-put g c e d (Number i ssn k) o m = rw (sym e.stage, sym e.greeted, sym e.phase, sym e.life, sym e.history) m
-may-put g c e d (Acknowledgement i k) o m = m
-may-put g c e d (Told i j k u f) o m = (rw (sym e.stage, sym e.greeted, sym e.phase) m.0, m.1 ∙ e.heard d, m.2 ∙ e.life, m.3, λ w l r. m.4 w l r ∙ entry-same g c e d w)
-may-put g c e d (Restored i j n s u f) o m = rw (sym e.stage, sym e.greeted, sym e.phase, sym e.life, sym (e.heard d), sym (e.resumed d), sym e.shown, sym e.history) m
-may-put g c e d (Saved n) o m = rw (sym e.stage, sym e.greeted, sym e.phase, sym e.shown) m
-may-put g c e d other o m = absurd o
-
--- so it may do what it may by what it sees
-pub may-too : (g c : Cluster) → SameOutside g c → (a : Act) → IsGateway a → May g a → May c a
-may-too g c e (Input d x) o m = rw (sym e.count) m
-may-too g c e (Puts zero d x) o m = (rw (sym e.count) m.0, rw (sym e.count) m.1, m.2, may-put g c e d x o m.3)
-may-too g c e (Arrives p zero (Delivery i ssn x)) o m = (e.parcels _ m.0, (m.1.0 ∙ e.heard p, rw (sym e.shown) m.1.1))
-may-too g c e (Arrives p zero (Number i ssn k)) o m = (e.parcels _ m.0, (rw (sym e.stage, sym e.greeted, sym e.phase) m.1.0, m.1.1 ∙ e.heard p, rw (sym e.phase, sym (e.trims p), sym (e.inputs p)) m.1.2))
-may-too g c e (Arrives p zero (Ask i k)) o m = (e.parcels _ m.0, (rw (sym (e.heard p)) m.1.0, rw (sym e.stage, sym e.greeted, sym e.phase) m.1.1))
-may-too g c e (Arrives p zero (Resume i k s)) o m = (e.parcels _ m.0, (rw (sym e.stage, sym e.greeted, sym e.phase) m.1.0, m.1.1 ∙ e.heard p, rw (sym (e.resumed p)) m.1.2, rw (sym e.phase) m.1.3))
-may-too g c e (Arrives p zero (Saved n)) o m = (e.parcels _ m.0, rw (sym e.stage, sym e.greeted, sym e.phase) m.1)
-may-too g c e act o m = absurd o
-
--- gateways that have the same have the same still when these fields change alike in both
-outside-with : (g c : Cluster) {trims_g trims_c : ℕ → ℕ → ℕ} {numbers_g numbers_c : ℕ → ℕ → ℕ → Option ℕ} {heard_g heard_c : ℕ → ℕ → ℕ} {resumed_g resumed_c : ℕ → ℕ → Bool} {told_g told_c : ℕ → ℕ → Option Collected}
-    {inputs_g inputs_c : ℕ → List Payload} {shown_g shown_c : List Message} {parcels_g parcels_c : List Parcel} → SameOutside g c
-    → ((k : ℕ) → trims_g 0 k ≡ trims_c 0 k) → ((k : ℕ) → numbers_g 0 k ≡ numbers_c 0 k) → ((k : ℕ) → heard_g 0 k ≡ heard_c 0 k) → ((k : ℕ) → resumed_g 0 k ≡ resumed_c 0 k)
-    → ((k : ℕ) → inputs_g k ≡ inputs_c k) → shown_g ≡ shown_c → ((x : Parcel) → In x parcels_g → In x parcels_c)
-    → SameOutside (record g { heard = heard_g; resumed = resumed_g; told = told_g; parcels = parcels_g; world = record g.world { trims = trims_g; numbers = numbers_g; inputs = inputs_g; shown = shown_g } })
-    (record c { heard = heard_c; resumed = resumed_c; told = told_c; parcels = parcels_c; world = record c.world { trims = trims_c; numbers = numbers_c; inputs = inputs_c; shown = shown_c } })
-outside-with g c e trims numbers heard resumed inputs shown parcels =
-    record {
-      count = e.count;
-      handlers = e.handlers;
-      stage = e.stage;
-      greeted = e.greeted;
-      phase = e.phase;
-      life = e.life;
-      history = e.history;
-      trims = trims;
-      numbers = numbers;
-      heard = heard;
-      resumed = resumed;
-      inputs = inputs;
-      shown = shown;
-      parcels = parcels;
-    }
-
--- and has the same then
-pub outside-too : (g c : Cluster) → SameOutside g c → (a : Act) → IsGateway a → SameOutside (does g a) (does c a)
-outside-too g c e (Input d x) o = outside-with g c e e.trims e.numbers e.heard e.resumed (λ k. rw (e.inputs d, e.inputs k) refl) e.shown e.parcels
-outside-too g c e (Puts zero d x) o = outside-with g c e e.trims e.numbers e.heard e.resumed e.inputs e.shown (λ y i. in-more y (parcel 0 d x) g.parcels c.parcels (e.parcels y) i)
-outside-too g c e (Arrives p zero (Delivery i ssn x)) o = outside-with g c e e.trims e.numbers e.heard e.resumed e.inputs (rw e.shown refl) e.parcels
-outside-too g c e (Arrives r zero (Number i ssn k)) o =
-    outside-with g c e e.trims (λ z. rw (e.numbers r, e.numbers z) refl) e.heard e.resumed e.inputs e.shown (λ y z. in-more y (parcel 0 r (Acknowledgement i k)) g.parcels c.parcels (e.parcels y) z)
-outside-too g c e (Arrives d zero (Saved n)) o = outside-with g c e (λ k. rw (e.trims d, e.inputs d, e.trims k) refl) e.numbers e.heard e.resumed e.inputs e.shown e.parcels
-outside-too g c e (Arrives p zero (Ask i k)) o = outside-with g c e e.trims e.numbers (λ z. rw (e.heard z) refl) (λ z. rw (e.resumed z) refl) e.inputs e.shown e.parcels
-outside-too g c e (Arrives p zero (Resume i k s)) o = outside-with g c e e.trims (λ z. rw (e.numbers p, e.numbers z) refl) e.heard (λ z. rw (e.resumed z) refl) e.inputs e.shown e.parcels
-outside-too g c e act o = absurd o

@@ -3,10 +3,9 @@ use Rattle.std.proofs.Common.{◌≡◌, refl, sym, subst, List, [], ◌∷◌, 
 use Rattle.std.specs.Prelude.{if◌then◌else◌}
 use Rattle.cluster.specs.Cluster.{Cluster}
 use Rattle.cluster.specs.Rules.{Act, Keeps, May, does, Run, after_run}
-use Rattle.cluster.specs.Exact.{acts_of}
 use Rattle.node.specs.Node.{TheNode}
-use Rattle.node.specs.Stands.{Stands, Goes, GoesOn, Owes, Acts, Saves}
-use Rattle.node.proofs.Goes.{goes-then, acts-run, acts-own}
+use Rattle.node.specs.Stands.{Stands, GoesOn, Owes, Acts, Saves}
+use Rattle.node.proofs.Goes.{goes-then}
 use Rattle.node.proofs.Puts.{stays}
 
 -- a run goes on
@@ -20,28 +19,11 @@ owes-at given old new c p owed s g =
     let me : old.me ≡ p = s.me in
     subst (λ k. GoesOn k new c) me (owed c (subst (Stands old c) (sym me) s) g)
 
--- it goes on by acts
-pub on-goes : (p : ℕ) (new : TheNode) (c : Cluster) → GoesOn p new c → Goes p new c
-on-goes p new c g =
-    let r = acts-run c g.events (g.acts refl) g.run in
-    record { acts = acts_of g.events; run = r.0; by = acts-own p g.events g.by; stands = subst (λ d. Stands new d p) (sym r.1) g.stands }
-
 -- what it owes by its number that is told that its checkpoint is durable, and waits for that
 pub saves-at : (old new : TheNode) (c : Cluster) (p : ℕ) → Saves old new → old.frozen ≡ true → Stands old c p → May c (Keeps p) × GoesOn p new (does c (Keeps p))
 saves-at old new c p owed e s =
     let P : ℕ → Type 0 = λ q. May c (Keeps q) × GoesOn q new (does c (Keeps q)) in
     subst P s.me (owed.1 e c (subst (Stands old c) (sym s.me) s))
-
--- so it goes by acts of its own
-pub saves-goes : (old new : TheNode) (c : Cluster) (p : ℕ) → Saves old new → Stands old c p → Goes p new c
-saves-goes old new c p owed s = by_wait old.frozen refl
-  where
-    by_wait : (b : Bool) → old.frozen ≡ b → Goes p new c
-    by_wait false e = record { acts = []; run = tt; by = tt; stands = subst (λ n. Stands n c p) (sym (owed.0 e)) s }
-    by_wait true e =
-        let k = saves-at old new c p owed e s in
-        let g = on-goes p new (does c (Keeps p)) k.1 in
-        record { acts = Keeps p ∷ g.acts; run = (k.0, g.run); by = (refl, g.by); stands = g.stands }
 
 pub owes-then : (given : Cluster → Type 0) (old mid new : TheNode) → Owes given old mid → Acts mid new → Owes given old new
 owes-then given old mid new f g c s h = goes-then true old.me (λ d. Stands mid d old.me) (λ d. Stands new d old.me) c (f c s h) (λ d t. owes-at (λ e. Unit {0}) mid new d old.me g t tt)

@@ -11,7 +11,7 @@ pub mod Stands
 pub mod Kept
 pub mod Suspension
 pub mod Beside
-pub mod Runs
+pub mod Answering
 pub mod Status
 pub mod Bytes
 pub mod Reentry

@@ -10,7 +10,7 @@ use Rattle.world.specs.World.{put}
 use Rattle.world.specs.Logs.{run_to}
 use Rattle.cluster.specs.Parcels.{Body, Parcel, parcel, In}
 use Rattle.cluster.specs.Cluster.{Cluster, Stage, Live, Frozen, durable_opening, waiting}
-use Rattle.cluster.specs.Rules.{Act, Keeps, May, does, Run, after_run, IsNode, message}
+use Rattle.cluster.specs.Rules.{Keeps, May, does, IsNode, message}
 use Rattle.packets.specs.declared.packet.NodePacket.{NodePacket}
 use Rattle.node.specs.declared.job.OpenJob.{OpenJob}
 use Rattle.node.specs.declared.job.Given.{Given}
@@ -122,13 +122,6 @@ pub record Stands (n : TheNode) (c : Cluster) (p : ℕ) : Type 0 where
   pub resumed : (q : ℕ) → q ≤ c.world.count → c.resumed p q ≡ slice_index_or n.resumed q true
   -- the packets that wait were sent in the cluster
   pub out : Each (PutOut c.world.count c.parcels p) n.out
-
--- acts of the process p lead from the cluster c to one with which the new node agrees
-pub record Goes (p : ℕ) (new : TheNode) (c : Cluster) : Type 0 where
-  pub acts : List Act
-  pub run : Run c acts
-  pub by : Each (λ (a : Act). actor a ≡ p) acts
-  pub stands : Stands new (after_run c acts) p
 
 -- the process goes to a cluster with which the new node agrees, by acts alone: a node that is up meets no recovery
 abbrev pub GoesOn : ℕ → TheNode → Cluster → Type 0

@@ -9,8 +9,8 @@
 //!
 //! Each call is zero or more acts of the node's process that the rules of crate `cluster` allow,
 //! and the node then holds what the cluster has of that process. The acts of one node change
-//! nothing of another. So calls of nodes, in any order and with packets that come late, twice or
-//! never, are a run of a cluster, of which the promises of `cluster` hold.
+//! nothing of another ([`others_stand`]). So calls of hosts, in any order and with packets that come
+//! late, twice or never, are events of a cluster, which crate `node_laws` proves.
 //!
 //! A node keeps the [`Limits`] with which it is opened. A durable node sends only what its durable
 //! checkpoint covers: [`Node::saved`] releases it, and acknowledgements don't.
@@ -51,7 +51,7 @@ mod transmission;
 pub use commit::log;
 pub use job::{Given, OpenJob};
 pub use kept::MOST_KEPT;
-pub use laws::{calls_run, kept_stays, nodes_run, others_stand, woken_stands};
+pub use laws::{kept_stays, others_stand, woken_stands};
 pub use limit::{Limits, PAGE, TICK};
 pub use node::{MOST_GIVEN, MOST_RECEIVED, Node, WINDOW};
 pub use page::{PAIR_BYTES, RESTORED_BYTES};

@@ -16,8 +16,8 @@ use Rattle.packets.proofs.KeptLemmas.{one_kept}
 use Rattle.packets.specs.Says.{WasSaid}
 use Rattle.node.specs.declared.limit.Limits.{Limits}
 use Rattle.node.specs.Kept.{IsKeptOf}
-use Rattle.node.specs.Runs.{Answering, handlers_of, IsOne}
-use Rattle.node.proofs.Runs.{grows, one-was}
+use Rattle.node.specs.Answering.{Answering, handlers_of, IsOne}
+use Rattle.node.proofs.Answering.{grows, one-was}
 use Rattle.recovery.specs.Overlap.{is_loss}
 use Rattle.recovery.specs.Intake.{sent_to}
 use Rattle.recovery.specs.Collection.{TheCollecting, begins, revived}

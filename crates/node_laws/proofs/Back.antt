@@ -18,9 +18,9 @@ use Rattle.rsn.proofs.ReceiptLemmas.{run_of-bound}
 use Rattle.node.specs.Node.{TheNode}
 use Rattle.node.specs.Transmission.{run_at}
 use Rattle.node.specs.Stands.{Each, Stands}
-use Rattle.node.specs.Runs.{Answering, handlers_of}
+use Rattle.node.specs.Answering.{Answering, handlers_of}
 use Rattle.node.proofs.Commits.{long}
-use Rattle.node.proofs.Runs.{grows}
+use Rattle.node.proofs.Answering.{grows}
 use Rattle.node.proofs.Steps.{run-on}
 use Rattle.node.proofs.Goes.{acts-run}
 use Rattle.recovery.specs.Collection.{TheCollecting}

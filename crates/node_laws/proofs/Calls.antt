@@ -13,7 +13,7 @@ use Rattle.node.specs.Node.{TheNode}
 use Rattle.node.specs.Calls.{handed}
 use Rattle.node.specs.Checkpoints.{froze, may_freeze}
 use Rattle.node.specs.Stands.{job_of}
-use Rattle.node.specs.Runs.{Answer}
+use Rattle.node.specs.Answering.{Answer}
 use Rattle.recovery.specs.Replayed.{TheReplayed}
 use Rattle.recovery.specs.Collection.{TheCollecting}
 use Rattle.recovery.specs.Replays.{next_job}

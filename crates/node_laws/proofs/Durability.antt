@@ -21,8 +21,8 @@ use Rattle.node.specs.Checkpoints.{froze}
 use Rattle.node.specs.Suspension.{woken}
 use Rattle.node.specs.Kept.{kept_of, with_own}
 use Rattle.node.specs.Stands.{Each, job_of, payloads_to}
-use Rattle.node.specs.Runs.{Answer, Answering, handlers_of, state_from, sends_from}
-use Rattle.node.proofs.Runs.{grows, state-more, sends-more}
+use Rattle.node.specs.Answering.{Answer, Answering, handlers_of, state_from, sends_from}
+use Rattle.node.proofs.Answering.{grows, state-more, sends-more}
 use Rattle.recovery.specs.Own.{TheOwn}
 use Rattle.recovery.specs.Overlap as meeting
 use Rattle.recovery.specs.Collection.{TheCollecting, begins, revived}

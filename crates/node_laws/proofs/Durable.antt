@@ -12,7 +12,7 @@ use Rattle.node.specs.Limit.{usual}
 use Rattle.node.specs.Queue.{TheQueue, no_queue}
 use Rattle.node.specs.Node.{TheNode, new_node}
 use Rattle.node.specs.Kept.{kept_of}
-use Rattle.node.specs.Runs.{Answering, handlers_of}
+use Rattle.node.specs.Answering.{Answering, handlers_of}
 use Rattle.gateway.proofs.Steps.{by-if}
 use Rattle.node_laws.proofs.Sound.{same-at}
 use Rattle.node_laws.specs.HostProcess.{IsFirst}

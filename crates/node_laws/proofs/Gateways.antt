@@ -8,7 +8,7 @@ use Rattle.stores.specs.Store.{TheStore}
 use Rattle.gateway.specs.Gateway.{TheGateway}
 use Rattle.gateway.specs.Stands.{Stands, PutOut, Goes, Owes}
 use Rattle.gateway.proofs.Steps.{stays, stands-waiting, goes-behind, put-still, all-more}
-use Rattle.node.proofs.Runs.{parcels-stay}
+use Rattle.node.proofs.Answering.{parcels-stay}
 
 -- all that was put out in the one was put out in the other
 abbrev pub PutsMore : Cluster → Cluster → Type 0

@@ -6,7 +6,7 @@ use Rattle.world.specs.Handlers.{Handlers}
 use Rattle.cluster.specs.Cluster.{Cluster, opening}
 use Rattle.cluster.specs.Rules.{Act, after_run}
 use Rattle.node.specs.declared.job.OpenJob.{OpenJob}
-use Rattle.node.specs.Runs.{Answering}
+use Rattle.node.specs.Answering.{Answering}
 use Rattle.recovery.specs.Moment.{HadReceived}
 use Rattle.recovery.specs.declared.lifecycle.Lifecycle.TheVariants.{Collecting}
 use Rattle.node_laws.specs.HostProcess.{IsFirst, Absent, Hosted, Runs}

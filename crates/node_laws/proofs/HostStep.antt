@@ -7,7 +7,7 @@ use Rattle.world.specs.World.{put}
 use Rattle.verifier.specs.declared.any_image.AnyImage.{AnyImage}
 use Rattle.packets.specs.declared.packet.NodePacket.{NodePacket}
 use Rattle.node.specs.Stands.{Each}
-use Rattle.node.specs.Runs.{Answering}
+use Rattle.node.specs.Answering.{Answering}
 use Rattle.recovery.specs.Collection.{TheCollecting}
 use Rattle.recovery.specs.Replays.{TheReplaying}
 use Rattle.recovery.specs.declared.lifecycle.Lifecycle.TheVariants.{Collecting}

@@ -11,7 +11,7 @@ use Rattle.packets.specs.declared.packet.NodePacket.{NodePacket}
 use Rattle.packets.specs.Format.{IsPacket}
 use Rattle.packets.proofs.WholeLemmas.{one_packet}
 use Rattle.node.specs.declared.limit.Limits.{Limits}
-use Rattle.node.specs.Runs.{Answer, Answering, IsOne, handlers_of}
+use Rattle.node.specs.Answering.{Answer, Answering, IsOne, handlers_of}
 use Rattle.node.specs.Stands.{Each}
 use Rattle.recovery.specs.Collection.{TheCollecting, revived}
 use Rattle.process.specs.Process.{TheProcess, is_settled}

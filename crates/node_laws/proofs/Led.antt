@@ -4,9 +4,9 @@ use Rattle.world.specs.Handlers.{Handlers}
 use Rattle.cluster.specs.Cluster.{Cluster, durable_opening}
 use Rattle.cluster.specs.Overlap.{Event, Events, after_events}
 use Rattle.cluster.proofs.Order.{always-in-order}
-use Rattle.node.specs.Runs.{Answering, handlers_of}
+use Rattle.node.specs.Answering.{Answering, handlers_of}
 use Rattle.node.proofs.Goes.{events-on}
-use Rattle.node.proofs.Runs.{grows}
+use Rattle.node.proofs.Answering.{grows}
 use Rattle.node_laws.specs.HostProcess.{IsFirst}
 use Rattle.node_laws.specs.HostReplies.{answering}
 use Rattle.node_laws.specs.HostSystem as hosts

@@ -15,13 +15,13 @@ use Rattle.node.specs.Node.{TheNode, new_node}
 use Rattle.node.specs.Kept.{kept_of}
 use Rattle.node.specs.Stands.{Each, Stands, PutOut, BeginsWith, actor, doer, IsAct}
 use Rattle.recovery.specs.declared.lifecycle.Lifecycle.TheVariants.{Up}
-use Rattle.node.specs.Runs.{Answering, handlers_of}
+use Rattle.node.specs.Answering.{Answering, handlers_of}
 use Rattle.node.proofs.Beside.{count-after}
 use Rattle.node.proofs.Lists.{all-more}
 use Rattle.recovery.specs.Overlap.{is_loss}
 use Rattle.recovery.specs.Stands.{IsSent}
 use Rattle.recovery.proofs.Posts.{outs-still}
-use Rattle.node.proofs.Runs.{parcels-stay, one-was}
+use Rattle.node.proofs.Answering.{parcels-stay, one-was}
 use Rattle.stores.specs.declared.change.Output.{Output}
 use Rattle.stores.specs.Store.{TheStore}
 use Rattle.gateway.specs.Gateway.{TheGateway, new_gateway}

@@ -9,7 +9,7 @@ use Rattle.node.specs.Node.{TheNode}
 use Rattle.node.specs.Transmission.{ticked}
 use Rattle.node.specs.Checkpoints.{froze}
 use Rattle.node.specs.Suspension.{woken}
-use Rattle.node.specs.Runs.{Answer, Answering}
+use Rattle.node.specs.Answering.{Answer, Answering}
 use Rattle.recovery.specs.Own.{TheOwn}
 use Rattle.recovery.specs.Collection.{TheCollecting}
 use Rattle.recovery.specs.Replays.{TheReplaying, next_job, did_replay}

@@ -15,10 +15,10 @@ use Rattle.stores.specs.declared.change.Output.{Output}
 use Rattle.stores.specs.Store.{TheStore}
 use Rattle.gateway.specs.Gateway.{TheGateway}
 use Rattle.node.specs.Node.{TheNode}
-use Rattle.node.specs.Runs.{Answering, handlers_of}
+use Rattle.node.specs.Answering.{Answering, handlers_of}
 use Rattle.node.specs.Stands.{Each}
 use Rattle.node.proofs.Lists.{all-more}
-use Rattle.node.proofs.Runs.{grows, one-was}
+use Rattle.node.proofs.Answering.{grows, one-was}
 use Rattle.recovery.proofs.Preservation.{each-drop}
 use Rattle.recovery.proofs.Lists.{each-append}
 use Rattle.node_laws.specs.HostProcess.{IsFirst}

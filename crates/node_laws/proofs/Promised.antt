@@ -14,10 +14,10 @@ use Rattle.cluster.specs.Cluster.{opening}
 use Rattle.cluster.specs.Rules.{Act, after_run}
 use Rattle.cluster.proofs.Promised.{nodes-keep}
 use Rattle.node.specs.Node.{TheNode}
-use Rattle.node.specs.Runs.{Answering, handlers_of}
+use Rattle.node.specs.Answering.{Answering, handlers_of}
 use Rattle.node.specs.Stands.{Each}
 use Rattle.node.proofs.Lists.{all-more}
-use Rattle.node.proofs.Runs.{grows}
+use Rattle.node.proofs.Answering.{grows}
 use Rattle.recovery.proofs.Lists.{each-append}
 use Rattle.gateway.specs.Gateway.{new_gateway}
 use Rattle.process.specs.Process.{is_settled}

@@ -25,10 +25,10 @@ use Rattle.node.specs.Checkpoints.{froze}
 use Rattle.node.specs.Kept.{kept_of, Covers, IsKeptOf}
 use Rattle.node.specs.Suspension.{woken}
 use Rattle.node.specs.Stands.{Each, Stands, GoesTo, PutOut, IsHanded, Handles, actor, phase_of, stage_of, job_of, payloads_to}
-use Rattle.node.specs.Runs.{Answer, Answering, handlers_of, state_from, sends_from}
+use Rattle.node.specs.Answering.{Answer, Answering, handlers_of, state_from, sends_from}
 use Rattle.node.proofs.Steps.{owes-at, saves-at}
 use Rattle.node.proofs.Preservation.{kept-stays, resting-stands}
-use Rattle.node.proofs.Runs.{answers, state-more, sends-more}
+use Rattle.node.proofs.Answering.{answers, state-more, sends-more}
 use Rattle.node.proofs.Suspensions.{woken-stands}
 use Rattle.recovery.specs.Collection.{TheCollecting}
 use Rattle.recovery.specs.Overlap.{is_loss}

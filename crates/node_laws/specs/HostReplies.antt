@@ -4,7 +4,7 @@ use Rattle.helpers.specs.declared.effects.Who.{Who}
 use Rattle.verifier.specs.declared.any_image.AnyImage.{AnyImage}
 use Rattle.interp.specs.HandlerCall.{Handled}
 use Rattle.interp.specs.Answer.{answer_by}
-use Rattle.node.specs.Runs.{Answer, Answering}
+use Rattle.node.specs.Answering.{Answer, Answering}
 use Rattle.process.specs.Work.{given_of}
 
 -- the identity that a process's handler is called with, on a message of this sender

@@ -11,7 +11,7 @@ use Rattle.interp.specs.HandlerCall.{Handled}
 use Rattle.interp.specs.Image.{as_image}
 use Rattle.node.specs.declared.limit.Limits.{Limits}
 use Rattle.node.specs.declared.job.OpenJob.{OpenJob}
-use Rattle.node.specs.Runs.{IsOne, handlers_of}
+use Rattle.node.specs.Answering.{IsOne, handlers_of}
 use Rattle.stores.specs.declared.change.Output.{Output}
 use Rattle.stores.specs.Store.{IsOf}
 use Rattle.gateway.specs.Gateway.{TheGateway, new_gateway, puts_in, hands_out, ticked}

@@ -6,7 +6,7 @@ use Rattle.helpers.specs.Effects.{Emitted}
 use Rattle.verifier.specs.declared.any_image.AnyImage.{AnyImage}
 use Rattle.packets.specs.declared.packet.NodePacket.{NodePacket}
 use Rattle.packets.specs.Format.{IsPacket}
-use Rattle.node.specs.Runs.{IsOne}
+use Rattle.node.specs.Answering.{IsOne}
 use Rattle.process.specs.declared.call.HandlerTicket.{HandlerTicket}
 use Rattle.process.specs.Process.{TheProcess}
 use Rattle.process.specs.Revival.{IsOpened}

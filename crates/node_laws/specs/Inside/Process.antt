@@ -15,7 +15,7 @@ use Rattle.node.specs.Checkpoints.{froze, saved}
 use Rattle.node.specs.Kept.{kept_of, Covers, IsKeptOf}
 use Rattle.node.specs.Suspension.{CanSuspend, woken}
 use Rattle.node.specs.Stands as nodes
-use Rattle.node.specs.Runs.{Answer, Answering, IsAnswer}
+use Rattle.node.specs.Answering.{Answer, Answering, IsAnswer}
 use Rattle.recovery.specs.Collection.{TheCollecting}
 use Rattle.recovery.specs.Collection as collects
 use Rattle.recovery.specs.Replays.{TheReplaying, next_job, did_replay, is_over}

@@ -6,7 +6,7 @@ use Rattle.packets.specs.declared.kept.Kept.{Kept}
 use Rattle.packets.specs.Kept.{IsKept}
 use Rattle.cluster.specs.Cluster.{Cluster}
 use Rattle.node.specs.declared.limit.Limits.{Limits}
-use Rattle.node.specs.Runs.{Answer, Answering, IsOne}
+use Rattle.node.specs.Answering.{Answer, Answering, IsOne}
 use Rattle.recovery.specs.Collection.{TheCollecting}
 use Rattle.stores.specs.declared.change.Output.{Output}
 use Rattle.gateway.specs.Gateway.{TheGateway}
