@@ -10,7 +10,8 @@ use Rattle.cluster.specs.Parcels.{Body, Delivery, Number, Acknowledgement, Ask, 
 use Rattle.cluster.specs.Cluster.{Stage, Live, Frozen, Dead, Collecting, Cluster, is_live, takes, durable_opening}
 use Rattle.cluster.specs.Rules.{Act, Puts, Arrives, Works, Replays, Recovers, Freezes, Thaws, Dies, Opens, May, MayPut, MayTake, arrived, does}
 use Rattle.cluster.specs.Overlap.{Event, Acts, Meets, Lacks, Leaves, Doubts, Might, loss, cut, goes, Events, after_events}
-use Rattle.cluster.specs.DurablePromises.{InOrder, AlwaysInOrder}
+use Rattle.cluster.specs.DurablePromises.{InOrder}
+use Rattle.cluster.proofs.Order.{always-in-order}
 use Rattle.gateway.proofs.Steps.{by-if}
 
 -- ---- stages and phases
@@ -118,7 +119,7 @@ pub record Believed (c : Cluster) : Type 0 where
   pub calm : Calm c
   pub ordered : (p : ℕ) → InOrder (c.world.history p)
 
-pub believed : AlwaysInOrder → (n : ℕ) (f : Handlers) (durable : ℕ → Bool) (es : List Event) → Grows f → Events (durable_opening n f durable) es → Believed (after_events (durable_opening n f durable) es)
-believed always n f durable es grows r =
+pub believed : (n : ℕ) (f : Handlers) (durable : ℕ → Bool) (es : List Event) → Grows f → Events (durable_opening n f durable) es → Believed (after_events (durable_opening n f durable) es)
+believed n f durable es grows r =
     let c : Cluster = durable_opening n f durable in
-    record { calm = calm-after c es r (record { gate = refl; rests = λ p e. refl; silent = λ d i k a. a }); ordered = (always n f durable es grows r).0 }
+    record { calm = calm-after c es r (record { gate = refl; rests = λ p e. refl; silent = λ d i k a. a }); ordered = (always-in-order n f durable es grows r).0 }

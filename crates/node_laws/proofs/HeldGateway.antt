@@ -16,14 +16,8 @@ use Rattle.gateway.specs.Gateway.{TheGateway, peer_of, packet_of, posts, happens
 use Rattle.gateway.specs.Calls.{is_for, is_next, says_shown, arrived, recorded_by, dropped_by, told_of, asked, obeyed, restored_of, restores, resumed_by, told, handed}
 use Rattle.gateway.proofs.Steps.{by-if}
 use Rattle.node.specs.Stands.{Each}
-use Rattle.node.proofs.Lists.{all-pushed, all-push}
+use Rattle.node.proofs.Lists.{all-pushed}
 use Rattle.node_laws.specs.HostSystem.{handed_out, PutIn, Deals}
-
--- it gives no numbers of its own
-abbrev pub IsQuiet : bodies.Body → Type 0
-IsQuiet (packets.Number i ssn k) = ⊥
-IsQuiet (packets.Restored i j n s flags pairs) = pairs ≡ []
-IsQuiet body = Unit {0}
 
 -- by itself it bears messages, says what was shown, and acknowledges
 abbrev pub IsPlain : bodies.Body → Type 0
@@ -223,42 +217,15 @@ module _ (Own : NodePacket → Type 0) (plain : (to : ℕ) (b : bodies.Body) (g 
           let low : nat_le x.from x.count ≡ true = b.1 in
           (grind (arith, nat_tests), record { some = grind (arith, nat_tests); low = grind (arith, nat_tests) })
 
--- ---- what it gives is its own
-
-abbrev pub IsOwn : NodePacket → Type 0
-IsOwn x = (x.from ≡ 0) × IsQuiet x.body
+-- ---- whatever it gives
 
 abbrev pub OfGateway : (TheStore → Type 0) → TheGateway → Type 0
-OfGateway = Held IsOwn
+OfGateway = Held (λ x. Unit {0})
 
-pub own-plain : (to : ℕ) (b : bodies.Body) (g : TheGateway) → IsPlain b → IsOwn (packet_of g to b)
-own-plain to (packets.Delivery i ssn x) g p = (refl, tt)
-own-plain to (packets.Acknowledgement i k) g p = (refl, tt)
-own-plain to (packets.Saved k) g p = (refl, tt)
-own-plain to other g p = absurd p
+answers-any : (p : ℕ) (b : bodies.Body) (g : TheGateway) → AnswersSo (λ x. Unit {0}) (λ to c m i. tt) (λ s. Unit {0}) (λ q new s e a. a) p b g
+answers-any p (packets.Ask i k) g = λ m. tt
+answers-any p (packets.Resume i k r) g = λ m. tt
+answers-any p other g = tt
 
-own-answers : (p : ℕ) (b : bodies.Body) (g : TheGateway) → AnswersSo IsOwn own-plain (λ s. Unit {0}) (λ p new s e a. a) p b g
-own-answers p (packets.Ask i k) g = λ m. (refl, tt)
-own-answers p (packets.Resume i k r) g = λ m. (refl, refl)
-own-answers p other g = tt
-
-pub own-hands : (Q : TheStore → Type 0) → Steady Q → (x : NodePacket) (g : TheGateway) → TakesOutput Q x g → OfGateway Q g → OfGateway Q (handed x g)
-own-hands Q steady x g good s = hands IsOwn own-plain Q steady x g (own-answers x.from x.body g) good s
-
--- ---- what holds of each output that waits
-
-abbrev pub EachOutput : (Output → Type 0) → TheStore → Type 0
-EachOutput P s = Each P s.outputs
-
-pub each-deals : (P : Output → Type 0) (g new : TheGateway) → Deals g new → OfGateway (EachOutput P) g → OfGateway (EachOutput P) new × Each P (handed_out g new)
-each-deals P g new d s = by (deals-so g new d)
-  where
-    by : DealsSo g new → OfGateway (EachOutput P) new × Each P (handed_out g new)
-    by (inr q) = (quiet IsOwn own-plain (EachOutput P) (λ p z t e a. a) g new q.1 s, subst (Each P) (sym q.0) tt)
-    by (inl h) =
-        let all : Each P (h.output ∷ h.rest) = subst (Each P) h.waited s.store in
-        let goes : OfGateway (EachOutput P) (happens (changes.Taken 1) g) = record { out = s.out; store = subst (Each P) (sym (ap (drop 1) h.waited)) all.1 } in
-        (subst (OfGateway (EachOutput P)) (sym h.is) goes, subst (Each P) (sym h.handed) (all.0, tt))
-
-pub each-hands : (P : Output → Type 0) (x : NodePacket) (g : TheGateway) → (x.to ≡ 0 → (i ssn : ℕ) (y : List ℕ) → x.body ≡ packets.Delivery i ssn y → P (output x.from ssn y)) → OfGateway (EachOutput P) g → OfGateway (EachOutput P) (handed x g)
-each-hands P x g good s = own-hands (EachOutput P) (λ p z t e a. a) x g (λ to of i ssn y is next a. all-push P g.store.outputs (output x.from ssn y) a (good to i ssn y is)) s
+pub any-hands : (Q : TheStore → Type 0) → Steady Q → (x : NodePacket) (g : TheGateway) → TakesOutput Q x g → OfGateway Q g → OfGateway Q (handed x g)
+any-hands Q steady x g good s = hands (λ y. Unit {0}) (λ to c m i. tt) Q steady x g (answers-any x.from x.body g) good s

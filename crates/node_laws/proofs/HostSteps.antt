@@ -1,10 +1,10 @@
 -- What each call of a host is among calls of processes by their stages
-use Rattle.std.proofs.Common.{◌≡◌, inl, inr, ℕ, ◌<◌, List, [], ◌∷◌, ◌++◌, true, false, refl, sym, ap, ◌∙◌, subst, arith}
+use Rattle.std.proofs.Common.{◌≡◌, inl, inr, ℕ, ◌<◌, List, [], ◌∷◌, ◌++◌, true, refl, sym, ap, ◌∙◌, subst, arith}
 use Rattle.std.specs.Prelude.{Some, ◌==◌, if◌then◌else◌}
 use Rattle.std.proofs.lemmas.Bool.Decides.{nat_tests}
-use Rattle.world.specs.declared.message.Message.{Message}
 use Rattle.world.specs.World.{put}
 use Rattle.gateway.proofs.Steps.{by-if}
+use Rattle.cluster.specs.Cluster.{Cluster}
 use Rattle.verifier.specs.declared.any_image.AnyImage.{AnyImage}
 use Rattle.interp.specs.Image.{as_image}
 use Rattle.packets.specs.declared.packet.NodePacket.{NodePacket}
@@ -26,7 +26,7 @@ use Rattle.node_laws.specs.HostProcess.{IsFirst, Checkpoint, Absent, Pending, Du
 use Rattle.node_laws.specs.HostReplies.{answering}
 use Rattle.node_laws.specs.HostSystem.{System, HostCall, Gave, GaveBytes, Handed, HandedBytes, Worked, Answered, Ticked, Froze, Paused, Stored, Saved, Suspended, Resumed, Died, Revived, GaveOut, HandedOut, DidOut, StoredOut, StoredBut, RevivedOut, AnswersSo, RevivesAs, ResumesAs, DoesIt, after_call}
 use Rattle.node_laws.specs.HostLaws as laws
-use Rattle.node_laws.specs.Inside.Process.{Process, Up, Covered, Collects, Replays, Gives, Hears, Works, WaitsFor, covered, IsTold, Wakes, IsKilled, ComesFrom, stage_of, seen, as_process}
+use Rattle.node_laws.specs.Inside.Process.{Process, Up, Covered, Collects, Replays, Gives, Hears, Works, WaitsFor, covered, StandsAs, IsTold, Wakes, IsKilled, ComesFrom, stage_of, seen, as_process}
 use Rattle.node_laws.specs.Inside.Process as stages
 use Rattle.node_laws.specs.Inside.System.{System as Lived, Call, AreExact, KeepsDurable, view}
 use Rattle.node_laws.specs.Inside.System as called
@@ -35,16 +35,18 @@ use Rattle.node_laws.proofs.Stages.{Waits, GoesOn, passes-on, passed}
 use Rattle.node_laws.proofs.Calls.{Is, IsHere, answered, handed-is, taken-is, ticks-is, works-is, froze-is, paused-is, stored-is, saved-is, taken-waits, froze-waits, thawed-waits}
 use Rattle.node_laws.proofs.Wakings.{still-seen, wakes-up}
 use Rattle.node_laws.proofs.Moments.{not-collecting}
-use Rattle.node_laws.proofs.Durability.{IsFor, giving}
-use Rattle.node_laws.proofs.Preservation.{All, sent_to}
+use Rattle.node_laws.proofs.Believed.{Calm}
+use Rattle.node_laws.proofs.Lives.{Holds}
+use Rattle.node_laws.proofs.Steps.{none-open, giving}
 use Rattle.node_laws.proofs.HostStep.{Steps, StepsBy, by-acts, by-call}
 use Rattle.node_laws.proofs.Views.{IsGood, AreGood, exact-there, up-so}
 
-here-of : (f : Answering) (states : ℕ → List ℕ) (n p : ℕ) (l : IsFirst n p) (H : ℕ → List Message) (process : Process) → IsFor f states n p false false (λ q. false) (sent_to (handlers_of f states) H p) l.1 (H p) process → IsHere n p process
-here-of f states n p l H (Up m) s = (s.1.me, (s.1.count, s.1.rests))
-here-of f states n p l H (Covered m) s = (s.1.0.me, (s.1.0.count, s.1.0.rests))
-here-of f states n p l H (Replays m) s = (s.me, s.count)
-here-of f states n p l H other s = tt
+-- as it stands in a cluster of n
+here-of : (n p : ℕ) (c : Cluster) (process : Process) → Calm c → c.world.count ≡ n → StandsAs process c p → IsHere n p process
+here-of n p c (Up m) calm many s = (s.me, (s.count ∙ many, λ e. none-open c p m calm e s))
+here-of n p c (Covered m) calm many s = (s.1.me, (s.1.count ∙ many, λ e. none-open c p m calm e s.1))
+here-of n p c (Replays m) calm many s = (s.own.me, s.own.count ∙ many)
+here-of n p c other calm many s = tt
 
 -- nothing is asked of such a call, and nothing given by it
 abbrev free : ℕ → Type 0
@@ -53,7 +55,7 @@ free q = Unit {0}
 abbrev none : ℕ → List NodePacket
 none q = []
 
-module _ (images : ℕ → AnyImage) (states : ℕ → List ℕ) (n : ℕ) (s : System) (goods : AreGood images n s) (H : ℕ → List Message) (a : All (answering n images) states n (λ q. false) H (view s)) where
+module _ (images : ℕ → AnyImage) (states : ℕ → List ℕ) (n : ℕ) (s : System) (goods : AreGood images n s) (c : Cluster) (h : Holds (handlers_of (answering n images) states) n (view s) c) (calm : Calm c) where
   abbrev f : Answering
   f = answering n images
 
@@ -76,7 +78,8 @@ module _ (images : ℕ → AnyImage) (states : ℕ → List ℕ) (n : ℕ) (s : 
       let a1 : Is (Gives x) w old.lifecycle new.lifecycle = taken-is x w old.lifecycle new.lifecycle good.1.0 good.1.1.0 g.does in
       let to : Process = seen w new.lifecycle in
       let does : Gives x (as_process (s.processes p)) to = subst (λ z. Gives x (as_process z) to) (sym e) a1.1.1 in
-      let own : x.from ≡ p = (giving f states n p false false (λ q. false) (sent_to (handlers_of f states) H p) l.1 (H p) x (as_process (s.processes p)) to does (a.each p l).holds).0.0 in
+      let at = h.each p l in
+      let own : x.from ≡ p = (giving c p (s.stored p) (s.lives p) at.lives x (as_process (s.processes p)) to does at.stands at.stored).0.0 in
       by-call images n s goods (record s { given = x ∷ s.given }) (Unit {0}) free p l (Runs new w) (ap as_image g.image ∙ good.0, (a1.0, (a1.1.0, taken-waits x old.lifecycle new.lifecycle g.does good.1.1.1))) (λ q. if p == q then x ∷ [] else [])
       (λ q. by-if (Each (λ (y : NodePacket). y.from ≡ q)) (p == q) (x ∷ []) [] (λ d. let same : p ≡ q = grind (arith, nat_tests) in (own ∙ same, tt)) (λ d. tt))
       (called.Gave p x to) to [] (l, does) refl (λ z. tt) (λ q z. tt) refl (λ from c. let it = subst (λ z. Gives x z to) c does in inl (it.0, it.1.0))
@@ -96,7 +99,7 @@ module _ (images : ℕ → AnyImage) (states : ℕ → List ℕ) (n : ℕ) (s : 
   worked : (p : ℕ) (old new : TheProcess) (w : Checkpoint) → IsFirst n p → s.processes p ≡ Runs old w → working.Works old new → Steps images n s (put_at p (Runs new w)) (Unit {0}) free none
   worked p old new w l e g =
       let good = good-of p (Runs old w) l e in
-      let am : IsHere n p (seen w old.lifecycle) = subst (λ z. IsHere n p (as_process z)) e (here-of f states n p l H (as_process (s.processes p)) (a.each p l).holds) in
+      let am : IsHere n p (seen w old.lifecycle) = subst (λ z. IsHere n p (as_process z)) e (here-of n p c (as_process (s.processes p)) calm h.count (h.each p l).stands) in
       let answer : Answer = answered g.who g.answer in
       let a1 : Is (Works f p answer) w old.lifecycle g.mid = works-is images old.image n p w old.lifecycle g.mid g.job g.who g.answer good.0 good.1.0 good.1.1.0 am g.next g.answers g.takes in
       let c : GoesOn w g.mid new.lifecycle = passes-on w g.mid new.lifecycle a1.0 a1.1.0 g.passes in

@@ -3,7 +3,6 @@ use Rattle.std.proofs.Common.{◌≡◌, ℕ, List, [], ◌∷◌, ◌++◌, Boo
 use Rattle.world.specs.Handlers.{Handlers}
 use Rattle.cluster.specs.Cluster.{Cluster, durable_opening}
 use Rattle.cluster.specs.Overlap.{Event, Events, after_events}
-use Rattle.cluster.proofs.Order.{always-in-order}
 use Rattle.node.specs.Answering.{Answering, handlers_of}
 use Rattle.node.proofs.Goes.{events-on}
 use Rattle.node.proofs.Answering.{grows}
@@ -42,7 +41,7 @@ module _ (f : Answering) (states : ℕ → List ℕ) (n : ℕ) (D : ℕ → Bool
   pub onward : (s : System) (es : List Event) (k : Call) → Led F n D s es → DoesIt f n s k → ((p : ℕ) → D p ≡ true → KeepsDurable p k) → Onward F n (after_events (durable_opening n F D) es) (after_call s k)
   onward s es k r does lasting =
       let c : Cluster = after_events (durable_opening n F D) es in
-      call-goes f states n s c k r.holds (believed always-in-order n F D es (grows f states) r.run) does (λ p e. lasting p (sym (ap (λ (g : ℕ → Bool). g p) (later-events (durable_opening n F D) es).durable) ∙ e))
+      call-goes f states n s c k r.holds (believed n F D es (grows f states) r.run) does (λ p e. lasting p (sym (ap (λ (g : ℕ → Bool). g p) (later-events (durable_opening n F D) es).durable) ∙ e))
 
   led-call : (s : System) (es : List Event) (k : Call) → Led F n D s es → DoesIt f n s k → ((p : ℕ) → D p ≡ true → KeepsDurable p k) → LedOn F n D (after_call s k) es
   led-call s es k r does lasting =
@@ -51,7 +50,7 @@ module _ (f : Answering) (states : ℕ → List ℕ) (n : ℕ) (D : ℕ → Bool
       record { more = one.events; led = record { run = both.0; holds = subst (Holds F n (after_call s k)) (sym both.1) one.holds } }
 
   -- by parts of a call of a host
-  led-calls : (X A : Type 0) (E : ℕ → Type 0) → ((p : ℕ) → D p ≡ true → E p) → (s : System) (es : List Event) (ks : List Call) → Led F n D s es → Along (IsPart f n X A E) s ks → LedOn F n D (after_calls s ks) es
+  pub led-calls : (X A : Type 0) (E : ℕ → Type 0) → ((p : ℕ) → D p ≡ true → E p) → (s : System) (es : List Event) (ks : List Call) → Led F n D s es → Along (IsPart f n X A E) s ks → LedOn F n D (after_calls s ks) es
   led-calls X A E lasting s es [] r m = led-none F n D s es r
   led-calls X A E lasting s es (k ∷ ks) r m =
       let one : LedOn F n D (after_call s k) es = led-call s es k r m.0.does (λ p d. m.0.durable p (lasting p d)) in

@@ -22,15 +22,9 @@ pub mod Calls
 pub mod Moments
 pub mod Views
 pub mod HostStep
-pub mod Taken
-pub mod Held
-pub mod HeldState
-pub mod HeldNode
-pub mod HeldOwn
-pub mod Durability
-pub mod Durable
-pub mod Preservation
 pub mod Lives
+pub mod Messages
+pub mod Bearing
 pub mod Led
 pub mod Back
 pub mod Lone
@@ -39,6 +33,7 @@ pub mod Alone
 pub mod HostSteps
 pub mod Promised
 pub mod HostEvents
+pub mod Lasting
 pub mod HostBack
 pub mod Turns
 pub mod Outputs

@@ -17,8 +17,8 @@ use Rattle.node_laws.proofs.Sound.{same-at}
 use Rattle.node_laws.specs.HostSystem.{System, HostCall, after_call, AreCalls, after_calls, Hosting, start, after, handlers, Makes}
 use Rattle.node_laws.specs.HostLaws.{shown_by, outputs_of, OneLife, HostedInOrder, HostedWithoutGap, HostedStayOut, HostedAgree}
 use Rattle.node_laws.specs.Outputs.{IsOut, AllOut, LeavesNoGap, AreBehind}
-use Rattle.node_laws.proofs.Promised.{after-more, calls-split, hosted-keep}
-use Rattle.node_laws.proofs.Preservation.{IsShown}
+use Rattle.node_laws.proofs.Promised.{after-more, calls-split}
+use Rattle.node_laws.proofs.Lasting.{hosted-keep}
 use Rattle.node_laws.proofs.HeldGateway.{OfGateway}
 use Rattle.node_laws.proofs.Turns.{Between, InTurn, IsOfSome, Leads, Turns, UpTo, passed, passed-grows, past, past-grows, turns}
 
@@ -225,7 +225,10 @@ hosted-stay-out h calls life more g one lasts =
     let t : Ends b.from b.from seen v more = ends h.images h.n b.from b.from b.kept seen v more b.up here kept later.1 in
     subst (λ z. AreBehind (outputs_of u life) (outputs_of z more)) (sym is) (are-behind b.from seen (outputs_of u life) (outputs_of v more) (b.in_life one).low t.behind)
 
--- by their SSN they are what is stored to be sent
+-- an output is, by its SSN, what these messages of its process send, if that is durable
+abbrev IsShown : Handlers → (ℕ → Bool) → (ℕ → List Message) → Output → Type 0
+IsShown f durable h o = durable o.process ≡ true → nth (f.sends o.process (h o.process) 0) o.ssn ≡ Some o.payload
+
 said-same : (f : Handlers) (durable : ℕ → Bool) (h : ℕ → List Message) (a b : Output) → IsShown f durable h a → IsShown f durable h b → durable a.process ≡ true → a.process ≡ b.process → a.ssn ≡ b.ssn → a.payload ≡ b.payload
 said-same f durable h a b x y d p i =
     let sent : ℕ → ℕ → Type 0 = λ q ssn. nth (f.sends q (h q) 0) ssn ≡ Some a.payload in

@@ -42,7 +42,7 @@ use Rattle.recovery.proofs.Posts.{replayed-out}
 use Rattle.recovery.specs.RestorationStands.{StandsRestoring}
 use Rattle.node_laws.specs.Inside.Process.{Process, Up, Covered, Collects, Replays, Replayed, Restores, Killed, StandsAs, is_exact, Gives, Hears, Works, Acts, WaitsFor, covered, IsTold, Wakes, IsKilled, ComesFrom, IsAnswerAgain}
 use Rattle.node_laws.specs.Inside.System.{AreStoredOf}
-use Rattle.node_laws.proofs.Believed.{Believed}
+use Rattle.node_laws.proofs.Believed.{Calm, Believed}
 use Rattle.node_laws.proofs.Moves.{Moves, IsPlain, moves-own, moves-none}
 use Rattle.node_laws.proofs.Losses.{loss-is-dropped, handed-rests, ticked-rests, froze-rests}
 
@@ -53,11 +53,11 @@ idle : (o : Option OpenJob) → phase_of o ≡ phases.Up → o ≡ None
 idle None e = refl
 idle (Some j) e = absurd (cc (e))
 
+pub none-open : (c : Cluster) (p : ℕ) (n : TheNode) → Calm c → n.frozen ≡ true → Stands n c p → n.working ≡ None
+none-open c p n calm e s = idle n.working (sym s.phase ∙ calm.rests p (s.stage ∙ ap stage_of e))
+
 work-rests : (c : Cluster) (p : ℕ) (n : TheNode) (a : Answer) → Believed c → n.frozen ≡ true → Stands n c p → did_work a.state a.given n.working n ≡ n
-work-rests c p n a h e s =
-    let waits : c.stage p ≡ stage_of true = s.stage ∙ ap stage_of e in
-    let none : n.working ≡ None = idle n.working (sym s.phase ∙ h.calm.rests p waits) in
-    ap (λ o. did_work a.state a.given o n) none
+work-rests c p n a h e s = ap (λ o. did_work a.state a.given o n) (none-open c p n h.calm e s)
 
 -- ---- the handler's answer to a message that is replayed
 

@@ -1,5 +1,5 @@
 -- What waits in the gateway's store, and what each call makes of it
-use Rattle.std.proofs.Common.{◌≡◌, ◌≢◌, inl, inr, ℕ, suc, ◌+◌, ◌-◌, ◌<◌, ◌≤◌, List, [], ◌∷◌, ◌++◌, map, take, drop, Bool, true, false, refl, sym, ap, ◌∙◌, subst, arith, append_assoc, append-nil}
+use Rattle.std.proofs.Common.{◌≡◌, ◌≢◌, inl, inr, ℕ, zero, suc, ◌+◌, ◌-◌, ◌<◌, ◌≤◌, List, [], ◌∷◌, ◌++◌, map, take, drop, Bool, true, false, refl, sym, ap, ◌∙◌, subst, arith, append_assoc, append-nil}
 use Rattle.std.specs.Prelude.{◌⊎◌, slice_index_or, slice_set, ◌==◌, if◌then◌else◌}
 use Rattle.std.proofs.lemmas.Bool.Decides.{nat_tests}
 use Rattle.std.proofs.lemmas.List.{map-append, take-append-drop}
@@ -21,10 +21,9 @@ use Rattle.node.specs.Stands.{Each, InOrderFrom}
 use Rattle.node.proofs.Lists.{count-append}
 use Rattle.node.proofs.Numbers.{InOrderFrom-push}
 use Rattle.recovery.proofs.Lists.{each-append}
-use Rattle.node_laws.proofs.Taken.{set-holds}
 use Rattle.node_laws.specs.HostSystem.{System, HostCall, GaveOut, HandedOut, DidOut, StoredOut, StoredBut, RevivedOut, DoesIt, after_call, handed_out, untaken}
 use Rattle.node_laws.specs.HostLaws.{shown_by, LivesOn}
-use Rattle.node_laws.proofs.HeldGateway.{IsOwn, OfGateway, own-plain, own-hands, IsQuietDeal, DealsSo, deals-so, Steady, output}
+use Rattle.node_laws.proofs.HeldGateway.{OfGateway, any-hands, IsQuietDeal, DealsSo, deals-so, Steady, output}
 use Rattle.node_laws.proofs.HeldGateway as held
 use Rattle.node_laws.proofs.Untaken.{deals-alike, handed-alike, handing-so}
 
@@ -43,6 +42,14 @@ pub record InTurn (c : ℕ → ℕ) (s : TheStore) : Type 0 where
 -- these with one more of x
 abbrev pub past : (ℕ → ℕ) → ℕ → ℕ → ℕ
 past c x = put c x (suc (c x))
+
+-- where a list is changed at one place
+set-holds : {X : Type 0} (P : X → Type 0) (xs : List X) (i : ℕ) (x : X) (q : ℕ) (d : X) → (q ≡ i → P x) → P (slice_index_or xs q d) → P (slice_index_or (slice_set xs i x) q d)
+set-holds P [] i x q d here there = there
+set-holds P (y ∷ xs) zero x zero d here there = here refl
+set-holds P (y ∷ xs) zero x (suc q) d here there = there
+set-holds P (y ∷ xs) (suc i) x zero d here there = there
+set-holds P (y ∷ xs) (suc i) x (suc q) d here there = set-holds P xs i x q d (λ e. here (ap suc e)) there
 
 -- what changes of one process, but for what was shown of it, leaves what was shown of each
 shown-still : (xs : List ThePeer) (i k : ℕ) (new : ThePeer) → new.shown ≡ (slice_index_or xs i no_peer).shown → (slice_index_or (slice_set xs i new) k no_peer).shown ≡ (slice_index_or xs k no_peer).shown
@@ -176,7 +183,7 @@ module _ (c d : ℕ → ℕ) (s : System) (a : UpTo c d s) where
 
   -- a packet comes
   hears : (e : ℕ → ℕ) (x : NodePacket) (g : TheGateway) → OfGateway (InTurn e) g → OfGateway (InTurn e) (outside.handed x g)
-  hears e x g o = own-hands (InTurn e) (steady e) x g (λ to of i ssn y is next t. shown-turn e (output x.from ssn y) g.store of (numbered ssn y next) t) o
+  hears e x g o = any-hands (InTurn e) (steady e) x g (λ to of i ssn y is next t. shown-turn e (output x.from ssn y) g.store of (numbered ssn y next) t) o
     where
       numbered : (ssn : ℕ) (y : List ℕ) → is_next (output x.from ssn y) g ≡ true → ssn ≡ suc (peer_at x.from g.store).shown
       numbered ssn y next = let h : (ssn == (peer_at x.from g.store).shown + 1) ≡ true = next in grind (arith, nat_tests)
@@ -195,9 +202,9 @@ module _ (c d : ℕ → ℕ) (s : System) (a : UpTo c d s) where
       let none : handed_out s.gateway new ≡ [] = q.0 in
       let same : s.taken ++ handed_out s.gateway new ≡ s.taken = ap (λ z. s.taken ++ z) none ∙ append-nil s.taken in
       rests (DidOut new) (record {
-        gateway = held.quiet IsOwn own-plain (InTurn c) (steady c) s.gateway new q.1 a.gateway;
+        gateway = held.quiet (λ x. Unit {0}) (λ to b g p. tt) (InTurn c) (steady c) s.gateway new q.1 a.gateway;
         durable = a.durable;
-        shadow = subst (λ z. OfGateway (InTurn d) (untaken z new)) (sym same) (held.quiet IsOwn own-plain (InTurn d) (steady d) (untaken s.taken s.gateway) (untaken s.taken new) (quiet-alike new q.1) a.shadow);
+        shadow = subst (λ z. OfGateway (InTurn d) (untaken z new)) (sym same) (held.quiet (λ x. Unit {0}) (λ to b g p. tt) (InTurn d) (steady d) (untaken s.taken s.gateway) (untaken s.taken new) (quiet-alike new q.1) a.shadow);
         leads = λ p. a.leads p ∙ ap (λ z. passed d z p) (sym same);
       }) none
   does-out new (inl h) =

@@ -1,4 +1,4 @@
-use Rattle.node_laws.proofs.Promised.{hosted-keep}
+use Rattle.node_laws.proofs.Lasting.{hosted-keep}
 use Rattle.node_laws.proofs.host_laws.hosted_keep.Goals as goal
 
 pub returns : goal.returns
