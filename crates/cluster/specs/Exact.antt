@@ -107,7 +107,8 @@ acts_of (e ∷ es) = acts_of es
 -- a run of the whole rules is one of events, whatever packets say: so it keeps their promises whatever fails
 abbrev pub StepsAreEvents : Type 0
 StepsAreEvents = (n : ℕ) (f : Handlers) (durable : ℕ → Bool) (es : List Event) → Steps (starts n f durable) es
-    → Events (durable_opening n f durable) es × (after_events (durable_opening n f durable) es ≡ (after_steps (starts n f durable) es).cluster)
+    → Events (durable_opening n f durable) es
+    × (after_events (durable_opening n f durable) es ≡ (after_steps (starts n f durable) es).cluster)
 
 -- these acts are a run of nodes whose recoveries don't meet. They lead where the steps lead, where no node need be durable
 abbrev pub IsRunOf : ℕ → Handlers → List Act → Cluster → Type 0
