@@ -1,5 +1,5 @@
 -- Acts of others leave what a node stands for
-use Rattle.std.proofs.Common.{zero, ◌≡◌, ◌≢◌, inr, ℕ, suc, ◌≤◌, ◌+◌, List, [], ◌∷◌, length, Bool, true, false, refl, sym, ap, ◌∙◌, subst, arith}
+use Rattle.std.proofs.Common.{zero, ◌≡◌, inr, ℕ, suc, ◌≤◌, ◌+◌, List, [], ◌∷◌, length, Bool, true, false, refl, sym, ap, ◌∙◌, subst, arith}
 use Rattle.std.specs.Prelude.{None, Some, ◌==◌, nat_lt, if◌then◌else◌}
 use Rattle.std.proofs.lemmas.Bool.Decides.{nat_tests}
 use Rattle.world.specs.World.{put}
@@ -10,7 +10,7 @@ use Rattle.cluster.specs.Cluster.{Cluster}
 use Rattle.cluster.specs.Rules.{Act, Input, Puts, Arrives, Works, Replays, Recovers, Keeps, Opens, does, after_run, goes_on, taken_back}
 use Rattle.cluster.specs.Overlap.{Event, Acts, Meets, Loses, Lacks, Leaves, Doubts, loss, cut, goes}
 use Rattle.node.specs.Node.{TheNode}
-use Rattle.node.specs.Stands.{Each, Stands, PutOut, actor, doer}
+use Rattle.node.specs.Stands.{Stands, PutOut, actor, doer}
 use Rattle.cluster.proofs.Settings.{does-count}
 use Rattle.node.specs.Beside.{OthersStand}
 use Rattle.node.proofs.Lists.{all-more}

@@ -1,16 +1,13 @@
 -- The gateway beside nodes: what it sees of a cluster
-use Rattle.std.proofs.Common.{◌≡◌, inl, inr, ℕ, zero, suc, ◌<◌, ◌+◌, List, [], ◌∷◌, length, Bool, true, false, refl, sym, ap, ◌∙◌, arith}
-use Rattle.std.specs.Prelude.{None, Some, Option, ◌==◌, nat_lt, if◌then◌else◌}
+use Rattle.std.proofs.Common.{◌≡◌, ℕ, zero, suc, ◌<◌, ◌+◌, List, [], ◌∷◌, length, Bool, true, false, refl, ◌∙◌, arith}
+use Rattle.std.specs.Prelude.{None, Some, ◌==◌, nat_lt, if◌then◌else◌}
 use Rattle.std.proofs.lemmas.Bool.Decides.{nat_tests}
-use Rattle.world.specs.declared.message.Message.{Message}
 use Rattle.world.specs.World.{put}
-use Rattle.world.specs.History.{Payload}
-use Rattle.world.specs.Plan.{first_below, logged_as}
 use Rattle.world.specs.Calls.{peers}
 use Rattle.world.specs.Phases.{Replaying}
-use Rattle.cluster.specs.Parcels.{Body, Delivery, Number, Acknowledgement, Ask, Told, Resume, Restored, Saved, Parcel, In, parcel}
-use Rattle.cluster.specs.Cluster.{Cluster, Collected}
-use Rattle.cluster.specs.Rules.{Act, Input, Puts, Arrives, Replays, Recovers, May, MayPut, entry_of, does, after_run, goes_on, taken_back}
+use Rattle.cluster.specs.Parcels.{Restored, Parcel, In}
+use Rattle.cluster.specs.Cluster.{Cluster}
+use Rattle.cluster.specs.Rules.{Act, Input, Arrives, Replays, Recovers, does, after_run, goes_on, taken_back}
 use Rattle.node.specs.Stands.{Each, actor}
 use Rattle.node.proofs.Beside.{Same, same}
 

@@ -9,7 +9,7 @@ use Rattle.gateway.specs.Gateway.{TheGateway, packet_of}
 use Rattle.gateway.specs.Calls.{told_all, handed}
 use Rattle.node_laws.specs.HostSystem.{Deals}
 use Rattle.node_laws.proofs.Sound.{Says, IsSound, AreSound, exact-is}
-use Rattle.node_laws.proofs.HeldGateway.{IsPlain, Held, DealsSo, deals-so, AnswersSo}
+use Rattle.node_laws.proofs.HeldGateway.{IsPlain, DealsSo, deals-so, AnswersSo}
 use Rattle.node_laws.proofs.HeldGateway as held
 
 module _ (lives : ℕ → ℕ) (back : ℕ → Type 0) where

@@ -26,9 +26,9 @@ use Rattle.node_laws.specs.HostProcess.{IsFirst, Checkpoint, Absent, Pending, Du
 use Rattle.node_laws.specs.HostReplies.{answering}
 use Rattle.node_laws.specs.HostSystem.{System, HostCall, Gave, GaveBytes, Handed, HandedBytes, Worked, Answered, Ticked, Froze, Paused, Stored, Saved, Suspended, Resumed, Died, Revived, GaveOut, HandedOut, DidOut, StoredOut, StoredBut, RevivedOut, AnswersSo, RevivesAs, ResumesAs, DoesIt, after_call}
 use Rattle.node_laws.specs.HostLaws as laws
-use Rattle.node_laws.specs.Inside.Process.{Process, Up, Covered, Collects, Replays, Gives, Hears, Works, WaitsFor, covered, StandsAs, IsTold, Wakes, IsKilled, ComesFrom, stage_of, seen, as_process}
+use Rattle.node_laws.specs.Inside.Process.{Process, Up, Covered, Collects, Replays, Gives, Hears, Works, WaitsFor, covered, StandsAs, IsTold, Wakes, IsKilled, stage_of, seen, as_process}
 use Rattle.node_laws.specs.Inside.Process as stages
-use Rattle.node_laws.specs.Inside.System.{System as Lived, Call, AreExact, KeepsDurable, view}
+use Rattle.node_laws.specs.Inside.System.{Call, AreExact, KeepsDurable, view}
 use Rattle.node_laws.specs.Inside.System as called
 use Rattle.node_laws.proofs.Chains.{Chain, chain-append, revived-limits}
 use Rattle.node_laws.proofs.Stages.{Waits, GoesOn, passes-on, passed}

@@ -35,7 +35,7 @@ use Rattle.recovery.specs.Overlap.{is_loss}
 use Rattle.recovery.specs.Stands.{StandsCollecting, OfProcess, IsSaid, IsSent, Reopens}
 use Rattle.recovery.specs.Replays.{TheReplaying}
 use Rattle.recovery.specs.Replayed.{StandsReplayed}
-use Rattle.recovery.specs.StandsAtReplay.{StandsReplaying, IsInOrder, AnswersAfter}
+use Rattle.recovery.specs.StandsAtReplay.{StandsReplaying, AnswersAfter}
 use Rattle.recovery.specs.StandsAtReplay as replaying
 use Rattle.node.proofs.Goes.{goes-self, goes-act, goes-any}
 use Rattle.recovery.proofs.Posts.{replayed-out}

@@ -11,7 +11,7 @@ use Rattle.packets.specs.declared.page.Pair.{Pair}
 use Rattle.node.specs.declared.job.OpenJob.{OpenJob}
 use Rattle.node.specs.declared.job.Given.{Given}
 use Rattle.node.specs.Queue as queue
-use Rattle.node.specs.Queue.{TheQueue, no_queue, appended, dropped_to, dropped_first}
+use Rattle.node.specs.Queue.{TheQueue, appended, dropped_to, dropped_first}
 use Rattle.node.specs.Node.{TheNode, log_at, posts, logged, given_to, tells, numbered, counted, next_number, covered_of}
 use Rattle.rsn.specs.Receipts.{numbers_of, acknowledged_of, run_of}
 use Rattle.recovery.specs.Collected.{none_told, with_page}

@@ -13,7 +13,7 @@ use Rattle.node.specs.declared.job.OpenJob.{OpenJob}
 use Rattle.node.specs.declared.job.Given.{Given}
 use Rattle.node.specs.declared.node.TheConstants.{MOST_GIVEN}
 use Rattle.recovery.specs.declared.lifecycle.Lifecycle.{Lifecycle}
-use Rattle.recovery.specs.declared.lifecycle.Lifecycle.TheVariants.{Up, Collecting, Replaying, Replayed, Restoring, Passing}
+use Rattle.recovery.specs.declared.lifecycle.Lifecycle.TheVariants.{Up, Replaying}
 use Rattle.process.specs.Work.{is_other, sent_by, shown_of, shown_by, given_of, job_as, job_at, MayTakeIn}
 
 -- it goes to another one

@@ -7,7 +7,7 @@ use Rattle.theorems.proofs.Tests.{both}
 use Rattle.packets.specs.declared.page.LoggedMessage.{LoggedMessage}
 use Rattle.packets.specs.declared.page.Flags.{Flags}
 use Rattle.packets.specs.declared.packet.Body.{Body}
-use Rattle.packets.specs.declared.packet.Body.TheVariants.{Delivery, Number, Acknowledgement, Ask, Told, Resume, Restored, Saved}
+use Rattle.packets.specs.declared.packet.Body.TheVariants.{Ask, Told, Resume}
 use Rattle.packets.specs.Packet.{is_positive, is_number, goes_on, ascends, entry_before, is_entry_above, entries_in_range, in_range}
 use Rattle.packets.specs.declared.packet.NodePacket.{NodePacket}
 use Rattle.limits.specs.declared.TheConstants.{PROCESSES}

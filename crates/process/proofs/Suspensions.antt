@@ -7,7 +7,6 @@ use Rattle.rsn.specs.Receipts.{Received}
 use Rattle.node.specs.Kept.{with_own, kept_of, queue_of}
 use Rattle.node.specs.Queue.{TheQueue, no_queue}
 use Rattle.node.specs.Node.{TheNode, Within}
-use Rattle.node.specs.declared.limit.Limits.{Limits}
 use Rattle.node.specs.Suspension.{CanSuspend, IsSuspended, joined_by, numbered_by}
 use Rattle.verifier.specs.declared.any_image.AnyImage.{AnyImage}
 use Rattle.recovery.specs.declared.resumption.Unresumed.{Unresumed}
