@@ -2,6 +2,7 @@
 is told to be strict; whoever mends one takes it out here."""
 
 from node import Node
+from packets import Told
 
 MOST_RECEIVED = 2**58
 MOST_SENT_FOR_ONE = 16
@@ -20,6 +21,7 @@ class NodeAsBuilt(Node):
         super().begin_to_send()
 
     def hear_of_teller(self, peer, packet):
-        """The gateway's incarnation is 1, and is kept as it is told: a forged one is too."""
+        """The gateway's incarnation is 1, and is kept as its Told names it: a forged one is too."""
         super().hear_of_teller(peer, packet)
-        self.heard[peer] = packet.teller
+        if isinstance(packet, Told):
+            self.heard[peer] = packet.teller
