@@ -3,10 +3,9 @@ use Rattle.std.proofs.Common.{◌≡◌, ◌≢◌, inl, inr, ℕ, ◌<◌, ◌�
 use Rattle.std.specs.Prelude.{◌⊎◌, [], ◌∷◌, Option, Some, None}
 use Rattle.world.specs.declared.message.Message.{Message}
 use Rattle.world.specs.Phases.{Phase, Up, Down, Replaying, Resync, is_up}
-use Rattle.cluster.specs.Parcels.{Body, Ask, Told, Restored, parcel, In, reaches}
+use Rattle.cluster.specs.Parcels.{Body, Ask, Told, Restored, parcel, In, reaches, Flagged, Said}
 use Rattle.cluster.specs.Cluster.{Stage, Live, Dead, Collecting, Collected, Cluster, runs, is_well}
 use Rattle.cluster.specs.Rules.{IsNode}
-use Rattle.cluster.specs.Exact.{Telling, Flagged, Said}
 use Rattle.cluster.proofs.Facts.{is-well, true-not-false}
 use Rattle.cluster.proofs.Sane.{Low, Todo}
 
@@ -101,14 +100,14 @@ module _ (born : ℕ → ℕ) where
   Real c false p d other = Unit {0}
 
   -- as of this time
-  pub record Aged (now : ℕ) (s : Telling) : Type 0 where
+  pub record Aged (now : ℕ) (s : Cluster) : Type 0 where
     pub past : (p : ℕ) → born p ≤ now
-    pub plain : Plain s.cluster
-    pub parcels : (p d : ℕ) (x : Body) → In (parcel p d x) s.cluster.parcels → (p ≢ d) × Fine s.cluster p d x
-    pub said : (y : Flagged) → Said y s.said → Real s.cluster y.lost y.packet.from y.packet.to y.packet.body
-    pub knows : (p q : ℕ) → q ≤ s.cluster.world.count → p ≢ q → has_told s.cluster p q ≡ true → Knows s.cluster p q
+    pub plain : Plain s
+    pub parcels : (p d : ℕ) (x : Body) → In (parcel p d x) s.parcels → (p ≢ d) × Fine s p d x
+    pub said : (y : Flagged) → Said y s.said → Real s y.lost y.packet.from y.packet.to y.packet.body
+    pub knows : (p q : ℕ) → q ≤ s.world.count → p ≢ q → has_told s p q ≡ true → Knows s p q
     -- of those that p asked and has no loss of, while it isn't up
-    pub later : (p q : ℕ) → q ≤ s.cluster.world.count → p ≢ q → has_told s.cluster p q ≡ true → is_well s.cluster p ≡ false → s.lost p q ≡ false → Later s.cluster p q
+    pub later : (p q : ℕ) → q ≤ s.world.count → p ≢ q → has_told s p q ≡ true → is_well s p ≡ false → s.lost p q ≡ false → Later s p q
 
   module _ (c d : Cluster) (o : On c d) where
     pub known-on : (p q : ℕ) → c.heard q p ≡ c.stored p → d.heard q p ≡ d.stored p
@@ -145,27 +144,27 @@ module _ (born : ℕ → ℕ) where
     real-on false p q other f = tt
 
   -- so all of it goes on, with what is new
-  pub aged-on : (now : ℕ) (s t : Telling) → Aged now s → On s.cluster t.cluster → Plain t.cluster
-      → ((p d : ℕ) (x : Body) → In (parcel p d x) t.cluster.parcels → In (parcel p d x) s.cluster.parcels ⊎ ((p ≢ d) × Fine t.cluster p d x))
-      → ((y : Flagged) → Said y t.said → Said y s.said ⊎ Real t.cluster y.lost y.packet.from y.packet.to y.packet.body)
-      → ((p q : ℕ) → q ≤ s.cluster.world.count → p ≢ q → has_told t.cluster p q ≡ true → (has_told s.cluster p q ≡ true) ⊎ Knows t.cluster p q)
-      → ((p q : ℕ) → q ≤ s.cluster.world.count → p ≢ q → has_told t.cluster p q ≡ true → is_well t.cluster p ≡ false → t.lost p q ≡ false → ((has_told s.cluster p q ≡ true) × (s.lost p q ≡ false)) ⊎ Later t.cluster p q)
+  pub aged-on : (now : ℕ) (s t : Cluster) → Aged now s → On s t → Plain t
+      → ((p d : ℕ) (x : Body) → In (parcel p d x) t.parcels → In (parcel p d x) s.parcels ⊎ ((p ≢ d) × Fine t p d x))
+      → ((y : Flagged) → Said y t.said → Said y s.said ⊎ Real t y.lost y.packet.from y.packet.to y.packet.body)
+      → ((p q : ℕ) → q ≤ s.world.count → p ≢ q → has_told t p q ≡ true → (has_told s p q ≡ true) ⊎ Knows t p q)
+      → ((p q : ℕ) → q ≤ s.world.count → p ≢ q → has_told t p q ≡ true → is_well t p ≡ false → t.lost p q ≡ false → ((has_told s p q ≡ true) × (s.lost p q ≡ false)) ⊎ Later t p q)
       → Aged now t
   aged-on now s t h o plain parcels said knows later =
       record {
         past = h.past;
         plain = plain;
-        parcels = λ p d x i. elim (parcels p d x i) [ inl e ↦ let f = h.parcels p d x e in (f.0, fine-on s.cluster t.cluster o p d x f.1) | inr f ↦ f ];
-        said = λ y i. elim (said y i) [ inl f ↦ real-on s.cluster t.cluster o y.lost y.packet.from y.packet.to y.packet.body (h.said y f) | inr f ↦ f ];
-        knows = λ p q l n e. let m : q ≤ s.cluster.world.count = (let c : t.cluster.world.count ≡ s.cluster.world.count = o.count in omega arith) in elim (knows p q m n e) [ inl f ↦ knows-on s.cluster t.cluster o p q (h.knows p q m n f) | inr f ↦ f ];
+        parcels = λ p d x i. elim (parcels p d x i) [ inl e ↦ let f = h.parcels p d x e in (f.0, fine-on s t o p d x f.1) | inr f ↦ f ];
+        said = λ y i. elim (said y i) [ inl f ↦ real-on s t o y.lost y.packet.from y.packet.to y.packet.body (h.said y f) | inr f ↦ f ];
+        knows = λ p q l n e. let m : q ≤ s.world.count = (let c : t.world.count ≡ s.world.count = o.count in omega arith) in elim (knows p q m n e) [ inl f ↦ knows-on s t o p q (h.knows p q m n f) | inr f ↦ f ];
         later = λ p q l n e w f.
-            let m : q ≤ s.cluster.world.count = (let c : t.cluster.world.count ≡ s.cluster.world.count = o.count in omega arith) in
-            elim (later p q m n e w f) [ inl g ↦ later-on s.cluster t.cluster o p q (h.later p q m n g.0 (un p q e w) g.1) | inr g ↦ g ];
+            let m : q ≤ s.world.count = (let c : t.world.count ≡ s.world.count = o.count in omega arith) in
+            elim (later p q m n e w f) [ inl g ↦ later-on s t o p q (h.later p q m n g.0 (un p q e w) g.1) | inr g ↦ g ];
       }
     where
-      un : (p q : ℕ) → has_told t.cluster p q ≡ true → is_well t.cluster p ≡ false → is_well s.cluster p ≡ false
-      un p q e w = split (is_well s.cluster p) refl
+      un : (p q : ℕ) → has_told t p q ≡ true → is_well t p ≡ false → is_well s p ≡ false
+      un p q e w = split (is_well s p) refl
         where
-          split : (b : Bool) → is_well s.cluster p ≡ b → is_well s.cluster p ≡ false
+          split : (b : Bool) → is_well s p ≡ b → is_well s p ≡ false
           split false f = f
-          split true f = elim (o.well p f) [ inl v ↦ absurd (cc) | inr d ↦ absurd (let z : false ≡ true = sym (ap (λ x. at_stage x (is_some (t.cluster.told p q))) d) ∙ e in cc) ]
+          split true f = elim (o.well p f) [ inl v ↦ absurd (cc) | inr d ↦ absurd (let z : false ≡ true = sym (ap (λ x. at_stage x (is_some (t.told p q))) d) ∙ e in cc) ]

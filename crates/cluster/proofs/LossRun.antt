@@ -4,12 +4,13 @@ use Rattle.world.specs.declared.message.Message.{Message}
 use Rattle.world.specs.History.{Payload}
 use Rattle.theorems.specs.WorkedOverlap.{passing}
 use Rattle.cluster.specs.Rules.{message}
-use Rattle.cluster.specs.Exact.{starts, Steps}
+use Rattle.cluster.specs.Cluster.{durable_opening}
+use Rattle.cluster.specs.Exact.{Steps}
 use Rattle.cluster.specs.WorkedDurable.{none_durable, told_of_loss}
 use Rattle.cluster.proofs.Cases.{for-two, live-dead}
 use Rattle.cluster.proofs.Chains.{◌▸◌, few}
 
-pub told-of-loss : (g : ℕ → List Message → List ℕ) (x : Payload) → Steps (starts 2 (passing g) none_durable) (told_of_loss x)
+pub told-of-loss : (g : ℕ → List Message → List ℕ) (x : Payload) → Steps (durable_opening 2 (passing g) none_durable) (told_of_loss x)
 told-of-loss g x =
     (((omega arith, omega arith), tt), tt)
     ▸ (((omega arith, omega arith, (λ e. omega arith), (refl, refl, omega arith, omega arith, refl)), λ e. absurd (cc)), tt)

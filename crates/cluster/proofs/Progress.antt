@@ -45,7 +45,7 @@ anew-idle count other p m e = absurd (let t : false ≡ true = ap is_busy e in c
 
 -- those of these nodes send only what their checkpoints cover
 abbrev pub IsSafe : (ℕ → Bool) → Cluster → Event → Type 0
-IsSafe last c (Acts exact a) = IsKept last c a
+IsSafe last c (Acts exact a) = IsKept (record c { durable = last }) a
 IsSafe last c e = Unit {0}
 
 module _ (last : ℕ → Bool) (c : Cluster) (h : Firm last c) where
@@ -95,7 +95,7 @@ module _ (last : ℕ → Bool) (c : Cluster) (h : Firm last c) where
       let Q2 : ℕ → Type 0 = λ i. Q x.sender i in
       subst Q2 (sym t.3) (subst Q1 (sym t.2) g)
 
-  put-true : (p d : ℕ) (x : Body) → MayPut c p d x → IsKept last c (Puts p d x) → IsTrue last k p d x
+  put-true : (p d : ℕ) (x : Body) → MayPut c p d x → IsKept (record c { durable = last }) (Puts p d x) → IsTrue last k p d x
   put-true p d (Delivery i ssn x) may kept = λ e. let t : c.world.trims p d < ssn = may.3 in there-good p d ssn x may.0 may.4 (omega arith) (kept e)
   put-true p d (Number i ssn n) may kept = named p d ssn n may.2
   put-true p d (Told i j n u f) may kept = λ m x a b e. entry-good p d m x may.0 (sym (may.4 m a b) ∙ e)
@@ -296,7 +296,7 @@ module _ (last : ℕ → Bool) (c : Cluster) (h : Firm last c) where
         more : (q d : ℕ) → Begins (k q d) (kept_sends (taken_back c p n) q d)
         more = sends-continue c (taken_back c p n) h.grows refl (takes-back c p n (h.within p))
 
-  does-firm : (a : Act) → May c a → IsKept last c a → Firm last (does c a)
+  does-firm : (a : Act) → May c a → IsKept (record c { durable = last }) a → Firm last (does c a)
   does-firm (Input d x) may kept = input-firm d x
   does-firm (Puts p d x) may kept = with-parcel p d x may.2 (put-true p d x may.3 kept)
   does-firm (Arrives q p x) may kept = let t = h.parcels q p x may.0 in takes-firm q p x t.0 t.1 may.1

@@ -3,10 +3,10 @@ use Rattle.std.specs.Prelude.{◌≡◌, ℕ, ◌≤◌, List, Bool, true, false
 use Rattle.std.specs.List.{list_all, list_any}
 use Rattle.std.proofs.Common.{◌≢◌}
 use Rattle.world.specs.Handlers.{Handlers}
-use Rattle.cluster.specs.Cluster.{Cluster, opening, is_well}
+use Rattle.cluster.specs.Cluster.{Cluster, opening, durable_opening, is_well}
 use Rattle.cluster.specs.Rules.{Act, Input, Dies, IsNode, Run, after_run, FromOpening}
-use Rattle.cluster.specs.Overlap.{Event, Acts}
-use Rattle.cluster.specs.Exact.{Telling, starts, Steps, after_steps}
+use Rattle.cluster.specs.Overlap.{Event, Acts, after_events}
+use Rattle.cluster.specs.Exact.{Steps}
 
 -- whether a process dies
 abbrev pub is_death : Act → Bool
@@ -36,11 +36,11 @@ is_quiet (Acts exact (Input d x)) = false
 is_quiet e = true
 
 -- by such events alone the nodes can go on to where this holds
-abbrev pub CanGo : Telling → (Telling → Type 0) → Type 0
-CanGo s P = (es : List Event) × Steps s es × (list_all is_quiet es ≡ true) × P (after_steps s es)
+abbrev pub CanGo : Cluster → (Cluster → Type 0) → Type 0
+CanGo c P = (es : List Event) × Steps c es × (list_all is_quiet es ≡ true) × P (after_events c es)
 
 -- after any run of the whole rules, whatever failed, with any number of nodes down or recovering and any packets on the way: the nodes can
 -- go on until all are up
 abbrev pub AllComeBack : Type 0
-AllComeBack = (n : ℕ) (f : Handlers) (durable : ℕ → Bool) (es : List Event) → Steps (starts n f durable) es
-    → CanGo (after_steps (starts n f durable) es) (λ s. AllUp s.cluster)
+AllComeBack = (n : ℕ) (f : Handlers) (durable : ℕ → Bool) (es : List Event) → Steps (durable_opening n f durable) es
+    → CanGo (after_events (durable_opening n f durable) es) AllUp

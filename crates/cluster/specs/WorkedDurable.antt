@@ -11,7 +11,7 @@ use Rattle.cluster.specs.Promises.{NoOrphanNode}
 use Rattle.cluster.specs.WorkedPieces.{sends, receives, asks, tells, no_entries}
 use Rattle.cluster.specs.WorkedLate.{old_ask_answered}
 use Rattle.cluster.specs.Overlap.{Event, Acts, Loses, Lacks, Events, after_events}
-use Rattle.cluster.specs.Exact.{starts, Steps, after_steps}
+use Rattle.cluster.specs.Exact.{Steps}
 
 -- acts, if all packets say that their tellers are exact
 abbrev pub taken : List Act → List Event
@@ -76,15 +76,15 @@ DurableNodesKeep = (g : ℕ → List Message → List ℕ) (x : Payload) →
 -- the first is a run of the whole rules; node 2 is no longer exact once it took that
 abbrev pub LossIsTold : Type 0
 LossIsTold = (g : ℕ → List Message → List ℕ) (x : Payload) →
-    Steps (starts 2 (passing g) none_durable) (told_of_loss x)
-    × ((after_steps (starts 2 (passing g) none_durable) (until_told x)).exact 2 ≡ true)
-    × ((after_steps (starts 2 (passing g) none_durable) (told_of_loss x)).exact 2 ≡ false)
-    × ((after_steps (starts 2 (passing g) none_durable) (told_of_loss x)).lost 2 1 ≡ true)
-    × ((after_steps (starts 2 (passing g) none_durable) (told_of_loss x)).exact 1 ≡ true)
+    Steps (durable_opening 2 (passing g) none_durable) (told_of_loss x)
+    × ((after_events (durable_opening 2 (passing g) none_durable) (until_told x)).exact 2 ≡ true)
+    × ((after_events (durable_opening 2 (passing g) none_durable) (told_of_loss x)).exact 2 ≡ false)
+    × ((after_events (durable_opening 2 (passing g) none_durable) (told_of_loss x)).lost 2 1 ≡ true)
+    × ((after_events (durable_opening 2 (passing g) none_durable) (told_of_loss x)).exact 1 ≡ true)
 
 -- node 2, while it collects, hears again an Ask whose sender is up: both are as exact as before
 abbrev pub OldAskIsNoLoss : Type 0
 OldAskIsNoLoss = (g : ℕ → List Message → List ℕ) →
-    Steps (starts 2 (passing g) none_durable) (taken old_ask_answered)
-    × ((after_steps (starts 2 (passing g) none_durable) (taken old_ask_answered)).exact 1 ≡ true)
-    × ((after_steps (starts 2 (passing g) none_durable) (taken old_ask_answered)).exact 2 ≡ true)
+    Steps (durable_opening 2 (passing g) none_durable) (taken old_ask_answered)
+    × ((after_events (durable_opening 2 (passing g) none_durable) (taken old_ask_answered)).exact 1 ≡ true)
+    × ((after_events (durable_opening 2 (passing g) none_durable) (taken old_ask_answered)).exact 2 ≡ true)

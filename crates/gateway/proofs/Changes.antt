@@ -1,5 +1,5 @@
 -- The gateway stands where a change is an act of its own
-use Rattle.std.proofs.Common.{◌≡◌, ◌≢◌, inl, ℕ, suc, ◌+◌, ◌-◌, ◌<◌, ◌≤◌, List, [], ◌∷◌, ◌++◌, length, map, take, drop, min, max, Bool, true, false, refl, sym, ap, ◌∙◌, subst, arith, append_assoc}
+use Rattle.std.proofs.Common.{◌≡◌, ◌≢◌, inl, inr, ℕ, suc, ◌+◌, ◌-◌, ◌<◌, ◌≤◌, List, [], ◌∷◌, ◌++◌, length, map, take, drop, min, max, Bool, true, false, refl, sym, ap, ◌∙◌, subst, arith, append_assoc}
 use Rattle.std.specs.List.{AllByRecursion}
 use Rattle.std.specs.Prelude.{Option, Some, slice_index_or, ◌==◌, nat_lt, nat_le, if◌then◌else◌}
 use Rattle.std.proofs.lemmas.Bool.Decides.{nat_tests}
@@ -13,7 +13,9 @@ use Rattle.theorems.proofs.Changes.{at-itself}
 use Rattle.cluster.specs.Parcels.{Delivery, Number, Acknowledgement, Ask, Resume, Saved, Parcel, parcel, In}
 use Rattle.world.specs.Phases.{Up}
 use Rattle.cluster.specs.Cluster.{Cluster}
-use Rattle.cluster.specs.Rules.{Input, Arrives, May, does, IsNode}
+use Rattle.cluster.specs.Rules.{Input, Arrives, May, IsNode}
+use Rattle.cluster.proofs.Goes.{goes-act}
+use Rattle.packets.specs.Says.{PutOut}
 use Rattle.packets.specs.declared.packet.Body.TheVariants as packets
 use Rattle.packets.specs.declared.packet.NodePacket.{NodePacket}
 use Rattle.stores.specs.declared.change.Output.{Output}
@@ -24,10 +26,10 @@ use Rattle.stores.specs.Peer.{ThePeer, no_entry, last_of, is_kept, appended, rec
 use Rattle.stores.specs.Store.{TheStore, IsOf, peer_at, with_peer}
 use Rattle.gateway.specs.Gateway.{TheGateway, peer_of, posts, happens}
 use Rattle.gateway.specs.Calls.{obeyed}
-use Rattle.gateway.specs.Stands.{Stands, PutOut, KeepsOf, EndsWith, Goes, shown_as}
+use Rattle.gateway.specs.Stands.{Stands, KeepsOf, EndsWith, Goes, shown_as}
 use Rattle.stores.proofs.Peers.{each-peer, same-part, as-many, each-twice, twice-many}
 use Rattle.gateway.proofs.Preservation.{kept-within, sent-size, kept-appended, kept-numbered, kept-dropped, kept-forgot}
-use Rattle.gateway.proofs.Steps.{takes-here, out-posted, does-one, stays, stands-with, stands-waiting}
+use Rattle.gateway.proofs.Steps.{takes-here, out-posted, stays, stands-with, stands-waiting}
 
 pub node-is : (g : TheGateway) (c : Cluster) (p : ℕ) → Stands g c → IsOf p g.store → IsNode c p
 node-is g c p s o = (o.some, omega (arith, o.low, s.count))
@@ -55,7 +57,7 @@ module _ (g : TheGateway) (c : Cluster) (p : ℕ) (new : ThePeer) (o : IsOf p g.
   -- it has other logs, and the rest is as it was
   stands-logs : {ks : List Change} {packets : List NodePacket} {trims : ℕ → ℕ → ℕ} {numbers : ℕ → ℕ → ℕ → Option ℕ} {inputs : ℕ → List Payload} {parcels : List Parcel}
       → new.shown ≡ (peer_of p g).shown → new.heard ≡ (peer_of p g).heard → new.resumed ≡ (peer_of p g).resumed
-      → ((q : ℕ) → IsNode c q → KeepsOf (peer_at q store) (trims 0 q) (inputs q) (numbers 0 q)) → AllByRecursion (PutOut c.world.count parcels) packets
+      → ((q : ℕ) → IsNode c q → KeepsOf (peer_at q store) (trims 0 q) (inputs q) (numbers 0 q)) → AllByRecursion (PutOut (record c { parcels = parcels }) 0) packets
       → Stands (record g { store = with_peer p new g.store; changes = ks; out = packets }) (record c { parcels = parcels; world = record c.world { trims = trims; numbers = numbers; inputs = inputs } })
   stands-logs shown heard resumed logs out = stands-with g c s count-still logs (shown-still shown) s.outputs (heard-still heard) (resumed-still resumed) out
 
@@ -73,7 +75,7 @@ kept-same y z d xs numbers e f k =
 
 -- an input
 pub goes-input : (g : TheGateway) (c : Cluster) (p : ℕ) (x : Payload) → IsOf p g.store → Stands g c → Goes (happens (changes.Input p x) g) c
-goes-input g c p x o s = does-one (happens (changes.Input p x) g) c (Input p x) node tt (stands-logs g c p (appended x (peer_of p g)) o s refl refl refl logs s.out)
+goes-input g c p x o s = goes-act true 0 (Stands (happens (changes.Input p x) g)) c (Input p x) node tt tt refl (stands-logs g c p (appended x (peer_of p g)) o s refl refl refl logs s.out)
   where
     node : IsNode c p
     node = node-is g c p s o
@@ -86,8 +88,9 @@ goes-input g c p x o s = does-one (happens (changes.Input p x) g) c (Input p x) 
 -- a number is recorded, and acknowledged
 pub goes-numbered : (g : TheGateway) (c : Cluster) (p i ssn k : ℕ) → IsOf p g.store → Stands g c → In (parcel p 0 (Number i ssn k)) c.parcels → i ≡ (peer_of p g).heard → is_kept ssn (peer_of p g) ≡ true
     → Goes (posts p (packets.Acknowledgement i k) (happens (changes.Numbered p ssn k) g)) c
-goes-numbered g c p i ssn k o s given heard kept = does-one (posts p (packets.Acknowledgement i k) (happens (changes.Numbered p ssn k) g)) c (Arrives p 0 (Number i ssn k)) may refl
-    (stands-logs g c p (recorded ssn k (peer_of p g)) o s refl refl refl logs (out-posted (happens (changes.Numbered p ssn k) g) c p (packets.Acknowledgement i k) (Acknowledgement i k) refl (count-still g c p (recorded ssn k (peer_of p g)) o s) s.out))
+goes-numbered g c p i ssn k o s given heard kept = goes-act true 0 (Stands (posts p (packets.Acknowledgement i k) (happens (changes.Numbered p ssn k) g))) c (Arrives p 0 (Number i ssn k)) may tt tt refl
+    (stands-logs g c p (recorded ssn k (peer_of p g)) o s refl refl refl logs (out-posted (happens (changes.Numbered p ssn k) g) c (record c { parcels = parcel 0 p (Acknowledgement i k) ∷ c.parcels }) p (packets.Acknowledgement i k) refl (λ y a. inr a) (λ y a. a)
+    (count-still g c p (recorded ssn k (peer_of p g)) o s) (Acknowledgement i k, refl, inl refl, tt) s.out))
   where
     node : IsNode c p
     node = node-is g c p s o
@@ -119,7 +122,7 @@ trims_dropped c p k = max (c.world.trims 0 p) (min k (length (c.world.inputs p))
 -- what is covered for good is dropped
 pub goes-dropped : (g : TheGateway) (c : Cluster) (p k : ℕ) → IsOf p g.store → Stands g c → In (parcel p 0 (Saved k)) c.parcels → (peer_of p g).dropped < min k (last_of (peer_of p g))
     → Goes (happens (changes.Dropped p (min k (last_of (peer_of p g)))) g) c
-goes-dropped g c p k o s given some = does-one (happens (changes.Dropped p (min k (last_of (peer_of p g)))) g) c (Arrives p 0 (Saved k)) (given, takes-here g c s) refl
+goes-dropped g c p k o s given some = goes-act true 0 (Stands (happens (changes.Dropped p (min k (last_of (peer_of p g)))) g)) c (Arrives p 0 (Saved k)) (given, takes-here g c s) tt tt refl
     (stands-logs g c p (dropped_first (many_dropped (peer_of p g) k) (peer_of p g)) o s refl refl refl logs s.out)
   where
     node : IsNode c p
@@ -160,7 +163,7 @@ ends-push o os h e =
 -- an output is shown
 pub goes-shown : (g : TheGateway) (c : Cluster) (i : ℕ) (x : Output) → IsOf x.process g.store → Stands g c → In (parcel x.process 0 (Delivery i x.ssn x.payload)) c.parcels → i ≡ (peer_of x.process g).heard
     → x.ssn ≡ suc (peer_of x.process g).shown → Goes (happens (changes.Shown x) g) c
-goes-shown g c i x o s given heard next = does-one (happens (changes.Shown x) g) c (Arrives x.process 0 (Delivery i x.ssn x.payload)) may refl
+goes-shown g c i x o s given heard next = goes-act true 0 (Stands (happens (changes.Shown x) g)) c (Arrives x.process 0 (Delivery i x.ssn x.payload)) may tt tt refl
     (stands-with g c s (count-still g c x.process (shows x.ssn (peer_of x.process g)) o s) logs shown (ends-push x g.store.outputs c.world.shown s.outputs) (heard-still g c x.process (shows x.ssn (peer_of x.process g)) o s refl) (resumed-still g c x.process (shows x.ssn (peer_of x.process g)) o s refl) s.out)
   where
     node : IsNode c x.process
@@ -202,7 +205,7 @@ goes-asked g c s = stays (record g { changes = [] }) c (stands-waiting g c s s.o
 
 -- a newer incarnation is heard of
 pub goes-heard : (g : TheGateway) (c : Cluster) (p i k : ℕ) → IsOf p g.store → Stands g c → In (parcel p 0 (Ask i k)) c.parcels → (peer_of p g).heard < i → Goes (happens (changes.Heard p i false) g) c
-goes-heard g c p i k o s given newer = does-one (happens (changes.Heard p i false) g) c (Arrives p 0 (Ask i k)) (given, (omega (arith, s.heard p node, newer), inl (takes-here g c s))) refl
+goes-heard g c p i k o s given newer = goes-act true 0 (Stands (happens (changes.Heard p i false) g)) c (Arrives p 0 (Ask i k)) (given, (omega (arith, s.heard p node, newer), inl (takes-here g c s))) tt tt refl
     (stands-with g c s (count-still g c p (hears i false (peer_of p g)) o s) logs (shown-still g c p (hears i false (peer_of p g)) o s refl) s.outputs heard resumed s.out)
   where
     node : IsNode c p
@@ -223,7 +226,7 @@ goes-heard g c p i k o s given newer = does-one (happens (changes.Heard p i fals
 -- a Resume is obeyed: numbers above what is kept are forgotten
 pub goes-obeyed : (g : TheGateway) (c : Cluster) (p i k n : ℕ) → IsOf p g.store → Stands g c → In (parcel p 0 (Resume i k n)) c.parcels → i ≡ (peer_of p g).heard → (peer_of p g).resumed ≡ false → Goes (obeyed p i k g) c
 goes-obeyed g c p i k n o s given last fresh =
-    does-one (obeyed p i k g) c (Arrives p 0 (Resume i k n)) (given, (takes-here g c s, last ∙ sym (s.heard p node), s.resumed p node ∙ fresh, (λ m busy. absurd (let up : c.world.phase 0 ≡ Up = s.phase in cc)))) refl
+    goes-act true 0 (Stands (obeyed p i k g)) c (Arrives p 0 (Resume i k n)) (given, (takes-here g c s, last ∙ sym (s.heard p node), s.resumed p node ∙ fresh, (λ m busy. absurd (let up : c.world.phase 0 ≡ Up = s.phase in cc)))) tt tt refl
     (stands-with g c s (twice-many g.store p (forgets k (peer_of p g)) (hears i true) o ∙ s.count) logs shown s.outputs heard resumed s.out)
   where
     node : IsNode c p

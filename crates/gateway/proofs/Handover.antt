@@ -15,12 +15,13 @@ use Rattle.stores.specs.Store.{IsOf}
 use Rattle.gateway.specs.Gateway.{TheGateway, peer_of, posts, happens}
 use Rattle.gateway.specs.Calls.{is_for, is_next, says_shown, arrived, recorded_by, dropped_by, told_of, asked, obeyed, restores, resumed_by, told, handed}
 use Rattle.packets.specs.Says.{Says}
-use Rattle.gateway.specs.Stands.{Owes, IsHanded}
+use Rattle.cluster.proofs.Goes.{goes-then}
+use Rattle.gateway.specs.Stands.{Stands, Owes, IsHanded}
 use Rattle.gateway.proofs.Changes.{goes-shown, goes-numbered, goes-dropped, goes-heard, goes-obeyed}
 use Rattle.gateway.proofs.Replies.{tells, restoring}
 use Rattle.stores.proofs.Peers.{here-is, as-many, inside, twice-here, twice-inside}
 use Rattle.gateway.proofs.Transmission.{saying-shown}
-use Rattle.gateway.proofs.Steps.{stays, goes-then, owes-then, by-if}
+use Rattle.gateway.proofs.Steps.{stays, owes-then, by-if}
 
 -- where a process says this to it
 abbrev Told : ℕ → Body → TheGateway → TheGateway → Type 0
@@ -68,7 +69,7 @@ asks p i k g o =
     let newer : (peer_of p g).heard < i = (let a : (peer_of p g).heard ≤ i = grind (arith, nat_tests) in let b : i ≢ (peer_of p g).heard = grind (arith, nat_tests) in omega (arith, a, b)) in
     let m : TheGateway = happens (changes.Heard p i false) g in
     let there : peer_of p m ≡ hears i false (peer_of p g) = here-is g.store p (hears i false (peer_of p g)) o in
-    goes-then m (posts p (told_of p i k g) m) c (goes-heard g c p i k o s given newer)
+    goes-then true 0 (Stands m) (Stands (posts p (told_of p i k g) m)) c (goes-heard g c p i k o s given newer)
     (λ d t. tells g m d p i k o (inside g.store p (hears i false (peer_of p g)) o) t (ap (λ (z : ThePeer). z.dropped) there) (ap (λ (z : ThePeer). z.entries) there) (ap (λ (z : ThePeer). z.heard) (sym there)))))
 
 -- one resumes
@@ -78,7 +79,7 @@ resumes p i k n g o =
     (λ e. (let heard : i ≡ (peer_of p g).heard = grind (arith, nat_tests) in
     by-if (λ z. Told p (Resume i k n) g (restores p i n z)) (peer_of p g).resumed g (obeyed p i k g)
     (λ f c s given. restoring g c p i n o s heard f)
-    (λ f c s given. goes-then (obeyed p i k g) (restores p i n (obeyed p i k g)) c (goes-obeyed g c p i k n o s given heard f)
+    (λ f c s given. goes-then true 0 (Stands (obeyed p i k g)) (Stands (restores p i n (obeyed p i k g))) c (goes-obeyed g c p i k n o s given heard f)
     (λ d t. let there : peer_of p (obeyed p i k g) ≡ hears i true (forgets k (peer_of p g)) = twice-here g.store p (forgets k (peer_of p g)) (hears i true) o in
     restoring (obeyed p i k g) d p i n (twice-inside g.store p (forgets k (peer_of p g)) (hears i true) o) t (ap (λ (z : ThePeer). z.heard) (sym there)) (ap (λ (z : ThePeer). z.resumed) there)))))
     (λ e. ignores p (Resume i k n) g)
@@ -90,11 +91,11 @@ said-is ps p to b d here e i =
     subst (λ z. In (parcel p z b) ps) here (subst (λ z. In (parcel p to z) ps) same i)
 
 told-so : (x : NodePacket) (g : TheGateway) → IsOf x.from g.store → x.to ≡ 0 → (b : bodies.Body) → x.body ≡ b → IsHanded x g (told x.from b g)
-told-so x g o me (packets.Delivery i ssn y) e c s w = arrives i (record { process = x.from; ssn = ssn; payload = y }) g o c s (said-is c.parcels x.from x.to (Delivery i ssn y) w.body me (subst (λ z. Says x.from z w.body) e w.says) w.among)
-told-so x g o me (packets.Number i ssn k) e c s w = records x.from i ssn k g o c s (said-is c.parcels x.from x.to (Number i ssn k) w.body me (subst (λ z. Says x.from z w.body) e w.says) w.among)
-told-so x g o me (packets.Saved k) e c s w = drops x.from k g o c s (said-is c.parcels x.from x.to (Saved k) w.body me (subst (λ z. Says x.from z w.body) e w.says) w.among)
-told-so x g o me (packets.Ask i k) e c s w = asks x.from i k g o c s (said-is c.parcels x.from x.to (Ask i k) w.body me (subst (λ z. Says x.from z w.body) e w.says) w.among)
-told-so x g o me (packets.Resume i k n) e c s w = resumes x.from i k n g o c s (said-is c.parcels x.from x.to (Resume i k n) w.body me (subst (λ z. Says x.from z w.body) e w.says) w.among)
+told-so x g o me (packets.Delivery i ssn y) e c s w = arrives i (record { process = x.from; ssn = ssn; payload = y }) g o c s (said-is c.parcels x.from x.to (Delivery i ssn y) w.0 me (subst (λ z. Says x.from z w.0) e w.1) w.2)
+told-so x g o me (packets.Number i ssn k) e c s w = records x.from i ssn k g o c s (said-is c.parcels x.from x.to (Number i ssn k) w.0 me (subst (λ z. Says x.from z w.0) e w.1) w.2)
+told-so x g o me (packets.Saved k) e c s w = drops x.from k g o c s (said-is c.parcels x.from x.to (Saved k) w.0 me (subst (λ z. Says x.from z w.0) e w.1) w.2)
+told-so x g o me (packets.Ask i k) e c s w = asks x.from i k g o c s (said-is c.parcels x.from x.to (Ask i k) w.0 me (subst (λ z. Says x.from z w.0) e w.1) w.2)
+told-so x g o me (packets.Resume i k n) e c s w = resumes x.from i k n g o c s (said-is c.parcels x.from x.to (Resume i k n) w.0 me (subst (λ z. Says x.from z w.0) e w.1) w.2)
 told-so x g o me other e c s w = stays g c s
 
 pub handed-so : (x : NodePacket) (g : TheGateway) → IsHanded x g (handed x g)

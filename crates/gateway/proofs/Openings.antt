@@ -17,6 +17,7 @@ stands-opened count page tick f =
       phase = refl;
       life = refl;
       history = refl;
+      exact = refl;
       logs = λ p n. subst (λ z. KeepsOf z 0 [] (λ _. None)) (sym (none p n.0 n.1)) (record { before = []; many = refl; joined = refl; dropped_is = refl; numbers_are = λ i l. absurd (omega (arith, l)); beyond = λ i l. refl });
       shown = λ p n. subst (λ (z : ThePeer). z.shown ≡ 0) (sym (none p n.0 n.1)) refl;
       outputs = record { before = []; joined = refl };

@@ -15,7 +15,7 @@ use Rattle.packets.specs.Packet.{flags_of}
 use Rattle.packets.specs.Pages.{entries_from}
 use Rattle.packets.specs.Says.{first_told, told_end}
 use Rattle.packets.proofs.PageLemmas.{all-told}
-use Rattle.packets.proofs.Reports.{found_as, first-split, told-from, entries-over, entries-ordered, logged-when, logged-off, lost-is, page-told, page-goes}
+use Rattle.packets.proofs.Reports.{found_as, first-split, told-from, entries-over, entries-ordered, logged-when, logged-off, lost-is, exact-is, page-told, page-goes}
 use Rattle.stores.specs.declared.peer.Logged.{Logged}
 use Rattle.stores.specs.Peer.{ThePeer, no_entry, is_kept, payload_of}
 use Rattle.stores.specs.Store.{IsOf}
@@ -81,8 +81,8 @@ module _ (g : TheGateway) (c : Cluster) (d : ℕ) (s : Stands g c) (o : IsNode c
 pub tells : (old g : TheGateway) (c : Cluster) (p i k : ℕ) → IsOf p old.store → IsOf p g.store → Stands g c → (peer_of p g).dropped ≡ (peer_of p old).dropped → (peer_of p g).entries ≡ (peer_of p old).entries → i ≡ (peer_of p g).heard
     → Goes (posts p (told_of p i k old) g) c
 tells old g c p i k was o s dropped entries heard =
-    posted g c p (told_of p i k old) (Told i 1 k (told_end (flags_of (told_all p k old) false true) k (told_page p k old)) (entry_of c 0 p)) (entry_of c 0 p, refl, lost-is (told_all p k old) true, told) s node
-    (well-here g c s, heard ∙ sym (s.heard p node), sym s.life, (λ v e. page-goes old.page k v true (entries_in k (peer_of p old)) (entries-ordered k (peer_of p old).dropped (payloads_in (peer_of p old)) (numbers_in (peer_of p old))) e), (λ m l r. refl))
+    posted g c p (told_of p i k old) (Told i 1 k (told_end (flags_of (told_all p k old) false true) k (told_page p k old)) (entry_of c 0 p)) (entry_of c 0 p, refl, lost-is (told_all p k old) true, told) (exact-is (told_all p k old) true) s node
+    (well-here g c s, heard ∙ sym (s.heard p node), sym s.life, (λ v e. page-goes old.page k v true (entries_in k (peer_of p old)) (entries-ordered k (peer_of p old).dropped (payloads_in (peer_of p old)) (numbers_in (peer_of p old))) e), (λ m l r. refl)) tt
   where
     node : IsNode c p
     node = node-is g c p s o
@@ -96,8 +96,8 @@ tells old g c p i k was o s dropped entries heard =
 -- the answer to a Resume
 pub restoring : (g : TheGateway) (c : Cluster) (p i n : ℕ) → IsOf p g.store → Stands g c → i ≡ (peer_of p g).heard → (peer_of p g).resumed ≡ true → Goes (restores p i n g) c
 restoring g c p i n o s heard resumed =
-    posted g c p (restored_of p i n g) (Restored i 1 (peer_of p g).shown n None (λ ssn. None)) ((λ ssn. None), refl, (λ ssn a b r. refl)) s node
-    (well-here g c s, heard ∙ sym (s.heard p node), s.resumed p node ∙ resumed, (λ m busy. absurd (let up : c.world.phase 0 ≡ Up = s.phase in cc)), sym s.life, s.shown p node, (λ v e. absurd (cc)), (λ ssn l r. rw s.history refl))
+    posted g c p (restored_of p i n g) (Restored i 1 (peer_of p g).shown n None (λ ssn. None)) ((λ ssn. None), refl, (λ ssn a b r. refl)) refl s node
+    (well-here g c s, heard ∙ sym (s.heard p node), s.resumed p node ∙ resumed, (λ m busy. absurd (let up : c.world.phase 0 ≡ Up = s.phase in cc)), sym s.life, s.shown p node, (λ v e. absurd (cc)), (λ ssn l r. rw s.history refl)) tt
   where
     node : IsNode c p
     node = node-is g c p s o

@@ -1,6 +1,6 @@
 -- What the gateway sends, and sends again, it may
 use Rattle.std.proofs.Common.{◌≡◌, ℕ, zero, suc, ◌+◌, ◌-◌, ◌<◌, ◌≤◌, List, [], ◌∷◌, ◌++◌, length, map, take, drop, Bool, true, false, refl, sym, ap, ◌∙◌, subst, arith}
-use Rattle.std.specs.Prelude.{Option, Some, None, is_none, slice_get, slice_index_or, nat_lt, nat_le, if◌then◌else◌}
+use Rattle.std.specs.Prelude.{Option, Some, None, is_none, slice_index_or, nat_lt, nat_le, if◌then◌else◌}
 use Rattle.std.specs.List.{AllByRecursion}
 use Rattle.std.proofs.lemmas.Bool.Decides.{nat_tests}
 use Rattle.std.proofs.lemmas.List.{get_or-map, length-map}
@@ -8,6 +8,7 @@ use Rattle.world.specs.History.{Payload, nth}
 use Rattle.cluster.specs.Parcels.{Delivery, Saved}
 use Rattle.cluster.specs.Rules.{IsNode}
 use Rattle.packets.specs.declared.packet.Body.TheVariants as packets
+use Rattle.packets.proofs.Lists.{get-behind, get-some}
 use Rattle.stores.specs.declared.peer.Logged.{Logged}
 use Rattle.stores.specs.declared.change.Change.TheVariants as changes
 use Rattle.stores.specs.Peer.{ThePeer, no_entry, last_of, is_kept, payload_of, number_of, appended}
@@ -21,21 +22,6 @@ use Rattle.gateway.proofs.Changes.{node-is, goes-input, goes-taken}
 use Rattle.gateway.proofs.Steps.{posted, well-here, acts-self, acts-then, by-if}
 
 -- Messages
-get-behind : {X : Type 0} (xs ys : List X) (k : ℕ) (x : X) → slice_get ys k ≡ Some x → slice_get (xs ++ ys) (length xs + k) ≡ Some x
-get-behind {X} [] ys k x e =
-    let P : ℕ → Type 0 = λ j. slice_get ys j ≡ Some x in
-    let j : k ≡ 0 + k = omega arith in
-    subst P j e
-get-behind {X} (y ∷ xs) ys k x e =
-    let P : ℕ → Type 0 = λ j. slice_get (y ∷ (xs ++ ys)) j ≡ Some x in
-    let j : suc (length xs + k) ≡ suc (length xs) + k = omega arith in
-    subst P j (get-behind xs ys k x e)
-
-get-some : (xs : List Payload) (k : ℕ) → k < length xs → slice_get xs k ≡ Some (slice_index_or xs k [])
-get-some [] k l = absurd (omega arith)
-get-some (x ∷ xs) zero l = refl
-get-some (x ∷ xs) (suc k) l = get-some xs k (omega arith)
-
 abbrev payload_in : Logged → List ℕ
 payload_in e = e.payload
 
@@ -57,14 +43,14 @@ delivering g p ssn o kept c s u =
     let w = kept-within (peer_of p g) ssn kept in
     let size : length (c.world.inputs p) ≡ last_of (peer_of p g) = sent-size (peer_of p g) (c.world.trims 0 p) (c.world.inputs p) (c.world.numbers 0 p) l in
     let x : Payload = payload_of ssn (peer_of p g) in
-    posted g c p (packets.Delivery 1 ssn x) (Delivery 1 ssn x) refl s node
-    (well-here g c s, sym s.life, omega (arith, w.1, size), omega (arith, w.0, l.dropped_is), sent-is (peer_of p g) (c.world.trims 0 p) (c.world.inputs p) (c.world.numbers 0 p) ssn l kept)
+    posted g c p (packets.Delivery 1 ssn x) (Delivery 1 ssn x) refl tt s node
+    (well-here g c s, sym s.life, omega (arith, w.1, size), omega (arith, w.0, l.dropped_is), sent-is (peer_of p g) (c.world.trims 0 p) (c.world.inputs p) (c.world.numbers 0 p) ssn l kept) (λ durable. omega (arith, w.1, size))
 
 -- a process is told how many of its outputs were shown
 pub saying-shown : (g : TheGateway) (p : ℕ) → IsOf p g.store → Acts g (says_shown p g)
 saying-shown g p o c s u =
     let node : IsNode c p = node-is g c p s o in
-    posted g c p (packets.Saved (peer_of p g).shown) (Saved (peer_of p g).shown) refl s node (well-here g c s, s.shown p node)
+    posted g c p (packets.Saved (peer_of p g).shown) (Saved (peer_of p g).shown) refl tt s node (well-here g c s, s.shown p node) tt
 
 -- the last one is kept
 last-kept : (p : ThePeer) (x : Payload) → is_kept (last_of p + 1) (appended x p) ≡ true

@@ -4,8 +4,9 @@ use Rattle.std.specs.List.{AllByRecursion}
 use Rattle.packets.specs.declared.packet.NodePacket.{NodePacket}
 use Rattle.cluster.specs.Cluster.{Cluster}
 use Rattle.packets.specs.Outbox.{Pops}
+use Rattle.packets.specs.Says.{PutOut}
 use Rattle.gateway.specs.Gateway.{TheGateway}
-use Rattle.gateway.specs.Stands.{Stands, PutOut, Takes}
+use Rattle.gateway.specs.Stands.{Stands, Takes}
 use Rattle.gateway.proofs.Steps.{stands-waiting}
 
 pub on-ok : {X E : Type 0} (r : Result X E) (P Q : Type 0) → (P → Q) → OnOk r P → OnOk r Q
@@ -23,7 +24,7 @@ if-ok (Err e) P Q f p = tt
 -- the first packet that waits leaves
 pub takes-so : (o : Option NodePacket) (g : TheGateway) (rest : List NodePacket) → Pops o g.out rest → Takes o g (record g { out = rest })
 takes-so None g rest e = (e.0, ap (λ xs. record g { out = xs }) e.1 ∙ ap (λ xs. record g { out = xs }) (let back : [] ≡ g.out = (cc) in back))
-takes-so (Some x) g rest e = (ap (λ xs. record g { out = xs }) e, λ c s. taken c s (subst (AllByRecursion (PutOut c.world.count c.parcels)) e s.out))
+takes-so (Some x) g rest e = (ap (λ xs. record g { out = xs }) e, λ c s. taken c s (subst (AllByRecursion (PutOut c 0)) e s.out))
   where
-    taken : (c : Cluster) → Stands g c → AllByRecursion (PutOut c.world.count c.parcels) (x ∷ rest) → PutOut c.world.count c.parcels x × Stands (record g { out = rest }) c
+    taken : (c : Cluster) → Stands g c → AllByRecursion (PutOut c 0) (x ∷ rest) → PutOut c 0 x × Stands (record g { out = rest }) c
     taken c s out = (out.0, stands-waiting g c s out.1)

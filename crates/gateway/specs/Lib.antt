@@ -1,6 +1,5 @@
 pub mod Gateway
 pub mod Calls
-pub mod Acts
 pub mod Stands
 pub mod Since
 pub mod Bytes

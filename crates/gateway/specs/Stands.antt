@@ -4,28 +4,15 @@ use Rattle.std.specs.List.{AllByRecursion}
 use Rattle.world.specs.declared.message.Message.{Message}
 use Rattle.world.specs.History.{Payload, count_of}
 use Rattle.world.specs.Phases.{Up}
-use Rattle.cluster.specs.Parcels.{Body, Parcel, parcel, In}
 use Rattle.cluster.specs.Cluster.{Cluster, Live}
-use Rattle.cluster.specs.Rules.{Act, Run, after_run, IsNode, message}
+use Rattle.cluster.specs.Rules.{IsNode, message}
+use Rattle.cluster.specs.Goes.{GoesTo}
 use Rattle.packets.specs.declared.packet.NodePacket.{NodePacket}
 use Rattle.stores.specs.declared.peer.Logged.{Logged}
 use Rattle.stores.specs.declared.change.Output.{Output}
 use Rattle.stores.specs.Peer.{ThePeer, no_entry}
 use Rattle.gateway.specs.Gateway.{TheGateway, peer_of}
-use Rattle.packets.specs.Says.{Says}
-use Rattle.gateway.specs.Acts.{IsByGateway}
-
--- p sent a body that the packet says
-pub record WasSaid (parcels : List Parcel) (p : ℕ) (x : NodePacket) : Type 0 where
-  pub body : Body
-  pub says : Says p x.body body
-  pub among : In (parcel p x.to body) parcels
-
--- the packet is from the gateway of a cluster of `count` processes, and was sent
-pub record PutOut (count : ℕ) (parcels : List Parcel) (x : NodePacket) : Type 0 where
-  pub count_is : x.count ≡ count
-  pub from : x.from ≡ 0
-  pub said : WasSaid parcels 0 x
+use Rattle.packets.specs.Says.{WasSaid, PutOut}
 
 -- of these messages the first ones are dropped, and the log has the others, with their RSNs by SSN; what isn't sent yet has no RSN
 pub record KeepsOf (p : ThePeer) (dropped : ℕ) (payloads : List Payload) (numbers : ℕ → Option ℕ) : Type 0 where
@@ -53,20 +40,19 @@ pub record Stands (g : TheGateway) (c : Cluster) : Type 0 where
   pub phase : c.world.phase 0 ≡ Up
   pub life : c.world.incarnation 0 ≡ 1
   pub history : c.world.history 0 ≡ []
+  -- it never fails
+  pub exact : c.exact 0 ≡ true
   pub logs : (p : ℕ) → IsNode c p → KeepsOf (peer_of p g) (c.world.trims 0 p) (c.world.inputs p) (c.world.numbers 0 p)
   pub shown : (p : ℕ) → IsNode c p → (peer_of p g).shown ≡ count_of p c.world.shown
   pub outputs : EndsWith g.store.outputs c.world.shown
   pub heard : (p : ℕ) → IsNode c p → c.heard 0 p ≡ (peer_of p g).heard
   pub resumed : (p : ℕ) → IsNode c p → c.resumed 0 p ≡ (peer_of p g).resumed
   -- the packets that wait were sent in the cluster
-  pub out : AllByRecursion (PutOut c.world.count c.parcels) g.out
+  pub out : AllByRecursion (PutOut c 0) g.out
 
 -- acts of the gateway lead from the cluster c to one with which the new gateway agrees
-pub record Goes (new : TheGateway) (c : Cluster) : Type 0 where
-  pub acts : List Act
-  pub run : Run c acts
-  pub by : AllByRecursion IsByGateway acts
-  pub stands : Stands new (after_run c acts)
+abbrev pub Goes : TheGateway → Cluster → Type 0
+Goes new c = GoesTo true 0 (Stands new) c
 
 -- what a call owes, in each cluster with which the gateway agrees and for which `given` holds
 abbrev pub Owes : (Cluster → Type 0) → TheGateway → TheGateway → Type 0
@@ -78,10 +64,10 @@ Acts old new = Owes (λ c. Unit {0}) old new
 
 -- what a call owes that is handed a packet, if that was sent
 abbrev pub IsHanded : NodePacket → TheGateway → TheGateway → Type 0
-IsHanded x old new = Owes (λ c. WasSaid c.parcels x.from x) old new
+IsHanded x old new = Owes (λ c. WasSaid c x.from x.to x.body) old new
 
 -- what `take` owes: it gives the first packet that waited, which was sent, and the gateway no longer has it
 abbrev pub Takes : Option NodePacket → TheGateway → TheGateway → Type 0
 Takes None old new = (old.out ≡ []) × (new ≡ old)
 Takes (Some x) old new = (old ≡ record new { out = x ∷ new.out })
-    × ((c : Cluster) → Stands old c → PutOut c.world.count c.parcels x × Stands new c)
+    × ((c : Cluster) → Stands old c → PutOut c 0 x × Stands new c)

@@ -14,7 +14,7 @@ use Rattle.cluster.specs.Cluster.{Cluster, waiting}
 use Rattle.cluster.specs.Rules.{Act, Arrives, May, does}
 use Rattle.node.specs.Node.{TheNode, counted, log_at}
 use Rattle.node.specs.Stands.{Stands, HasReceived, IsShut, sent_by, freed_in, most_released, GoesOn, Receives}
-use Rattle.node.proofs.Goes.{goes-act}
+use Rattle.cluster.proofs.Goes.{goes-act}
 use Rattle.node.proofs.Puts.{stands-takes}
 use Rattle.node.proofs.StandsLemmas.{stands-anew}
 use Rattle.node.proofs.Commits.{long}
@@ -139,7 +139,7 @@ module _ (n : TheNode) (c : Cluster) (q i k : ℕ) (s : Stands n c n.me) (given 
       fewer s.logs gates (λ d. free n.limits.durable d (s.free d)) s.heard s.resumed s.out
 
   goes-counted : GoesOn n.me (counted k n) c
-  goes-counted = goes-act true n.me (λ d. Stands (counted k n) d n.me) c act may tt refl stands-counted
+  goes-counted = goes-act true n.me (λ d. Stands (counted k n) d n.me) c act may tt tt refl stands-counted
 
 -- an acknowledgement of the present life, for a number that isn't acknowledged yet, is counted
 pub counts : (n : TheNode) (q i m k : ℕ) → n.frozen ≡ false → i ≡ n.life → m ≡ n.base + k → 0 < k → k ≤ length n.receipts.senders → slice_index_or n.receipts.acknowledged (k - 1) false ≡ false → Receives q (Acknowledgement i m) n (counted k n)

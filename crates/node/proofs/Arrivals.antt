@@ -19,7 +19,7 @@ use Rattle.node.specs.Node.{TheNode, posts, tells, covered_of}
 use Rattle.node.specs.Stands.{Stands, HasReceived, Receives, Acts}
 use Rattle.packets.proofs.Lists.{get-behind}
 use Rattle.node.proofs.Lists.{count-append}
-use Rattle.node.proofs.Goes.{goes-act}
+use Rattle.cluster.proofs.Goes.{goes-act}
 use Rattle.node.proofs.Puts.{stands-takes, stands-well, posted}
 use Rattle.node.proofs.StandsLemmas.{stands-staged}
 use Rattle.node.proofs.Numbers.{length-numbers, rsn_from-numbers}
@@ -48,7 +48,7 @@ covers n c p q s low positive =
 -- what the checkpoint covers of a peer it may tell it
 pub says-covered : (n : TheNode) (to : ℕ) → to ≤ n.count → to ≢ n.me → Acts n (posts to (packets.Saved (covered_of to n)) n)
 says-covered n to low other c s g =
-    posted n c to (packets.Saved (covered_of to n)) (Saved (covered_of to n)) refl s low other (stands-well n c n.me s, covers n c n.me to s low s.inside.0) tt
+    posted n c to (packets.Saved (covered_of to n)) (Saved (covered_of to n)) refl s low other (stands-well n c n.me s, covers n c n.me to s low s.inside.0) tt tt
 
 -- the sender's message is one that the checkpoint covers
 pub says-saved : (n : TheNode) (from : ℕ) (body : Body) → from ≤ n.count → from ≢ n.me → Receives from body n (posts from (packets.Saved (covered_of from n)) n)
@@ -58,7 +58,7 @@ says-saved n from body low other c s g = says-covered n from low other c s tt
 says-number : (n : TheNode) (from ssn k : ℕ) → from ≤ n.count → from ≢ n.me → covered_of from n < ssn → ssn - covered_of from n - 1 < length (numbers_of from n.receipts)
     → k ≡ n.base + slice_index_or (numbers_of from n.receipts) (ssn - covered_of from n - 1) 0 → Acts n (posts from (packets.Number n.life ssn k) n)
 says-number n from ssn k low other above known is c s g =
-    posted n c from (packets.Number n.life ssn k) (Number n.life ssn k) refl s low other (stands-well n c n.me s, sym s.life, names) tt
+    posted n c from (packets.Number n.life ssn k) (Number n.life ssn k) refl s low other (stands-well n c n.me s, sym s.life, names) tt tt
   where
     r : HasReceived n.count n.base n.covered n.receipts (c.world.history n.me) (c.world.acknowledged n.me)
     r = s.received
@@ -85,11 +85,11 @@ pub starts : (n : TheNode) (from i ssn : ℕ) (x : Payload) → n.frozen ≡ fal
     → Receives from (Delivery i ssn x) n (record n { working = Some (record { sender = from; ssn = ssn; payload = x }) })
 unfolding WINDOW
 starts n from i ssn x live low other idle incarnation above next room c s given =
-    goes-act true n.me At c act (may-open c from n.me i ssn x given (s.inside, stands-takes n c n.me live s, up, incarnation ∙ sym (s.heard from within), is-next, few)) tt refl
+    goes-act true n.me (λ d. Stands (record n { working = Some (record { sender = from; ssn = ssn; payload = x }) }) d n.me) c act (may-open c from n.me i ssn x given (s.inside, stands-takes n c n.me live s, up, incarnation ∙ sym (s.heard from within), is-next, few)) tt tt refl
     (subst At (sym (opens c from n.me i ssn x s.inside.0)) (stands-staged n c n.me s s.stage (at-itself n.me (λ t. (if t then Busy (message from ssn x) else c.world.phase n.me) ≡ Busy (message from ssn x)) refl) is-next))
   where
     At : Cluster → Type 0
-    At d = Stands (record n { working = Some (record { sender = from; ssn = ssn; payload = x }) }) d n.me
+    At d = Stands (record n { working = Some (record { sender = from; ssn = ssn; payload = x }) }) (record d { exact = c.exact; lost = c.lost; said = c.said }) n.me
 
     act : Act
     act = Arrives from n.me (Delivery i ssn x)

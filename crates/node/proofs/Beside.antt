@@ -5,16 +5,16 @@ use Rattle.std.proofs.lemmas.Bool.Decides.{nat_tests}
 use Rattle.world.specs.World.{put}
 use Rattle.world.specs.Phases.{Replaying}
 use Rattle.world.specs.Calls.{peers}
-use Rattle.cluster.specs.Parcels.{Delivery, Number, Acknowledgement, Ask, Told, Resume, Restored, Saved, Parcel, In}
+use Rattle.cluster.specs.Parcels.{Delivery, Number, Acknowledgement, Ask, Told, Resume, Restored, Saved, Parcel, Flagged, Said, In}
 use Rattle.cluster.specs.Cluster.{Cluster}
 use Rattle.cluster.specs.Rules.{Act, Input, Puts, Arrives, Works, Replays, Recovers, Keeps, Opens, does, after_run, goes_on, taken_back}
-use Rattle.cluster.specs.Overlap.{Event, Acts, Meets, Loses, Lacks, Leaves, Doubts, loss, cut, goes}
+use Rattle.cluster.specs.Overlap.{Event, Acts, Meets, Loses, Lacks, Leaves, Doubts, loss, cut, moves, goes, exact_after, lost_after}
 use Rattle.node.specs.Node.{TheNode}
-use Rattle.node.specs.Stands.{Stands, PutOut, actor, doer}
+use Rattle.node.specs.Stands.{Stands, actor, doer}
 use Rattle.cluster.proofs.Settings.{does-count}
 use Rattle.node.specs.Beside.{OthersStand}
-use Rattle.node.proofs.Lists.{all-more}
-use Rattle.node.proofs.Puts.{put-still}
+use Rattle.packets.proofs.Outgoing.{said-more}
+use Rattle.node.proofs.Sent.{all-still}
 
 -- of p the cluster d has what c has, and all that was put out in c
 pub record Same (c d : Cluster) (p : ℕ) : Type 0 where
@@ -38,45 +38,70 @@ pub record Same (c d : Cluster) (p : ℕ) : Type 0 where
   pub saved_trims : (k : ℕ) → c.world.saved_trims p k ≡ d.world.saved_trims p k
   pub parcels : (x : Parcel) → In x c.parcels → In x d.parcels
   pub durable : c.durable ≡ d.durable
+  pub exact : c.exact p ≡ d.exact p
+  pub lost : (k : ℕ) → c.lost p k ≡ d.lost p k
+  pub said : (x : Flagged) → Said x c.said → Said x d.said
 
 -- an act of another node changes none of it
 pub same : (c : Cluster) (a : Act) (p : ℕ) → (p == actor a) ≡ false → Same c (does c a) p
-same c (Input d x) p e = record { count = refl; handlers = refl; stage = refl; greeted = refl; phase = refl; life = refl; history = refl; saved = refl; acknowledged = refl; released = refl; trims = λ k. refl; numbers = λ k. refl; heard = λ k. refl; resumed = λ k. refl; told = λ k. refl; restoring = λ k. refl; stored = refl; saved_trims = λ k. refl; parcels = λ x i. i; durable = refl }
-same c (Puts q d x) p e = record { count = refl; handlers = refl; stage = refl; greeted = refl; phase = refl; life = refl; history = refl; saved = refl; acknowledged = refl; released = refl; trims = λ k. refl; numbers = λ k. refl; heard = λ k. refl; resumed = λ k. refl; told = λ k. refl; restoring = λ k. refl; stored = refl; saved_trims = λ k. refl; parcels = λ x i. inr i; durable = refl }
-same c (Arrives q (suc d) (Delivery i ssn x)) p e = record { count = refl; handlers = refl; stage = refl; greeted = refl; phase = rw e refl; life = refl; history = refl; saved = refl; acknowledged = refl; released = refl; trims = λ k. refl; numbers = λ k. refl; heard = λ k. refl; resumed = λ k. refl; told = λ k. refl; restoring = λ k. refl; stored = refl; saved_trims = λ k. refl; parcels = λ x i. i; durable = refl }
-same c (Arrives q zero (Delivery i ssn x)) p e = record { count = refl; handlers = refl; stage = refl; greeted = refl; phase = refl; life = refl; history = refl; saved = refl; acknowledged = refl; released = refl; trims = λ k. refl; numbers = λ k. refl; heard = λ k. refl; resumed = λ k. refl; told = λ k. refl; restoring = λ k. refl; stored = refl; saved_trims = λ k. refl; parcels = λ x i. i; durable = refl }
-same c (Works q m) p e = record { count = refl; handlers = refl; stage = refl; greeted = refl; phase = rw e refl; life = refl; history = rw e refl; saved = refl; acknowledged = refl; released = refl; trims = λ k. refl; numbers = λ k. refl; heard = λ k. refl; resumed = λ k. refl; told = λ k. refl; restoring = λ k. refl; stored = refl; saved_trims = λ k. refl; parcels = λ x i. i; durable = refl }
+same c (Input d x) p e = record { count = refl; handlers = refl; stage = refl; greeted = refl; phase = refl; life = refl; history = refl; saved = refl; acknowledged = refl; released = refl; trims = λ k. refl; numbers = λ k. refl; heard = λ k. refl; resumed = λ k. refl; told = λ k. refl; restoring = λ k. refl; stored = refl; saved_trims = λ k. refl; parcels = λ x i. i; durable = refl; exact = refl; lost = λ k. refl; said = λ x i. i }
+same c (Puts q d x) p e = record { count = refl; handlers = refl; stage = refl; greeted = refl; phase = refl; life = refl; history = refl; saved = refl; acknowledged = refl; released = refl; trims = λ k. refl; numbers = λ k. refl; heard = λ k. refl; resumed = λ k. refl; told = λ k. refl; restoring = λ k. refl; stored = refl; saved_trims = λ k. refl; parcels = λ x i. inr i; durable = refl; exact = refl; lost = λ k. refl; said = λ x i. i }
+same c (Arrives q (suc d) (Delivery i ssn x)) p e = record { count = refl; handlers = refl; stage = refl; greeted = refl; phase = rw e refl; life = refl; history = refl; saved = refl; acknowledged = refl; released = refl; trims = λ k. refl; numbers = λ k. refl; heard = λ k. refl; resumed = λ k. refl; told = λ k. refl; restoring = λ k. refl; stored = refl; saved_trims = λ k. refl; parcels = λ x i. i; durable = refl; exact = refl; lost = λ k. refl; said = λ x i. i }
+same c (Arrives q zero (Delivery i ssn x)) p e = record { count = refl; handlers = refl; stage = refl; greeted = refl; phase = refl; life = refl; history = refl; saved = refl; acknowledged = refl; released = refl; trims = λ k. refl; numbers = λ k. refl; heard = λ k. refl; resumed = λ k. refl; told = λ k. refl; restoring = λ k. refl; stored = refl; saved_trims = λ k. refl; parcels = λ x i. i; durable = refl; exact = refl; lost = λ k. refl; said = λ x i. i }
+same c (Works q m) p e = record { count = refl; handlers = refl; stage = refl; greeted = refl; phase = rw e refl; life = refl; history = rw e refl; saved = refl; acknowledged = refl; released = refl; trims = λ k. refl; numbers = λ k. refl; heard = λ k. refl; resumed = λ k. refl; told = λ k. refl; restoring = λ k. refl; stored = refl; saved_trims = λ k. refl; parcels = λ x i. i; durable = refl; exact = refl; lost = λ k. refl; said = λ x i. i }
 same c (Replays q j) p e = by_end (nat_lt (c.world.saved q + suc j) (length (c.world.history q)))
   where
     by_end : (b : Bool) → Same c (if b then record c { world = record c.world { phase = put c.world.phase q (Replaying (suc j) false false) } } else goes_on c q (peers c.world q false)) p
-    by_end true = record { count = refl; handlers = refl; stage = refl; greeted = refl; phase = rw e refl; life = refl; history = refl; saved = refl; acknowledged = refl; released = refl; trims = λ k. refl; numbers = λ k. refl; heard = λ k. refl; resumed = λ k. refl; told = λ k. refl; restoring = λ k. refl; stored = refl; saved_trims = λ k. refl; parcels = λ x i. i; durable = refl }
-    by_end false = record { count = refl; handlers = refl; stage = refl; greeted = refl; phase = rw e refl; life = refl; history = refl; saved = refl; acknowledged = refl; released = rw e refl; trims = λ k. refl; numbers = λ k. refl; heard = λ k. refl; resumed = λ k. refl; told = λ k. refl; restoring = λ k. refl; stored = refl; saved_trims = λ k. refl; parcels = λ x i. i; durable = refl }
-same c (Arrives r s (Number i ssn k)) p e = record { count = refl; handlers = refl; stage = refl; greeted = refl; phase = refl; life = refl; history = refl; saved = refl; acknowledged = refl; released = refl; trims = λ k. refl; numbers = λ k. rw e refl; heard = λ k. refl; resumed = λ k. refl; told = λ k. refl; restoring = λ k. refl; stored = refl; saved_trims = λ k. refl; parcels = λ x i. inr i; durable = refl }
-same c (Arrives s r (Acknowledgement i k)) p e = record { count = refl; handlers = refl; stage = refl; greeted = refl; phase = refl; life = refl; history = refl; saved = refl; acknowledged = rw e refl; released = rw e refl; trims = λ k. refl; numbers = λ k. refl; heard = λ k. refl; resumed = λ k. refl; told = λ k. refl; restoring = λ k. refl; stored = refl; saved_trims = λ k. refl; parcels = λ x i. i; durable = refl }
-same c (Arrives d s (Saved n)) p e = record { count = refl; handlers = refl; stage = refl; greeted = refl; phase = refl; life = refl; history = refl; saved = refl; acknowledged = refl; released = refl; trims = λ k. rw e refl; numbers = λ k. refl; heard = λ k. refl; resumed = λ k. refl; told = λ k. refl; restoring = λ k. refl; stored = refl; saved_trims = λ k. refl; parcels = λ x i. i; durable = refl }
-same c (Arrives r q (Ask i k)) p e = record { count = refl; handlers = refl; stage = refl; greeted = refl; phase = refl; life = refl; history = refl; saved = refl; acknowledged = refl; released = refl; trims = λ k. refl; numbers = λ k. refl; heard = λ k. rw e refl; resumed = λ k. rw e refl; told = λ k. rw e refl; restoring = λ k. refl; stored = refl; saved_trims = λ k. refl; parcels = λ x i. i; durable = refl }
-same c (Arrives r q (Told i j k u f)) p e = record { count = refl; handlers = refl; stage = refl; greeted = refl; phase = refl; life = refl; history = refl; saved = refl; acknowledged = refl; released = refl; trims = λ k. refl; numbers = λ k. refl; heard = λ k. rw e refl; resumed = λ k. refl; told = λ k. rw e refl; restoring = λ k. refl; stored = refl; saved_trims = λ k. refl; parcels = λ x i. i; durable = refl }
+    by_end true = record { count = refl; handlers = refl; stage = refl; greeted = refl; phase = rw e refl; life = refl; history = refl; saved = refl; acknowledged = refl; released = refl; trims = λ k. refl; numbers = λ k. refl; heard = λ k. refl; resumed = λ k. refl; told = λ k. refl; restoring = λ k. refl; stored = refl; saved_trims = λ k. refl; parcels = λ x i. i; durable = refl; exact = refl; lost = λ k. refl; said = λ x i. i }
+    by_end false = record { count = refl; handlers = refl; stage = refl; greeted = refl; phase = rw e refl; life = refl; history = refl; saved = refl; acknowledged = refl; released = rw e refl; trims = λ k. refl; numbers = λ k. refl; heard = λ k. refl; resumed = λ k. refl; told = λ k. refl; restoring = λ k. refl; stored = refl; saved_trims = λ k. refl; parcels = λ x i. i; durable = refl; exact = refl; lost = λ k. refl; said = λ x i. i }
+same c (Arrives r s (Number i ssn k)) p e = record { count = refl; handlers = refl; stage = refl; greeted = refl; phase = refl; life = refl; history = refl; saved = refl; acknowledged = refl; released = refl; trims = λ k. refl; numbers = λ k. rw e refl; heard = λ k. refl; resumed = λ k. refl; told = λ k. refl; restoring = λ k. refl; stored = refl; saved_trims = λ k. refl; parcels = λ x i. inr i; durable = refl; exact = refl; lost = λ k. refl; said = λ x i. i }
+same c (Arrives s r (Acknowledgement i k)) p e = record { count = refl; handlers = refl; stage = refl; greeted = refl; phase = refl; life = refl; history = refl; saved = refl; acknowledged = rw e refl; released = rw e refl; trims = λ k. refl; numbers = λ k. refl; heard = λ k. refl; resumed = λ k. refl; told = λ k. refl; restoring = λ k. refl; stored = refl; saved_trims = λ k. refl; parcels = λ x i. i; durable = refl; exact = refl; lost = λ k. refl; said = λ x i. i }
+same c (Arrives d s (Saved n)) p e = record { count = refl; handlers = refl; stage = refl; greeted = refl; phase = refl; life = refl; history = refl; saved = refl; acknowledged = refl; released = refl; trims = λ k. rw e refl; numbers = λ k. refl; heard = λ k. refl; resumed = λ k. refl; told = λ k. refl; restoring = λ k. refl; stored = refl; saved_trims = λ k. refl; parcels = λ x i. i; durable = refl; exact = refl; lost = λ k. refl; said = λ x i. i }
+same c (Arrives r q (Ask i k)) p e = record { count = refl; handlers = refl; stage = refl; greeted = refl; phase = refl; life = refl; history = refl; saved = refl; acknowledged = refl; released = refl; trims = λ k. refl; numbers = λ k. refl; heard = λ k. rw e refl; resumed = λ k. rw e refl; told = λ k. rw e refl; restoring = λ k. refl; stored = refl; saved_trims = λ k. refl; parcels = λ x i. i; durable = refl; exact = refl; lost = λ k. refl; said = λ x i. i }
+same c (Arrives r q (Told i j k u f)) p e = record { count = refl; handlers = refl; stage = refl; greeted = refl; phase = refl; life = refl; history = refl; saved = refl; acknowledged = refl; released = refl; trims = λ k. refl; numbers = λ k. refl; heard = λ k. rw e refl; resumed = λ k. refl; told = λ k. rw e refl; restoring = λ k. refl; stored = refl; saved_trims = λ k. refl; parcels = λ x i. i; durable = refl; exact = refl; lost = λ k. refl; said = λ x i. i }
 same c (Recovers q k) p e = by_end (nat_lt (c.world.saved q) k)
   where
     by_end : (b : Bool) → Same c (if b then record (taken_back c q k) { world = record (taken_back c q k).world { phase = put c.world.phase q (Replaying 0 false false) } } else goes_on (taken_back c q k) q (peers c.world q false)) p
-    by_end true = record { count = refl; handlers = refl; stage = rw e refl; greeted = rw e refl; phase = rw e refl; life = rw e refl; history = rw e refl; saved = refl; acknowledged = rw e refl; released = rw e refl; trims = λ k. rw e refl; numbers = λ k. rw e refl; heard = λ k. refl; resumed = λ k. rw e refl; told = λ k. rw e refl; restoring = λ k. rw e refl; stored = refl; saved_trims = λ k. refl; parcels = λ x i. i; durable = refl }
-    by_end false = record { count = refl; handlers = refl; stage = rw e refl; greeted = rw e refl; phase = rw e refl; life = rw e refl; history = rw e refl; saved = refl; acknowledged = rw e refl; released = rw e refl; trims = λ k. rw e refl; numbers = λ k. rw e refl; heard = λ k. refl; resumed = λ k. rw e refl; told = λ k. rw e refl; restoring = λ k. rw e refl; stored = refl; saved_trims = λ k. refl; parcels = λ x i. i; durable = refl }
-same c (Arrives r q (Resume i k s)) p e = record { count = refl; handlers = refl; stage = refl; greeted = refl; phase = refl; life = refl; history = refl; saved = refl; acknowledged = refl; released = refl; trims = λ k. refl; numbers = λ k. rw e refl; heard = λ k. refl; resumed = λ k. rw e refl; told = λ k. refl; restoring = λ k. refl; stored = refl; saved_trims = λ k. refl; parcels = λ x i. i; durable = refl }
-same c (Arrives r q (Restored i j n s (Some u) f)) p e = record { count = refl; handlers = refl; stage = refl; greeted = refl; phase = refl; life = refl; history = refl; saved = refl; acknowledged = refl; released = refl; trims = λ k. rw e refl; numbers = λ k. rw e refl; heard = λ k. rw e refl; resumed = λ k. refl; told = λ k. refl; restoring = λ k. rw e refl; stored = refl; saved_trims = λ k. refl; parcels = λ x i. i; durable = refl }
-same c (Arrives (suc r) q (Restored i j n s None f)) p e = record { count = refl; handlers = refl; stage = refl; greeted = refl; phase = rw e refl; life = refl; history = refl; saved = refl; acknowledged = refl; released = rw e refl; trims = λ k. rw e refl; numbers = λ k. rw e refl; heard = λ k. rw e refl; resumed = λ k. refl; told = λ k. refl; restoring = λ k. refl; stored = refl; saved_trims = λ k. refl; parcels = λ x i. i; durable = refl }
-same c (Arrives zero q (Restored i j n s None f)) p e = record { count = refl; handlers = refl; stage = refl; greeted = rw e refl; phase = refl; life = refl; history = refl; saved = refl; acknowledged = refl; released = refl; trims = λ k. rw e refl; numbers = λ k. refl; heard = λ k. refl; resumed = λ k. refl; told = λ k. refl; restoring = λ k. refl; stored = refl; saved_trims = λ k. refl; parcels = λ x i. i; durable = refl }
-same c (Keeps q) p e = record { count = refl; handlers = refl; stage = refl; greeted = refl; phase = refl; life = refl; history = refl; saved = rw e refl; acknowledged = rw e refl; released = rw e refl; trims = λ k. refl; numbers = λ k. refl; heard = λ k. refl; resumed = λ k. refl; told = λ k. refl; restoring = λ k. refl; stored = refl; saved_trims = λ k. rw e refl; parcels = λ x i. i; durable = refl }
-same c (Opens q n) p e = record { count = refl; handlers = refl; stage = rw e refl; greeted = refl; phase = refl; life = refl; history = refl; saved = refl; acknowledged = refl; released = refl; trims = λ k. refl; numbers = λ k. refl; heard = λ k. rw e refl; resumed = λ k. rw e refl; told = λ k. rw e refl; restoring = λ k. refl; stored = rw e refl; saved_trims = λ k. refl; parcels = λ x i. i; durable = refl }
-same c other p e = record { count = refl; handlers = refl; stage = rw e refl; greeted = refl; phase = refl; life = refl; history = refl; saved = refl; acknowledged = refl; released = refl; trims = λ k. refl; numbers = λ k. refl; heard = λ k. refl; resumed = λ k. refl; told = λ k. refl; restoring = λ k. refl; stored = refl; saved_trims = λ k. refl; parcels = λ x i. i; durable = refl }
+    by_end true = record { count = refl; handlers = refl; stage = rw e refl; greeted = rw e refl; phase = rw e refl; life = rw e refl; history = rw e refl; saved = refl; acknowledged = rw e refl; released = rw e refl; trims = λ k. rw e refl; numbers = λ k. rw e refl; heard = λ k. refl; resumed = λ k. rw e refl; told = λ k. rw e refl; restoring = λ k. rw e refl; stored = refl; saved_trims = λ k. refl; parcels = λ x i. i; durable = refl; exact = refl; lost = λ k. refl; said = λ x i. i }
+    by_end false = record { count = refl; handlers = refl; stage = rw e refl; greeted = rw e refl; phase = rw e refl; life = rw e refl; history = rw e refl; saved = refl; acknowledged = rw e refl; released = rw e refl; trims = λ k. rw e refl; numbers = λ k. rw e refl; heard = λ k. refl; resumed = λ k. rw e refl; told = λ k. rw e refl; restoring = λ k. rw e refl; stored = refl; saved_trims = λ k. refl; parcels = λ x i. i; durable = refl; exact = refl; lost = λ k. refl; said = λ x i. i }
+same c (Arrives r q (Resume i k s)) p e = record { count = refl; handlers = refl; stage = refl; greeted = refl; phase = refl; life = refl; history = refl; saved = refl; acknowledged = refl; released = refl; trims = λ k. refl; numbers = λ k. rw e refl; heard = λ k. refl; resumed = λ k. rw e refl; told = λ k. refl; restoring = λ k. refl; stored = refl; saved_trims = λ k. refl; parcels = λ x i. i; durable = refl; exact = refl; lost = λ k. refl; said = λ x i. i }
+same c (Arrives r q (Restored i j n s (Some u) f)) p e = record { count = refl; handlers = refl; stage = refl; greeted = refl; phase = refl; life = refl; history = refl; saved = refl; acknowledged = refl; released = refl; trims = λ k. rw e refl; numbers = λ k. rw e refl; heard = λ k. rw e refl; resumed = λ k. refl; told = λ k. refl; restoring = λ k. rw e refl; stored = refl; saved_trims = λ k. refl; parcels = λ x i. i; durable = refl; exact = refl; lost = λ k. refl; said = λ x i. i }
+same c (Arrives (suc r) q (Restored i j n s None f)) p e = record { count = refl; handlers = refl; stage = refl; greeted = refl; phase = rw e refl; life = refl; history = refl; saved = refl; acknowledged = refl; released = rw e refl; trims = λ k. rw e refl; numbers = λ k. rw e refl; heard = λ k. rw e refl; resumed = λ k. refl; told = λ k. refl; restoring = λ k. refl; stored = refl; saved_trims = λ k. refl; parcels = λ x i. i; durable = refl; exact = refl; lost = λ k. refl; said = λ x i. i }
+same c (Arrives zero q (Restored i j n s None f)) p e = record { count = refl; handlers = refl; stage = refl; greeted = rw e refl; phase = refl; life = refl; history = refl; saved = refl; acknowledged = refl; released = refl; trims = λ k. rw e refl; numbers = λ k. refl; heard = λ k. refl; resumed = λ k. refl; told = λ k. refl; restoring = λ k. refl; stored = refl; saved_trims = λ k. refl; parcels = λ x i. i; durable = refl; exact = refl; lost = λ k. refl; said = λ x i. i }
+same c (Keeps q) p e = record { count = refl; handlers = refl; stage = refl; greeted = refl; phase = refl; life = refl; history = refl; saved = rw e refl; acknowledged = rw e refl; released = rw e refl; trims = λ k. refl; numbers = λ k. refl; heard = λ k. refl; resumed = λ k. refl; told = λ k. refl; restoring = λ k. refl; stored = refl; saved_trims = λ k. rw e refl; parcels = λ x i. i; durable = refl; exact = refl; lost = λ k. refl; said = λ x i. i }
+same c (Opens q n) p e = record { count = refl; handlers = refl; stage = rw e refl; greeted = refl; phase = refl; life = refl; history = refl; saved = refl; acknowledged = refl; released = refl; trims = λ k. refl; numbers = λ k. refl; heard = λ k. rw e refl; resumed = λ k. rw e refl; told = λ k. rw e refl; restoring = λ k. refl; stored = rw e refl; saved_trims = λ k. refl; parcels = λ x i. i; durable = refl; exact = refl; lost = λ k. refl; said = λ x i. i }
+same c other p e = record { count = refl; handlers = refl; stage = rw e refl; greeted = refl; phase = refl; life = refl; history = refl; saved = refl; acknowledged = refl; released = refl; trims = λ k. refl; numbers = λ k. refl; heard = λ k. refl; resumed = λ k. refl; told = λ k. refl; restoring = λ k. refl; stored = refl; saved_trims = λ k. refl; parcels = λ x i. i; durable = refl; exact = refl; lost = λ k. refl; said = λ x i. i }
 
--- nor does an event of another
+-- nor does an event of another, but for what is known of failures
+same-moves : (c : Cluster) (e : Event) (p : ℕ) → (p == doer e) ≡ false → Same c (moves c e) p
+same-moves c (Acts exact a) p e = same c a p e
+same-moves c (Meets q r i k) p e = record { count = refl; handlers = refl; stage = refl; greeted = refl; phase = rw e refl; life = refl; history = refl; saved = refl; acknowledged = refl; released = refl; trims = λ k. refl; numbers = λ k. rw e refl; heard = λ k. rw e refl; resumed = λ k. rw e refl; told = λ k. refl; restoring = λ k. rw e refl; stored = refl; saved_trims = λ k. refl; parcels = λ x i. i; durable = refl; exact = refl; lost = λ k. refl; said = λ x i. i }
+same-moves c (Loses q r i j k) p e = record { count = refl; handlers = refl; stage = refl; greeted = refl; phase = refl; life = refl; history = refl; saved = refl; acknowledged = refl; released = refl; trims = λ k. refl; numbers = λ k. refl; heard = λ k. refl; resumed = λ k. refl; told = λ k. refl; restoring = λ k. refl; stored = refl; saved_trims = λ k. refl; parcels = λ x i. i; durable = refl; exact = refl; lost = λ k. refl; said = λ x i. i }
+same-moves c (Lacks q r i j k) p e = same c (Arrives q r (loss i j k)) p e
+same-moves c (Leaves q r) p e = record { count = refl; handlers = refl; stage = refl; greeted = refl; phase = rw e refl; life = refl; history = refl; saved = refl; acknowledged = refl; released = rw e refl; trims = λ k. refl; numbers = λ k. refl; heard = λ k. refl; resumed = λ k. refl; told = λ k. refl; restoring = λ k. refl; stored = refl; saved_trims = λ k. refl; parcels = λ x i. i; durable = refl; exact = refl; lost = λ k. refl; said = λ x i. i }
+same-moves c (Doubts q r x) p e = same c (Arrives q r (cut c r q x)) p e
+
+exact-same : (f : ℕ → Bool) (e : Event) (p : ℕ) → (p == doer e) ≡ false → f p ≡ exact_after f e p
+exact-same f (Acts exact (Arrives q d (Told i j k u g))) p o = rw o refl
+exact-same f (Acts exact (Arrives q d (Restored i j n r u g))) p o = rw o refl
+exact-same f (Acts exact (Opens q n)) p o = rw o refl
+exact-same f (Meets q r i k) p o = rw o refl
+exact-same f (Lacks q r i j k) p o = rw o refl
+exact-same f (Doubts q r x) p o = rw o refl
+exact-same f e p o = refl
+
+lost-same : (f : ℕ → ℕ → Bool) (e : Event) (p k : ℕ) → (p == doer e) ≡ false → f p k ≡ lost_after f e p k
+lost-same f (Acts exact (Arrives q d (Told i j n u g))) p k o = rw o refl
+lost-same f (Acts exact (Arrives q d (Ask i n))) p k o = rw o refl
+lost-same f (Acts exact (Opens q n)) p k o = rw o refl
+lost-same f (Lacks q r i j n) p k o = rw o refl
+lost-same f e p k o = refl
+
+-- nor that
 pub same-event : (c : Cluster) (e : Event) (p : ℕ) → (p == doer e) ≡ false → Same c (goes c e) p
-same-event c (Acts exact a) p e = same c a p e
-same-event c (Meets q r i k) p e = record { count = refl; handlers = refl; stage = refl; greeted = refl; phase = rw e refl; life = refl; history = refl; saved = refl; acknowledged = refl; released = refl; trims = λ k. refl; numbers = λ k. rw e refl; heard = λ k. rw e refl; resumed = λ k. rw e refl; told = λ k. refl; restoring = λ k. rw e refl; stored = refl; saved_trims = λ k. refl; parcels = λ x i. i; durable = refl }
-same-event c (Loses q r i j k) p e = record { count = refl; handlers = refl; stage = refl; greeted = refl; phase = refl; life = refl; history = refl; saved = refl; acknowledged = refl; released = refl; trims = λ k. refl; numbers = λ k. refl; heard = λ k. refl; resumed = λ k. refl; told = λ k. refl; restoring = λ k. refl; stored = refl; saved_trims = λ k. refl; parcels = λ x i. i; durable = refl }
-same-event c (Lacks q r i j k) p e = same c (Arrives q r (loss i j k)) p e
-same-event c (Leaves q r) p e = record { count = refl; handlers = refl; stage = refl; greeted = refl; phase = rw e refl; life = refl; history = refl; saved = refl; acknowledged = refl; released = rw e refl; trims = λ k. refl; numbers = λ k. refl; heard = λ k. refl; resumed = λ k. refl; told = λ k. refl; restoring = λ k. refl; stored = refl; saved_trims = λ k. refl; parcels = λ x i. i; durable = refl }
-same-event c (Doubts q r x) p e = same c (Arrives q r (cut c r q x)) p e
+same-event c e p o =
+    let s = same-moves c e p o in
+    record { count = s.count; handlers = s.handlers; stage = s.stage; greeted = s.greeted; phase = s.phase; life = s.life; history = s.history; saved = s.saved; acknowledged = s.acknowledged; released = s.released; trims = s.trims; numbers = s.numbers; heard = s.heard; resumed = s.resumed; told = s.told; restoring = s.restoring; stored = s.stored; saved_trims = s.saved_trims; parcels = s.parcels; durable = s.durable; exact = exact-same c.exact e p o; lost = λ k. lost-same c.lost e p k o; said = said-more c e }
 
 -- so the node stands
 stands-same : (n : TheNode) (c d : Cluster) (p : ℕ) → Same c d p → Stands n c p → Stands n d p
@@ -93,6 +118,7 @@ stands-same n c d p e s =
       state = rw (sym e.handlers, sym e.history) s.state;
       saved = sym e.saved ∙ s.saved;
       durable = λ t. s.durable (ap (λ (f : ℕ → Bool). f p) e.durable ∙ t);
+      exact = sym e.exact ∙ s.exact;
       received = rw (sym e.history, sym e.acknowledged) s.received;
       waits = rw (sym e.history, sym e.acknowledged) s.waits;
       logs = λ k l o. rw (sym e.handlers, sym e.history, sym (e.trims k), sym (e.numbers k)) (s.logs k (subst (λ m. k ≤ m) (sym e.count) l) o);
@@ -100,7 +126,7 @@ stands-same n c d p e s =
       free = λ k. rw (sym e.handlers, sym e.history, sym e.released, sym e.acknowledged, sym e.saved) (s.free k);
       heard = λ q l. rw (sym (e.heard q)) (s.heard q (subst (λ m. q ≤ m) (sym e.count) l));
       resumed = λ q l. rw (sym (e.resumed q)) (s.resumed q (subst (λ m. q ≤ m) (sym e.count) l));
-      out = all-more (PutOut c.world.count c.parcels p) (PutOut d.world.count d.parcels p) n.out (λ o. put-still c d p o e.count (λ b i. e.parcels _ i)) s.out;
+      out = all-still c d p n.out e.count e.parcels e.said s.out;
     }
 
 -- and after the events of another

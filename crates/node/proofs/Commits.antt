@@ -24,6 +24,7 @@ use Rattle.packets.proofs.Lists.{get-behind}
 use Rattle.node.proofs.Lists.{count-append}
 use Rattle.node.proofs.Logs.{length-push, changed-at, leading-bound, leading-push}
 use Rattle.node.proofs.Numbers.{InOrderFrom-push}
+use Rattle.node.proofs.Sent.{all-still}
 use Rattle.node.proofs.Puts.{stands-takes, stands-well, posted, goes-on}
 
 append-append : {X : Type 0} (xs ys zs : List X) → xs ++ (ys ++ zs) ≡ (xs ++ ys) ++ zs
@@ -257,6 +258,7 @@ module _ (n : TheNode) (c : Cluster) (j : OpenJob) (state : List ℕ) (given : L
         state = ap (c.world.handlers.state n.me) history-is ∙ answers.state_is;
         saved = s.saved;
         durable = s.durable;
+        exact = s.exact;
         received = subst (λ h. HasReceived n.count n.base n.covered (accepted j.sender n.receipts) h (c.world.acknowledged n.me)) (sym history-is) (received-more n.count n.base n.covered n.receipts (c.world.history n.me) (c.world.acknowledged n.me) (job_of j) s.received next);
         waits = waits;
         logs = λ d l o. subst (λ h. KeepsOf (log_at (given_to (next_number n) given n.logs) d) (c.world.trims n.me d) (c.world.handlers.sends n.me h d) (c.world.numbers n.me d)) (sym history-is) (logs-worked d l o);
@@ -265,7 +267,7 @@ module _ (n : TheNode) (c : Cluster) (j : OpenJob) (state : List ℕ) (given : L
         free = λ d. subst (λ h. sent_by c.world.handlers n.me h d (goes n.limits.durable h) ≤ c.world.released n.me d) (sym history-is) (free-worked n.limits.durable d (s.free d));
         heard = s.heard;
         resumed = s.resumed;
-        out = s.out;
+        out = all-still c c' n.me n.out refl (λ x i. i) (λ f i. i) s.out;
       }
 
   names : Names (c'.world.history n.me) (next_number n) j.sender j.ssn
@@ -276,5 +278,5 @@ module _ (n : TheNode) (c : Cluster) (j : OpenJob) (state : List ℕ) (given : L
 
   pub goes-worked : OfPeer n.me n.count (Some j) → GoesOn n.me (posts j.sender (number_of j n) (worked j state given n)) c
   goes-worked peer =
-      goes-on n.me (posts j.sender (number_of j n) (worked j state given n)) c act may tt refl
-      (posted (worked j state given n) c' j.sender (number_of j n) (Number n.life j.ssn (next_number n)) refl stands-worked peer.0 peer.1 (stands-well (worked j state given n) c' n.me stands-worked, sym s.life, names) tt)
+      goes-on n.me (posts j.sender (number_of j n) (worked j state given n)) c act may tt tt refl
+      (posted (worked j state given n) c' j.sender (number_of j n) (Number n.life j.ssn (next_number n)) refl stands-worked peer.0 peer.1 (stands-well (worked j state given n) c' n.me stands-worked, sym s.life, names) tt tt)

@@ -14,7 +14,7 @@ use Rattle.node.specs.Node.{TheNode, log_at}
 use Rattle.node.specs.Calls.{dropped_by}
 use Rattle.node.specs.Stands.{Stands, KeepsOf, IsShut, sent_by, most_released, GoesOn, Receives}
 use Rattle.node.proofs.Logs.{changed-at}
-use Rattle.node.proofs.Goes.{goes-act}
+use Rattle.cluster.proofs.Goes.{goes-act}
 use Rattle.node.proofs.Puts.{stands-takes}
 use Rattle.node.proofs.StandsLemmas.{stands-with}
 use Rattle.node.proofs.Records.{sent-is}
@@ -91,7 +91,7 @@ module _ (n : TheNode) (c : Cluster) (r k : ℕ) (s : Stands n c n.me) (low : r 
       (λ apart. s.gates d l o)
 
   goes-dropped : GoesOn n.me (dropped_by r k n) c
-  goes-dropped = goes-act true n.me (λ d. Stands (dropped_by r k n) d n.me) c act may tt refl (stands-with n c n.me s logs gates s.heard s.resumed s.out)
+  goes-dropped = goes-act true n.me (λ d. Stands (dropped_by r k n) d n.me) c act may tt tt refl (stands-with n c n.me s logs gates s.heard s.resumed s.out)
 
 -- the log drops what its receiver covers
 pub drops : (n : TheNode) (r k : ℕ) → n.frozen ≡ false → r ≤ n.count → r ≢ n.me → r < length n.logs → Receives r (Saved k) n (dropped_by r k n)

@@ -21,7 +21,8 @@ use Rattle.node.specs.Transmission.{released}
 use Rattle.node.specs.Checkpoints.{may_freeze, froze, counts_from, thawed, says_covered, says_below, thaws, saved}
 use Rattle.node.specs.Stands.{Stands, HasReceived, IsShut, sent_by, freed_in, most_released, GoesOn, Acts, Saves, phase_of, InOrderFrom}
 use Rattle.node.proofs.Logs.{leading-bound}
-use Rattle.node.proofs.Goes.{goes-act, goes-then}
+use Rattle.cluster.proofs.Goes.{goes-act, goes-then}
+use Rattle.node.proofs.Sent.{all-still}
 use Rattle.node.proofs.Puts.{stands-takes}
 use Rattle.node.proofs.StandsLemmas.{stands-staged}
 use Rattle.node.proofs.Steps.{acts-self, acts-then, owes-at, by-if}
@@ -43,7 +44,7 @@ freezes n = by-if (Acts n) (may_freeze n) (record n { frozen = true }) n (λ e. 
   where
     here : (not n.frozen ≡ true) × (is_none n.working ≡ true) → Acts n (record n { frozen = true })
     here t c s u =
-        goes-act true n.me (λ d. Stands (record n { frozen = true }) d n.me) c (Freezes n.me) (s.inside, stands-takes n c n.me (off n.frozen t.0) s, s.phase ∙ idle n.working t.1) tt refl
+        goes-act true n.me (λ d. Stands (record n { frozen = true }) d n.me) c (Freezes n.me) (s.inside, stands-takes n c n.me (off n.frozen t.0) s, s.phase ∙ idle n.working t.1) tt tt refl
         (stands-staged n c n.me s (at-itself n.me (λ b. (if b then Frozen else c.stage n.me) ≡ Frozen) refl) s.phase s.works)
 
 -- ---- what was received is counted
@@ -187,6 +188,7 @@ module _ (n : TheNode) (c : Cluster) (s : Stands n c n.me) (wait : n.frozen ≡ 
         life = s.life;
         state = s.state;
         durable = s.durable;
+        exact = s.exact;
         saved = at-itself n.me (λ b. (if b then length h else c.world.saved n.me) ≡ (thawed n).base) many;
         received = subst (HasReceived n.count (thawed n).base (thawed n).covered (thawed n).receipts h) (sym acknowledged-is) received;
         waits = none-waits;
@@ -195,11 +197,11 @@ module _ (n : TheNode) (c : Cluster) (s : Stands n c n.me) (wait : n.frozen ≡ 
         free = λ d. free n.limits.durable d;
         heard = s.heard;
         resumed = s.resumed;
-        out = s.out;
+        out = all-still c c' n.me n.out refl (λ x i. i) (λ f i. i) s.out;
       }
 
   goes-thawed : GoesOn n.me (thawed n) kept
-  goes-thawed = goes-act true n.me (λ d. Stands (thawed n) d n.me) kept (Thaws n.me) may-thaw tt refl stands-thawed
+  goes-thawed = goes-act true n.me (λ d. Stands (thawed n) d n.me) kept (Thaws n.me) may-thaw tt tt refl stands-thawed
 
 -- ---- the peers are told
 

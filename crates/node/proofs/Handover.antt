@@ -111,7 +111,7 @@ said-me c from to me b y is e i =
     subst (λ d. In (parcel from d b) c.parcels) is (subst (λ z. In (parcel from to z) c.parcels) same i)
 
 -- each body
-told-so : (from to : ℕ) (b : bodies.Body) (n : TheNode) → Within n → n.frozen ≡ false → from ≤ n.count → from ≢ n.me → to ≡ n.me → Owes (λ c. WasSaid c.parcels from to b) n (told from b n)
+told-so : (from to : ℕ) (b : bodies.Body) (n : TheNode) → Within n → n.frozen ≡ false → from ≤ n.count → from ≢ n.me → to ≡ n.me → Owes (λ c. WasSaid c from to b) n (told from b n)
 told-so from to (packets.Delivery i ssn x) n w live low other me c s put = delivers-to from i ssn x n w live low other c s (said-me c from to n.me (Delivery i ssn x) put.0 me put.1 put.2)
 told-so from to (packets.Number i ssn k) n w live low other me c s put = records from i ssn k n w live low other c s (said-me c from to n.me (Number i ssn k) put.0 me put.1 put.2)
 told-so from to (packets.Acknowledgement i k) n w live low other me c s put = acknowledges from i k n w live c s (said-me c from to n.me (Acknowledgement i k) put.0 me put.1 put.2)

@@ -1,5 +1,5 @@
 pub mod Lists
-pub mod Goes
+pub mod Sent
 pub mod NodeLemmas
 pub mod StandsLemmas
 pub mod Numbers

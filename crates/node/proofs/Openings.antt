@@ -22,6 +22,7 @@ stands-opened limits me count state some low f durable firm begins =
       state = begins.state_is;
       saved = refl;
       durable = firm;
+      exact = refl;
       received = record {
         before = [];
         behind = [];

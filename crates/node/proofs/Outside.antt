@@ -5,13 +5,14 @@ use Rattle.std.proofs.lemmas.Bool.Decides.{nat_tests}
 use Rattle.world.specs.World.{put}
 use Rattle.world.specs.Calls.{peers}
 use Rattle.world.specs.Phases.{Replaying}
-use Rattle.cluster.specs.Parcels.{Restored, Parcel, In}
+use Rattle.cluster.specs.Parcels.{Restored, Parcel, Flagged, Said, In}
 use Rattle.cluster.specs.Cluster.{Cluster}
-use Rattle.cluster.specs.Rules.{Act, Input, Arrives, Replays, Recovers, does, after_run, goes_on, taken_back}
-use Rattle.node.specs.Stands.{Each, actor}
-use Rattle.node.proofs.Beside.{Same, same}
+use Rattle.cluster.specs.Rules.{Act, Input, Arrives, Replays, Recovers, does, goes_on, taken_back}
+use Rattle.cluster.specs.Overlap.{Event, Acts, Lacks, Doubts, loss, cut, goes, after_events}
+use Rattle.node.specs.Stands.{Each, actor, doer}
+use Rattle.node.proofs.Beside.{Same, same-event}
 
--- the gateway of c has what that of g has, and all that was put out in g was put out in c
+-- the gateway of c has what that of g has, and all that was put out and said in g was so in c
 pub record SameOutside (g c : Cluster) : Type 0 where
   pub count : g.world.count ≡ c.world.count
   pub handlers : g.world.handlers ≡ c.world.handlers
@@ -27,11 +28,13 @@ pub record SameOutside (g c : Cluster) : Type 0 where
   pub inputs : (k : ℕ) → g.world.inputs k ≡ c.world.inputs k
   pub shown : g.world.shown ≡ c.world.shown
   pub parcels : (x : Parcel) → In x g.parcels → In x c.parcels
+  pub exact : g.exact 0 ≡ c.exact 0
+  pub said : (x : Flagged) → Said x g.said → Said x c.said
 
 pub outside-self : (c : Cluster) → SameOutside c c
-outside-self c = record { count = refl; handlers = refl; stage = refl; greeted = refl; phase = refl; life = refl; history = refl; trims = λ k. refl; numbers = λ k. refl; heard = λ k. refl; resumed = λ k. refl; inputs = λ k. refl; shown = refl; parcels = λ x i. i }
+outside-self c = record { count = refl; handlers = refl; stage = refl; greeted = refl; phase = refl; life = refl; history = refl; trims = λ k. refl; numbers = λ k. refl; heard = λ k. refl; resumed = λ k. refl; inputs = λ k. refl; shown = refl; parcels = λ x i. i; exact = refl; said = λ x i. i }
 
--- what acts of nodes leave of the gateway, besides what they leave of each other
+-- what events of nodes leave of the gateway, besides what they leave of each other
 record Left (c d : Cluster) : Type 0 where
   inputs : (k : ℕ) → c.world.inputs k ≡ d.world.inputs k
   shown : c.world.shown ≡ d.world.shown
@@ -53,31 +56,39 @@ left c (Recovers q k) e = by_end (nat_lt (c.world.saved q) k)
     by_end false = record { inputs = λ k. refl; shown = refl }
 left c act e = record { inputs = λ k. refl; shown = refl }
 
--- a node acts
-outside-act : (g c : Cluster) (a : Act) → (0 == actor a) ≡ false → SameOutside g c → SameOutside g (does c a)
-outside-act g c a other e =
-    let s : Same c (does c a) 0 = same c a 0 other in
-    let l : Left c (does c a) = left c a other in
+left-event : (c : Cluster) (e : Event) → (0 == doer e) ≡ false → Left c (goes c e)
+left-event c (Acts exact a) o = let l = left c a o in record { inputs = l.inputs; shown = l.shown }
+left-event c (Lacks q p i j k) o = let l = left c (Arrives q p (loss i j k)) o in record { inputs = l.inputs; shown = l.shown }
+left-event c (Doubts q p x) o = let l = left c (Arrives q p (cut c p q x)) o in record { inputs = l.inputs; shown = l.shown }
+left-event c e o = record { inputs = λ k. refl; shown = refl }
+
+-- an event of a node
+outside-event : (g c : Cluster) (e : Event) → (0 == doer e) ≡ false → SameOutside g c → SameOutside g (goes c e)
+outside-event g c e other h =
+    let s : Same c (goes c e) 0 = same-event c e 0 other in
+    let l : Left c (goes c e) = left-event c e other in
     record {
-      count = e.count ∙ s.count;
-      handlers = e.handlers ∙ s.handlers;
-      stage = e.stage ∙ s.stage;
-      greeted = e.greeted ∙ s.greeted;
-      phase = e.phase ∙ s.phase;
-      life = e.life ∙ s.life;
-      history = e.history ∙ s.history;
-      trims = λ k. e.trims k ∙ s.trims k;
-      numbers = λ k. e.numbers k ∙ s.numbers k;
-      heard = λ k. e.heard k ∙ s.heard k;
-      resumed = λ k. e.resumed k ∙ s.resumed k;
-      inputs = λ k. e.inputs k ∙ l.inputs k;
-      shown = e.shown ∙ l.shown;
-      parcels = λ x i. s.parcels x (e.parcels x i);
+      count = h.count ∙ s.count;
+      handlers = h.handlers ∙ s.handlers;
+      stage = h.stage ∙ s.stage;
+      greeted = h.greeted ∙ s.greeted;
+      phase = h.phase ∙ s.phase;
+      life = h.life ∙ s.life;
+      history = h.history ∙ s.history;
+      trims = λ k. h.trims k ∙ s.trims k;
+      numbers = λ k. h.numbers k ∙ s.numbers k;
+      heard = λ k. h.heard k ∙ s.heard k;
+      resumed = λ k. h.resumed k ∙ s.resumed k;
+      inputs = λ k. h.inputs k ∙ l.inputs k;
+      shown = h.shown ∙ l.shown;
+      parcels = λ x i. s.parcels x (h.parcels x i);
+      exact = h.exact ∙ s.exact;
+      said = λ x i. s.said x (h.said x i);
     }
 
--- a node's acts leave the gateway as it is
-pub outside-still : (g c : Cluster) (p : ℕ) (acts : List Act) → 0 < p → Each (λ (a : Act). actor a ≡ p) acts → SameOutside g c → SameOutside g (after_run c acts)
-outside-still g c p [] some by e = e
-outside-still g c p (a ∷ acts) some by e =
-    let other : (0 == actor a) ≡ false = (let f : actor a ≡ p = by.0 in grind (arith, nat_tests)) in
-    outside-still g (does c a) p acts some by.1 (outside-act g c a other e)
+-- a node's events leave the gateway as it is
+pub outside-still : (g c : Cluster) (p : ℕ) (es : List Event) → 0 < p → Each (λ (e : Event). doer e ≡ p) es → SameOutside g c → SameOutside g (after_events c es)
+outside-still g c p [] some by h = h
+outside-still g c p (e ∷ es) some by h =
+    let other : (0 == doer e) ≡ false = (let f : doer e ≡ p = by.0 in grind (arith, nat_tests)) in
+    outside-still g (goes c e) p es some by.1 (outside-event g c e other h)

@@ -18,9 +18,10 @@ use Rattle.node.specs.Queue.{TheQueue, recorded, is_kept}
 use Rattle.node.specs.Node.{TheNode, posts, packet_of, log_at, numbered}
 use Rattle.node.specs.Stands.{Stands, KeepsOf, IsShut, sent_by, most_released, GoesOn, Receives, PutOut}
 use Rattle.node.proofs.Logs.{changed-at}
-use Rattle.node.proofs.Lists.{all-more, all-pushed}
-use Rattle.node.proofs.Goes.{goes-act}
-use Rattle.node.proofs.Puts.{stands-takes, is-up, put-still}
+use Rattle.node.proofs.Lists.{all-pushed}
+use Rattle.node.proofs.Sent.{all-still}
+use Rattle.cluster.proofs.Goes.{goes-act}
+use Rattle.node.proofs.Puts.{stands-takes, is-up}
 use Rattle.node.proofs.StandsLemmas.{stands-with}
 
 -- what it sent, as the rules tell it
@@ -116,13 +117,13 @@ module _ (n : TheNode) (c : Cluster) (r i ssn k : ℕ) (s : Stands n c n.me) (lo
 
   stands-recorded : Stands (posts r (packets.Acknowledgement i k) (numbered r ssn k n)) c' n.me
   stands-recorded =
+      let d : Cluster = record c { parcels = c'.parcels } in
       stands-with n c n.me s logs gates s.heard s.resumed
-      (all-pushed (PutOut c.world.count c'.parcels n.me) n.out (packet_of n r (packets.Acknowledgement i k))
-      (all-more (PutOut c.world.count c.parcels n.me) (PutOut c.world.count c'.parcels n.me) n.out (λ o. put-still c c' n.me o refl (λ b z. inr z)) s.out)
-      (record { count_is = s.count; from = refl; said = (Acknowledgement i k, refl, inl refl) }))
+      (all-pushed (PutOut d n.me) n.out (packet_of n r (packets.Acknowledgement i k)) (all-still c d n.me n.out refl (λ x z. inr z) (λ f z. z) s.out)
+      (record { count_is = s.count; from = refl; said = (Acknowledgement i k, refl, inl refl, tt) }))
 
   goes-recorded : GoesOn n.me (posts r (packets.Acknowledgement i k) (numbered r ssn k n)) c
-  goes-recorded = goes-act true n.me (λ d. Stands (posts r (packets.Acknowledgement i k) (numbered r ssn k n)) d n.me) c act may tt refl stands-recorded
+  goes-recorded = goes-act true n.me (λ d. Stands (posts r (packets.Acknowledgement i k) (numbered r ssn k n)) d n.me) c act may tt tt refl stands-recorded
 
 -- a number for a message that is still logged is noted, and its acknowledgement is put out
 pub says-acknowledgement : (n : TheNode) (r i ssn k : ℕ) → n.frozen ≡ false → r ≤ n.count → r ≢ n.me → i ≡ slice_index_or n.heard r 0 → r < length n.logs → is_kept ssn (log_at n.logs r) ≡ true

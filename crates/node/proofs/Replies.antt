@@ -9,12 +9,12 @@ use Rattle.world.specs.Phases.{Busy}
 use Rattle.world.specs.Calls.{up_to}
 use Rattle.theorems.proofs.Changes.{at-itself}
 use Rattle.theorems.proofs.Tests.{neither, not-false}
-use Rattle.cluster.specs.Parcels.{Ask, Told, Resume, Restored, In, parcel}
+use Rattle.cluster.specs.Parcels.{Ask, Told, Resume, Restored, In, parcel, flagged}
 use Rattle.cluster.specs.Rules.{Arrives, entry_of, put2}
 use Rattle.node.specs.declared.job.OpenJob.{OpenJob}
 use Rattle.node.specs.Queue.{TheQueue, forgotten_above}
 use Rattle.node.specs.Node.{TheNode, Within, log_at, posts, covered_of}
-use Rattle.packets.specs.Packet.{flags_of}
+use Rattle.packets.specs.Packet.{is_exact, flags_of}
 use Rattle.packets.specs.declared.page.LoggedMessage.{LoggedMessage}
 use Rattle.rsn.specs.Receipts.{numbers_of}
 use Rattle.node.specs.Pages.{entries_in, told_of, told_page, told_all, pairs_above, most_pairs, restored_all, restored_of}
@@ -22,13 +22,13 @@ use Rattle.node.specs.Answers.{heard_of, hears, asked_by, works_for, obeys, resu
 use Rattle.packets.specs.Says.{told_end, restored_end}
 use Rattle.node.specs.Stands.{Stands, KeepsOf, IsShut, sent_by, most_released, Receives, Acts, phase_of, job_of}
 use Rattle.node.proofs.Logs.{changed-at}
-use Rattle.node.proofs.Goes.{goes-act}
+use Rattle.cluster.proofs.Goes.{goes-act}
 use Rattle.node.proofs.Puts.{stands-takes, stands-well, posted, stays}
 use Rattle.node.proofs.StandsLemmas.{stands-with}
 use Rattle.node.proofs.Steps.{owes-then, by-if}
 use Rattle.node.proofs.Arrivals.{covers}
 use Rattle.packets.proofs.PageLemmas.{Ordered}
-use Rattle.packets.proofs.Reports.{entries-ordered, page-told, page-goes, lost-is}
+use Rattle.packets.proofs.Reports.{entries-ordered, page-told, page-goes, lost-is, exact-is}
 use Rattle.node.proofs.Reports.{log-told}
 use Rattle.node.proofs.PairRanges.{pairs-fit}
 use Rattle.node.proofs.Restoration.{history-told, pairs-told, pairs-go}
@@ -57,6 +57,7 @@ telling n d i k low other heard c s u =
     (entry_of c n.me d, refl, lost-is (told_all d k n) n.exact, λ m above reach. log-told n c d s within other k m above ∙ page-told n.limits.page n.me k m n.exact all above (ordered n d k) reach)
     s low other
     (stands-well n c n.me s, sym (s.heard d within ∙ heard), sym s.life, λ v e. page-goes n.limits.page k v n.exact all (ordered n d k) e, λ m above reach. refl) tt
+    (inl (ap (λ z. flagged (parcel n.me d (Told i n.life k end (entry_of c n.me d))) z false) (exact-is (told_all d k n) n.exact ∙ sym s.exact)))
 
 -- it hears of a newer incarnation
 hearing : (n : TheNode) (d i k : ℕ) → n.frozen ≡ false → d ≤ n.count → d < length n.heard → d < length n.resumed → heard_of d n < i
@@ -64,7 +65,7 @@ hearing : (n : TheNode) (d i k : ℕ) → n.frozen ≡ false → d ≤ n.count �
 hearing n d i k live low wide broad newer c s given =
     let within : d ≤ c.world.count = omega (arith, low, s.count) in
     goes-act true n.me (λ e. Stands (record n { heard = slice_set n.heard d i; resumed = slice_set n.resumed d false }) e n.me) c (Arrives d n.me (Ask i k))
-    (given, (omega (arith, s.heard d within, newer), inl (stands-takes n c n.me live s))) tt refl
+    (given, (omega (arith, s.heard d within, newer), inl (stands-takes n c n.me live s))) tt tt refl
     (stands-with n c n.me s s.logs s.gates
     (λ q l. at-itself n.me (λ t. (if t && (q == d) then i else c.heard n.me q) ≡ slice_index_or (slice_set n.heard d i) q 0)
     (ap (λ z. if q == d then i else z) (s.heard q l) ∙ set-at n.heard d i 0 q wide))
@@ -125,6 +126,7 @@ restoring n d i a low other heard obeyed free some c s u =
       λ v e. pairs-go (most_pairs n.limits.page) some n.base covered a n.exact ks v e,
       λ ssn above reach. refl,
     ) tt
+    (inl (ap (λ z. flagged (parcel n.me d (Restored i n.life covered a end (rsn_of (c.world.history n.me) d))) z false) (exact-is (restored_all d a n) n.exact ∙ sym s.exact)))
 
 get-map : {X Y : Type 0} (f : X → Y) (xs : List X) (i : ℕ) (d : X) → slice_index_or (map f xs) i (f d) ≡ f (slice_index_or xs i d)
 get-map f [] i d = refl
@@ -149,7 +151,7 @@ obeying : (n : TheNode) (d i k a : ℕ) → n.frozen ≡ false → d ≤ n.count
     → Receives d (Resume i k a) n (record n { logs = slice_set n.logs d (forgotten_above k (log_at n.logs d)); resumed = slice_set n.resumed d true })
 obeying n d i k a live low other wide broad heard fresh free c s given =
     goes-act true n.me (λ e. Stands (record n { logs = slice_set n.logs d (forgotten_above k (log_at n.logs d)); resumed = slice_set n.resumed d true }) e n.me) c (Arrives d n.me (Resume i k a))
-    (given, (stands-takes n c n.me live s, sym (s.heard d within ∙ heard), s.resumed d within ∙ fresh, λ m e. no-job n.working d m free (sym s.phase ∙ e))) tt refl
+    (given, (stands-takes n c n.me live s, sym (s.heard d within ∙ heard), s.resumed d within ∙ fresh, λ m e. no-job n.working d m free (sym s.phase ∙ e))) tt tt refl
     (stands-with n c n.me s logs gates s.heard
     (λ q l. at-itself n.me (λ t. (if t && (q == d) then true else c.resumed n.me q) ≡ slice_index_or (slice_set n.resumed d true) q true)
     (ap (λ z. if q == d then true else z) (s.resumed q l) ∙ set-at n.resumed d true true q broad))

@@ -19,7 +19,7 @@ use Rattle.node.specs.Transmission.{delivers, sends, first_to_send, many_to_send
 use Rattle.node.specs.Stands.{Stands, KeepsOf, IsShut, sent_by, freed_in, most_released, Acts}
 use Rattle.packets.proofs.Lists.{get-behind, get-some}
 use Rattle.node.proofs.Logs.{changed-at, leading-bound, leading-split, leading-none}
-use Rattle.node.proofs.Goes.{goes-self}
+use Rattle.cluster.proofs.Goes.{goes-self}
 use Rattle.node.proofs.Puts.{stands-well, posted}
 use Rattle.node.proofs.StandsLemmas.{stands-with}
 use Rattle.node.proofs.Arrivals.{tells-number}
@@ -147,7 +147,7 @@ unlocks n to wide c s u = goes-self true n.me (λ d. Stands (unlocked to n) d n.
 -- a message that is kept and released
 pub delivery : (n : TheNode) (to ssn : ℕ) → to ≤ n.count → to ≢ n.me → (log_at n.logs to).dropped < ssn → ssn ≤ (log_at n.logs to).released → Acts n (delivers to ssn n)
 delivery n to ssn low other above free c s u =
-    posted n c to (packets.Delivery n.life ssn (payload_of ssn (log_at n.logs to))) (Delivery n.life ssn (payload_of ssn (log_at n.logs to))) refl s low other (stands-well n c n.me s, sym s.life, out, kept, said) stable
+    posted n c to (packets.Delivery n.life ssn (payload_of ssn (log_at n.logs to))) (Delivery n.life ssn (payload_of ssn (log_at n.logs to))) refl s low other (stands-well n c n.me s, sym s.life, out, kept, said) stable tt
   where
     within : to ≤ c.world.count
     within = omega (arith, low, s.count)

@@ -5,7 +5,7 @@ use Rattle.cluster.specs.Cluster.{Cluster}
 use Rattle.cluster.specs.Rules.{Act, Keeps, May, does, Run, after_run}
 use Rattle.node.specs.Node.{TheNode}
 use Rattle.node.specs.Stands.{Stands, GoesOn, Owes, Acts, Saves}
-use Rattle.node.proofs.Goes.{goes-then}
+use Rattle.cluster.proofs.Goes.{goes-then}
 use Rattle.node.proofs.Puts.{stays}
 
 -- a run goes on

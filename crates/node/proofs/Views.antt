@@ -26,7 +26,7 @@ if-both (Err e) P Q h g = tt
 -- the first packet that waits leaves
 pub takes-so : (o : Option NodePacket) (n : TheNode) (rest : List NodePacket) → Pops o n.out rest → Takes o n (record n { out = rest })
 takes-so None n rest e = (e.0, ap (λ xs. record n { out = xs }) e.1 ∙ ap (λ xs. record n { out = xs }) (let back : [] ≡ n.out = (cc) in back))
-takes-so (Some x) n rest e = (ap (λ xs. record n { out = xs }) e, λ c s. taken c s (subst (Each (PutOut c.world.count c.parcels n.me)) e s.out))
+takes-so (Some x) n rest e = (ap (λ xs. record n { out = xs }) e, λ c s. taken c s (subst (Each (PutOut c n.me)) e s.out))
   where
-    taken : (c : Cluster) → Stands n c n.me → Each (PutOut c.world.count c.parcels n.me) (x ∷ rest) → PutOut c.world.count c.parcels n.me x × Stands (record n { out = rest }) c n.me
+    taken : (c : Cluster) → Stands n c n.me → Each (PutOut c n.me) (x ∷ rest) → PutOut c n.me x × Stands (record n { out = rest }) c n.me
     taken c s out = (out.0, stands-with n c n.me s s.logs s.gates s.heard s.resumed out.1)

@@ -6,7 +6,6 @@ pub mod Checkpoints
 pub mod Pages
 pub mod Answers
 pub mod Calls
-pub mod Goes
 pub mod Stands
 pub mod Kept
 pub mod Suspension

@@ -8,7 +8,7 @@ use Rattle.world.specs.Phases.{Phase, Up, Busy}
 use Rattle.world.specs.Handlers.{Handlers}
 use Rattle.world.specs.World.{put}
 use Rattle.world.specs.Logs.{run_to}
-use Rattle.cluster.specs.Parcels.{Body, Parcel, parcel, In}
+use Rattle.cluster.specs.Parcels.{Body, parcel, In}
 use Rattle.cluster.specs.Cluster.{Cluster, Stage, Live, Frozen, durable_opening, waiting}
 use Rattle.cluster.specs.Rules.{Keeps, May, does, IsNode, message}
 use Rattle.packets.specs.declared.packet.NodePacket.{NodePacket}
@@ -17,13 +17,8 @@ use Rattle.node.specs.declared.job.Given.{Given}
 use Rattle.node.specs.Queue.{TheQueue, leading}
 use Rattle.node.specs.Node.{TheNode, log_at}
 use Rattle.packets.specs.Says.{WasSaid}
-pub use Rattle.node.specs.Goes.{Each, actor, doer, own_act, own_event, IsAct, GoesTo}
-
--- the packet is from the process p of a cluster of `count`, and was sent
-pub record PutOut (count : ℕ) (parcels : List Parcel) (p : ℕ) (x : NodePacket) : Type 0 where
-  pub count_is : x.count ≡ count
-  pub from : x.from ≡ p
-  pub said : WasSaid parcels p x.to x.body
+pub use Rattle.packets.specs.Says.{PutOut}
+pub use Rattle.cluster.specs.Goes.{Each, actor, doer, own_act, own_event, IsAct, GoesTo}
 
 -- the message of a job
 abbrev pub job_of : OpenJob → Message
@@ -109,6 +104,7 @@ pub record Stands (n : TheNode) (c : Cluster) (p : ℕ) : Type 0 where
   pub saved : c.world.saved p ≡ n.base
   -- a durable process of the cluster has a durable node
   pub durable : c.durable p ≡ true → n.limits.durable ≡ true
+  pub exact : c.exact p ≡ n.exact
   pub received : HasReceived n.count n.base n.covered n.receipts (c.world.history p) (c.world.acknowledged p)
   pub waits : waiting c p ≡ n.waiting
   pub logs : (d : ℕ) → d ≤ c.world.count → d ≢ p
@@ -121,7 +117,7 @@ pub record Stands (n : TheNode) (c : Cluster) (p : ℕ) : Type 0 where
   pub heard : (q : ℕ) → q ≤ c.world.count → c.heard p q ≡ slice_index_or n.heard q 0
   pub resumed : (q : ℕ) → q ≤ c.world.count → c.resumed p q ≡ slice_index_or n.resumed q true
   -- the packets that wait were sent in the cluster
-  pub out : Each (PutOut c.world.count c.parcels p) n.out
+  pub out : Each (PutOut c p) n.out
 
 -- the process goes to a cluster with which the new node agrees, by acts alone: a node that is up meets no recovery
 abbrev pub GoesOn : ℕ → TheNode → Cluster → Type 0
@@ -172,10 +168,10 @@ StandsFirst n me count state = (f : Handlers) (durable : ℕ → Bool) → (dura
 
 -- what a call owes that is handed a packet, if that says what was sent
 abbrev pub IsHanded : NodePacket → TheNode → TheNode → Type 0
-IsHanded x old new = Owes (λ c. WasSaid c.parcels x.from x.to x.body) old new
+IsHanded x old new = Owes (λ c. WasSaid c x.from x.to x.body) old new
 
 -- what `take` owes: it gives the first packet that waited, which was sent, and the node no longer has it
 abbrev pub Takes : Option NodePacket → TheNode → TheNode → Type 0
 Takes None old new = (old.out ≡ []) × (new ≡ old)
 Takes (Some x) old new = (old ≡ record new { out = x ∷ new.out })
-    × ((c : Cluster) → Stands old c old.me → PutOut c.world.count c.parcels old.me x × Stands new c old.me)
+    × ((c : Cluster) → Stands old c old.me → PutOut c old.me x × Stands new c old.me)

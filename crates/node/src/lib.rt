@@ -10,7 +10,7 @@
 //! Each call is zero or more acts of the node's process that the rules of crate `cluster` allow,
 //! and the node then holds what the cluster has of that process. The acts of one node change
 //! nothing of another ([`others_stand`]). So calls of hosts, in any order and with packets that come
-//! late, twice or never, are events of a cluster, which crate `node_laws` proves.
+//! late, twice or never, are a run of a cluster, which crate `node_laws` proves.
 //!
 //! A node keeps the [`Limits`] with which it is opened. A durable node sends only what its durable
 //! checkpoint covers: [`Node::saved`] releases it, and acknowledgements don't.

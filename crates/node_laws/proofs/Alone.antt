@@ -5,8 +5,9 @@ use Rattle.std.proofs.lemmas.Bool.Decides.{nat_tests}
 use Rattle.theorems.proofs.Tests.{both}
 use Rattle.world.specs.Handlers.{Handlers}
 use Rattle.world.specs.World.{put}
-use Rattle.cluster.specs.Cluster.{Cluster, opening}
-use Rattle.cluster.specs.Rules.{Act, after_run}
+use Rattle.cluster.specs.Cluster.{Cluster}
+use Rattle.cluster.specs.Overlap.{Event}
+use Rattle.cluster.specs.Exact.{acts_of}
 use Rattle.packets.specs.Packet.{in_range}
 use Rattle.packets.specs.declared.packet.NodePacket.{NodePacket}
 use Rattle.packets.specs.declared.packet.Body.{Body}
@@ -31,7 +32,7 @@ use Rattle.node_laws.specs.Inside.System.{System, AreStoredOf, Call, Gave, Hande
 use Rattle.node_laws.specs.HostSystem.{Hosting, start}
 use Rattle.node_laws.proofs.HostStep.{IsPart}
 use Rattle.node_laws.proofs.Lives.{WasPut}
-use Rattle.node_laws.proofs.Back.{Reached, GoesOn, none-on, joined, one-on}
+use Rattle.node_laws.proofs.Back.{Reached, GoesOn, ends, is-run, none-on, joined, one-on}
 use Rattle.node_laws.proofs.Sound.{IsSound, AreSound, raised-here}
 use Rattle.recovery.proofs.Posts.{for-own}
 use Rattle.process.proofs.Bounds.{not-true}
@@ -43,16 +44,16 @@ use Rattle.node_laws.proofs.LoneCalls.{Fits, giving, hearing, working, acting, s
 
 -- ---- no page tells of more than was sent
 
-module _ (f : Answering) (states : ℕ → List ℕ) (n : ℕ) (s : System) (acts : List Act) (r : Reached (handlers_of f states) n s acts) where
+module _ (f : Answering) (states : ℕ → List ℕ) (n : ℕ) (s : System) (es : List Event) (r : Reached (handlers_of f states) n s es) where
   abbrev g : Handlers
   g = handlers_of f states
 
   abbrev c : Cluster
-  c = after_run (opening n g) acts
+  c = ends n g es
 
   -- p is of so many
   is-of : (p : ℕ) → IsFirst n p → IsOf p n (s.processes p)
-  is-of p first = let h = r.holds in subst (λ k. IsOf p k (s.processes p)) h.count (stands-of (s.processes p) c p (h.each p first).stands)
+  is-of p first = let h = r.led.holds in subst (λ k. IsOf p k (s.processes p)) h.count (stands-of (s.processes p) c p (h.each p first).stands)
 
   page-fits : (x : NodePacket) (m : TheRestoring) (p : ℕ) → WasPut c x → StandsRestoring m c p → Fits x (Restores m)
   page-fits x m p was st mine i j k a flags pairs e range reply =
@@ -62,12 +63,12 @@ module _ (f : Answering) (states : ℕ → List ℕ) (n : ℕ) (s : System) (act
       let w = both (i == m.own.life) (nat_le (slice_index_or m.own.heard x.from 0) j) v.0 in
       let now : i ≡ m.own.life = (let z = w.0 in grind (arith, nat_tests)) in
       let here : StandsRestoring m c m.own.me = subst (StandsRestoring m c) (sym st.own.me) st in
-      let P : Body → Type 0 = λ b. WasSaid c.parcels x.from m.own.me b in
-      let Q : ℕ → Type 0 = λ z. WasSaid c.parcels x.from z x.body in
+      let P : Body → Type 0 = λ b. WasSaid c x.from m.own.me b in
+      let Q : ℕ → Type 0 = λ z. WasSaid c x.from z x.body in
       let R : ℕ → Type 0 = λ z. P (Restored z j k a flags pairs) in
       let said : R m.own.life = subst R now (subst P e (subst Q q.0 (was.2 (ap is_loss e)).said)) in
       let S : ℕ → Type 0 = λ z. in_range (Restored z j k a flags pairs) ≡ true in
-      let fit = pages-fit n g acts m x.from j k a flags pairs r.few (grows f states) r.run here q.1.0 (not-true (has_answered x.from m) v.1) (subst S now range) said in
+      let fit = pages-fit n g (acts_of es) c m x.from j k a flags pairs r.few (grows f states) (is-run g n s es r) here q.1.0 (not-true (has_answered x.from m) v.1) (subst S now range) said in
       let one : nat_le k (sent_to x.from m.own) ≡ true = (let l = fit.0 in grind (arith, nat_tests)) in
       let two : nat_le (last_ssn 0 pairs) (sent_to x.from m.own) ≡ true = (let l = fit.1 in grind (arith, nat_tests)) in
       rw (reply, one, two) refl
@@ -99,12 +100,12 @@ comes lives back n p life limits k new me count is now here only =
     let P : TheCollecting → Type 0 = λ z. Good lives back n p (Collects z) in
     subst P (sym is) (record { exact = t.own.exact refl; life = t.own.life ∙ now; knows = t.hears (collecting.begun lives back n limits k life count); out = t.own.out tt })
 
-module _ (f : Answering) (states : ℕ → List ℕ) (n : ℕ) (s : System) (acts : List Act) (r : Reached (handlers_of f states) n s acts) (h : IsLone n s) where
+module _ (f : Answering) (states : ℕ → List ℕ) (n : ℕ) (s : System) (es : List Event) (r : Reached (handlers_of f states) n s es) (h : IsLone n s) where
   abbrev back : ℕ → Type 0
   back = Back n s.processes
 
   abbrev here : Cluster
-  here = after_run (opening n (handlers_of f states)) acts
+  here = ends n (handlers_of f states) es
 
   -- a packet that was given
   sound-given : (x : NodePacket) → IsOne x s.given → IsSound s.lives back x
@@ -119,7 +120,7 @@ module _ (f : Answering) (states : ℕ → List ℕ) (n : ℕ) (s : System) (act
   -- it comes back
   revives : (p life : ℕ) (new : TheCollecting) → IsFirst n p → IsKilled (s.processes p) → s.lives p < life → ComesFrom (s.stored p) life new → Lone n (put s.processes p (Collects new)) (put s.lives p life) s.given s.gateway.out
   revives p life new first dead above from =
-      let holds = r.holds in
+      let holds = r.led.holds in
       let are : AreStoredOf (s.stored p) (s.processes p) here p = (holds.each p first).stored in
       let k : Kept = from.0 in
       let one : are.0 ≡ k = one_kept are.0 k (s.stored p) are.1.0 from.1.0 in
@@ -135,11 +136,11 @@ module _ (f : Answering) (states : ℕ → List ℕ) (n : ℕ) (s : System) (act
       let t = giving s.lives back n p x (s.processes p) new m.1 (h.good p m.0) in
       process-goes n s.processes s.lives (x ∷ s.given) s.gateway.out (with-given n s.processes s.lives s.given s.gateway.out x t.0 h) p m.0 new t.1
   call-alone (Handed p x new) m a =
-      let holds = r.holds in
-      let fits : Fits x (s.processes p) = fits-here f states n s acts r x (s.processes p) p (one-was (WasPut here) x s.given holds.given m.1.0) (holds.each p m.0).stands in
-      goes p new m.0 (hearing s.lives back n p x (s.processes p) new m.1.1 (sound-given x m.1.0) fits (is-of f states n s acts r p m.0) (only p m.0) (h.good p m.0))
+      let holds = r.led.holds in
+      let fits : Fits x (s.processes p) = fits-here f states n s es r x (s.processes p) p (one-was (WasPut here) x s.given holds.given m.1.0) (holds.each p m.0).stands in
+      goes p new m.0 (hearing s.lives back n p x (s.processes p) new m.1.1 (sound-given x m.1.0) fits (is-of f states n s es r p m.0) (only p m.0) (h.good p m.0))
   call-alone (Worked p a new) m l = goes p new m.0 (working s.lives back n p f a (s.processes p) new m.1 (h.good p m.0))
-  call-alone (Did p new) m a = goes p new m.0 (acting s.lives back n p (s.processes p) new m.1 (is-of f states n s acts r p m.0) (only p m.0) (h.good p m.0))
+  call-alone (Did p new) m a = goes p new m.0 (acting s.lives back n p (s.processes p) new m.1 (is-of f states n s es r p m.0) (only p m.0) (h.good p m.0))
   call-alone (Stored p bytes) m a = goes p (covered (s.processes p)) m.0 (storing s.lives back n p bytes (s.processes p) m.1 (h.good p m.0))
   call-alone (Saved p new) m a = goes p new m.0 (telling s.lives back n p (s.processes p) new m.1 (h.good p m.0))
   call-alone (Resumed p limits new) m a = goes p new m.0 (waking s.lives back n p limits (s.processes p) new m.1 (h.good p m.0))
@@ -161,13 +162,13 @@ module _ (f : Answering) (states : ℕ → List ℕ) (n : ℕ) (s : System) (act
 
 -- ---- parts of a call of a host
 
-pub alone-go : (f : Answering) (states : ℕ → List ℕ) (n : ℕ) (X A : Type 0) (E : ℕ → Type 0) → A → (s : System) (acts : List Act) (ks : List Call) → Reached (handlers_of f states) n s acts → IsLone n s → Along (IsPart f n X A E) s ks → GoesOn (handlers_of f states) n (after_calls s ks) acts × IsLone n (after_calls s ks)
-alone-go f states n X A E a s acts [] r h m = (none-on (handlers_of f states) n s acts r, h)
-alone-go f states n X A E a s acts (k ∷ ks) r h m =
-    let lone : IsLone n (after_call s k) = call-alone f states n s acts r h k m.0.does (m.0.alone a) in
-    let on : GoesOn (handlers_of f states) n (after_call s k) acts = one-on f states n s acts k r m.0.does (λ p first. (lone.good p first).exact) in
-    let rest = alone-go f states n X A E a (after_call s k) (acts ++ on.more) ks on.reached lone m.1 in
-    (joined (handlers_of f states) n (after_calls (after_call s k) ks) acts on.more rest.0, rest.1)
+pub alone-go : (f : Answering) (states : ℕ → List ℕ) (n : ℕ) (X A : Type 0) (E : ℕ → Type 0) → A → (s : System) (es : List Event) (ks : List Call) → Reached (handlers_of f states) n s es → IsLone n s → Along (IsPart f n X A E) s ks → GoesOn (handlers_of f states) n (after_calls s ks) es × IsLone n (after_calls s ks)
+alone-go f states n X A E a s es [] r h m = (none-on (handlers_of f states) n s es r, h)
+alone-go f states n X A E a s es (k ∷ ks) r h m =
+    let lone : IsLone n (after_call s k) = call-alone f states n s es r h k m.0.does (m.0.alone a) in
+    let on : GoesOn (handlers_of f states) n (after_call s k) es = one-on f states n s es k r m.0.does (λ p first. (lone.good p first).exact) in
+    let rest = alone-go f states n X A E a (after_call s k) (es ++ on.more) ks on.reached lone m.1 in
+    (joined (handlers_of f states) n (after_calls (after_call s k) ks) es on.more rest.0, rest.1)
 
 -- at the opening all are up
 pub begins-alone : (h : Hosting) → IsLone h.n (view (start h))

@@ -6,7 +6,7 @@ use Rattle.theorems.proofs.Changes.{at-itself}
 use Rattle.world.specs.declared.message.Message.{Message}
 use Rattle.cluster.specs.Cluster.{Cluster}
 use Rattle.cluster.specs.Rules.{Act, Arrives, Keeps, does}
-use Rattle.cluster.specs.Overlap.{Event, Acts, Loses, Lacks, Doubts, loss, cut, goes, after_events}
+use Rattle.cluster.specs.Overlap.{Event, Acts, Loses, Lacks, Doubts, loss, cut, moves, goes, after_events}
 use Rattle.packets.specs.declared.kept.Kept.{Kept}
 use Rattle.node.specs.Stands.{Each, doer, own_act, own_event}
 use Rattle.node.specs.Kept.{IsKeptOf}
@@ -50,13 +50,17 @@ not-kept : (p : ℕ) (a : Act) → own_act a ≡ Some p → a ≢ Keeps p
 not-kept p a o f = let none : own_act a ≡ None = ap own_act f in absurd (cc)
 
 -- what is kept of it stays that: a page is taken as it is by an act
-kept-event : (k : Kept) (c : Cluster) (p : ℕ) (e : Event) → own_event e ≡ Some p → IsKeptOf k c p → IsKeptOf k (goes c e) p
-kept-event k c p (Acts exact a) o s = kept-stays k p (a ∷ []) c (not-kept p a o, tt) s
-kept-event k c p (Lacks q d i j n) o s = kept-stays k p (Arrives q d (loss i j n) ∷ []) c ((λ e. absurd (cc (e))), tt) s
-kept-event k c p (Doubts q d x) o s = kept-stays k p (Arrives q d (cut c d q x) ∷ []) c ((λ e. absurd (cc (e))), tt) s
-kept-event k c p (Loses q d i j n) o s = s
-kept-event k c p other o s = kept-still k c (goes c other) p (record { count = refl; handlers = refl; saved = refl; saved_trims = λ r. refl; history = λ l. (refl, l) }) s
+kept-moves : (k : Kept) (c : Cluster) (p : ℕ) (e : Event) → own_event e ≡ Some p → IsKeptOf k c p → IsKeptOf k (moves c e) p
+kept-moves k c p (Acts exact a) o s = kept-stays k p (a ∷ []) c (not-kept p a o, tt) s
+kept-moves k c p (Lacks q d i j n) o s = kept-stays k p (Arrives q d (loss i j n) ∷ []) c ((λ e. absurd (cc (e))), tt) s
+kept-moves k c p (Doubts q d x) o s = kept-stays k p (Arrives q d (cut c d q x) ∷ []) c ((λ e. absurd (cc (e))), tt) s
+kept-moves k c p (Loses q d i j n) o s = s
+kept-moves k c p other o s = kept-still k c (moves c other) p (record { count = refl; handlers = refl; saved = refl; saved_trims = λ r. refl; history = λ l. (refl, l) }) s
+
+-- whatever nodes know of failures then
+pub kept-goes : (k : Kept) (c : Cluster) (p : ℕ) (e : Event) → IsKeptOf k (moves c e) p → IsKeptOf k (goes c e) p
+kept-goes k c p e s = kept-still k (moves c e) (goes c e) p (record { count = refl; handlers = refl; saved = refl; saved_trims = λ r. refl; history = λ l. (refl, l) }) s
 
 pub kept-own : (k : Kept) (c : Cluster) (p : ℕ) (es : List Event) → Each (λ (e : Event). own_event e ≡ Some p) es → IsKeptOf k c p → IsKeptOf k (after_events c es) p
 kept-own k c p [] by s = s
-kept-own k c p (e ∷ es) by s = kept-own k (goes c e) p es by.1 (kept-event k c p e by.0 s)
+kept-own k c p (e ∷ es) by s = kept-own k (goes c e) p es by.1 (kept-goes k c p e (kept-moves k c p e by.0 s))

@@ -10,16 +10,17 @@ use Rattle.world.specs.Handlers.{Handlers}
 use Rattle.world.specs.Logs.{payloads}
 use Rattle.cluster.specs.Parcels.{Delivery, In, parcel}
 use Rattle.cluster.specs.Cluster.{Cluster}
-use Rattle.cluster.specs.Rules.{Act}
-use Rattle.cluster.specs.Overlap.{Event, Events, after_events, goes, kept_sends}
+use Rattle.cluster.specs.Overlap.{Event, after_events, goes, kept_sends}
+use Rattle.cluster.specs.Exact.{Steps}
 use Rattle.cluster.specs.DurablePromises.{lasts}
 use Rattle.cluster.proofs.Firm.{Firm}
 use Rattle.cluster.proofs.DurablePromised.{IsFirm, step-firm}
+use Rattle.cluster.proofs.Goes.{own-events}
 use Rattle.packets.specs.declared.packet.Body as bodies
 use Rattle.packets.specs.declared.packet.Body.TheVariants as packets
 use Rattle.packets.specs.declared.packet.NodePacket.{NodePacket}
 use Rattle.packets.specs.Says.{WasSaid}
-use Rattle.node.specs.Stands.{Each, InOrderFrom, actor, doer}
+use Rattle.node.specs.Stands.{Each, InOrderFrom, doer}
 use Rattle.node.proofs.Lists.{all-more}
 use Rattle.recovery.specs.Overlap.{is_loss}
 use Rattle.recovery.specs.Stands.{IsSent}
@@ -29,8 +30,7 @@ use Rattle.gateway.specs.Stands.{EndsWith, Goes, shown_as}
 use Rattle.node_laws.specs.Inside.Process.{Process}
 use Rattle.node_laws.specs.Durable.{IsOf, IsSentBy, Knows}
 use Rattle.node_laws.proofs.Along.{along}
-use Rattle.node_laws.proofs.Events.{later-events, as_events, are-of, acts-happen}
-use Rattle.node_laws.proofs.JointGateways.{all-by-gateway}
+use Rattle.node_laws.proofs.Events.{later-events}
 use Rattle.node_laws.proofs.Messages.{messages, send-more}
 
 -- what holds of each by its place holds of all
@@ -40,9 +40,9 @@ each-get P (x ∷ xs) g = (g 0 x refl, each-get P xs (λ i y e. g (suc i) y e))
 
 -- ---- along a run
 
-events-firm : (c : Cluster) (es : List Event) → IsFirm c → Events c es → IsFirm (after_events c es)
+events-firm : (c : Cluster) (es : List Event) → IsFirm c → Steps c es → IsFirm (after_events c es)
 events-firm c [] h r = h
-events-firm c (e ∷ es) h r = events-firm (goes c e) es (step-firm c e h r.0) r.1
+events-firm c (e ∷ es) h r = events-firm (goes c e) es (step-firm c e h r.0.0) r.1
 
 -- events of the gateway leave what a checkpoint sends
 sends-beside : (p d : ℕ) (c : Cluster) (es : List Event) → 0 < p → Each (λ (e : Event). doer e ≡ 0) es → kept_sends (after_events c es) p d ≡ kept_sends c p d
@@ -51,7 +51,7 @@ sends-beside p d c es some by =
     (λ a b s e. let off : (p == 0) ≡ false = grind (arith, nat_tests) in let same : kept_sends b p d ≡ kept_sends a p d = rw (off, s.handlers, s.saved, s.history) refl in same ∙ e) (λ e. absurd (omega (arith, some, e))) by refl
 
 -- so it is where the same are durable
-pub firm-after : (D : ℕ → Bool) (c : Cluster) (es : List Event) → c.durable ≡ D → Firm (lasts D) c → Events c es → Firm (lasts D) (after_events c es)
+pub firm-after : (D : ℕ → Bool) (c : Cluster) (es : List Event) → c.durable ≡ D → Firm (lasts D) c → Steps c es → Firm (lasts D) (after_events c es)
 firm-after D c es same h r =
     let there : IsFirm (after_events c es) = events-firm c es (subst (λ d. Firm (lasts d) c) (sym same) h) r in
     subst (λ d. Firm (lasts d) (after_events c es)) ((later-events c es).durable ∙ same) there
@@ -101,7 +101,7 @@ module _ (D : ℕ → Bool) (c : Cluster) (firm : Firm (lasts D) c) where
     pub said : (x : NodePacket) → D x.from ≡ true → IsSent c x.from x → IsSentBy F x.from (H x.from) x
     said x is o = by x.body (λ e. (o.2 e).said)
       where
-        by : (b : bodies.Body) → (is_loss b ≡ false → WasSaid c.parcels x.from x.to b) → IsOf (F.sends x.from (H x.from) x.to) b
+        by : (b : bodies.Body) → (is_loss b ≡ false → WasSaid c x.from x.to b) → IsOf (F.sends x.from (H x.from) x.to) b
         by (packets.Delivery i ssn y) said =
             let w = said refl in
             let same : w.0 ≡ Delivery i ssn y = cc (w.1) in
@@ -122,14 +122,6 @@ module _ (D : ℕ → Bool) (c : Cluster) (firm : Firm (lasts D) c) where
 -- what the gateway has still to hand out, as far as it went ahead
 pub borne-ahead : (D : ℕ → Bool) (c : Cluster) → ((p : ℕ) → D p ≡ true → 0 < p) → c.durable ≡ D → Firm (lasts D) c → (g : TheGateway) → Goes g c → Each (IsBorne D c) g.store.outputs
 borne-ahead D c some same firm g w =
-    let by : Each (λ (a : Act). actor a ≡ 0) w.acts = all-by-gateway w.acts w.by in
-    let free : Each (λ (a : Act). c.durable (actor a) ≡ false) w.acts = all-more (λ (a : Act). actor a ≡ 0) (λ (a : Act). c.durable (actor a) ≡ false) w.acts (λ a e. ap c.durable e ∙ ap (λ (d : ℕ → Bool). d 0) same ∙ gate (D 0) refl) by in
-    let es : List Event = as_events w.acts in
-    let t = acts-happen c w.acts free w.run in
-    let shown : EndsWith g.store.outputs (after_events c es).world.shown = subst (λ (d : Cluster). EndsWith g.store.outputs d.world.shown) (sym t.1) w.stands.outputs in
-    all-more (IsBorne D (after_events c es)) (IsBorne D c) g.store.outputs (λ o b e. ap (λ xs. nth xs o.ssn) (sym (sends-beside o.process 0 c es (some o.process e) (are-of 0 w.acts by))) ∙ b e)
-    (borne D (after_events c es) (firm-after D c es same firm t.0) g.store.outputs shown)
-  where
-    gate : (b : Bool) → D 0 ≡ b → b ≡ false
-    gate true e = let l : 0 < 0 = some 0 e in absurd (omega (arith, l))
-    gate false e = refl
+    let d : Cluster = after_events c w.events in
+    all-more (IsBorne D d) (IsBorne D c) g.store.outputs (λ o b e. ap (λ xs. nth xs o.ssn) (sym (sends-beside o.process 0 c w.events (some o.process e) (own-events 0 w.events w.by))) ∙ b e)
+    (borne D d (firm-after D c w.events same firm w.run) g.store.outputs w.stands.outputs)

@@ -9,7 +9,9 @@ use Rattle.world.specs.Phases.{Phase, Up, Busy, Replaying, is_up}
 use Rattle.cluster.specs.Parcels.{Body, Delivery, Number, Acknowledgement, Ask, Restored, Parcel, parcel, In}
 use Rattle.cluster.specs.Cluster.{Stage, Live, Frozen, Dead, Collecting, Cluster, is_live, takes, durable_opening}
 use Rattle.cluster.specs.Rules.{Act, Puts, Arrives, Works, Replays, Recovers, Freezes, Thaws, Dies, Opens, May, MayPut, MayTake, arrived, does}
-use Rattle.cluster.specs.Overlap.{Event, Acts, Meets, Lacks, Leaves, Doubts, Might, loss, cut, goes, Events, after_events}
+use Rattle.cluster.specs.Overlap.{Event, Acts, Meets, Lacks, Leaves, Doubts, Might, loss, cut, moves, goes, after_events}
+use Rattle.cluster.specs.Exact.{Steps}
+use Rattle.cluster.proofs.Goes.{steps-are-events}
 use Rattle.cluster.specs.DurablePromises.{InOrder}
 use Rattle.cluster.proofs.Order.{always-in-order}
 use Rattle.gateway.proofs.Steps.{by-if}
@@ -99,27 +101,30 @@ calm-act c act may h = record { gate = h.gate; rests = h.rests; silent = h.silen
 calm-taken : (c : Cluster) (q d : ℕ) (x : Body) → MayTake c q d x → Calm c → Calm (arrived c q d x)
 calm-taken c q d x may h = record { gate = ap (λ s. s 0) (stage-taken c q d x) ∙ h.gate; rests = rests-taken c q d x may h.rests; silent = λ e i k a. h.silent e i k (silent-taken c q d x e i k a) }
 
-calm-event : (c : Cluster) (e : Event) → Might c e → Calm c → Calm (goes c e)
-calm-event c (Acts exact a) may h = calm-act c a may.0 h
-calm-event c (Meets q p i k) may h = record { gate = h.gate; rests = turn c.stage c.world.phase q _ (live-not (c.stage q) may.1.0) h.rests; silent = h.silent }
-calm-event c (Lacks q p i j k) may h = calm-taken c q p (loss i j k) may.1 h
-calm-event c (Leaves p q) may h = record { gate = h.gate; rests = turn c.stage c.world.phase p _ (live-not (c.stage p) may.0) h.rests; silent = h.silent }
-calm-event c (Doubts q p (Restored i j n s (Some u) f)) may h = calm-taken c q p (cut c p q (Restored i j n s (Some u) f)) may.2 h
-calm-event c (Doubts zero p (Restored i j n s None f)) may h = calm-taken c zero p (cut c p zero (Restored i j n s None f)) may.2 h
-calm-event c (Doubts (suc q) p (Restored i j n s None f)) may h = calm-taken c (suc q) p (cut c p (suc q) (Restored i j n s None f)) may.2 h
-calm-event c (Doubts q p x) may h = absurd may.0
-calm-event c other may h = h
+calm-moves : (c : Cluster) (e : Event) → Might c e → Calm c → Calm (moves c e)
+calm-moves c (Acts exact a) may h = calm-act c a may.0 h
+calm-moves c (Meets q p i k) may h = record { gate = h.gate; rests = turn c.stage c.world.phase q _ (live-not (c.stage q) may.1.0) h.rests; silent = h.silent }
+calm-moves c (Lacks q p i j k) may h = calm-taken c q p (loss i j k) may.1 h
+calm-moves c (Leaves p q) may h = record { gate = h.gate; rests = turn c.stage c.world.phase p _ (live-not (c.stage p) may.0) h.rests; silent = h.silent }
+calm-moves c (Doubts q p (Restored i j n s (Some u) f)) may h = calm-taken c q p (cut c p q (Restored i j n s (Some u) f)) may.2 h
+calm-moves c (Doubts zero p (Restored i j n s None f)) may h = calm-taken c zero p (cut c p zero (Restored i j n s None f)) may.2 h
+calm-moves c (Doubts (suc q) p (Restored i j n s None f)) may h = calm-taken c (suc q) p (cut c p (suc q) (Restored i j n s None f)) may.2 h
+calm-moves c (Doubts q p x) may h = absurd may.0
+calm-moves c other may h = h
 
-pub calm-after : (c : Cluster) (es : List Event) → Events c es → Calm c → Calm (after_events c es)
+calm-event : (c : Cluster) (e : Event) → Might c e → Calm c → Calm (goes c e)
+calm-event c e may h = let t = calm-moves c e may h in record { gate = t.gate; rests = t.rests; silent = t.silent }
+
+pub calm-after : (c : Cluster) (es : List Event) → Steps c es → Calm c → Calm (after_events c es)
 calm-after c [] r h = h
-calm-after c (e ∷ es) r h = calm-after (goes c e) es r.1 (calm-event c e r.0 h)
+calm-after c (e ∷ es) r h = calm-after (goes c e) es r.1 (calm-event c e r.0.0 h)
 
 -- and what each received is in order
 pub record Believed (c : Cluster) : Type 0 where
   pub calm : Calm c
   pub ordered : (p : ℕ) → InOrder (c.world.history p)
 
-pub believed : (n : ℕ) (f : Handlers) (durable : ℕ → Bool) (es : List Event) → Grows f → Events (durable_opening n f durable) es → Believed (after_events (durable_opening n f durable) es)
+pub believed : (n : ℕ) (f : Handlers) (durable : ℕ → Bool) (es : List Event) → Grows f → Steps (durable_opening n f durable) es → Believed (after_events (durable_opening n f durable) es)
 believed n f durable es grows r =
     let c : Cluster = durable_opening n f durable in
-    record { calm = calm-after c es r (record { gate = refl; rests = λ p e. refl; silent = λ d i k a. a }); ordered = (always-in-order n f durable es grows r).0 }
+    record { calm = calm-after c es r (record { gate = refl; rests = λ p e. refl; silent = λ d i k a. a }); ordered = (always-in-order n f durable es grows (steps-are-events c es r)).0 }

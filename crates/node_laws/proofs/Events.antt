@@ -1,13 +1,16 @@
--- What events leave of a cluster, and acts as events
-use Rattle.std.proofs.Common.{◌≡◌, ℕ, zero, suc, ◌+◌, List, [], ◌∷◌, length, Bool, true, false, refl, sym, ap, ◌∙◌, subst, arith}
+-- What events leave of a cluster
+use Rattle.std.proofs.Common.{◌≡◌, ℕ, zero, suc, ◌+◌, List, [], ◌∷◌, length, false, refl, sym, ap, ◌∙◌, arith}
 use Rattle.std.specs.Prelude.{Some, None, ◌==◌, nat_lt}
 use Rattle.std.proofs.lemmas.Bool.Decides.{nat_tests}
-use Rattle.cluster.specs.Parcels.{Body, Delivery, Restored, Parcel, In}
+use Rattle.cluster.specs.Parcels.{Body, Delivery, Restored, Parcel, Flagged, Said, In}
 use Rattle.cluster.specs.Cluster.{Cluster}
-use Rattle.cluster.specs.Rules.{Act, Puts, Arrives, Replays, Recovers, Opens, arrived, does, Run, after_run}
-use Rattle.cluster.specs.Overlap.{Event, Acts, Lacks, Doubts, IsKept, loss, cut, goes, Events, after_events}
-use Rattle.node.specs.Stands.{Each, actor, doer, own_event, IsAct}
+use Rattle.cluster.specs.Rules.{Arrives, Replays, Recovers, Opens, arrived}
+use Rattle.cluster.specs.Overlap.{Event, Acts, Lacks, Doubts, loss, cut, goes, after_events}
+use Rattle.packets.specs.declared.packet.NodePacket.{NodePacket}
+use Rattle.packets.specs.Says.{PutOut}
+use Rattle.node.specs.Stands.{Each, doer, own_event}
 use Rattle.node.proofs.Beside.{same-event}
+use Rattle.packets.proofs.Outgoing.{put-still}
 use Rattle.gateway.proofs.Steps.{by-if}
 
 -- ---- incarnations
@@ -35,54 +38,37 @@ stored-along c p (e ∷ es) by = stored-along (goes c e) p es by.1 ∙ ap (λ f.
 
 -- ---- what stays
 
--- as many processes with the same handlers, of which the same are durable; and nothing that was put out is taken back
+-- as many processes with the same handlers, of which the same are durable; and nothing that was put out or said is taken back
 pub record Later (c d : Cluster) : Type 0 where
   pub count : d.world.count ≡ c.world.count
   pub handlers : d.world.handlers ≡ c.world.handlers
   pub durable : d.durable ≡ c.durable
   pub parcels : (x : Parcel) → In x c.parcels → In x d.parcels
+  pub said : (x : Flagged) → Said x c.said → Said x d.said
 
-later-event : (c : Cluster) (e : Event) → Later c (goes c e)
-later-event c e =
-    let apart : (suc (doer e) == doer e) ≡ false = grind (arith, nat_tests) in
-    let s = same-event c e (suc (doer e)) apart in
-    record { count = sym s.count; handlers = sym s.handlers; durable = sym s.durable; parcels = s.parcels }
+pub later-self : (c : Cluster) → Later c c
+later-self c = record { count = refl; handlers = refl; durable = refl; parcels = λ x i. i; said = λ x i. i }
 
-pub later-events : (c : Cluster) (es : List Event) → Later c (after_events c es)
-later-events c [] = record { count = refl; handlers = refl; durable = refl; parcels = λ x i. i }
-later-events c (e ∷ es) =
-    let a = later-event c e in
-    let b = later-events (goes c e) es in
+pub later-on : (c d e : Cluster) → Later c d → Later d e → Later c e
+later-on c d e a b =
     record {
       count = b.count ∙ a.count;
       handlers = b.handlers ∙ a.handlers;
       durable = b.durable ∙ a.durable;
       parcels = λ x i. b.parcels x (a.parcels x i);
+      said = λ x i. b.said x (a.said x i);
     }
 
--- ---- acts
+later-event : (c : Cluster) (e : Event) → Later c (goes c e)
+later-event c e =
+    let apart : (suc (doer e) == doer e) ≡ false = grind (arith, nat_tests) in
+    let s = same-event c e (suc (doer e)) apart in
+    record { count = sym s.count; handlers = sym s.handlers; durable = sym s.durable; parcels = s.parcels; said = s.said }
 
-abbrev pub as_events : List Act → List Event
-as_events [] = []
-as_events (a ∷ acts) = Acts true a ∷ as_events acts
+pub later-events : (c : Cluster) (es : List Event) → Later c (after_events c es)
+later-events c [] = later-self c
+later-events c (e ∷ es) = later-on c (goes c e) (after_events c (e ∷ es)) (later-event c e) (later-events (goes c e) es)
 
-pub are-acts : (acts : List Act) → Each IsAct (as_events acts)
-are-acts [] = tt
-are-acts (a ∷ acts) = (tt, are-acts acts)
-
-pub are-of : (p : ℕ) (acts : List Act) → Each (λ (a : Act). actor a ≡ p) acts → Each (λ (e : Event). doer e ≡ p) (as_events acts)
-are-of p [] by = tt
-are-of p (a ∷ acts) by = (by.0, are-of p acts by.1)
-
--- one that isn't durable may send all that is released
-kept-free : (durable : ℕ → Bool) (c : Cluster) (a : Act) → durable (actor a) ≡ false → IsKept durable c a
-kept-free durable c (Puts p d (Delivery i ssn x)) e = λ t. absurd (let z : true ≡ false = sym t ∙ e in cc)
-kept-free durable c a e = tt
-
--- acts of those that aren't durable may happen as events
-pub acts-happen : (c : Cluster) (acts : List Act) → Each (λ (a : Act). c.durable (actor a) ≡ false) acts → Run c acts → Events c (as_events acts) × (after_events c (as_events acts) ≡ after_run c acts)
-acts-happen c [] free r = (tt, refl)
-acts-happen c (a ∷ acts) free r =
-    let still = subst (λ d. Each (λ (b : Act). d (actor b) ≡ false) acts) (sym (later-event c (Acts true a)).durable) free.1 in
-    let t = acts-happen (does c a) acts still r.1 in
-    (((r.0, kept-free c.durable c a free.0), t.0), t.1)
+-- a packet that was put out still is
+pub put-later : (c d : Cluster) (p : ℕ) (x : NodePacket) → Later c d → PutOut c p x → PutOut d p x
+put-later c d p x l o = put-still c d p x (sym l.count) l.parcels l.said o

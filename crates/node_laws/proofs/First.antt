@@ -36,6 +36,7 @@ module _ (limits : Limits) (me count : ℕ) (state : List ℕ) (f : Handlers) (d
         state = s.state;
         saved = refl;
         durable = s.durable;
+        exact = s.exact;
         received = s.received;
         waits = s.waits;
         logs = s.logs;

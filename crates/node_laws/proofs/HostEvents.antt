@@ -1,9 +1,11 @@
--- Whatever fails, the calls of hosts are events of a cluster with which all agree at their end
+-- Whatever fails, the calls of hosts are a run of the whole rules, and all agree with its cluster at their end
 use Rattle.std.proofs.Common.{◌≡◌, ℕ, List, [], ◌∷◌, ◌++◌, Bool, true, refl, sym, subst, append_assoc, append-nil}
 use Rattle.theorems.proofs.ListLemmas.{nth-prefix}
 use Rattle.cluster.specs.Cluster.{Cluster, durable_opening}
-use Rattle.cluster.specs.Overlap.{Event, Events, after_events}
-use Rattle.cluster.specs.DurablePromises.{lasts}
+use Rattle.cluster.specs.Overlap.{Event, after_events}
+use Rattle.cluster.specs.Exact.{Steps}
+use Rattle.cluster.proofs.Goes.{steps-are-events}
+use Rattle.cluster.specs.DurablePromises.{lasts, Stays}
 use Rattle.cluster.proofs.Firm.{Firm}
 use Rattle.cluster.proofs.DurablePromised.{opens-firm, checkpoints-stay}
 use Rattle.node.specs.Stands.{Each}
@@ -16,7 +18,7 @@ use Rattle.node_laws.specs.HostReplies.{answering}
 use Rattle.node_laws.specs.HostSystem.{System, Hosting, HostCall, DidOut, start, after, after_call, after_calls, handlers}
 use Rattle.node_laws.specs.HostLaws.{StaysDurable, AreDurable, shown_by, outputs_of, HostedEvents}
 use Rattle.node_laws.specs.Inside.System.{view}
-use Rattle.node_laws.proofs.Events.{later-events}
+use Rattle.node_laws.proofs.Events.{later-self, later-events}
 use Rattle.node_laws.proofs.Lives.{all-stand}
 use Rattle.node_laws.proofs.Untaken.{goes-taken-out}
 use Rattle.node_laws.proofs.Bearing.{IsBorne, firm-after, borne-ahead}
@@ -28,8 +30,12 @@ module _ (h : Hosting) (D : ℕ → Bool) where
   abbrev pub at_last : List Event → Cluster
   at_last es = after_events (durable_opening h.n (handlers h) D) es
 
+  -- what checkpoints send only grows
+  pub stay-at : (es more : List Event) (p : ℕ) → Steps (durable_opening h.n (handlers h) D) (es ++ more) → Stays (at_last es) (at_last (es ++ more)) p
+  stay-at es more p r = checkpoints-stay h.n (handlers h) D es more p (grows (answering h.n h.images) h.states) (steps-are-events (durable_opening h.n (handlers h) D) (es ++ more) r)
+
   -- nobody has more of its durable processes than their checkpoints send
-  pub firm-at : (es : List Event) → Events (durable_opening h.n (handlers h) D) es → Firm (lasts D) (at_last es)
+  pub firm-at : (es : List Event) → Steps (durable_opening h.n (handlers h) D) es → Firm (lasts D) (at_last es)
   firm-at es r = firm-after D (durable_opening h.n (handlers h) D) es refl (opens-firm h.n (handlers h) D (grows (answering h.n h.images) h.states)) r
 
   -- more events lead to where all of a system stand behind these calls, and the outputs that the gateway gave by them are what
@@ -43,7 +49,7 @@ module _ (h : Hosting) (D : ℕ → Bool) where
     -- what it gives by one call
     borne-by : (s : System) (es : List Event) (k : HostCall) → Led (handlers h) h.n D (view s) es → Each (IsBorne D (at_last es)) (shown_by s k)
     borne-by s es (DidOut new) r =
-        let goes = goes-taken-out s.taken s.gateway (at_last es) (r.holds.ahead (at_last es) r.holds.durable (λ x i. i)) in
+        let goes = goes-taken-out s.taken s.gateway (at_last es) (r.holds.ahead (at_last es) r.holds.durable (later-self (at_last es))) in
         each-take (IsBorne D (at_last es)) _ s.gateway.store.outputs
         (borne-ahead D (at_last es) (λ p e. (proper p e).0) (later-events (durable_opening h.n (handlers h) D) es).durable (firm-at es r.run) s.gateway goes)
     borne-by s es other r = tt
@@ -62,7 +68,7 @@ module _ (h : Hosting) (D : ℕ → Bool) where
           led = led;
           borne = each-append (IsBorne D to) (shown_by s k) (outputs_of (after_call s k) ks)
               (all-more (IsBorne D (at_last es)) (IsBorne D to) (shown_by s k) (λ o b e. nth-prefix _ _ o.ssn o.payload
-              ((checkpoints-stay h.n (handlers h) D es (one.more ++ rest.more) o.process (grows (answering h.n h.images) h.states) led.run).sends 0) (b e)) (borne-by s es k r))
+              ((stay-at es (one.more ++ rest.more) o.process led.run).sends 0) (b e)) (borne-by s es k r))
               (subst (λ z. Each (IsBorne D (at_last z)) (outputs_of (after_call s k) ks)) all rest.borne);
         }
 

@@ -10,7 +10,6 @@ use Rattle.world.specs.History.{nth}
 use Rattle.world.specs.Handlers.{Handlers}
 use Rattle.cluster.specs.Cluster.{Cluster}
 use Rattle.cluster.specs.Overlap.{Event}
-use Rattle.cluster.proofs.DurablePromised.{checkpoints-stay}
 use Rattle.packets.specs.declared.packet.NodePacket.{NodePacket}
 use Rattle.node.specs.Node.{TheNode}
 use Rattle.node.specs.Answering.{IsOne}
@@ -36,7 +35,7 @@ use Rattle.node_laws.proofs.Views.{is-up}
 use Rattle.node_laws.proofs.Messages.{messages, are-first, are-after, has-more, covered-first}
 use Rattle.node_laws.proofs.Bearing.{IsBorne, sent, said, knows}
 use Rattle.node_laws.proofs.Led.{Led}
-use Rattle.node_laws.proofs.HostEvents.{at_last, firm-at, LedBy, leads-by, leads-first}
+use Rattle.node_laws.proofs.HostEvents.{at_last, stay-at, firm-at, LedBy, leads-by, leads-first}
 use Rattle.node_laws.proofs.Promised.{Trace, made, trace-split, calls-split, after-more}
 
 -- ---- at a moment
@@ -230,7 +229,7 @@ next-between h D p calls (k ∷ ks) l g lasting stops =
     let gave : Each (Gave p to) packets = subst (λ z. Each (Gave p z) packets) is (gave-all h p (start h) (calls ++ k ∷ ks) all) in
     let H : List Message = messages (as_process (from.processes p)) (at_last h D one.more) p in
     let G : List Message = messages (as_process (to.processes p)) (at_last h D (one.more ++ two.more)) p in
-    let stays = (checkpoints-stay h.n (handlers h) D one.more two.more p (grows (answering h.n h.images) h.states) two.led.run).messages in
+    let stays = (stay-at h D one.more two.more p two.led.run).messages in
     let later : Begins H G = subst (λ z. Begins z G) (sym (told-before (at_last h D one.more) p h from k stops does)) (begins-trans _ _ G stays (covered-first (as_process (to.processes p)) (at_last h D (one.more ++ two.more)) p)) in
     record {
       was = H;

@@ -1,10 +1,11 @@
--- Whatever fails, the calls of hosts are events of a cluster
+-- Whatever fails, the calls of hosts are a run of the whole rules
 use Rattle.std.proofs.Common.{◌≡◌, ℕ, List, [], ◌∷◌, ◌++◌, Bool, true, sym, ap, ◌∙◌, subst, append_assoc, append-nil}
 use Rattle.world.specs.Handlers.{Handlers}
 use Rattle.cluster.specs.Cluster.{Cluster, durable_opening}
-use Rattle.cluster.specs.Overlap.{Event, Events, after_events}
+use Rattle.cluster.specs.Overlap.{Event, after_events}
+use Rattle.cluster.specs.Exact.{Steps}
+use Rattle.cluster.proofs.Goes.{steps-on}
 use Rattle.node.specs.Answering.{Answering, handlers_of}
-use Rattle.node.proofs.Goes.{events-on}
 use Rattle.node.proofs.Answering.{grows}
 use Rattle.node_laws.specs.HostProcess.{IsFirst}
 use Rattle.node_laws.specs.HostReplies.{answering}
@@ -19,7 +20,7 @@ use Rattle.node_laws.proofs.Lives.{Holds, Onward, begins, call-goes}
 
 -- events of a cluster of n, of which these are durable, lead to where all of a system stand
 pub record Led (f : Handlers) (n : ℕ) (D : ℕ → Bool) (s : System) (es : List Event) : Type 0 where
-  pub run : Events (durable_opening n f D) es
+  pub run : Steps (durable_opening n f D) es
   pub holds : Holds f n s (after_events (durable_opening n f D) es)
 
 -- so do these and more
@@ -46,7 +47,7 @@ module _ (f : Answering) (states : ℕ → List ℕ) (n : ℕ) (D : ℕ → Bool
   led-call : (s : System) (es : List Event) (k : Call) → Led F n D s es → DoesIt f n s k → ((p : ℕ) → D p ≡ true → KeepsDurable p k) → LedOn F n D (after_call s k) es
   led-call s es k r does lasting =
       let one : Onward F n (after_events (durable_opening n F D) es) (after_call s k) = onward s es k r does lasting in
-      let both = events-on (durable_opening n F D) es one.events r.run one.run in
+      let both = steps-on (durable_opening n F D) es one.events r.run one.run in
       record { more = one.events; led = record { run = both.0; holds = subst (Holds F n (after_call s k)) (sym both.1) one.holds } }
 
   -- by parts of a call of a host

@@ -1,12 +1,13 @@
 -- A process goes on
 use Rattle.std.proofs.Common.{◌≡◌, ◌≢◌, ℕ, ◌≤◌, List, [], true, sym, ◌∙◌, subst, arith}
 use Rattle.cluster.specs.Cluster.{Cluster}
-use Rattle.cluster.specs.Overlap.{Event, Events, after_events}
+use Rattle.cluster.specs.Overlap.{Event, after_events}
+use Rattle.cluster.specs.Exact.{Steps}
+use Rattle.cluster.proofs.Goes.{own-events}
 use Rattle.packets.specs.declared.kept.Kept.{Kept}
 use Rattle.packets.specs.Kept.{IsKept}
 use Rattle.node.specs.Stands.{Each, GoesTo, doer, IsAct}
 use Rattle.node.specs.Kept.{IsKeptOf}
-use Rattle.node.proofs.Goes.{own-events}
 use Rattle.node.proofs.Beside.{Same}
 use Rattle.node.proofs.Beside as beside
 use Rattle.recovery.proofs.Others as recovery
@@ -25,7 +26,7 @@ pub record Has (process : Process) (bytes : List ℕ) (life : ℕ) (c : Cluster)
 -- by events of its own p goes to where that holds; if it is exact then, they are acts
 pub record Moves (p : ℕ) (new : Process) (bytes : List ℕ) (life : ℕ) (c : Cluster) : Type 0 where
   pub events : List Event
-  pub run : Events c events
+  pub run : Steps c events
   pub by : Each (λ (e : Event). doer e ≡ p) events
   pub acts : is_exact new ≡ true → Each IsAct events
   pub has : Has new bytes life (after_events c events) p

@@ -3,9 +3,9 @@ use Rattle.std.proofs.Common.{◌≡◌, ℕ, ◌≤◌, List, [], ◌∷◌, �
 use Rattle.world.specs.Handlers.{Handlers}
 use Rattle.verifier.specs.declared.any_image.AnyImage.{AnyImage}
 use Rattle.interp.specs.Image.{as_image}
-use Rattle.cluster.specs.Cluster.{Cluster, opening, durable_opening}
-use Rattle.cluster.specs.Rules.{Act, after_run}
+use Rattle.cluster.specs.Cluster.{Cluster, durable_opening}
 use Rattle.cluster.specs.Overlap.{Event, after_events}
+use Rattle.cluster.specs.Exact.{acts_of}
 use Rattle.cluster.proofs.Promised.{nodes-keep}
 use Rattle.node.specs.Answering.{Answering, handlers_of}
 use Rattle.node.proofs.Answering.{grows}
@@ -16,9 +16,9 @@ use Rattle.node_laws.specs.HostLaws.{StayExact, OneAtATime, HostedRun, HostedAlo
 use Rattle.node_laws.specs.HostLaws as laws
 use Rattle.node_laws.specs.Inside.System.{view}
 use Rattle.node_laws.proofs.Believed.{believed}
-use Rattle.node_laws.proofs.Lives.{begins, all-stand}
+use Rattle.node_laws.proofs.Lives.{all-stand}
 use Rattle.node_laws.proofs.Led.{Led, LedOn, led-calls, led-first}
-use Rattle.node_laws.proofs.Back.{Reached, GoesOn, none-on, joined, goes-on, nothing-is-lost}
+use Rattle.node_laws.proofs.Back.{Reached, GoesOn, ends, is-run, none-on, joined, goes-on, nothing-is-lost}
 use Rattle.node_laws.proofs.Lone.{IsLone}
 use Rattle.node_laws.proofs.Alone.{alone-go, begins-alone}
 use Rattle.node_laws.proofs.Stages.{Waits}
@@ -78,20 +78,20 @@ module _ (images : ℕ → AnyImage) (states : ℕ → List ℕ) (n : ℕ) where
   trace-split s (k ∷ ks) more t = let r = trace-split (after_call s k) ks more t.1.1 in ((t.0, (t.1.0, r.0)), r.1)
 
   -- a cluster runs on
-  pub runs-on : (s : System) (acts : List Act) (ks : List HostCall) → Reached F n (view s) acts → Trace s ks → StayExact n s ks → GoesOn F n (view (after_calls s ks)) acts
-  runs-on s acts [] r t e = none-on F n (view s) acts r
-  runs-on s acts (k ∷ ks) r t e =
+  pub runs-on : (s : System) (es : List Event) (ks : List HostCall) → Reached F n (view s) es → Trace s ks → StayExact n s ks → GoesOn F n (view (after_calls s ks)) es
+  runs-on s es [] r t e = none-on F n (view s) es r
+  runs-on s es (k ∷ ks) r t e =
       let one : StepsBy images n s k = t.1.0 in
-      let on : GoesOn F n (view (after_call s k)) acts = subst (λ z. GoesOn F n z acts) one.stand (goes-on f states n _ _ (λ q. laws.KeepsDurable q k) e.0 (view s) acts one.calls r one.are) in
-      joined F n (view (after_calls (after_call s k) ks)) acts on.more (runs-on (after_call s k) (acts ++ on.more) ks on.reached t.1.1 e.1)
+      let on : GoesOn F n (view (after_call s k)) es = subst (λ z. GoesOn F n z es) one.stand (goes-on f states n _ _ (λ q. laws.KeepsDurable q k) e.0 (view s) es one.calls r one.are) in
+      joined F n (view (after_calls (after_call s k) ks)) es on.more (runs-on (after_call s k) (es ++ on.more) ks on.reached t.1.1 e.1)
 
   -- so where processes fail one at a time, and all are exact then
-  stays-exact : (s : System) (acts : List Act) (ks : List HostCall) → Reached F n (view s) acts → IsLone n (view s) → Trace s ks → OneAtATime n s ks → StayExact n s ks
-  stays-exact s acts [] r h t a = tt
-  stays-exact s acts (k ∷ ks) r h t a =
+  stays-exact : (s : System) (es : List Event) (ks : List HostCall) → Reached F n (view s) es → IsLone n (view s) → Trace s ks → OneAtATime n s ks → StayExact n s ks
+  stays-exact s es [] r h t a = tt
+  stays-exact s es (k ∷ ks) r h t a =
       let one : StepsBy images n s k = t.1.0 in
-      let on : GoesOn F n (view (after_call s k)) acts × IsLone n (view (after_call s k)) = subst (λ z. GoesOn F n z acts × IsLone n z) one.stand (alone-go f states n _ _ (λ q. laws.KeepsDurable q k) a.0 (view s) acts one.calls r h one.are) in
-      (exact-here n (after_call s k) (λ p l. (on.1.good p l).exact), stays-exact (after_call s k) (acts ++ on.0.more) ks on.0.reached on.1 t.1.1 a.1)
+      let on : GoesOn F n (view (after_call s k)) es × IsLone n (view (after_call s k)) = subst (λ z. GoesOn F n z es × IsLone n z) one.stand (alone-go f states n _ _ (λ q. laws.KeepsDurable q k) a.0 (view s) es one.calls r h one.are) in
+      (exact-here n (after_call s k) (λ p l. (on.1.good p l).exact), stays-exact (after_call s k) (es ++ on.0.more) ks on.0.reached on.1 t.1.1 a.1)
 
 -- ---- from the opening on
 
@@ -104,7 +104,7 @@ made h calls g =
     }) g
 
 pub reached : (h : Hosting) → h.n ≤ 15 → Reached (handlers h) h.n (view (start h)) []
-reached h few = record { few = few; run = tt; holds = begins h (λ _. false) (λ p e. absurd (cc (e))) }
+reached h few = record { few = few; led = led-first h (λ q. false) (λ p e. absurd (cc (e))); are = tt }
 
 -- ---- while failures come one at a time
 
@@ -112,11 +112,13 @@ pub hosted-run : HostedRun
 hosted-run h calls few g e =
     let t = made h calls g in
     let on = runs-on h.images h.states h.n (start h) [] calls (reached h few) t e in
-    let keeps = nodes-keep h.n (handlers h) on.more few (grows (answering h.n h.images) h.states) on.reached.run in
+    let is = is-run (handlers h) h.n (view (after h calls)) on.more on.reached in
+    let c : Cluster = ends h.n (handlers h) on.more in
+    let keeps = nodes-keep h.n (handlers h) (acts_of on.more) few (grows (answering h.n h.images) h.states) is.0 in
     record {
-      acts = on.more;
-      run = on.reached.run;
-      stand = all-stand h.images (handlers h) h.n (after h calls) (after_run (opening h.n (handlers h)) on.more) (at-end h.images h.states h.n (start h) calls t).good on.reached.holds;
+      acts = acts_of on.more;
+      run = is.0;
+      stand = (c, is.1, all-stand h.images (handlers h) h.n (after h calls) c (at-end h.images h.states h.n (start h) calls t).good on.reached.led.holds);
       no_orphan = keeps.0;
       output_once = keeps.1;
       received_once = keeps.2;
@@ -135,7 +137,7 @@ hosted-back h calls more few g e p a b l was is =
     let exact = exact-split h.n (start h) calls more e in
     let one = runs-on h.images h.states h.n (start h) [] calls (reached h few) t.0 exact.0 in
     let two = runs-on h.images h.states h.n (after h calls) one.more more one.reached t.1 exact.1 in
-    nothing-is-lost h.images (answering h.n h.images) h.states h.n few (after h calls) (after h (calls ++ more)) one.more (at-end h.images h.states h.n (start h) calls t.0).good (at-end h.images h.states h.n (start h) (calls ++ more) all).good one.reached
+    nothing-is-lost h.images (answering h.n h.images) h.states h.n (after h calls) (after h (calls ++ more)) one.more (at-end h.images h.states h.n (start h) calls t.0).good (at-end h.images h.states h.n (start h) (calls ++ more) all).good one.reached
     (subst (λ z. GoesOn (handlers h) h.n (view z) one.more) (sym (after-more (start h) calls more)) two) p a b l was is
 
 pub hosted-back-alone : HostedBackAlone

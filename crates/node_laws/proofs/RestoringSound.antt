@@ -1,5 +1,5 @@
 -- What a process that restores its numbers says of lives, and hears of them
-use Rattle.std.proofs.Common.{◌≡◌, ◌≢◌, ℕ, zero, suc, ◌+◌, ◌≤◌, List, [], true, false, refl, sym, ap, ◌∙◌, subst, arith}
+use Rattle.std.proofs.Common.{◌≡◌, ◌≢◌, ℕ, zero, suc, ◌+◌, ◌≤◌, List, true, false, refl, sym, ap, ◌∙◌, subst, arith}
 use Rattle.std.specs.Prelude.{not, ◌&&◌, ◌==◌, nat_le, slice_index_or, slice_set}
 use Rattle.std.proofs.lemmas.Bool.Decides.{nat_tests}
 use Rattle.theorems.proofs.Tests.{both}
@@ -12,7 +12,7 @@ use Rattle.packets.specs.Packet.{in_range, is_done, is_exact}
 use Rattle.gateway.proofs.Steps.{by-if}
 use Rattle.recovery.specs.Own.{TheOwn, posts, is_for, hears}
 use Rattle.recovery.specs.Intake.{keeps, takes_in, trusts}
-use Rattle.recovery.specs.Restoration.{TheRestoring, replayed_of, above_of, has_answered, asks, asks_below, asked, last_ssn, is_reply, answers, told, greeted, page_of, doubted, asked_by, heard, handed}
+use Rattle.recovery.specs.Restoration.{TheRestoring, replayed_of, above_of, has_answered, asks, asks_below, asked, last_ssn, is_reply, is_whole, answers, told, greeted, page_of, doubted, asked_by, heard, handed}
 use Rattle.recovery.proofs.Posts.{for-own}
 use Rattle.node_laws.proofs.Sound.{Says, IsSound}
 use Rattle.node_laws.proofs.OwnSound.{Keeps, IsAlone, HasHeard, hears-now, stays, onward, alone-still, posting}
@@ -60,9 +60,7 @@ module _ (lives : ℕ → ℕ) (back : ℕ → Type 0) (top : ℕ) where
 
   -- of the gateway
   greets : (c : ℕ) (flags : Flags) (n : TheRestoring) → is_exact flags ≡ true → On n (greeted c flags n)
-  greets c flags n exact =
-      by-if (On n) (is_done flags) (record n { own = trusts flags (takes_in 0 c [] n.own); answered = slice_set n.answered 0 true }) n
-      (λ e. record { own = record { me = refl; count = refl; life = refl; exact = λ f. rw (f, exact) refl; out = λ o. o }; hears = λ h. record { wide = h.wide; all = h.all } }) (λ e. same n)
+  greets c flags n exact = record { own = record { me = refl; count = refl; life = refl; exact = λ f. rw (f, exact) refl; out = λ o. o }; hears = λ h. record { wide = h.wide; all = h.all } }
 
   -- of a process, in its life of now
   tells : (from j c s : ℕ) (flags : Flags) (pairs : List Pair) (n : TheRestoring) → IsAlone lives back top n.own → from ≤ top → is_exact flags ≡ true → j ≡ lives from → On n (told from j c s flags pairs n)
@@ -87,8 +85,8 @@ module _ (lives : ℕ → ℕ) (back : ℕ → Type 0) (top : ℕ) where
       → ((i j c s : ℕ) (flags : Flags) (pairs : List Pair) → b ≡ packets.Restored i j c s flags pairs → in_range (packets.Restored i j c s flags pairs) ≡ true → is_reply from i j s n ≡ true → answers from i j c s pairs n ≡ true)
       → Says lives back from to b → On n (heard from b n)
   says from to (packets.Restored i j c s flags pairs) n known a here low other fits h =
-      by-if (On n) (in_range (packets.Restored i j c s flags pairs) && is_reply from i j s n) _ n
-      (λ e. let t = both (in_range (packets.Restored i j c s flags pairs)) (is_reply from i j s n) e in
+      by-if (On n) (in_range (packets.Restored i j c s flags pairs) && is_reply from i j s n && is_whole from flags) _ n
+      (λ e. let t = both (in_range (packets.Restored i j c s flags pairs)) (is_reply from i j s n) (both (in_range (packets.Restored i j c s flags pairs) && is_reply from i j s n) (is_whole from flags) e).0 in
       let u = both ((i == n.own.life) && nat_le (slice_index_or n.own.heard from 0) j && not (has_answered from n)) (s == above_of from n) t.1 in
       let v = both ((i == n.own.life) && nat_le (slice_index_or n.own.heard from 0) j) (not (has_answered from n)) u.0 in
       let w = both (i == n.own.life) (nat_le (slice_index_or n.own.heard from 0) j) v.0 in

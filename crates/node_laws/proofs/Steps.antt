@@ -9,6 +9,8 @@ use Rattle.cluster.specs.Parcels.{Ask, parcel, In}
 use Rattle.cluster.specs.Cluster.{Cluster, Live, Dead, Collecting}
 use Rattle.cluster.specs.Rules.{Act, Keeps, Dies, Opens, May, IsNode, does}
 use Rattle.cluster.specs.Overlap as overlap
+use Rattle.cluster.specs.Exact.{MayStep}
+use Rattle.cluster.proofs.Goes.{goes-self, goes-act, goes-any}
 use Rattle.packets.specs.declared.packet.Body as bodies
 use Rattle.packets.specs.declared.packet.Body.TheVariants as packets
 use Rattle.packets.specs.declared.packet.NodePacket.{NodePacket}
@@ -37,12 +39,12 @@ use Rattle.recovery.specs.Replays.{TheReplaying}
 use Rattle.recovery.specs.Replayed.{StandsReplayed}
 use Rattle.recovery.specs.StandsAtReplay.{StandsReplaying, AnswersAfter}
 use Rattle.recovery.specs.StandsAtReplay as replaying
-use Rattle.node.proofs.Goes.{goes-self, goes-act, goes-any}
-use Rattle.recovery.proofs.Posts.{replayed-out}
+use Rattle.recovery.proofs.Posts.{own-out, replayed-own}
 use Rattle.recovery.specs.RestorationStands.{StandsRestoring}
 use Rattle.node_laws.specs.Inside.Process.{Process, Up, Covered, Collects, Replays, Replayed, Restores, Killed, StandsAs, is_exact, Gives, Hears, Works, Acts, WaitsFor, covered, IsTold, Wakes, IsKilled, ComesFrom, IsAnswerAgain}
 use Rattle.node_laws.specs.Inside.System.{AreStoredOf}
 use Rattle.node_laws.proofs.Believed.{Calm, Believed}
+use Rattle.node_laws.proofs.Along.{kept-goes}
 use Rattle.node_laws.proofs.Moves.{Moves, IsPlain, moves-own, moves-none}
 use Rattle.node_laws.proofs.Losses.{loss-is-dropped, handed-rests, ticked-rests, froze-rests}
 
@@ -75,18 +77,18 @@ answers-again f states n c p a handlers s is j next =
 -- ---- what is put out
 
 -- what was put out says of no process that all is lost; and who asks is a process
-of-body : (c : Cluster) (p d : ℕ) (b : bodies.Body) → ((i k : ℕ) → In (parcel p d (Ask i k)) c.parcels → 0 < p) → WasSaid c.parcels p d b → OfProcess p b
+of-body : (c : Cluster) (p d : ℕ) (b : bodies.Body) → ((i k : ℕ) → In (parcel p d (Ask i k)) c.parcels → 0 < p) → WasSaid c p d b → OfProcess c p d b
 of-body c p d (packets.Ask i k) asks w = let e : Ask i k ≡ w.0 = cc (w.1) in asks i k (subst (λ z. In (parcel p d z) c.parcels) (sym e) w.2)
 of-body c p d (packets.Told i j k flags entries) asks w = λ t. absurd (let z : true ≡ false = sym t ∙ w.1.2 in cc)
 of-body c p d other asks w = tt
 
-pub put-sent : (c : Cluster) (p : ℕ) (x : NodePacket) → ((i k : ℕ) → In (parcel p x.to (Ask i k)) c.parcels → 0 < p) → PutOut c.world.count c.parcels p x → IsSent c p x
+pub put-sent : (c : Cluster) (p : ℕ) (x : NodePacket) → ((i k : ℕ) → In (parcel p x.to (Ask i k)) c.parcels → 0 < p) → PutOut c p x → IsSent c p x
 put-sent c p x asks o = (o.from, of-body c p x.to x.body asks o.said, λ e. o)
 
 -- ---- acts before others
 
-moves-after : (p : ℕ) (new : Process) (bytes : List ℕ) (life : ℕ) (c : Cluster) (a : Act) → May c a → overlap.IsKept c.durable c a → actor a ≡ p → Moves p new bytes life (does c a) → Moves p new bytes life c
-moves-after p new bytes life c a may kept by m = record { events = overlap.Acts true a ∷ m.events; run = ((may, kept), m.run); by = (by, m.by); acts = λ e. (tt, m.acts e); has = m.has }
+moves-after : (p : ℕ) (new : Process) (bytes : List ℕ) (life : ℕ) (c : Cluster) (a : Act) → MayStep c (overlap.Acts true a) → actor a ≡ p → Moves p new bytes life (overlap.goes c (overlap.Acts true a)) → Moves p new bytes life c
+moves-after p new bytes life c a may by m = record { events = overlap.Acts true a ∷ m.events; run = (may, m.run); by = (by, m.by); acts = λ e. (tt, m.acts e); has = m.has }
 
 -- a process that becomes another
 becomes : (p : ℕ) (old new : Process) (bytes : List ℕ) (life : ℕ) (c : Cluster) → new ≡ old → Moves p old bytes life c → Moves p new bytes life c
@@ -120,10 +122,10 @@ module _ (c : Cluster) (p : ℕ) (bytes : List ℕ) (life : ℕ) (low : c.stored
   -- a packet is taken
   pub giving : (x : NodePacket) (old new : Process) → Gives x old new → StandsAs old c p → AreStoredOf bytes old c p → IsSent c p x × Goes new
   giving x (Up n) new g s are =
-      let took = at-me n.me (Stands n c) (λ q. PutOut c.world.count c.parcels q x × Stands g.0 c q) s.me (g.1.1.1 c) s in
+      let took = at-me n.me (Stands n c) (λ q. PutOut c q x × Stands g.0 c q) s.me (g.1.1.1 c) s in
       (put-sent c p x (λ i k a. s.inside.0) took.0, gone (Up g.0) new g.1.0 took.1 are)
   giving x (Covered n) new g s are =
-      let took = at-me n.me (Stands n c) (λ q. PutOut c.world.count c.parcels q x × Stands g.0 c q) s.1.me (g.1.1.1 c) s.1 in
+      let took = at-me n.me (Stands n c) (λ q. PutOut c q x × Stands g.0 c q) s.1.me (g.1.1.1 c) s.1 in
       let waits : g.0.frozen ≡ true = sym (ap (λ (z : TheNode). z.frozen) g.1.1.0) ∙ s.0 in
       (put-sent c p x (λ i k a. s.1.inside.0) took.0, gone (Covered g.0) new g.1.0 (waits, took.1) are)
   giving x (Collects n) new g s are =
@@ -137,13 +139,13 @@ module _ (c : Cluster) (p : ℕ) (bytes : List ℕ) (life : ℕ) (low : c.stored
       (took.0, gone (Restores g.0) new g.1.0 took.1 are)
   giving x (Replayed n) new g s are =
       let out : Each (IsSent c p) (x ∷ g.0.own.out) = subst (Each (IsSent c p)) g.1.1.0 s.own.out in
-      (out.0, gone (Replayed g.0) new g.1.0 (subst (λ z. StandsReplayed z c p) (sym g.1.1.1) (replayed-out n c p g.0.own.out out.1 s)) are)
+      (out.0, gone (Replayed g.0) new g.1.0 (subst (λ z. StandsReplayed z c p) (sym g.1.1.1) (replayed-own n c p (own-out n.own c p (c.world.history p) (c.world.trims p) (c.world.numbers p) g.0.own.out out.1 s.own) s)) are)
   giving x Killed new g s are = absurd g
 
   -- a packet comes to a node that is up: it drops one that says that all is lost
   hearing-up : (x : NodePacket) (n new : TheNode) (loss : Bool) → is_loss x.body ≡ loss → (new ≡ handed x n) × IsHanded x n new → IsSaid c x.from x.to x.body → Stands n c p → GoesTo true p (λ d. Stands new d p) c
   hearing-up x n new true e g said s = goes-self true p (λ d. Stands new d p) c (subst (λ z. Stands z c p) (sym (g.0 ∙ loss-is-dropped.0 x n e)) s)
-  hearing-up x n new false e g said s = owes-at (λ d. WasSaid d.parcels x.from x.to x.body) n new c p g.1 s (said.1 e)
+  hearing-up x n new false e g said s = owes-at (λ d. WasSaid d x.from x.to x.body) n new c p g.1 s (said.1 e)
 
   -- a packet comes
   pub hearing : (x : NodePacket) (old new : Process) → Hears x old new → IsSaid c x.from x.to x.body → StandsAs old c p → AreStoredOf bytes old c p → Goes new
@@ -201,7 +203,7 @@ module _ (c : Cluster) (p : ℕ) (bytes : List ℕ) (life : ℕ) (low : c.stored
   telling (Covered n) new g s are =
       let k = saves-at n g.0 c p g.1.1.1 s.0 s.1 in
       becomes p (Up g.0) new bytes life c g.1.0
-      (moves-after p (Up g.0) bytes life c (Keeps p) k.0 tt refl (moves-own p (Up g.0) bytes life (does c (Keeps p)) are.0 (λ m d z. z) are.1.0 are.1.1.1 low (goes-any true g.0.exact p (λ d. Stands g.0 d p) (does c (Keeps p)) (λ t. refl) k.1)))
+      (moves-after p (Up g.0) bytes life c (Keeps p) ((k.0, tt), tt) refl (moves-own p (Up g.0) bytes life (does c (Keeps p)) are.0 (λ m d z. z) are.1.0 are.1.1.1 low (goes-any true g.0.exact p (λ d. Stands g.0 d p) (does c (Keeps p)) (λ t. refl) k.1)))
   telling other new g s are = absurd g
 
   -- it was suspended, and is resumed
@@ -215,7 +217,7 @@ module _ (c : Cluster) (p : ℕ) (bytes : List ℕ) (life : ℕ) (low : c.stored
 killed : (c : Cluster) (p : ℕ) (bytes : List ℕ) (life : ℕ) (k : Kept) → c.stored p ≤ life → IsNode c p → c.stage p ≢ Dead → IsKept k bytes → IsKeptOf k c p → Moves p Killed bytes life c
 killed c p bytes life k low inside alive is kept =
     moves-own p Killed bytes life c k (λ m d z. z) is kept low
-    (goes-act true p (λ d. StandsAs Killed d p) c (Dies p) (inside, alive) tt refl (inside, at-itself p (λ b. (if b then Dead else c.stage p) ≡ Dead) refl))
+    (goes-act true p (λ d. StandsAs Killed d p) c (Dies p) (inside, alive) tt tt refl (inside, at-itself p (λ b. (if b then Dead else c.stage p) ≡ Dead) refl))
 
 runs-on : (b : Bool) → stage_of b ≢ Dead
 runs-on true e = absurd (cc (e))
@@ -224,7 +226,7 @@ runs-on false e = absurd (cc (e))
 pub dying : (c : Cluster) (p : ℕ) (bytes : List ℕ) (life : ℕ) (old : Process) → c.stored p ≤ life → StandsAs old c p → AreStoredOf bytes old c p → Moves p Killed bytes life c
 dying c p bytes life (Up n) low s are = killed c p bytes life are.0 low s.inside (λ e. runs-on n.frozen (sym s.stage ∙ e)) are.1.0 are.1.1
 dying c p bytes life (Covered n) low s are =
-    moves-after p Killed bytes life c (Keeps p) are.1.1.0 tt refl
+    moves-after p Killed bytes life c (Keeps p) ((are.1.1.0, tt), tt) refl
     (killed (does c (Keeps p)) p bytes life are.0 low s.1.inside (λ e. runs-on n.frozen (sym s.1.stage ∙ e)) are.1.0 are.1.1.1)
 dying c p bytes life (Collects n) low s are = killed c p bytes life are.0 low s.own.inside (λ e. let f : Collecting ≡ Dead = sym s.stage ∙ e in absurd (cc (f))) are.1.0 are.1.1
 dying c p bytes life Killed low s are = moves-none p Killed bytes life c s are low
@@ -240,9 +242,10 @@ reviving c p bytes Killed before life n lasting dead low above from s are =
     let P : ℕ → Type 0 = λ q. (c.durable q ≡ true → n.own.limits.durable ≡ true) → c.stage q ≡ Dead → c.stored q < life → IsKeptOf k c q → IsNode c q → Reopens q life (λ d. StandsCollecting n d q) c in
     let owed : P k.me = subst (λ (z : Kept). (c.durable z.me ≡ true → n.own.limits.durable ≡ true) → c.stage z.me ≡ Dead → c.stored z.me < life → IsKeptOf z c z.me → IsNode c z.me → Reopens z.me life (λ d. StandsCollecting n d z.me) c) one (from.1.1.1 c) in
     let r : Reopens p life (λ d. StandsCollecting n d p) c = subst P stored.me owed lasting s.1 early stored s.0 in
-    let opened : Cluster = does c (Opens p r.skipped) in
-    let still : IsKeptOf k opened p = kept-stays k p (Opens p r.skipped ∷ []) c ((λ e. absurd (cc (e))), tt) stored in
+    let opens : overlap.Event = overlap.Acts true (Opens p r.skipped) in
+    let opened : Cluster = overlap.goes c opens in
+    let still : IsKeptOf k opened p = kept-goes k c p opens (kept-stays k p (Opens p r.skipped ∷ []) c ((λ e. absurd (cc (e))), tt) stored) in
     let now : opened.stored p ≡ life = at-itself p (λ b. (if b then suc (r.skipped + c.stored p) else c.stored p) ≡ life) r.incarnation in
-    moves-after p (Collects n) bytes life c (Opens p r.skipped) r.opens tt refl
+    moves-after p (Collects n) bytes life c (Opens p r.skipped) ((r.opens, tt), tt) refl
     (moves-own p (Collects n) bytes life opened k (λ m d z. z) are.1.0 still (omega (arith, now)) (goes-any true n.own.exact p (λ d. StandsCollecting n d p) opened (λ t. refl) r.goes))
 reviving c p bytes other before life n lasting dead low above from s are = absurd dead

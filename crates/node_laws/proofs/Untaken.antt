@@ -39,10 +39,10 @@ stands-taken outputs g c s = stands-fewer outputs [] g c (subst (λ z. Stands (u
 
 -- it goes where the other does, with fewer
 pub goes-fewer : (xs ys : List Output) (g : TheGateway) (c : Cluster) → Goes (untaken (xs ++ ys) g) c → Goes (untaken ys g) c
-goes-fewer xs ys g c w = record { acts = w.acts; run = w.run; by = w.by; stands = stands-fewer xs ys g _ w.stands }
+goes-fewer xs ys g c w = record { events = w.events; run = w.run; by = w.by; acts = w.acts; stands = stands-fewer xs ys g _ w.stands }
 
 pub goes-taken-out : (outputs : List Output) (g : TheGateway) (c : Cluster) → Goes (untaken outputs g) c → Goes g c
-goes-taken-out outputs g c w = record { acts = w.acts; run = w.run; by = w.by; stands = stands-taken outputs g _ w.stands }
+goes-taken-out outputs g c w = record { events = w.events; run = w.run; by = w.by; acts = w.acts; stands = stands-taken outputs g _ w.stands }
 
 -- ---- each of its calls is one of the gateway
 

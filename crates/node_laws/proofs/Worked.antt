@@ -165,7 +165,7 @@ module _ (image : AnyImage) (is : IsCopying image) (stored bytes : List ℕ) (ke
       record { told = Replaying replayed; ran = Replayed (replayed_of replayed); asks = Restoring begins; recovers = refl; finishes = (refl, refl, ends-so replayed refl (omega arith)); begins = (refl, beginning (replayed_of replayed)); returns = (refl, refl) } in
       let returned : Passes (Restoring has_answer) (Up (ticked (up has_answer))) =
       record { told = Restoring has_answer; ran = Restoring has_answer; asks = Restoring has_answer; recovers = refl; finishes = refl; begins = refl; returns = (refl, (up has_answer, (refl, returns.is-up has_answer refl, refl, ticking (up has_answer)))) } in
-      (first, ((first, (refl, (early, revives-as image usual (kept_of n4) bytes 2 kept-4 refl (sym is.is_image.len_is)))), ((first, record { image = refl; does = collecting-takes (Some ask) comes [] refl }), ((inl refl, (refl, handed-so ask (gave [] g6))), (tt, ((refl, gateways.takes-so (Some told) g7 [] refl), ((first, (inl refl, record { image = refl; mid = Collecting has_all; does = (refl, collecting.handing (collects [] comes) told refl refl); passes = recovered })), ((first, works image (Replaying replays) (Replaying replays_more) (Replaying replays_more) 2 refl (answers image is me 1 2 (runs-2 me 1)) (refl, replays-so replays (input 2) [] refl (gives-nothing replays.own)) (replays-on replays_more refl)), ((first, works image (Replaying replays_more) (Replaying replayed) (Restoring begins) 3 refl (answers image is me 2 3 (runs-3 me 2)) (refl, replays-so replays_more (input 3) [] refl (gives-nothing replays_more.own)) over), ((first, record { image = refl; does = returns.takes-so (Some resume) begins [] refl }), ((inl refl, (refl, handed-so resume (gave [] g7))), (tt, ((refl, gateways.takes-so (Some restored) g8 [] refl), ((first, (inl refl, record { image = refl; mid = Restoring has_answer; does = (refl, restoring.handing (restores [] begins) restored is-restoring); passes = returned })), tt))))))))))))))
+      (first, ((first, (refl, (early, revives-as image usual (kept_of n4) bytes 2 kept-4 refl (sym is.is_image.len_is)))), ((first, record { image = refl; does = collecting-takes (Some ask) comes [] refl }), ((inl refl, (refl, handed-so ask (gave [] g6))), (tt, ((refl, gateways.takes-so (Some told) g7 [] refl), ((first, (inl refl, record { image = refl; mid = Collecting has_all; does = (refl, collecting.handing (collects [] comes) told refl refl refl); passes = recovered })), ((first, works image (Replaying replays) (Replaying replays_more) (Replaying replays_more) 2 refl (answers image is me 1 2 (runs-2 me 1)) (refl, replays-so replays (input 2) [] refl (gives-nothing replays.own)) (replays-on replays_more refl)), ((first, works image (Replaying replays_more) (Replaying replayed) (Restoring begins) 3 refl (answers image is me 2 3 (runs-3 me 2)) (refl, replays-so replays_more (input 3) [] refl (gives-nothing replays_more.own)) over), ((first, record { image = refl; does = returns.takes-so (Some resume) begins [] refl }), ((inl refl, (refl, handed-so resume (gave [] g7))), (tt, ((refl, gateways.takes-so (Some restored) g8 [] refl), ((first, (inl refl, record { image = refl; mid = Restoring has_answer; does = (refl, restoring.handing (restores [] begins) restored is-restoring); passes = returned })), tt))))))))))))))
 
 -- ---- it fails alone
 

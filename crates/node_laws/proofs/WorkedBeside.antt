@@ -127,7 +127,7 @@ hosts-come-back-beside images initial page tick bytes may =
     record { told = Restoring (has_answers initial); ran = Restoring (has_answers initial); asks = Restoring (has_answers initial); recovers = refl; finishes = refl; begins = refl; returns = (refl, (up (has_answers initial), (refl, returns.is-up (has_answers initial) refl, refl, ticking (up (has_answers initial))))) } in
     record {
       opens = may-open images usual initial bytes usual-allowed may;
-      calls = (first, ((first, (refl, (early, revives-as one usual (kept_of (new_node usual 1 2 initial)) (bytes 1) 2 (may 1 first).1 refl (may 1 first).0))), ((first, record { image = refl; does = collecting-takes (Some (ask 1 0)) (comes usual 1 initial) (ask 1 2 ∷ []) refl }), ((first, record { image = refl; does = collecting-takes (Some (ask 1 2)) (collects (ask 1 2 ∷ []) (comes usual 1 initial)) [] refl }), ((inr (inl refl), (refl, handed-so (ask 1 0) (new_gateway 2 page tick))), (tt, ((refl, gateways.takes-so (Some (told 0)) (asked page tick) [] refl), ((second, (inr (inl refl), hears-up two (ask 1 2) (new_node usual 2 2 initial) (other_asked initial) (refl, nodes.handed-so (ask 1 2) (new_node usual 2 2 initial) (within (1 ∷ 1 ∷ 1 ∷ []) (true ∷ true ∷ true ∷ []) refl refl)))), ((second, gives-up two (told 2) (other_asked initial) [] refl), ((first, (inr (inl refl), record { image = refl; mid = Collecting (hears initial); does = (refl, collecting.handing (collects [] (comes usual 1 initial)) (told 0) refl refl); passes = still-collects (hears initial) })), ((first, (inl refl, record { image = refl; mid = Collecting (has_all initial); does = (refl, collecting.handing (hears initial) (told 2) refl refl); passes = over })), ((first, record { image = refl; does = returns.takes-so (Some (resume 0)) (begins initial) (resume 2 ∷ []) refl }), ((first, record { image = refl; does = returns.takes-so (Some (resume 2)) (restores (resume 2 ∷ []) (begins initial)) [] refl }), ((inr (inl refl), (refl, handed-so (resume 0) (gave [] (asked page tick)))), (tt, ((refl, gateways.takes-so (Some (restored 0)) (resumed page tick) [] refl), ((second, (inr (inl refl), hears-up two (resume 2) (quiet (other_asked initial)) (other_resumed initial) (refl, nodes.handed-so (resume 2) (quiet (other_asked initial)) (within (1 ∷ 2 ∷ 1 ∷ []) (true ∷ false ∷ true ∷ []) refl refl)))), ((second, gives-up two (restored 2) (other_resumed initial) [] refl), ((first, (inr (inl refl), record { image = refl; mid = Restoring (enters initial); does = (refl, restoring.handing (restores [] (begins initial)) (restored 0) (is-restoring initial)); passes = waits })), ((first, (inl refl, record { image = refl; mid = Restoring (has_answers initial); does = (refl, restoring.handing (enters initial) (restored 2) (enters-still initial)); passes = returned })), tt))))))))))))))))))));
+      calls = (first, ((first, (refl, (early, revives-as one usual (kept_of (new_node usual 1 2 initial)) (bytes 1) 2 (may 1 first).1 refl (may 1 first).0))), ((first, record { image = refl; does = collecting-takes (Some (ask 1 0)) (comes usual 1 initial) (ask 1 2 ∷ []) refl }), ((first, record { image = refl; does = collecting-takes (Some (ask 1 2)) (collects (ask 1 2 ∷ []) (comes usual 1 initial)) [] refl }), ((inr (inl refl), (refl, handed-so (ask 1 0) (new_gateway 2 page tick))), (tt, ((refl, gateways.takes-so (Some (told 0)) (asked page tick) [] refl), ((second, (inr (inl refl), hears-up two (ask 1 2) (new_node usual 2 2 initial) (other_asked initial) (refl, nodes.handed-so (ask 1 2) (new_node usual 2 2 initial) (within (1 ∷ 1 ∷ 1 ∷ []) (true ∷ true ∷ true ∷ []) refl refl)))), ((second, gives-up two (told 2) (other_asked initial) [] refl), ((first, (inr (inl refl), record { image = refl; mid = Collecting (hears initial); does = (refl, collecting.handing (collects [] (comes usual 1 initial)) (told 0) refl refl refl); passes = still-collects (hears initial) })), ((first, (inl refl, record { image = refl; mid = Collecting (has_all initial); does = (refl, collecting.handing (hears initial) (told 2) refl refl refl); passes = over })), ((first, record { image = refl; does = returns.takes-so (Some (resume 0)) (begins initial) (resume 2 ∷ []) refl }), ((first, record { image = refl; does = returns.takes-so (Some (resume 2)) (restores (resume 2 ∷ []) (begins initial)) [] refl }), ((inr (inl refl), (refl, handed-so (resume 0) (gave [] (asked page tick)))), (tt, ((refl, gateways.takes-so (Some (restored 0)) (resumed page tick) [] refl), ((second, (inr (inl refl), hears-up two (resume 2) (quiet (other_asked initial)) (other_resumed initial) (refl, nodes.handed-so (resume 2) (quiet (other_asked initial)) (within (1 ∷ 2 ∷ 1 ∷ []) (true ∷ false ∷ true ∷ []) refl refl)))), ((second, gives-up two (restored 2) (other_resumed initial) [] refl), ((first, (inr (inl refl), record { image = refl; mid = Restoring (enters initial); does = (refl, restoring.handing (restores [] (begins initial)) (restored 0) (is-restoring initial)); passes = waits })), ((first, (inl refl, record { image = refl; mid = Restoring (has_answers initial); does = (refl, restoring.handing (enters initial) (restored 2) (enters-still initial)); passes = returned })), tt))))))))))))))))))));
       alone = ((λ q inside other. (new_node usual q 2 initial, refl)), (tt, (tt, (tt, (tt, (tt, (tt, (tt, (tt, (tt, (tt, (tt, (tt, (tt, (tt, (tt, (tt, (tt, (tt, (tt, tt))))))))))))))))))));
       node = ticked (up (has_answers initial));
       is_up = refl;

@@ -4,7 +4,8 @@ use Rattle.world.specs.History.{count_of}
 use Rattle.world.specs.Handlers.{Handlers}
 use Rattle.cluster.specs.Cluster.{Cluster, Dead, opening, durable_opening}
 use Rattle.cluster.specs.Rules.{Act, Run, May, does, Keeps, IsNode, after_run}
-use Rattle.cluster.specs.Overlap.{Event, Events, after_events}
+use Rattle.cluster.specs.Overlap.{Event, after_events}
+use Rattle.cluster.specs.Exact.{Steps, bare}
 use Rattle.cluster.specs.Promises.{NoOrphanNode, OutputOnce, ReceivedOnce}
 use Rattle.packets.specs.declared.kept.Kept.{Kept}
 use Rattle.packets.specs.Kept.{IsKept}
@@ -58,17 +59,21 @@ pub record AllStand (n : ℕ) (s : System) (c : Cluster) : Type 0 where
   -- the gateway counts as many outputs of a process as were shown of it
   pub shown : (p : ℕ) → IsFirst n p → (peer_of p s.durable).shown ≡ count_of p c.world.shown
 
+-- these acts lead the opening of n processes to a cluster that agrees; what its nodes know of failures no act says
+abbrev pub LeadTo : ℕ → Handlers → List Act → (Cluster → Type 0) → Type 0
+LeadTo n f acts Agrees = (c : Cluster) × (after_run (opening n f) acts ≡ bare c) × Agrees c
+
 -- a cluster of n runs from its opening to one that agrees; and the promises of runs hold of it
 pub record IsRunOf (n : ℕ) (f : Handlers) (Agrees : Cluster → Type 0) : Type 0 where
   pub acts : List Act
   pub run : Run (opening n f) acts
-  pub stand : Agrees (after_run (opening n f) acts)
+  pub stand : LeadTo n f acts Agrees
   pub no_orphan : NoOrphanNode (after_run (opening n f) acts)
   pub output_once : OutputOnce (after_run (opening n f) acts)
   pub received_once : ReceivedOnce (after_run (opening n f) acts)
 
--- a cluster of n, of which these are durable, comes by events from its opening to one that agrees
+-- a cluster of n, of which these are durable, comes by the whole rules from its opening to one that agrees
 pub record AreEventsOf (n : ℕ) (f : Handlers) (durable : ℕ → Bool) (Agrees : Cluster → Type 0) : Type 0 where
   pub events : List Event
-  pub run : Events (durable_opening n f durable) events
+  pub run : Steps (durable_opening n f durable) events
   pub stand : Agrees (after_events (durable_opening n f durable) events)

@@ -7,6 +7,7 @@ use Rattle.cluster.specs.Rules.{Act, Run, after_run}
 use Rattle.cluster.specs.Promises.{AllAcknowledged}
 use Rattle.node.specs.Node.{TheNode}
 use Rattle.node.specs.Transmission.{run_at}
+use Rattle.node_laws.specs.Agreement.{LeadTo}
 
 -- how many messages a node received
 abbrev pub length_of : TheNode → ℕ
@@ -23,8 +24,8 @@ pub record HasBack (n : ℕ) (f : Handlers) (Before After : Cluster → Type 0) 
   pub acts : List Act
   pub more : List Act
   pub run : Run (opening n f) (acts ++ more)
-  pub before : Before (after_run (opening n f) acts)
-  pub after : After (after_run (opening n f) (acts ++ more))
+  pub before : LeadTo n f acts Before
+  pub after : LeadTo n f (acts ++ more) After
   pub many_was : length (received n f p acts) ≡ length_of a
   pub many_is : length (received n f p (acts ++ more)) ≡ length_of b
   pub state_was : f.state p (received n f p acts) ≡ a.state

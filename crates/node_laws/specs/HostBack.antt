@@ -14,7 +14,7 @@ use Rattle.process.specs.Process.{TheProcess}
 use Rattle.process.specs.Calls.{standing_at}
 use Rattle.node_laws.specs.HostProcess.{Absent, Runs, IsUp}
 use Rattle.node_laws.specs.HostSystem.{System}
-use Rattle.node_laws.specs.Agreement.{AllStand}
+use Rattle.node_laws.specs.Agreement.{AllStand, LeadTo}
 use Rattle.node_laws.specs.Back.{length_of, received}
 
 -- it collects
@@ -48,8 +48,8 @@ pub record HasRecovered (n : ℕ) (f : Handlers) (s t : System) (p : ℕ) (now :
   pub acts : List Act
   pub more : List Act
   pub run : Run (opening n f) (acts ++ more)
-  pub before : AllStand n (still s p now collected) (after_run (opening n f) acts)
-  pub after : AllStand n t (after_run (opening n f) (acts ++ more))
+  pub before : LeadTo n f acts (AllStand n (still s p now collected))
+  pub after : LeadTo n f (acts ++ more) (AllStand n t)
   pub had : HadReceived (after_run (opening n f) acts) p collected.own.base (plan_of now.lifecycle)
   pub kept : keeps now.lifecycle ≡ collected.own.base + length (plan_of now.lifecycle)
   pub stays : take (keeps now.lifecycle) (received n f p (acts ++ more)) ≡ take (keeps now.lifecycle) (received n f p acts)

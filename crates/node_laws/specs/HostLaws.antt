@@ -134,7 +134,7 @@ HostedRecoversAlone = (h : Hosting) (calls more : List HostCall) (k : HostCall) 
 
 -- ---- whatever fails, all processes at once too, and whichever recoveries meet
 
--- the calls are events of a cluster of which these processes are durable
+-- the calls are a run of the whole rules, of a cluster of which these processes are durable
 abbrev pub HostedEvents : Type 0
 HostedEvents = (h : Hosting) (calls : List HostCall) (durable : ℕ → Bool) → Makes h calls → AreDurable h durable calls
     → AreEventsOf h.n (handlers h) durable (AllStand h.n (after h calls))

@@ -52,8 +52,8 @@ pub fn hosted_recovers_alone()
     ensures { HostedRecoversAlone }
 {}
 
-/// Whatever fails, and whichever recoveries meet, the calls are events of a cluster of which these
-/// processes are durable, and at their end all agree with it.
+/// Whatever fails, and whichever recoveries meet, the calls are a run of the whole rules, of a cluster
+/// of which these processes are durable, and at their end all agree with it.
 pub fn hosted_events()
     ensures { HostedEvents }
 {}

@@ -7,7 +7,7 @@
 //! of the gateway, in any order, with packets that come late, twice or never, are a run of a cluster as
 //! long as each process that is alive tells that it is exact ([`hosted_run`]); if one at a time fails, all
 //! tell that they are ([`hosted_alone`]). So its promises are promises of this code. Whatever fails, they
-//! are events of a cluster in which recoveries may meet ([`hosted_events`]).
+//! are a run of the whole rules, by which recoveries may meet ([`hosted_events`]).
 //!
 //! What comes back is the process that was lost ([`hosted_back`], [`hosted_recovers`]). Whatever fails,
 //! what is stored of a process only grows ([`hosted_stays`]), and nobody has anything of a durable one

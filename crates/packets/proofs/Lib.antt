@@ -13,3 +13,4 @@ pub mod PageLemmas
 pub mod Sayable
 pub mod Reports
 pub mod Ranges
+pub mod Outgoing

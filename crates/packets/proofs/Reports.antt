@@ -8,7 +8,7 @@ use Rattle.world.specs.History.{Payload}
 use Rattle.world.specs.Plan.{is_number, message_of, or_else, first_below}
 use Rattle.cluster.specs.Parcels.{reaches}
 use Rattle.cluster.specs.Rules.{message}
-use Rattle.packets.specs.Packet.{is_done, is_lost, flags_of}
+use Rattle.packets.specs.Packet.{is_done, is_lost, is_exact, flags_of}
 use Rattle.packets.specs.declared.page.LoggedMessage.{LoggedMessage}
 use Rattle.packets.specs.declared.page.Flags.{Flags}
 use Rattle.packets.specs.declared.log_pages.TheConstants.{TOLD_BYTES}
@@ -98,6 +98,12 @@ lost-is true true = refl
 lost-is true false = refl
 lost-is false true = refl
 lost-is false false = refl
+
+pub exact-is : (t x : Bool) → is_exact (flags_of t false x) ≡ x
+exact-is true true = refl
+exact-is true false = refl
+exact-is false true = refl
+exact-is false false = refl
 
 fitting-prefix : (room : ℕ) (es : List LoggedMessage) → (rest : List LoggedMessage) × (fitting room es ++ rest ≡ es)
 fitting-prefix room [] = ([], refl)

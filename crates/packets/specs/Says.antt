@@ -1,13 +1,16 @@
 -- The meaning of packets
 use Rattle.std.specs.Prelude.{◌≡◌, ℕ, ◌<◌, List, [], ◌∷◌, map, Option, Some, None, true, false, ◌==◌, if◌then◌else◌}
 use Rattle.world.specs.declared.message.Message.{Message}
-use Rattle.cluster.specs.Parcels.{Body, Delivery, Number, Acknowledgement, Ask, Told, Resume, Restored, Saved, Parcel, parcel, In, reaches}
+use Rattle.cluster.specs.Parcels.{Body, Delivery, Number, Acknowledgement, Ask, Told, Resume, Restored, Saved, Parcel, Flagged, flagged}
+use Rattle.cluster.specs.Parcels.{Said, parcel, In, reaches}
+use Rattle.cluster.specs.Cluster.{Cluster}
 use Rattle.cluster.specs.Rules.{message}
-use Rattle.packets.specs.Packet.{is_done, is_lost}
+use Rattle.packets.specs.Packet.{is_done, is_lost, is_exact}
 use Rattle.packets.specs.declared.page.LoggedMessage.{LoggedMessage}
 use Rattle.packets.specs.declared.page.Pair.{Pair}
 use Rattle.packets.specs.declared.page.Flags.{Flags}
 use Rattle.packets.specs.declared.packet.Body as bodies
+use Rattle.packets.specs.declared.packet.NodePacket.{NodePacket}
 use Rattle.packets.specs.declared.packet.Body.TheVariants as packets
 
 -- the meaning of a packet without a page
@@ -58,6 +61,18 @@ Says p (packets.Restored i j n s flags pairs) b =
     × ((ssn : ℕ) → s < ssn → n < ssn → reaches (restored_end flags s pairs) ssn ≡ true → f ssn ≡ first_number pairs ssn)
 Says p body b = body_of body ≡ Some b
 
--- a packet from p to d with this body says one of these parcels
-abbrev pub WasSaid : List Parcel → ℕ → ℕ → bodies.Body → Type 0
-WasSaid parcels p d body = (b : Body) × Says p body b × In (parcel p d b) parcels
+-- this was said of the teller of a page; another packet says nothing of its sender
+abbrev pub IsFlagged : List Flagged → Parcel → bodies.Body → Type 0
+IsFlagged said x (packets.Told i j k flags entries) = Said (flagged x (is_exact flags) false) said
+IsFlagged said x (packets.Restored i j n s flags pairs) = Said (flagged x (is_exact flags) false) said
+IsFlagged said x body = Unit {0}
+
+-- a packet from p to d with this body says what p sent
+abbrev pub WasSaid : Cluster → ℕ → ℕ → bodies.Body → Type 0
+WasSaid c p d body = (b : Body) × Says p body b × In (parcel p d b) c.parcels × IsFlagged c.said (parcel p d b) body
+
+-- the packet is from p, and was sent
+pub record PutOut (c : Cluster) (p : ℕ) (x : NodePacket) : Type 0 where
+  pub count_is : x.count ≡ c.world.count
+  pub from : x.from ≡ p
+  pub said : WasSaid c p x.to x.body

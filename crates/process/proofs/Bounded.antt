@@ -250,14 +250,14 @@ restoring_asked n = restoring_asks_below (n.own.count + 1) n
 page_of : (from j covered s : ℕ) (flags : Flags) (pairs : List Pair) (n : TheRestoring) → Back n (restoring.page_of from j covered s flags pairs n)
 page_of from j covered s flags pairs n =
     let greets : TheRestoring = record n { own = entering.trusts flags (entering.takes_in 0 covered [] n.own); answered = slice_set n.answered 0 true } in
-    let greeted : Back n (restoring.greeted covered flags n) = either (Back n) (is_done flags) greets n (record { owns = record { limits = refl; packets = λ h. h }; receipts = refl }) (back-stays n) in
+    let greeted : Back n greets = record { owns = record { limits = refl; packets = λ h. h }; receipts = refl } in
     let taken : TheOwn = entering.trusts flags (own.hears from j (entering.takes_in from covered pairs n.own)) in
     let next : TheRestoring = record n { own = taken; above = slice_set n.above from (restoring.last_ssn s pairs) } in
     let last : TheRestoring = record n { own = taken; answered = slice_set n.answered from true } in
     let took_next : Back n next = record { owns = record { limits = refl; packets = λ h. h }; receipts = refl } in
     let took_last : Back n last = record { owns = record { limits = refl; packets = λ h. h }; receipts = refl } in
     let told_on : Back n (restoring.told from j covered s flags pairs n) = either (Back n) (is_done flags) last (restoring.asks from next) took_last (back-then n next (restoring.asks from next) took_next (restoring_asks from next)) in
-    either (Back n) (from == 0) (restoring.greeted covered flags n) (restoring.told from j covered s flags pairs n) greeted told_on
+    either (Back n) (from == 0) greets (restoring.told from j covered s flags pairs n) greeted told_on
 
 restoring_asked_by : (q i k : ℕ) (n : TheRestoring) → Back n (restoring.asked_by q i k n)
 restoring_asked_by q i k n =
@@ -272,7 +272,7 @@ restoring_heard from (body.Restored i j covered s flags pairs) n =
     let doubted : Back page (restoring.doubted page) = record { owns = record { limits = refl; packets = λ h. h }; receipts = refl } in
     let fits = if restoring.answers from i j covered s pairs n then page else restoring.doubted page in
     let fitting : Back n fits = either (Back n) (restoring.answers from i j covered s pairs n) page (restoring.doubted page) took (back-then n page (restoring.doubted page) took doubted) in
-    either (Back n) (in_range (body.Restored i j covered s flags pairs) && restoring.is_reply from i j s n) fits n fitting (back-stays n)
+    either (Back n) (in_range (body.Restored i j covered s flags pairs) && restoring.is_reply from i j s n && restoring.is_whole from flags) fits n fitting (back-stays n)
 restoring_heard from (body.Ask i k) n = either (Back n) (in_range (body.Ask i k)) (restoring.asked_by from i k n) n (restoring_asked_by from i k n) (back-stays n)
 restoring_heard from (body.Told i j k flags page) n = back-stays n
 restoring_heard from (body.Delivery i ssn x) n = back-stays n

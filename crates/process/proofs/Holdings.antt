@@ -320,9 +320,7 @@ takes_in d covered pairs o =
 
 page_of : (from j covered s : ℕ) (flags : Flags) (pairs : List Pair) (n : TheRestoring) → Back n (restoring.page_of from j covered s flags pairs n)
 page_of from j covered s flags pairs n =
-    let greeted : Back n (restoring.greeted covered flags n) =
-    either (λ (x : TheRestoring). Back n x) (is_done flags) (record n { own = entering.trusts flags (entering.takes_in 0 covered [] n.own); answered = slice_set n.answered 0 true }) n
-    (takes_in 0 covered [] n.own) (stays_back n) in
+    let greeted : Back n (restoring.greeted covered flags n) = takes_in 0 covered [] n.own in
     let taken : TheOwn = entering.trusts flags (own.hears from j (entering.takes_in from covered pairs n.own)) in
     let next : TheRestoring = record n { own = taken; above = slice_set n.above from (restoring.last_ssn s pairs) } in
     let asked_on : Back n (restoring.asks from next) = then_no_more n.own.logs next.own.logs (restoring.asks from next).own.logs (takes_in from covered pairs n.own) (same next.own.logs (restoring.asks from next).own.logs (restoring_asks from next)) in
@@ -339,7 +337,7 @@ restoring_heard from (body.Restored i j covered s flags pairs) n =
     let took : Back n page = page_of from j covered s flags pairs n in
     let fits = if restoring.answers from i j covered s pairs n then page else restoring.doubted page in
     let fitting : Back n fits = either (λ (x : TheRestoring). Back n x) (restoring.answers from i j covered s pairs n) page (restoring.doubted page) took took in
-    either (λ (x : TheRestoring). Back n x) (in_range (body.Restored i j covered s flags pairs) && restoring.is_reply from i j s n) fits n fitting (stays_back n)
+    either (λ (x : TheRestoring). Back n x) (in_range (body.Restored i j covered s flags pairs) && restoring.is_reply from i j s n && restoring.is_whole from flags) fits n fitting (stays_back n)
 restoring_heard from (body.Ask i k) n =
     either (λ (x : TheRestoring). Back n x) (in_range (body.Ask i k)) (restoring.asked_by from i k n) n (restoring_asked_by from i k n) (stays_back n)
 restoring_heard from (body.Told i j k flags page) n = stays_back n

@@ -225,7 +225,6 @@ module _ (me count : ℕ) (inside : 1 ≤ me) (within : me ≤ count) (few : cou
   page_of from j covered s flags pairs n near number all r =
       let greets : TheRestoring = record n { own = entering.trusts flags (entering.takes_in 0 covered [] n.own); answered = slice_set n.answered 0 true } in
       let welcome : Restores me count greets = record { says = kept n.own greets.own refl refl refl refl refl r.says; few = r.few; above = r.above; alone = stays n.answered 0 me r.alone } in
-      let greeted : Restores me count (restoring.greeted covered flags n) = either (Restores me count) (is_done flags) greets n welcome r in
       let taken : TheOwn = entering.trusts flags (own.hears from j (entering.takes_in from covered pairs n.own)) in
       let next : TheRestoring = record n { own = taken; above = slice_set n.above from (restoring.last_ssn s pairs) } in
       let last : TheRestoring = record n { own = taken; answered = slice_set n.answered from true } in
@@ -233,7 +232,7 @@ module _ (me count : ℕ) (inside : 1 ≤ me) (within : me ≤ count) (few : cou
       let took_next : Restores me count next = record { says = says; few = r.few; above = set-any (λ k. is_number k ≡ true) n.above from (restoring.last_ssn s pairs) 0 r.above (last-ssn s s pairs number all); alone = r.alone } in
       let took_last : Restores me count last = record { says = says; few = r.few; above = r.above; alone = stays n.answered from me r.alone } in
       let told : Restores me count (restoring.told from j covered s flags pairs n) = either (Restores me count) (is_done flags) last (restoring.asks from next) took_last (resumes from next near took_next) in
-      either (Restores me count) (from == 0) (restoring.greeted covered flags n) (restoring.told from j covered s flags pairs n) greeted told
+      either (Restores me count) (from == 0) greets (restoring.told from j covered s flags pairs n) welcome told
 
   restoring-asked-by : (q i k : ℕ) (n : TheRestoring) → q ≤ count → (q == me) ≡ false → in_range (body.Ask i k) ≡ true → Restores me count n → Restores me count (restoring.asked_by q i k n)
   restoring-asked-by q i k n near other range r =
@@ -250,9 +249,10 @@ module _ (me count : ℕ) (inside : 1 ≤ me) (within : me ≤ count) (few : cou
   restoring-heard from (body.Restored i j covered s flags pairs) n near other r =
       let page = restoring.page_of from j covered s flags pairs n in
       let fits = if restoring.answers from i j covered s pairs n then page else restoring.doubted page in
-      by-test (Restores me count) (in_range (body.Restored i j covered s flags pairs) && restoring.is_reply from i j s n) fits n
+      by-test (Restores me count) (in_range (body.Restored i j covered s flags pairs) && restoring.is_reply from i j s n && restoring.is_whole from flags) fits n
       (λ e.
-      let range = restored-in-range i j covered s flags pairs (both (in_range (body.Restored i j covered s flags pairs)) (restoring.is_reply from i j s n) e).0 in
+      let two = (both (in_range (body.Restored i j covered s flags pairs) && restoring.is_reply from i j s n) (restoring.is_whole from flags) e).0 in
+      let range = restored-in-range i j covered s flags pairs (both (in_range (body.Restored i j covered s flags pairs)) (restoring.is_reply from i j s n) two).0 in
       let took : Restores me count page = page_of from j covered s flags pairs n near range.0 range.1 r in
       let doubted : Restores me count (restoring.doubted page) = record { says = kept page.own (restoring.doubted page).own refl refl refl refl refl took.says; few = took.few; above = took.above; alone = took.alone } in
       either (Restores me count) (restoring.answers from i j covered s pairs n) page (restoring.doubted page) took doubted) (λ e. r)

@@ -11,7 +11,7 @@ use Rattle.theorems.proofs.Changes.{at-itself}
 use Rattle.cluster.specs.Cluster.{Cluster}
 use Rattle.cluster.specs.Overlap.{Leaves, goes}
 use Rattle.node.specs.Node.{log_at}
-use Rattle.node.proofs.Goes.{goes-self, goes-one, goes-then, goes-any}
+use Rattle.cluster.proofs.Goes.{goes-self, goes-one, goes-then, goes-any}
 use Rattle.recovery.specs.Stands.{GoesTo}
 use Rattle.recovery.specs.Replayed.{TheReplayed, StandsReplayed}
 use Rattle.recovery.specs.Restoration.{TheRestoring, has_answered, left, begins, begun}
@@ -106,7 +106,7 @@ module _ (r : TheReplayed) (c : Cluster) (s : StandsReplayed r c r.own.me) where
           let gone : waits (suc d) d ≡ false = rw (z, next, was) refl in
           let to_do : has (todo_of (t.ph p)) d ≡ true = ap (λ x. has (todo_of x) d) t.phase ∙ ap (λ x. has x d) (todo-is (those (waits d) count)) ∙ has-is (waits d) count d (omega (arith, none)) under ∙ here in
           subst (GoesTo r.own.exact p (AtFirst (suc d))) (sym t.is)
-          (goes-one r.own.exact p (AtFirst (suc d)) (record c { world = record c.world { phase = t.ph; released = t.rel } }) (Leaves p d) (s.stage, to_do) refl (λ exact. absurd (let off = s.own.sure exact d under in cc (lost, off)))
+          (goes-one r.own.exact p (AtFirst (suc d)) (record c { world = record c.world { phase = t.ph; released = t.rel } }) (Leaves p d) ((s.stage, to_do), s.own.lost d under ∙ lost) refl (λ exact. absurd (let off = s.own.sure exact d under in cc (lost, off)))
           (let P : List ℕ → Type 0 = λ ps. Waits c p ps (goes (record c { world = record c.world { phase = t.ph; released = t.rel } }) (Leaves p d)) in
           subst P (without-those (waits d) (waits (suc d)) count d (waits-next d) gone) (leaves-one c p (those (waits d) count) t.ph t.rel d t.phase)))
 
@@ -135,7 +135,7 @@ module _ (r : TheReplayed) (c : Cluster) (s : StandsReplayed r c r.own.me) where
         greeted = s.greeted ∙ sym gateway;
         phase = t.phase ∙ ap phase_with left-is;
         life = s.life;
-        own = own-with r.own c d p _ refl refl refl refl (λ x i. i) s.own s.own.logs s.own.held s.own.heard s.own.sure s.own.greets s.own.out;
+        own = own-with r.own c d p _ refl refl refl refl (λ x i. i) (λ f i. i) s.own s.own.logs s.own.held s.own.heard s.own.exact s.own.lost s.own.sure s.own.greets s.own.out;
         received = s.received;
         acknowledged = s.acknowledged;
         known = λ d l o. (let k = s.own.logs d l o in each-none (log_at r.own.logs d).numbers (λ i inside. k.numbers_are i (omega (arith, inside, k.as_many)) ∙ s.numbers d (suc ((log_at r.own.logs d).dropped + i))));

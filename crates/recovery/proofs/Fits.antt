@@ -12,8 +12,8 @@ use Rattle.theorems.specs.Orphans.{payloads_of}
 use Rattle.theorems.proofs.HistoryLemmas.{names-found}
 use Rattle.theorems.proofs.ListLemmas.{at-number, nth-within, begins-length}
 use Rattle.cluster.specs.Parcels.{Body, Restored, In, parcel, reaches}
-use Rattle.cluster.specs.Cluster.{Cluster, opening}
-use Rattle.cluster.specs.Rules.{after_run}
+use Rattle.cluster.specs.Cluster.{Cluster}
+use Rattle.cluster.specs.Exact.{bare}
 use Rattle.cluster.specs.Promises.{NoOrphanNode, OutputOnce, ReceivedOnce}
 use Rattle.cluster.specs.Inside.Agrees.{is_back}
 use Rattle.cluster.proofs.Promised.{nodes-keep}
@@ -69,7 +69,7 @@ not-back n c (suc q) s low open_is =
     let e : is_up (c.world.phase n.own.me) ≡ false = ap is_up s.phase ∙ waits-on (left n) (suc q) (left-has n (suc q) (omega arith) low open_is) in
     rw e refl
 
-module _ (n : TheRestoring) (c : Cluster) (from j k s : ℕ) (flags : Flags) (pairs : List Pair) (f : ℕ → Option ℕ) (h : Holds c) (orphan : NoOrphanNode c) (shown : OutputOnce c) (received : ReceivedOnce c) (st : StandsRestoring n c n.own.me)
+module _ (n : TheRestoring) (c : Cluster) (from j k s : ℕ) (flags : Flags) (pairs : List Pair) (f : ℕ → Option ℕ) (h : Holds (bare c)) (orphan : NoOrphanNode (bare c)) (shown : OutputOnce (bare c)) (received : ReceivedOnce (bare c)) (st : StandsRestoring n c n.own.me)
     (low : from ≤ n.own.count) (other : from ≢ n.own.me) (open_is : has_answered from n ≡ false) (page : AscendFrom s pairs) (given : In (parcel from n.own.me (Restored n.own.life j k s (restored_end flags s pairs) f)) c.parcels)
     (says : (ssn : ℕ) → s < ssn → k < ssn → reaches (restored_end flags s pairs) ssn ≡ true → f ssn ≡ first_number pairs ssn) where
   abbrev p : ℕ
@@ -141,10 +141,10 @@ module _ (n : TheRestoring) (c : Cluster) (from j k s : ℕ) (flags : Flags) (pa
       split v m above here there false e = (let g : v ≤ k = grind (arith, nat_tests) in omega (arith, g, covered-fits))
 
 pub pages-fit : PagesFit
-pages-fit count f acts n from j k s flags pairs few grows run st low open_is fits said =
-    let c : Cluster = after_run (opening count f) acts in
-    let h : Holds c = run-holds count f acts few grows run in
-    let keeps = nodes-keep count f acts few grows run in
+pages-fit count f acts c n from j k s flags pairs few grows run st low open_is fits said =
+    let h : Holds (bare c) = subst Holds run.1 (run-holds count f acts few grows run.0) in
+    let Keeps : Cluster → Type 0 = λ d. NoOrphanNode d × OutputOnce d × ReceivedOnce d in
+    let keeps : Keeps (bare c) = subst Keeps run.1 (nodes-keep count f acts few grows run.0) in
     let me = n.own.me in
     let g = said.1.0 in
     let given : In (parcel from me (Restored n.own.life j k s (restored_end flags s pairs) g)) c.parcels = (let P : Body → Type 0 = λ b. In (parcel from me b) c.parcels in subst P said.1.1 said.2) in

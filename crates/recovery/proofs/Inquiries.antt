@@ -9,8 +9,8 @@ use Rattle.packets.specs.declared.packet.Body.TheVariants as packets
 use Rattle.recovery.specs.Own.{posts}
 use Rattle.recovery.specs.Collection.{TheCollecting, told_of, asks, asks_below, asked}
 use Rattle.recovery.specs.Stands.{StandsCollecting, GoesTo, Acts}
-use Rattle.node.proofs.Goes.{goes-self, goes-act, goes-then, goes-any}
-use Rattle.recovery.proofs.Posts.{own-posted}
+use Rattle.cluster.proofs.Goes.{goes-self, goes-act, goes-then, goes-any}
+use Rattle.recovery.proofs.Posts.{own-posted, collecting-own}
 
 -- where it stands
 abbrev pub At : TheCollecting → ℕ → Cluster → Type 0
@@ -31,8 +31,8 @@ asks-one n c to s low other open_is =
     let told = s.told to within in
     let may : Asks (c.world.saved me) (c.told me to) cursor = rw s.own.saved (told.asks open_is) in
     goes-act true me (At (record n { own = posts to (packets.Ask n.own.life cursor) n.own }) me) c (Puts me to (Ask n.own.life cursor))
-    (s.own.inside.1, within, (λ e. other (sym e)), (s.stage, sym s.life, may)) tt refl
-    (record { stage = s.stage; life = s.life; own = own-posted n.own c me to (packets.Ask n.own.life cursor) (Ask n.own.life cursor) (take n.own.base (c.world.history me)) (c.world.saved_trims me) (λ _ _. None) refl s.own.inside.0 s.own; told = s.told; alone = s.alone })
+    (s.own.inside.1, within, (λ e. other (sym e)), (s.stage, sym s.life, may)) tt tt refl
+    (collecting-own n c me (own-posted n.own c me to (packets.Ask n.own.life cursor) (Ask n.own.life cursor) (take n.own.base (c.world.history me)) (c.world.saved_trims me) (λ _ _. None) refl s.own.inside.0 tt s.own) s)
 
 pub asks-at : (n : TheCollecting) (c : Cluster) (to : ℕ) → StandsCollecting n c n.own.me → to ≤ n.own.count → to ≢ n.own.me → GoesTo true n.own.me (At (asks to n) n.own.me) c
 asks-at n c to s low other = by-branch (λ m. GoesTo true n.own.me (At m n.own.me) c) (told_of n.told to).done n _ (λ e. goes-self true n.own.me (At n n.own.me) c s) (λ e. asks-one n c to s low other e)

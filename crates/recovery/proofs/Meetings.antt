@@ -1,5 +1,5 @@
 -- What one that comes back does for another that comes back at the same time
-use Rattle.std.proofs.Common.{◌≡◌, ◌≢◌, ℕ, zero, suc, ◌+◌, ◌<◌, ◌≤◌, List, [], ◌∷◌, length, take, Bool, true, false, refl, sym, ap, ◌∙◌, subst, arith}
+use Rattle.std.proofs.Common.{◌≡◌, ◌≢◌, inl, ℕ, zero, suc, ◌+◌, ◌<◌, ◌≤◌, List, [], ◌∷◌, length, take, Bool, true, false, refl, sym, ap, ◌∙◌, subst, arith}
 use Rattle.std.specs.Prelude.{None, not, slice_index_or, slice_set, ◌&&◌, ◌==◌, nat_lt, if◌then◌else◌}
 use Rattle.std.proofs.lemmas.Bool.Decides.{nat_tests}
 use Rattle.std.proofs.lemmas.List.{get_or-set_same, get_or-set_other}
@@ -8,9 +8,10 @@ use Rattle.world.specs.Phases.{Phase, Replaying}
 use Rattle.world.specs.Calls.{phase_with, peers}
 use Rattle.theorems.proofs.Changes.{at-itself}
 use Rattle.theorems.proofs.Tests.{both}
-use Rattle.cluster.specs.Parcels.{Body, Ask, In, parcel}
+use Rattle.cluster.specs.Parcels.{Body, Ask, Parcel, In, parcel}
 use Rattle.cluster.specs.Cluster.{Cluster, Live, is_well}
-use Rattle.cluster.specs.Overlap.{Meets, Might, goes, restores_anew}
+use Rattle.cluster.specs.Overlap.{Event, Meets, Loses, goes, after_events, restores_anew}
+use Rattle.cluster.specs.Exact.{MayStep}
 use Rattle.packets.specs.Packet.{in_range}
 use Rattle.packets.specs.declared.packet.Body as bodies
 use Rattle.packets.specs.declared.packet.Body.TheVariants as packets
@@ -18,8 +19,9 @@ use Rattle.packets.specs.declared.packet.NodePacket.{NodePacket}
 use Rattle.packets.specs.Says.{WasSaid}
 use Rattle.node.specs.Queue.{no_queue, forgotten_above}
 use Rattle.node.specs.Node.{log_at}
-use Rattle.node.specs.Stands.{Each, KeepsOf, sent_by}
-use Rattle.node.proofs.Goes.{goes-self, goes-one, goes-then}
+use Rattle.node.specs.Stands.{Each, KeepsOf, doer, sent_by}
+use Rattle.node.proofs.Beside.{same-event}
+use Rattle.cluster.proofs.Goes.{goes-self, goes-one, goes-then, goes-any}
 use Rattle.recovery.specs.Own.{TheOwn, is_for}
 use Rattle.recovery.specs.Overlap.{heard_of, tells_loss, meets, asked_by, heard, handed}
 use Rattle.recovery.specs.Replays.{TheReplaying, is_over}
@@ -30,7 +32,7 @@ use Rattle.recovery.specs.RestorationStands.{IsKnown}
 use Rattle.recovery.proofs.Left.{anew-is}
 use Rattle.recovery.proofs.Lists.{at-changed, either}
 use Rattle.recovery.proofs.Notes.{each-none, keeps-forgotten}
-use Rattle.recovery.proofs.Posts.{own-with, loss-out, for-own, replaying-out, replayed-out}
+use Rattle.recovery.proofs.Posts.{own-with, own-lost, may-lose, for-own, replaying-own, replayed-own}
 
 -- a place with a flag is inside
 pub inside-off : (xs : List Bool) (i : ℕ) → slice_index_or xs i true ≡ false → i < length xs
@@ -54,7 +56,7 @@ off-set xs r q b off there = split (q == r) refl
 -- what was asked
 pub was-asked : (c : Cluster) (from to i k : ℕ) → IsSaid c from to (packets.Ask i k) → In (parcel from to (Ask i k)) c.parcels
 was-asked c from to i k said =
-    let was : WasSaid c.parcels from to (packets.Ask i k) = said.1 refl in
+    let was : WasSaid c from to (packets.Ask i k) = said.1 refl in
     let same : was.0 ≡ Ask i k = cc (was.1) in
     let P : Body → Type 0 = λ b. In (parcel from to b) c.parcels in
     subst P same was.2
@@ -64,21 +66,41 @@ pub by-own : (P : TheOwn → Type 0) (b : Bool) (x y : TheOwn) → (b ≡ true �
 by-own P true x y f g = f refl
 by-own P false x y f g = g refl
 
--- where it stands with such an own part, and stands where it tells that all is lost: it answers an Ask
-module _ (S : TheOwn → Cluster → Type 0) (p : ℕ) (o : TheOwn) (c : Cluster) (tells : (q i k : ℕ) (m : TheOwn) (d : Cluster) → S m d → S (tells_loss q i k m) d) where
-  pub asks : (q i k : ℕ) → (nat_lt (heard_of q o) i ≡ false → S o c) → (nat_lt (heard_of q o) i ≡ true → GoesTo false p (S (meets q i o)) c) → GoesTo (asked_by q i k o).exact p (S (asked_by q i k o)) c
-  asks q i k still met =
+-- what was sent stays so
+sent-after : (es : List Event) (c : Cluster) (x : Parcel) → In x c.parcels → In x (after_events c es).parcels
+sent-after [] c x i = i
+sent-after (e ∷ es) c x i = let other : (suc (doer e) == doer e) ≡ false = grind (arith, nat_tests) in sent-after es (goes c e) x ((same-event c e (suc (doer e)) other).parcels x i)
+
+pub goes-sent : (b : Bool) (p : ℕ) (P : Cluster → Type 0) (c : Cluster) (x : Parcel) → In x c.parcels → GoesTo b p P c → GoesTo b p (λ d. P d × In x d.parcels) c
+goes-sent b p P c x i g = record { events = g.events; run = g.run; by = g.by; acts = g.acts; stands = (g.stands, sent-after g.events c x i) }
+
+-- with such an own part it says to a peer that asked that all is lost
+abbrev pub Tells : (TheOwn → Cluster → Type 0) → ℕ → ℕ → Type 0
+Tells S p count = (q i k : ℕ) (m : TheOwn) (d : Cluster) → S m d → m.count ≡ count → q ≤ count → In (parcel q p (Ask i k)) d.parcels → i ≡ heard_of q m → GoesTo true p (S (tells_loss q i k m)) d
+
+-- the incarnation that it just heard
+pub heard-now : (xs : List ℕ) (q i count : ℕ) → length xs ≡ suc count → q ≤ count → i ≡ slice_index_or (slice_set xs q i) q 0
+heard-now xs q i count wide low = sym (get_or-set_same xs q i 0 (omega (arith, wide, low)))
+
+-- it answers an Ask
+module _ (S : TheOwn → Cluster → Type 0) (p : ℕ) (o : TheOwn) (c : Cluster) (tells : Tells S p o.count) (wide : length o.heard ≡ suc o.count) where
+  pub asks : (q i k : ℕ) → q ≤ o.count → In (parcel q p (Ask i k)) c.parcels → (nat_lt (heard_of q o) i ≡ false → S o c) → (nat_lt (heard_of q o) i ≡ true → GoesTo false p (S (meets q i o)) c) → GoesTo (asked_by q i k o).exact p (S (asked_by q i k o)) c
+  asks q i k low given still met =
+      let met_one : TheOwn = meets q i o in
       by-own (λ m. GoesTo m.exact p (S m) c) (nat_lt i (heard_of q o)) o (tells_loss q i k (if nat_lt (heard_of q o) i then meets q i o else o))
       (λ e. goes-self o.exact p (S o) c (still (let older : nat_lt (heard_of q o) i ≡ false = grind (arith, nat_tests) in older)))
       (λ z. by-own (λ m. GoesTo m.exact p (S (tells_loss q i k m)) c) (nat_lt (heard_of q o) i) (meets q i o) o
-      (λ e. goes-then false p (S (meets q i o)) (S (tells_loss q i k (meets q i o))) c (met e) (λ d t. goes-self false p (S (tells_loss q i k (meets q i o))) d (tells q i k (meets q i o) d t)))
-      (λ e. goes-self o.exact p (S (tells_loss q i k o)) c (tells q i k o c (still e))))
+      (λ e. goes-then false p (λ d. S met_one d × In (parcel q p (Ask i k)) d.parcels) (S (tells_loss q i k met_one)) c (goes-sent false p (S met_one) c (parcel q p (Ask i k)) given (met e))
+      (λ d t. goes-any true false p (S (tells_loss q i k met_one)) d (λ y. refl) (tells q i k met_one d t.0 refl low t.1 (heard-now o.heard q i o.count wide low))))
+      (λ e. let same : i ≡ heard_of q o = grind (arith, nat_tests) in goes-any true o.exact p (S (tells_loss q i k o)) c (λ y. refl) (tells q i k o c (still e) refl low given same)))
 
 -- and drops anything else
-module _ (S : TheOwn → Cluster → Type 0) (o : TheOwn) (c : Cluster) (tells : (q i k : ℕ) (m : TheOwn) (d : Cluster) → S m d → S (tells_loss q i k m) d) (here : S o c)
+module _ (S : TheOwn → Cluster → Type 0) (o : TheOwn) (c : Cluster) (tells : Tells S o.me o.count) (wide : length o.heard ≡ suc o.count) (here : S o c)
     (met : (q i k : ℕ) → 0 < q → q ≤ o.count → q ≢ o.me → In (parcel q o.me (Ask i k)) c.parcels → heard_of q o < i → GoesTo false o.me (S (meets q i o)) c) where
   hears : (from : ℕ) (x : bodies.Body) → from ≤ o.count → from ≢ o.me → IsSaid c from o.me x → GoesTo (heard from x o).exact o.me (S (heard from x o)) c
-  hears from (packets.Ask i k) low other said = asks S o.me o c tells from i k (λ e. here) (λ e. met from i k said.0 low other (was-asked c from o.me i k said) (let l : heard_of from o < i = grind (arith, nat_tests) in l))
+  hears from (packets.Ask i k) low other said =
+      let given = was-asked c from o.me i k said in
+      asks S o.me o c tells wide from i k low given (λ e. here) (λ e. met from i k said.0 low other given (let l : heard_of from o < i = grind (arith, nat_tests) in l))
   hears from x low other said = goes-self o.exact o.me (S o) c here
 
   pub hands : (x : NodePacket) → IsSaid c x.from x.to x.body → GoesTo (handed x o).exact o.me (S (handed x o)) c
@@ -117,8 +139,8 @@ module _ (o : TheOwn) (c : Cluster) (p from i k : ℕ) (h : List Message) (s : H
   apart : from ≢ p
   apart e = other (e ∙ sym s.me)
 
-  pub may-meet : In (parcel from p (Ask i k)) c.parcels → c.stage p ≡ Live → is_well c p ≡ false → heard_of from o < i → Might c (Meets p from i k)
-  may-meet given live unwell newer = (given, (live, unwell), (let e = s.heard from from-in in omega (arith, e, newer)))
+  pub may-meet : In (parcel from p (Ask i k)) c.parcels → c.stage p ≡ Live → is_well c p ≡ false → heard_of from o < i → MayStep c (Meets p from i k)
+  may-meet given live unwell newer = ((given, (live, unwell), (let e = s.heard from from-in in omega (arith, e, newer))), tt)
 
   logs-met : Each IsKnown (log_at o.logs from).numbers → (d : ℕ) → d ≤ c.world.count → d ≢ p → KeepsOf (log_at (meets from i o).logs d) (c.world.trims p d) (c.world.handlers.sends p h d) ((met c p from i k).world.numbers p d)
   logs-met known d l e =
@@ -135,8 +157,11 @@ module _ (o : TheOwn) (c : Cluster) (p from i k : ℕ) (h : List Message) (s : H
   heard-met q l = at-itself p (λ t. (if t && (q == from) then i else c.heard p q) ≡ slice_index_or (slice_set o.heard from i) q 0)
       (at-changed (λ z x y. y ≡ x) o.heard 0 (c.heard p) from i i q (omega (arith, low, wide.0)) refl (s.heard q l))
 
+  exact-met : (met c p from i k).exact p ≡ false
+  exact-met = at-itself p (λ t. (if t then false else c.exact p) ≡ false) refl
+
   pub own-met : Each IsKnown (log_at o.logs from).numbers → HasOwn (meets from i o) (met c p from i k) p h (c.world.trims p) ((met c p from i k).world.numbers p)
-  own-met known = own-with o c (met c p from i k) p h refl refl refl refl (λ x j. j) s (logs-met known) held-met heard-met (λ e. absurd (let f : false ≡ true = e in cc)) s.greets s.out
+  own-met known = own-with o c (met c p from i k) p h refl refl refl refl (λ x j. j) (λ f j. j) s (logs-met known) held-met heard-met exact-met s.lost (λ e. absurd (let f : false ≡ true = e in cc)) s.greets s.out
 
   -- one that has no RSNs yet has none to forget, and waits for that peer already
   own-none : ((d ssn : ℕ) → c.world.numbers p d ssn ≡ None) → HasOwn (meets from i o) (met c p from i k) p h (c.world.trims p) ((met c p from i k).world.numbers p)
@@ -175,8 +200,14 @@ module _ (n : TheReplaying) (wide : (length n.own.heard ≡ suc n.own.count) × 
         released = s.released;
       })
 
+  replaying-tells : Tells ReplayingWith me n.own.count
+  replaying-tells q i k m d t count low given is =
+      let unwell : is_well d me ≡ false = (let g : d.greeted me ≡ false = t.greeted in rw (t.stage, g) refl) in
+      goes-one true me (ReplayingWith (tells_loss q i k m)) d (Loses me q i m.life k) (may-lose m d me q i k t.own (omega (arith, low, count)) given is (inl ((t.stage, unwell), sym t.life))) refl (λ e. tt)
+      (replaying-own (record n { own = m }) d me (own-lost m d me q i k t.own) t)
+
   pub replaying-goes : (x : NodePacket) → IsSaid c x.from x.to x.body → GoesTo (handed x n.own).exact me (ReplayingWith (handed x n.own)) c
-  replaying-goes = hands ReplayingWith n.own c (λ q i k m d t. replaying-out (record n { own = m }) d me (tells_loss q i k m).out (loss-out m d me q i k t.own) t) s replaying-met
+  replaying-goes = hands ReplayingWith n.own c replaying-tells wide.0 s replaying-met
 
 pub replaying-handed : (n : TheReplaying) (x : NodePacket) → (length n.own.heard ≡ suc n.own.count) × (length n.own.logs ≡ suc n.own.count) → IsHanded x n (record n { own = handed x n.own })
 replaying-handed n x wide c s said = replaying-goes n wide c s x said
@@ -209,8 +240,15 @@ module _ (n : TheReplayed) (wide : (length n.own.heard ≡ suc n.own.count) × (
         released = s.released;
       })
 
+  replayed-tells : Tells ReplayedWith own_number n.own.count
+  replayed-tells q i k m d t count low given is =
+      let p = own_number in
+      let unwell : is_well d p ≡ false = (let g : d.greeted p ≡ false = t.greeted in rw (t.stage, g) refl) in
+      goes-one true p (ReplayedWith (tells_loss q i k m)) d (Loses p q i m.life k) (may-lose m d p q i k t.own (omega (arith, low, count)) given is (inl ((t.stage, unwell), sym t.life))) refl (λ e. tt)
+      (replayed-own (record n { own = m }) d p (own-lost m d p q i k t.own) t)
+
   pub replayed-goes : (x : NodePacket) → IsSaid c x.from x.to x.body → GoesTo (handed x n.own).exact own_number (ReplayedWith (handed x n.own)) c
-  replayed-goes = hands ReplayedWith n.own c (λ q i k m d t. replayed-out (record n { own = m }) d own_number (tells_loss q i k m).out (loss-out m d own_number q i k t.own) t) s replayed-met
+  replayed-goes = hands ReplayedWith n.own c replayed-tells wide.0 s replayed-met
 
 pub replayed-handed : (n : TheReplayed) (x : NodePacket) → (length n.own.heard ≡ suc n.own.count) × (length n.own.logs ≡ suc n.own.count) → ReplayedIsHanded x n (record n { own = handed x n.own })
 replayed-handed n x wide c s said = replayed-goes n wide c s x said

@@ -11,7 +11,8 @@ use Rattle.world.specs.Logs.{sent_in_all}
 use Rattle.world.specs.Calls.{phase_with, peers, released_with}
 use Rattle.theorems.proofs.Changes.{at-itself}
 use Rattle.cluster.specs.Cluster.{Cluster, Live}
-use Rattle.cluster.specs.Rules.{Recovers, does, kept_by, goes_on, taken_back}
+use Rattle.cluster.specs.Rules.{Recovers, kept_by, goes_on, taken_back}
+use Rattle.cluster.specs.Overlap.{Acts, goes}
 use Rattle.node.specs.declared.job.OpenJob.{OpenJob}
 use Rattle.node.specs.Node.{log_at}
 use Rattle.node.specs.Stands.{HasReceived, KeepsOf, job_of}
@@ -20,7 +21,7 @@ use Rattle.recovery.specs.Stands.{HasOwn, StandsCollecting, GoesTo}
 use Rattle.recovery.specs.Plan.{has_all, told_under, IsPlan, Plans, MayRecover}
 use Rattle.recovery.specs.Replays.{TheReplaying, receipts_of, is_over}
 use Rattle.recovery.specs.StandsAtReplay.{StandsReplaying, IsInOrder, ComesBack, phase_of}
-use Rattle.node.proofs.Goes.{goes-act}
+use Rattle.cluster.proofs.Goes.{goes-act}
 use Rattle.recovery.proofs.Orders.{in-order-first, follows-in-order, senders-of, front-part, back-part}
 use Rattle.recovery.proofs.Plans.{recovering}
 use Rattle.recovery.proofs.Posts.{outs-still}
@@ -125,9 +126,11 @@ module _ (n : TheCollecting) (jobs : List OpenJob) (all : has_all n ≡ true) (p
                 grown = s.own.grown;
                 heard = s.own.heard;
                 durable = s.own.durable;
+                exact = s.own.exact;
+                lost = s.own.lost;
                 sure = s.own.sure;
                 greets = s.own.greets;
-                out = outs-still c (record back { world = record back.world { phase = ph; released = rel } }) me n.own.out refl (λ x i. i) s.own.out;
+                out = outs-still c (record back { world = record back.world { phase = ph; released = rel } }) me n.own.out refl (λ x i. i) (λ f i. i) s.own.out;
               }));
           behind = ap (drop base) history-is ∙ back-part h ms base long;
           received = (let P : List Message → Type 0 = λ z. HasReceived n.own.count base n.own.covered (receipts_of jobs) z (back.world.acknowledged me) in
@@ -160,11 +163,11 @@ module _ (n : TheCollecting) (jobs : List OpenJob) (all : has_all n ≡ true) (p
       (λ f d. absurd (cc (none, f)))
       (λ f g d. at-itself me (λ b. (if b then released_with back.world me others else back.world.released me) d ≡ sent_in_all back.world me d) (ap (λ (z : List ℕ). released_with back.world me z d) g))
 
-  stands-begun : StandsReplaying r (does c (Recovers me k)) me
-  stands-begun = by-cluster (AtReplaying r me) (nat_lt (c.world.saved me) k) (record back { world = record back.world { phase = put c.world.phase me (Replaying 0 false false) } }) (goes_on back me others) stands-some stands-none
+  stands-begun : StandsReplaying r (goes c (Acts true (Recovers me k))) me
+  stands-begun = by-cluster (λ d. AtReplaying r me (record d { exact = c.exact; lost = c.lost; said = c.said })) (nat_lt (c.world.saved me) k) (record back { world = record back.world { phase = put c.world.phase me (Replaying 0 false false) } }) (goes_on back me others) stands-some stands-none
 
   goes-back : GoesTo true me (AtReplaying r me) c
-  goes-back = goes-act true me (AtReplaying r me) c (Recovers me k) may-recover.may tt refl stands-begun
+  goes-back = goes-act true me (AtReplaying r me) c (Recovers me k) may-recover.may tt tt refl stands-begun
 
 pub comes-back : (n : TheCollecting) (jobs : List OpenJob) → has_all n ≡ true → Plans n jobs → ComesBack n (begins_with n jobs)
 comes-back n jobs all plans c s ordered = goes-back n jobs all plans c s ordered

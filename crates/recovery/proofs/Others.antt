@@ -33,9 +33,11 @@ own-same o c d p h t u f g e a b s =
       grown = λ k. rw (sym e.handlers) (s.grown k);
       heard = λ q l. rw (sym (e.heard q)) (s.heard q (subst (λ m. q ≤ m) (sym e.count) l));
       durable = λ z. s.durable (ap (λ (f : ℕ → Bool). f p) e.durable ∙ z);
+      exact = sym e.exact ∙ s.exact;
+      lost = λ q l. sym (e.lost q) ∙ s.lost q (subst (λ m. q ≤ m) (sym e.count) l);
       sure = λ z q l. s.sure z q (subst (λ m. q ≤ m) (sym e.count) l);
       greets = s.greets;
-      out = outs-still c d p o.out e.count e.parcels s.out;
+      out = outs-still c d p o.out e.count e.parcels e.said s.out;
     }
 
 -- so it stands

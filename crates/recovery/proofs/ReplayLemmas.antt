@@ -12,7 +12,8 @@ use Rattle.world.specs.Logs.{sent_in_all}
 use Rattle.world.specs.Calls.{phase_with, peers, released_with}
 use Rattle.theorems.proofs.Changes.{at-itself}
 use Rattle.cluster.specs.Cluster.{Cluster}
-use Rattle.cluster.specs.Rules.{Replays, May, does, goes_on}
+use Rattle.cluster.specs.Rules.{Replays, May, goes_on}
+use Rattle.cluster.specs.Overlap.{Acts, goes}
 use Rattle.node.specs.declared.job.OpenJob.{OpenJob}
 use Rattle.node.specs.declared.job.Given.{Given}
 use Rattle.packets.specs.Outbox.{Pops}
@@ -25,7 +26,7 @@ use Rattle.recovery.specs.Collection.{TheCollecting}
 use Rattle.recovery.specs.Stands.{HasOwn, IsHeldBack, IsSent, GoesTo, Takes as CollectingTakes}
 use Rattle.recovery.specs.Replays.{TheReplaying, next_job, next_number, is_over, did_replay}
 use Rattle.recovery.specs.StandsAtReplay.{StandsReplaying, AnswersAfter, Handles, Owes, Takes, Ends, phase_of, replayed_of}
-use Rattle.node.proofs.Goes.{goes-self, goes-act}
+use Rattle.cluster.proofs.Goes.{goes-self, goes-act}
 use Rattle.recovery.proofs.Moments.{AtReplaying, by-cluster}
 use Rattle.recovery.proofs.Posts.{outs-still, replaying-out, collecting-out}
 
@@ -128,9 +129,11 @@ module _ (n : TheReplaying) (c : Cluster) (j : OpenJob) (state : List ℕ) (give
                 grown = grown-ran;
                 heard = s.own.heard;
                 durable = s.own.durable;
+                exact = s.own.exact;
+                lost = s.own.lost;
                 sure = s.own.sure;
                 greets = s.own.greets;
-                out = outs-still c (record c { world = record c.world { phase = ph; released = rel } }) me n.own.out refl (λ x i. i) s.own.out;
+                out = outs-still c (record c { world = record c.world { phase = ph; released = rel } }) me n.own.out refl (λ x i. i) (λ f i. i) s.own.out;
               }));
           behind = s.behind;
           received = s.received;
@@ -165,11 +168,11 @@ module _ (n : TheReplaying) (c : Cluster) (j : OpenJob) (state : List ℕ) (give
       (λ f d. absurd (cc (none, f)))
       (λ f g d. at-itself me (λ b. (if b then released_with c.world me others else c.world.released me) d ≡ sent_in_all c.world me d) (ap (λ (z : List ℕ). released_with c.world me z d) g))
 
-  stands-next : StandsReplaying more (does c (Replays me n.done)) me
-  stands-next = by-cluster (AtReplaying more me) (nat_lt (c.world.saved me + suc n.done) (length (c.world.history me))) (record c { world = record c.world { phase = put c.world.phase me (Replaying (suc n.done) false false) } }) (goes_on c me others) stands-some stands-last
+  stands-next : StandsReplaying more (goes c (Acts true (Replays me n.done))) me
+  stands-next = by-cluster (λ d. AtReplaying more me (record d { exact = c.exact; lost = c.lost; said = c.said })) (nat_lt (c.world.saved me + suc n.done) (length (c.world.history me))) (record c { world = record c.world { phase = put c.world.phase me (Replaying (suc n.done) false false) } }) (goes_on c me others) stands-some stands-last
 
   goes-replayed : GoesTo n.own.exact me (AtReplaying more me) c
-  goes-replayed = goes-act n.own.exact me (AtReplaying more me) c (Replays me n.done) may tt refl stands-next
+  goes-replayed = goes-act n.own.exact me (AtReplaying more me) c (Replays me n.done) may tt tt refl stands-next
 
 -- what a handler gives has a log
 given-inside : (n : TheReplaying) (given : List Given) → length n.own.logs ≡ suc n.own.count → MayGive n.own given → (i : ℕ) (g : Given) → slice_get given i ≡ Some g → g.to < length n.own.logs

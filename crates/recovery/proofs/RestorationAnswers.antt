@@ -4,6 +4,7 @@ use Rattle.std.specs.Prelude.{Option, Some, None, not, slice_index_or, slice_set
 use Rattle.std.proofs.lemmas.Bool.Decides.{nat_tests}
 use Rattle.std.proofs.lemmas.List.{get_or-set_same, get_or-set_other, take_all, length-append}
 use Rattle.world.specs.Phases.{is_replaying, todo_of, has, without}
+use Rattle.world.specs.World.{put}
 use Rattle.world.specs.Calls.{phase_with, released_with}
 use Rattle.world.specs.Logs.{length_in, length_of, sent, sent_in_all}
 use Rattle.theorems.proofs.Changes.{at-itself}
@@ -11,9 +12,10 @@ use Rattle.theorems.proofs.Tests.{both}
 use Rattle.cluster.specs.Parcels.{Restored, reaches}
 use Rattle.cluster.specs.Cluster.{Cluster}
 use Rattle.cluster.specs.Rules.{Awaits, MayTake, IsNode, arrived, goes_on, entered, takes_in as taken_in}
-use Rattle.cluster.specs.Overlap.{Event, Might, goes}
+use Rattle.cluster.specs.Overlap.{Event, goes}
+use Rattle.cluster.specs.Exact.{MayStep}
 use Rattle.cluster.proofs.Nodes.{restores}
-use Rattle.packets.specs.Packet.{is_done, is_exact}
+use Rattle.packets.specs.Packet.{is_done}
 use Rattle.packets.specs.declared.page.Pair.{Pair}
 use Rattle.packets.specs.declared.page.Flags.{Flags}
 use Rattle.node.specs.Queue.{TheQueue, no_queue, dropped_to}
@@ -22,14 +24,14 @@ use Rattle.packets.specs.Says.{restored_end, first_number}
 use Rattle.node.specs.Stands.{Each, KeepsOf, own_event, IsAct, sent_by}
 use Rattle.node.proofs.Logs.{changed-at}
 use Rattle.recovery.specs.Own.{TheOwn, hears}
-use Rattle.recovery.specs.Intake.{sent_to, noted, takes_in, trusts, AscendFrom}
+use Rattle.recovery.specs.Intake.{sent_to, noted, takes_in, AscendFrom}
 use Rattle.recovery.specs.Stands.{HasOwn, IsHeldBack, GoesTo}
 use Rattle.recovery.proofs.Lists.{at-changed}
-use Rattle.node.proofs.Goes.{goes-one, goes-then, goes-any}
+use Rattle.cluster.proofs.Goes.{goes-one, goes-then, goes-any}
 use Rattle.recovery.proofs.Posts.{own-with}
 use Rattle.recovery.proofs.Notes.{keeps-page, keeps-covered, known-told, last-above}
 use Rattle.recovery.proofs.Holds.{held-told}
-use Rattle.recovery.specs.Restoration.{TheRestoring, IsRestoring, above_of, has_answered, left, asks, last_ssn, answers, is_reply, told}
+use Rattle.recovery.specs.Restoration.{TheRestoring, IsRestoring, above_of, has_answered, left, asks, last_ssn, answers, is_reply}
 use Rattle.recovery.specs.RestorationStands.{IsKnown, StandsRestoring}
 use Rattle.recovery.proofs.Left.{without-those, those-same, todo-is, not-replaying}
 use Rattle.recovery.proofs.RestorationInquiries.{At, by-branch, left-has, asks-at}
@@ -118,9 +120,19 @@ module _ (n : TheRestoring) (c : Cluster) (from : ℕ) (st : StandsRestoring n c
       all-kept [] = refl
       all-kept (r ∷ rs) = refl
 
+-- after a page of a process, if it then is exact as this says
+abbrev pub told_as : Bool → ℕ → ℕ → ℕ → ℕ → Flags → List Pair → TheRestoring → TheRestoring
+told_as exact from j covered s flags pairs n =
+    if is_done flags then record n { own = record (hears from j (takes_in from covered pairs n.own)) { exact = exact }; answered = slice_set n.answered from true }
+    else asks from (record n { own = record (hears from j (takes_in from covered pairs n.own)) { exact = exact }; above = slice_set n.above from (last_ssn s pairs) })
+
+-- so after the answer of the gateway
+abbrev pub greets_as : Bool → ℕ → TheRestoring → TheRestoring
+greets_as exact covered n = record n { own = record (takes_in 0 covered [] n.own) { exact = exact }; answered = slice_set n.answered 0 true }
+
 -- a page of a process
 module _ (n : TheRestoring) (c : Cluster) (from i j covered s : ℕ) (flags : Flags) (pairs : List Pair) (st : StandsRestoring n c n.own.me) (low : from ≤ n.own.count) (some : 0 < from) (other : from ≢ n.own.me) (w : IsRestoring n.own n.above n.answered)
-    (ok : IsReply n from i j s) (page : AscendFrom s pairs) (positive : (ssn : ℕ) → IsKnown (first_number pairs ssn)) where
+    (ok : IsReply n from i j s) (page : AscendFrom s pairs) (positive : (ssn : ℕ) → IsKnown (first_number pairs ssn)) (exact : Bool) (less : exact ≡ true → n.own.exact ≡ true) where
   abbrev p : ℕ
   p = n.own.me
 
@@ -128,7 +140,7 @@ module _ (n : TheRestoring) (c : Cluster) (from i j covered s : ℕ) (flags : Fl
   upto = restored_end flags s pairs
 
   abbrev own : TheOwn
-  own = trusts flags (hears from j (takes_in from covered pairs n.own))
+  own = record (hears from j (takes_in from covered pairs n.own)) { exact = exact }
 
   from-in : from ≤ c.world.count
   from-in = omega (arith, low, st.own.count)
@@ -178,8 +190,15 @@ module _ (n : TheRestoring) (c : Cluster) (from i j covered s : ℕ) (flags : Fl
     heard-is q l = at-itself p (λ b. (if b && (q == from) then j else c.heard p q) ≡ slice_index_or (slice_set n.own.heard from j) q 0)
         (at-changed (λ z x y. y ≡ x) n.own.heard 0 (c.heard p) from j j q (omega (arith, low, w.heard_wide)) refl (st.own.heard q l))
 
-    sure-is : n.own.exact && is_exact flags ≡ true → (q : ℕ) → q ≤ c.world.count → slice_index_or n.own.lost q true ≡ false
-    sure-is e = st.own.sure (both n.own.exact (is_exact flags) e).0
+    sure-is : exact ≡ true → (q : ℕ) → q ≤ c.world.count → slice_index_or n.own.lost q true ≡ false
+    sure-is e = st.own.sure (less e)
+
+    -- what the cluster knows of failures
+    abbrev known : Cluster → Cluster
+    known d = record d { exact = put c.exact p exact; lost = c.lost; said = c.said }
+
+    exact-is : (known c).exact p ≡ exact
+    exact-is = at-itself p (λ b. (if b then exact else c.exact p) ≡ exact) refl
 
     known-are : (d : ℕ) → d ≤ c.world.count → d ≢ p → Each IsKnown (log_at own.logs d).numbers
     known-are = known-changed n c from st low other w (noted pairs (dropped_to covered (log_at n.own.logs from))) (known-told (log_at n.own.logs from) covered pairs positive (st.known from from-in other))
@@ -207,13 +226,13 @@ module _ (n : TheRestoring) (c : Cluster) (from i j covered s : ℕ) (flags : Fl
           ∙ without-those (λ q. not (has_answered q n)) (λ q. not (has_answered q last)) n.own.count from (λ q apart. ap not (answered-other n from q apart)) (ap not (get_or-set_same n.answered from true true (omega (arith, low, w.answered_wide))))
 
       -- the cluster after the last page, where that goes to the end
-      stands-last : StandsRestoring last c' p
+      stands-last : StandsRestoring last (known c') p
       stands-last = record {
         stage = st.stage;
         greeted = st.greeted ∙ sym (answered-other n from 0 (λ e. absurd (omega (arith, e, some))));
         phase = at-itself p (λ b. (if b then phase_with (without (todo_of (c.world.phase p)) from) else c.world.phase p) ≡ phase_with (left last)) (ap phase_with left-is);
         life = st.life;
-        own = (let P : Option ℕ → Type 0 = λ u. HasOwn own (record (taken_in c p from j m s u f) { world = record (taken_in c p from j m s u f).world { phase = c'.world.phase; released = c'.world.released } }) p (c.world.history p) ((taken_in c p from j m s u f).world.trims p) ((taken_in c p from j m s u f).world.numbers p) in subst P end-is (own-with n.own c _ p _ refl refl refl refl (λ x l. l) st.own logs-are (held-changed n c from st low other w covered pairs) heard-is sure-is st.own.greets st.own.out));
+        own = (let P : Option ℕ → Type 0 = λ u. HasOwn own (known (record (taken_in c p from j m s u f) { world = record (taken_in c p from j m s u f).world { phase = c'.world.phase; released = c'.world.released } })) p (c.world.history p) ((taken_in c p from j m s u f).world.trims p) ((taken_in c p from j m s u f).world.numbers p) in subst P end-is (own-with n.own c _ p _ refl refl refl refl (λ x l. l) (λ x l. l) st.own logs-are (held-changed n c from st low other w covered pairs) heard-is exact-is st.own.lost sure-is st.own.greets st.own.out));
         received = st.received;
         acknowledged = st.acknowledged;
         known = known-are;
@@ -255,13 +274,13 @@ module _ (n : TheRestoring) (c : Cluster) (from i j covered s : ℕ) (flags : Fl
       above-is q l = at-itself p (λ b. (if b && (q == from) then u else c.restoring p q) ≡ slice_index_or (slice_set n.above from u) q 0)
           (at-changed (λ z x y. y ≡ x) n.above 0 (c.restoring p) from u u q (omega (arith, low, w.wide)) refl (st.restoring q l))
 
-      stands-next : StandsRestoring mn cn p
+      stands-next : StandsRestoring mn (known cn) p
       stands-next = record {
         stage = st.stage;
         greeted = st.greeted;
         phase = st.phase;
         life = st.life;
-        own = (let P : Option ℕ → Type 0 = λ v. HasOwn own (record (taken_in c p from j m s v f) { restoring = cn.restoring }) p (c.world.history p) ((taken_in c p from j m s v f).world.trims p) ((taken_in c p from j m s v f).world.numbers p) in subst P end-next (own-with n.own c _ p _ refl refl refl refl (λ x l. l) st.own logs-are (held-changed n c from st low other w covered pairs) heard-is sure-is st.own.greets st.own.out));
+        own = (let P : Option ℕ → Type 0 = λ v. HasOwn own (known (record (taken_in c p from j m s v f) { restoring = cn.restoring })) p (c.world.history p) ((taken_in c p from j m s v f).world.trims p) ((taken_in c p from j m s v f).world.numbers p) in subst P end-next (own-with n.own c _ p _ refl refl refl refl (λ x l. l) (λ x l. l) st.own logs-are (held-changed n c from st low other w covered pairs) heard-is exact-is st.own.lost sure-is st.own.greets st.own.out));
         received = st.received;
         acknowledged = st.acknowledged;
         known = known-are;
@@ -288,16 +307,16 @@ module _ (n : TheRestoring) (c : Cluster) (from i j covered s : ℕ) (flags : Fl
               subst P end-next (numbers-other q ssn apart ∙ st.fresh q ssn l open_is (omega (arith, old, above)))
 
     -- by any event that brings the page
-    pub goes-page : (b : Bool) (e : Event) → Might c e → own_event e ≡ Some p → (b ≡ true → IsAct e) → goes c e ≡ arrived c from p (Restored i j m s upto f) → GoesTo b p (At (told from j covered s flags pairs n) p) c
+    pub goes-page : (b : Bool) (e : Event) → MayStep c e → own_event e ≡ Some p → (b ≡ true → IsAct e) → goes c e ≡ known (arrived c from p (Restored i j m s upto f)) → GoesTo b p (At (told_as exact from j covered s flags pairs n) p) c
     goes-page b e might by act is =
         by-branch (λ z. GoesTo b p (At z p) c) (is_done flags) _ _
-        (λ done. goes-one b p (At (last done) p) c e might by act (subst (At (last done) p) (sym (is ∙ arrived-last done)) (stands-last done)))
+        (λ done. goes-one b p (At (last done) p) c e might by act (subst (At (last done) p) (sym (is ∙ ap known (arrived-last done))) (stands-last done)))
         (λ more. goes-then b p (At (mn more) p) (At (asks from (mn more)) p) c
-        (goes-one b p (At (mn more) p) c e might by act (subst (At (mn more) p) (sym (is ∙ ap (λ v. arrived c from p (Restored i j m s v f)) (end-next more))) (stands-next more)))
+        (goes-one b p (At (mn more) p) c e might by act (subst (At (mn more) p) (sym (is ∙ ap (λ v. known (arrived c from p (Restored i j m s v f))) (end-next more))) (stands-next more)))
         (λ d z. goes-any true b p (At (asks from (mn more)) p) d (λ y. refl) (asks-at (mn more) d from z low w.alone)))
 
 -- the answer of the gateway
-module _ (n : TheRestoring) (c : Cluster) (i j covered s : ℕ) (flags : Flags) (pairs : List Pair) (st : StandsRestoring n c n.own.me) (w : IsRestoring n.own n.above n.answered) (ok : IsReply n 0 i j s) (done : is_done flags ≡ true) where
+module _ (n : TheRestoring) (c : Cluster) (i j covered s : ℕ) (flags : Flags) (pairs : List Pair) (st : StandsRestoring n c n.own.me) (w : IsRestoring n.own n.above n.answered) (ok : IsReply n 0 i j s) (done : is_done flags ≡ true) (exact_then : Bool) (less_then : exact_then ≡ true → n.own.exact ≡ true) where
   abbrev g : ℕ
   g = n.own.me
 
@@ -305,10 +324,10 @@ module _ (n : TheRestoring) (c : Cluster) (i j covered s : ℕ) (flags : Flags) 
   end = restored_end flags s pairs
 
   abbrev o : TheOwn
-  o = trusts flags (takes_in 0 covered [] n.own)
+  o = record (takes_in 0 covered [] n.own) { exact = exact_then }
 
   abbrev r : TheRestoring
-  r = record n { own = o; answered = slice_set n.answered 0 true }
+  r = greets_as exact_then covered n
 
   end-done : end ≡ None
   end-done = rw done refl
@@ -331,19 +350,22 @@ module _ (n : TheRestoring) (c : Cluster) (i j covered s : ℕ) (flags : Flags) 
     abbrev d' : Cluster
     d' = arrived c 0 g (Restored i j m s None f)
 
+    abbrev known_then : Cluster → Cluster
+    known_then d = record d { exact = put c.exact g exact_then; lost = c.lost; said = c.said }
+
     logs-greeted : (d : ℕ) → d ≤ c.world.count → d ≢ g → KeepsOf (log_at o.logs d) (d'.world.trims g d) (c.world.handlers.sends g (c.world.history g) d) (c.world.numbers g d)
     logs-greeted d l apart =
         at-itself g (λ b. KeepsOf (log_at o.logs d) (if b && (d == 0) then max (c.world.trims g 0) m else c.world.trims g d) (c.world.handlers.sends g (c.world.history g) d) (c.world.numbers g d))
         (at-changed (λ z x y. KeepsOf x y (c.world.handlers.sends g (c.world.history g) z) (c.world.numbers g z)) n.own.logs no_queue (c.world.trims g) 0 (noted [] (dropped_to covered (log_at n.own.logs 0))) (max (c.world.trims g 0) m) d (omega (arith, w.logs_wide))
         (keeps-covered (log_at n.own.logs 0) (c.world.trims g 0) covered m (c.world.handlers.sends g (c.world.history g) 0) (c.world.numbers g 0) (st.own.logs 0 (omega arith) me-inside) most) (st.own.logs d l apart))
 
-    stands-greeted : StandsRestoring r d' g
+    stands-greeted : StandsRestoring r (known_then d') g
     stands-greeted = record {
       stage = st.stage;
       greeted = at-itself g (λ b. (if b then true else c.greeted g) ≡ has_answered 0 r) (sym answered-gateway);
       phase = st.phase ∙ ap phase_with left-same;
       life = st.life;
-      own = own-with n.own c d' g _ refl refl refl refl (λ x l. l) st.own logs-greeted (held-changed n c 0 st (omega arith) me-inside w covered []) st.own.heard (λ e. st.own.sure (both n.own.exact (is_exact flags) e).0) st.own.greets st.own.out;
+      own = own-with n.own c (known_then d') g _ refl refl refl refl (λ x l. l) (λ x l. l) st.own logs-greeted (held-changed n c 0 st (omega arith) me-inside w covered []) st.own.heard (at-itself g (λ b. (if b then exact_then else c.exact g) ≡ exact_then) refl) st.own.lost (λ e. st.own.sure (less_then e)) st.own.greets st.own.out;
       received = st.received;
       acknowledged = st.acknowledged;
       known = known-changed n c 0 st (omega arith) me-inside w (noted [] (dropped_to covered (log_at n.own.logs 0))) (known-told (log_at n.own.logs 0) covered [] (λ ssn. tt) (st.known 0 (omega arith) me-inside));
@@ -359,8 +381,8 @@ module _ (n : TheRestoring) (c : Cluster) (i j covered s : ℕ) (flags : Flags) 
             absurd (let P : ℕ → Type 0 = λ z. has_answered z r ≡ false in let h : has_answered 0 r ≡ false = subst P same open_is in let k : true ≡ false = sym answered-gateway ∙ h in cc)
         still q open_is false e = let apart : q ≢ 0 = grind (arith, nat_tests) in sym (answered-other n 0 q apart) ∙ open_is
 
-    pub goes-greeted : (b : Bool) (e : Event) → Might c e → own_event e ≡ Some g → (b ≡ true → IsAct e) → goes c e ≡ arrived c 0 g (Restored i j m s end f) → GoesTo b g (At r g) c
-    goes-greeted b e might by act is = goes-one b g (At r g) c e might by act (subst (At r g) (sym (is ∙ ap (λ u. arrived c 0 g (Restored i j m s u f)) end-done)) stands-greeted)
+    pub goes-greeted : (b : Bool) (e : Event) → MayStep c e → own_event e ≡ Some g → (b ≡ true → IsAct e) → goes c e ≡ known_then (arrived c 0 g (Restored i j m s end f)) → GoesTo b g (At r g) c
+    goes-greeted b e might by act is = goes-one b g (At r g) c e might by act (subst (At r g) (sym (is ∙ ap (λ u. known_then (arrived c 0 g (Restored i j m s u f))) end-done)) stands-greeted)
 
 -- it goes on to where it stands
 abbrev pub Onward : ℕ → Cluster → TheRestoring → Type 0

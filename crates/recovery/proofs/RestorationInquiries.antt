@@ -2,7 +2,7 @@
 use Rattle.std.proofs.Common.{◌≡◌, ◌≢◌, ℕ, zero, suc, ◌+◌, ◌<◌, ◌≤◌, List, length, Bool, true, false, refl, sym, ap, ◌∙◌, subst, arith}
 use Rattle.std.specs.Prelude.{slice_index_or, not, if◌then◌else◌}
 use Rattle.world.specs.Phases.{is_up, has}
-use Rattle.cluster.specs.Parcels.{Resume, Parcel}
+use Rattle.cluster.specs.Parcels.{Resume, Parcel, Flagged}
 use Rattle.cluster.specs.Cluster.{Cluster, is_well}
 use Rattle.cluster.specs.Rules.{Puts}
 use Rattle.packets.specs.declared.packet.Body.TheVariants as packets
@@ -12,7 +12,7 @@ use Rattle.recovery.specs.Intake.{keeps}
 use Rattle.packets.specs.declared.packet.NodePacket.{NodePacket}
 use Rattle.node.specs.Stands.{Each}
 use Rattle.recovery.specs.Stands.{HasOwn, IsSent, GoesTo}
-use Rattle.node.proofs.Goes.{goes-self, goes-act, goes-then, goes-any}
+use Rattle.cluster.proofs.Goes.{goes-self, goes-act, goes-then, goes-any}
 use Rattle.recovery.proofs.Posts.{own-out, own-posted}
 use Rattle.recovery.specs.Restoration.{TheRestoring, replayed_of, above_of, has_answered, left, asks, asks_below, asked}
 use Rattle.recovery.specs.RestorationStands.{StandsRestoring, Acts}
@@ -38,9 +38,9 @@ not-well n c p (suc q) s low open_is =
     let e : is_up (c.world.phase p) ≡ false = ap is_up s.phase ∙ waits-on (left n) (suc q) (left-has n (suc q) (omega arith) low open_is) in
     rw (s.stage, e) (both-off (c.greeted p))
 
--- with another own part that has other packets, in a cluster that has them too
-restoring-own : (n : TheRestoring) (c : Cluster) (p : ℕ) {rest : List NodePacket} {parcels : List Parcel} → HasOwn (record n.own { out = rest }) (record c { parcels = parcels }) p (c.world.history p) (c.world.trims p) (c.world.numbers p)
-    → StandsRestoring n c p → StandsRestoring (record n { own = record n.own { out = rest } }) (record c { parcels = parcels }) p
+-- with another own part that has other packets, in a cluster where other packets were sent and said
+pub restoring-own : (n : TheRestoring) (c : Cluster) (p : ℕ) {rest : List NodePacket} {parcels : List Parcel} {said : List Flagged} → HasOwn (record n.own { out = rest }) (record c { parcels = parcels; said = said }) p (c.world.history p) (c.world.trims p) (c.world.numbers p)
+    → StandsRestoring n c p → StandsRestoring (record n { own = record n.own { out = rest } }) (record c { parcels = parcels; said = said }) p
 restoring-own n c p own s =
     record { stage = s.stage; greeted = s.greeted; phase = s.phase; life = s.life; own = own; received = s.received; acknowledged = s.acknowledged; known = s.known; fresh = s.fresh; resumed = s.resumed; restoring = s.restoring; released = s.released }
 
@@ -59,8 +59,8 @@ asks-one n c to s low alone open_is =
     let other : me ≢ to = λ e. (let P : ℕ → Type 0 = λ z. has_answered z n ≡ false in let f : has_answered me n ≡ false = subst P (sym e) open_is in let g : true ≡ false = sym alone ∙ f in absurd (cc)) in
     let many : kept ≡ length (c.world.history me) = sym (long n.own.count n.own.base n.own.covered n.receipts (c.world.history me) (c.world.acknowledged me) s.received) in
     goes-act true me (At (record n { own = posts to (packets.Resume n.own.life kept above) n.own }) me) c (Puts me to (Resume n.own.life kept above))
-    (s.own.inside.1, within, other, (s.stage, not-well n c me to s low open_is, sym s.life, many, sym (s.restoring to within))) tt refl
-    (restoring-own n c me (own-posted n.own c me to (packets.Resume n.own.life kept above) (Resume n.own.life kept above) (c.world.history me) (c.world.trims me) (c.world.numbers me) refl tt s.own) s)
+    (s.own.inside.1, within, other, (s.stage, not-well n c me to s low open_is, sym s.life, many, sym (s.restoring to within))) tt tt refl
+    (restoring-own n c me (own-posted n.own c me to (packets.Resume n.own.life kept above) (Resume n.own.life kept above) (c.world.history me) (c.world.trims me) (c.world.numbers me) refl tt tt s.own) s)
 
 pub asks-at : (n : TheRestoring) (c : Cluster) (to : ℕ) → StandsRestoring n c n.own.me → to ≤ n.own.count → slice_index_or n.answered n.own.me true ≡ true → GoesTo true n.own.me (At (asks to n) n.own.me) c
 asks-at n c to s low alone = by-branch (λ m. GoesTo true n.own.me (At m n.own.me) c) (has_answered to n) n _ (λ e. goes-self true n.own.me (At n n.own.me) c s) (λ e. asks-one n c to s low alone e)

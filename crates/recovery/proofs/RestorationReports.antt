@@ -1,18 +1,20 @@
 -- A packet comes to a process that restores its numbers
-use Rattle.std.proofs.Common.{◌≡◌, ◌≢◌, ℕ, suc, ◌<◌, ◌≤◌, List, [], ◌∷◌, length, min, Bool, true, false, refl, sym, ap, ◌∙◌, subst, arith}
-use Rattle.std.specs.Prelude.{Option, Some, None, not, slice_index_or, slice_set, ◌&&◌, ◌==◌, nat_lt, nat_le, if◌then◌else◌}
+use Rattle.std.proofs.Common.{◌≡◌, ◌≢◌, inl, ℕ, suc, ◌<◌, ◌≤◌, List, [], ◌∷◌, length, min, Bool, true, false, refl, sym, ap, ◌∙◌, subst, arith}
+use Rattle.std.specs.Prelude.{Option, Some, None, not, slice_index_or, slice_set, ◌&&◌, ◌||◌, ◌==◌, nat_lt, nat_le, if◌then◌else◌}
 use Rattle.std.proofs.lemmas.Bool.Decides.{nat_tests}
 use Rattle.std.specs.List.{list_all}
 use Rattle.std.proofs.lemmas.List.{get_or-set_same, get_or-set_other}
 use Rattle.world.specs.Phases.{has}
+use Rattle.world.specs.World.{put}
 use Rattle.world.specs.Calls.{phase_with}
 use Rattle.world.specs.Logs.{sent}
 use Rattle.theorems.proofs.Changes.{at-itself}
 use Rattle.theorems.proofs.Tests.{both}
-use Rattle.cluster.specs.Parcels.{Body, Ask, Restored, In, parcel, reaches}
+use Rattle.cluster.specs.Parcels.{Body, Ask, Restored, In, Said, flagged, parcel, reaches}
 use Rattle.cluster.specs.Cluster.{Cluster, is_well}
 use Rattle.cluster.specs.Rules.{Arrives, MayTake, arrived}
-use Rattle.cluster.specs.Overlap.{Event, Acts, Meets, Doubts, Might, goes, restores_anew}
+use Rattle.cluster.specs.Overlap.{Event, Acts, Meets, Loses, Doubts, cut, goes, restores_anew}
+use Rattle.cluster.specs.Exact.{MayStep}
 use Rattle.packets.specs.Packet.{is_done, is_exact, in_range}
 use Rattle.packets.specs.declared.page.Pair.{Pair}
 use Rattle.packets.specs.declared.page.Flags.{Flags}
@@ -23,39 +25,31 @@ use Rattle.node.specs.Queue.{forgotten_above}
 use Rattle.node.specs.Node.{log_at}
 use Rattle.packets.specs.Says.{WasSaid, restored_end, first_number}
 use Rattle.node.specs.Stands.{Each, own_event, IsAct}
-use Rattle.recovery.specs.Own.{TheOwn, is_for}
+use Rattle.recovery.specs.Own.{hears, is_for}
 use Rattle.recovery.specs.Overlap.{heard_of, tells_loss, meets}
 use Rattle.recovery.specs.Overlap as meeting
-use Rattle.recovery.specs.Intake.{sent_to, AscendFrom}
+use Rattle.recovery.specs.Intake.{sent_to, takes_in, trusts, AscendFrom}
 use Rattle.recovery.specs.Stands.{IsSaid, GoesTo}
-use Rattle.recovery.proofs.Meetings.{inside-off, was-asked, asks as ask-tells, phase-met, numbers-met, resumed-met, may-meet, own-met}
+use Rattle.recovery.proofs.Meetings.{Tells, inside-off, was-asked, asks as ask-tells, phase-met, numbers-met, resumed-met, may-meet, own-met}
 use Rattle.recovery.proofs.Lists.{at-changed}
-use Rattle.node.proofs.Goes.{goes-self, goes-one, goes-then, goes-any}
-use Rattle.recovery.proofs.Posts.{own-with, loss-out, for-own}
+use Rattle.cluster.proofs.Goes.{goes-self, goes-one, goes-any}
+use Rattle.recovery.proofs.Posts.{own-lost, may-lose, for-own}
 use Rattle.recovery.proofs.Notes.{known-forgotten, number-high, ascend-lower}
-use Rattle.recovery.specs.Restoration.{TheRestoring, IsRestoring, above_of, has_answered, left, last_ssn, answers, is_reply, page_of, doubted, told, greeted, waits_anew, asked_by, heard, handed, is_up}
+use Rattle.recovery.specs.Restoration.{TheRestoring, IsRestoring, above_of, has_answered, left, asks, last_ssn, answers, is_reply, is_whole, page_of, doubted, told, greeted, waits_anew, asked_by, heard, handed, is_up}
 use Rattle.recovery.specs.RestorationStands.{IsKnown, StandsRestoring, IsHanded}
-use Rattle.recovery.proofs.Left.{anew-is}
+use Rattle.recovery.proofs.Left.{both-off, anew-is}
 use Rattle.recovery.proofs.RestorationPages.{page-in-range, page-known}
-use Rattle.recovery.proofs.RestorationInquiries.{At, by-branch, left-has, not-well, restoring-out}
-use Rattle.recovery.proofs.RestorationAnswers.{IsReply, Onward, fits-in, goes-greeted, goes-page, known-changed, may-greet, may-take, replies, sent-is}
+use Rattle.recovery.proofs.RestorationInquiries.{At, by-branch, left-has, not-well, restoring-own}
+use Rattle.recovery.proofs.RestorationAnswers.{IsReply, Onward, told_as, greets_as, fits-in, goes-greeted, goes-page, known-changed, may-greet, may-take, replies, sent-is}
 
--- one that is no longer exact stands where it stood
-doubted-stands : (n : TheRestoring) (c : Cluster) (p : ℕ) → StandsRestoring n c p → StandsRestoring (doubted n) c p
-doubted-stands n c p s = record {
-  stage = s.stage;
-  greeted = s.greeted;
-  phase = s.phase;
-  life = s.life;
-  own = own-with n.own c c p _ refl refl refl refl (λ x i. i) s.own s.own.logs s.own.held s.own.heard (λ e. absurd (let f : false ≡ true = (both n.own.exact false e).1 in cc)) s.own.greets s.own.out;
-  received = s.received;
-  acknowledged = s.acknowledged;
-  known = s.known;
-  fresh = s.fresh;
-  resumed = s.resumed;
-  restoring = s.restoring;
-  released = s.released;
-}
+-- of both branches
+doubted-branch : (b : Bool) (x y : TheRestoring) → doubted (if b then x else y) ≡ (if b then doubted x else doubted y)
+doubted-branch true x y = refl
+doubted-branch false x y = refl
+
+ends : (zero done : Bool) → (not zero || done) ≡ true → zero ≡ true → done ≡ true
+ends true done e z = e
+ends false done e z = absurd (cc)
 
 -- one whose peers haven't all answered
 some-off : (xs : List Bool) → list_all (λ b. b) xs ≡ false → (q : ℕ) × (slice_index_or xs q true ≡ false)
@@ -73,65 +67,85 @@ module _ (n : TheRestoring) (c : Cluster) (from : ℕ) (st : StandsRestoring n c
 
   -- a page of a process or of the gateway
   module _ (i j covered s : ℕ) (flags : Flags) (pairs : List Pair) (f : ℕ → Option ℕ) (ok : IsReply n from i j s) (fits : in_range (packets.Restored i j covered s flags pairs) ≡ true)
-      (given : In (parcel from n.own.me (Restored i j covered s (restored_end flags s pairs) f)) c.parcels) (says : (ssn : ℕ) → s < ssn → covered < ssn → reaches (restored_end flags s pairs) ssn ≡ true → f ssn ≡ first_number pairs ssn) where
+      (given : In (parcel from n.own.me (Restored i j covered s (restored_end flags s pairs) f)) c.parcels) (says : (ssn : ℕ) → s < ssn → covered < ssn → reaches (restored_end flags s pairs) ssn ≡ true → f ssn ≡ first_number pairs ssn) (flags_said : Said (flagged (parcel from n.own.me (Restored i j covered s (restored_end flags s pairs) f)) (is_exact flags) false) c.said) (whole : (from == 0) ≡ true → is_done flags ≡ true) where
     abbrev brings : Body
     brings = Restored i j covered s (restored_end flags s pairs) f
-
-    abbrev taken : TheRestoring
-    taken = page_of from j covered s flags pairs n
 
     page : AscendFrom s pairs
     page = page-in-range i j covered s flags pairs fits
 
-    brought : (m : ℕ) (g : ℕ → Option ℕ) → m ≡ min covered (sent_to from n.own) → ((ssn : ℕ) → s < ssn → m < ssn → ssn ≤ sent_to from n.own → reaches (restored_end flags s pairs) ssn ≡ true → g ssn ≡ first_number pairs ssn)
-        → ((ssn : ℕ) → s < ssn → sent_to from n.own < ssn → reaches (restored_end flags s pairs) ssn ≡ true → g ssn ≡ None) → (b : Bool) (e : Event) → (MayTake c from number brings → Might c e) → own_event e ≡ Some number → (b ≡ true → IsAct e)
-        → goes c e ≡ arrived c from number (Restored i j m s (restored_end flags s pairs) g) → GoesTo b number (At taken number) c
-    brought m g most told_is none b e might by act is =
-        by-branch (λ z. GoesTo b number (At z number) c) (from == 0) (greeted covered flags n) (told from j covered s flags pairs n)
-        (λ z. let zero_is : from ≡ 0 = grind (arith, nat_tests) in
-        let own : IsReply n 0 i j s = subst (λ k. IsReply n k i j s) zero_is ok in
-        let P : ℕ → Type 0 = λ k. MayTake c k number brings → Might c e in
-        let Q : ℕ → Type 0 = λ k. goes c e ≡ arrived c k number (Restored i j m s (restored_end flags s pairs) g) in
-        by-branch (λ z. GoesTo b number (At z number) c) (is_done flags) _ n
-        (λ d. goes-greeted n c i j covered s flags pairs st w own d m g (subst (λ k. m ≡ min covered (sent_to k n.own)) zero_is most) b e
-        (subst P zero_is might (may-greet n c i j covered s flags pairs st w own d covered f)) by act (subst Q zero_is is))
-        (λ d. goes-self b number (At n number) c st))
-        (λ z. let some : 0 < from = grind (arith, nat_tests) in
-        let known = page-known i j covered s flags pairs fits in
-        goes-page n c from i j covered s flags pairs st low some other w ok page known m g most told_is none b e (might (may-take n c from i j covered s flags pairs st low some other w ok page known covered f)) by act is)
+    -- it is taken, and then the process is exact as this says
+    abbrev taken : Bool → TheRestoring
+    taken exact = if from == 0 then greets_as exact covered n else told_as exact from j covered s flags pairs n
+
+    module _ (exact : Bool) (less : exact ≡ true → n.own.exact ≡ true) where
+      abbrev knowing : Cluster → Cluster
+      knowing d = record d { exact = put c.exact number exact; lost = c.lost; said = c.said }
+
+      brought : (m : ℕ) (g : ℕ → Option ℕ) → m ≡ min covered (sent_to from n.own) → ((ssn : ℕ) → s < ssn → m < ssn → ssn ≤ sent_to from n.own → reaches (restored_end flags s pairs) ssn ≡ true → g ssn ≡ first_number pairs ssn)
+          → ((ssn : ℕ) → s < ssn → sent_to from n.own < ssn → reaches (restored_end flags s pairs) ssn ≡ true → g ssn ≡ None) → (b : Bool) (e : Event) → (MayTake c from number brings → MayStep c e) → own_event e ≡ Some number → (b ≡ true → IsAct e)
+          → goes c e ≡ knowing (arrived c from number (Restored i j m s (restored_end flags s pairs) g)) → GoesTo b number (At (taken exact) number) c
+      brought m g most told_is none b e might by act is =
+          by-branch (λ z. GoesTo b number (At z number) c) (from == 0) _ _
+          (λ z. let zero_is : from ≡ 0 = grind (arith, nat_tests) in
+          let own : IsReply n 0 i j s = subst (λ k. IsReply n k i j s) zero_is ok in
+          let done : is_done flags ≡ true = whole z in
+          let P : ℕ → Type 0 = λ k. MayTake c k number brings → MayStep c e in
+          let Q : ℕ → Type 0 = λ k. goes c e ≡ knowing (arrived c k number (Restored i j m s (restored_end flags s pairs) g)) in
+          goes-greeted n c i j covered s flags pairs st w own done exact less m g (subst (λ k. m ≡ min covered (sent_to k n.own)) zero_is most) b e
+          (subst P zero_is might (may-greet n c i j covered s flags pairs st w own done exact less covered f)) by act (subst Q zero_is is))
+          (λ z. let some : 0 < from = grind (arith, nat_tests) in
+          let known = page-known i j covered s flags pairs fits in
+          goes-page n c from i j covered s flags pairs st low some other w ok page known exact less m g most told_is none b e (might (may-take n c from i j covered s flags pairs st low some other w ok page known exact less covered f)) by act is)
 
     -- it tells of no more than was sent
-    page-fits : (covered ≤ sent_to from n.own) × (last_ssn 0 pairs ≤ sent_to from n.own) → Onward number c taken
+    page-fits : (covered ≤ sent_to from n.own) × (last_ssn 0 pairs ≤ sent_to from n.own) → Onward number c (page_of from j covered s flags pairs n)
     page-fits few =
-        brought covered f (omega (arith, few.0)) (λ ssn above new under r. says ssn above new r)
+        let same : c.exact number && is_exact flags ≡ n.own.exact && is_exact flags = ap (λ b. b && is_exact flags) st.own.exact in
+        brought (n.own.exact && is_exact flags) (λ e. (both n.own.exact (is_exact flags) e).0) covered f (omega (arith, few.0)) (λ ssn above new under r. says ssn above new r)
         (λ ssn above far r. says ssn above (omega (arith, far, few.0)) r ∙ number-high 0 ssn pairs (ascend-lower 0 s pairs (omega arith) page) (omega (arith, far, few.1)))
-        taken.own.exact (Acts (is_exact flags) (Arrives from number brings)) (λ t. ((given, t), tt)) refl (λ e. tt) refl
+        (page_of from j covered s flags pairs n).own.exact (Acts (is_exact flags) (Arrives from number brings)) (λ t. (((given, t), tt), flags_said)) refl (λ e. tt)
+        (ap (λ b. record (arrived c from number brings) { exact = put c.exact number b; lost = c.lost; said = c.said }) same)
 
     -- it tells of more
-    page-doubted : Onward number c (doubted taken)
+    page-doubted : Onward number c (doubted (page_of from j covered s flags pairs n))
     page-doubted =
         let many = length (sent c.world number from) in
         let size : many ≡ sent_to from n.own = sent-is n c from st low other w in
-        goes-any false (doubted taken).own.exact number (At (doubted taken) number) c (λ e. (both taken.own.exact false e).1)
-        (goes-then false number (At taken number) (At (doubted taken) number) c
-        (brought (min covered many) (λ ssn. if nat_le ssn many then f ssn else None) (ap (min covered) size)
+        let exact : Bool = n.own.exact && is_exact flags && false in
+        let off : exact ≡ false = both-off (n.own.exact && is_exact flags) in
+        goes-any false (doubted (page_of from j covered s flags pairs n)).own.exact number (At (doubted (page_of from j covered s flags pairs n)) number) c (λ e. (both (page_of from j covered s flags pairs n).own.exact false e).1)
+        (subst (λ z. GoesTo false number (At z number) c) (sym doubted-is)
+        (brought exact (λ e. absurd (cc (off, e))) (min covered many) (λ ssn. if nat_le ssn many then f ssn else None) (ap (min covered) size)
         (λ ssn above new under r. let inside : nat_le ssn many ≡ true = grind (arith, nat_tests) in rw inside (says ssn above (omega (arith, new, under, size)) r))
         (λ ssn above far r. let past : nat_le ssn many ≡ false = grind (arith, nat_tests) in rw past refl)
-        false (Doubts from number brings) (λ t. (tt, given, t)) refl (λ e. absurd (let f : false ≡ true = e in cc)) refl)
-        (λ d t. goes-self false number (At (doubted taken) number) d (doubted-stands taken d number t)))
+        false (Doubts from number brings) (λ t. ((tt, given, t), tt)) refl (λ e. absurd (let f : false ≡ true = e in cc))
+        (ap (λ b. record (arrived c from number (cut c number from brings)) { exact = put c.exact number b; lost = c.lost; said = c.said }) (sym off))))
+      where
+        doubted-is : doubted (page_of from j covered s flags pairs n) ≡ taken (n.own.exact && is_exact flags && false)
+        doubted-is =
+            let taken_in = trusts flags (hears from j (takes_in from covered pairs n.own)) in
+            let last : TheRestoring = record n { own = taken_in; answered = slice_set n.answered from true } in
+            let next : TheRestoring = record n { own = taken_in; above = slice_set n.above from (last_ssn s pairs) } in
+            let further : doubted (asks from next) ≡ asks from (doubted next) = doubted-branch (has_answered from next) next _ in
+            doubted-branch (from == 0) (greeted covered flags n) (told from j covered s flags pairs n)
+            ∙ ap (λ z. if from == 0 then doubted (greeted covered flags n) else z) (doubted-branch (is_done flags) last (asks from next) ∙ ap (λ z. if is_done flags then doubted last else z) further)
 
   page-heard : (i j covered s : ℕ) (flags : Flags) (pairs : List Pair) → IsSaid c from number (packets.Restored i j covered s flags pairs) → Onward number c (heard from (packets.Restored i j covered s flags pairs) n)
   page-heard i j covered s flags pairs said =
-      let was : WasSaid c.parcels from number (packets.Restored i j covered s flags pairs) = said.1 refl in
+      let was : WasSaid c from number (packets.Restored i j covered s flags pairs) = said.1 refl in
       let f = was.1.0 in
       let given : In (parcel from number (Restored i j covered s (restored_end flags s pairs) f)) c.parcels = (let P : Body → Type 0 = λ b. In (parcel from number b) c.parcels in subst P was.1.1 was.2) in
-      by-branch (Onward number c) (in_range (packets.Restored i j covered s flags pairs) && is_reply from i j s n)
+      let told : Said (flagged (parcel from number (Restored i j covered s (restored_end flags s pairs) f)) (is_exact flags) false) c.said = (let P : Body → Type 0 = λ b. Said (flagged (parcel from number b) (is_exact flags) false) c.said in subst P was.1.1 was.3) in
+      by-branch (Onward number c) (in_range (packets.Restored i j covered s flags pairs) && is_reply from i j s n && is_whole from flags)
       (if answers from i j covered s pairs n then page_of from j covered s flags pairs n else doubted (page_of from j covered s flags pairs n)) n
-      (λ e. let two = both (in_range (packets.Restored i j covered s flags pairs)) (is_reply from i j s n) e in
+      (λ e. let three = both (in_range (packets.Restored i j covered s flags pairs) && is_reply from i j s n) (is_whole from flags) e in
+      let two = both (in_range (packets.Restored i j covered s flags pairs)) (is_reply from i j s n) three.0 in
+      let all : (from == 0) ≡ true → is_done flags ≡ true = ends (from == 0) (is_done flags) three.1 in
       let ok = replies n from i j s two.1 in
       by-branch (Onward number c) (answers from i j covered s pairs n) (page_of from j covered s flags pairs n) (doubted (page_of from j covered s flags pairs n))
-      (λ a. page-fits i j covered s flags pairs f ok two.0 given was.1.2 (fits-in n from i j covered s pairs a))
-      (λ a. page-doubted i j covered s flags pairs f ok two.0 given was.1.2))
+      (λ a. page-fits i j covered s flags pairs f ok two.0 given was.1.2 told all (fits-in n from i j covered s pairs a))
+      (λ a. page-doubted i j covered s flags pairs f ok two.0 given was.1.2 told all))
       (λ e. none-heard)
 
   -- a peer that comes back too asks in a newer incarnation
@@ -182,14 +196,22 @@ module _ (n : TheRestoring) (c : Cluster) (from : ℕ) (st : StandsRestoring n c
         goes-one false number (At anew number) c (Meets number from i k) (may-meet n.own c number from i k (c.world.history number) st.own low other wide given st.stage unwell (let l : heard_of from n.own < i = grind (arith, nat_tests) in l)) refl
         (λ e. absurd (let f : false ≡ true = e in cc)) stands-anew
 
+  -- as long as it waits for a peer it says to one that asked that all is lost
+  tells : (m : TheRestoring) (r : ℕ) → r ≤ n.own.count → has_answered r m ≡ false → Tells (λ o. At (record m { own = o }) number) number n.own.count
+  tells m r near open_is q i k o d t count low given is =
+      let waits : is_well d number ≡ false = not-well (record m { own = o }) d number r t (omega (arith, near, count)) open_is in
+      goes-one true number (At (record m { own = tells_loss q i k o }) number) d (Loses number q i o.life k)
+      (may-lose o d number q i k t.own (omega (arith, low, count)) given is (inl ((t.stage, waits), sym t.life))) refl (λ e. tt)
+      (restoring-own (record m { own = o }) d number (own-lost o d number q i k t.own) t)
+
   -- where that is no news, it only tells that all is lost
   asking-heard : (i k : ℕ) → 0 < from → is_up n ≡ false → In (parcel from number (Ask i k)) c.parcels → Onward number c (asked_by from i k n)
   asking-heard i k some waits given =
-      let tells : (m : TheRestoring) (q i k : ℕ) (o : TheOwn) (d : Cluster) → At (record m { own = o }) number d → At (record m { own = tells_loss q i k o }) number d =
-      λ m q i k o d t. restoring-out (record m { own = o }) d number (tells_loss q i k o).out (loss-out o d number q i k t.own) t in
+      let off = some-off n.answered waits in
+      let wide = w.answered_wide in
       by-branch (λ m. Onward number c (record m { own = meeting.asked_by from i k n.own })) (nat_lt (heard_of from n.own) i) (waits_anew from n) n
-      (λ newer. ask-tells (λ o. At (record (waits_anew from n) { own = o }) number) number n.own c (tells (waits_anew from n)) from i k (λ old. absurd (cc (newer, old))) (λ e. goes-anew i k some waits given newer))
-      (λ old. ask-tells (λ o. At (record n { own = o }) number) number n.own c (tells n) from i k (λ e. st) (λ newer. absurd (cc (newer, old))))
+      (λ newer. ask-tells (λ o. At (record (waits_anew from n) { own = o }) number) number n.own c (tells (waits_anew from n) from low (get_or-set_same n.answered from false true (omega (arith, low, wide)))) w.heard_wide from i k low given (λ old. absurd (cc (newer, old))) (λ e. goes-anew i k some waits given newer))
+      (λ old. ask-tells (λ o. At (record n { own = o }) number) number n.own c (tells n off.0 (let l = inside-off n.answered off.0 off.1 in omega (arith, l, wide)) off.1) w.heard_wide from i k low given (λ e. st) (λ newer. absurd (cc (newer, old))))
 
   hearing : is_up n ≡ false → (x : bodies.Body) → IsSaid c from number x → Onward number c (heard from x n)
   hearing waits (packets.Restored i j covered s flags pairs) said = page-heard i j covered s flags pairs said

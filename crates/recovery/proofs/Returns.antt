@@ -97,6 +97,7 @@ module _ (n : TheRestoring) (c : Cluster) (s : StandsRestoring n c n.own.me) (al
     state = s.own.state;
     saved = s.own.saved;
     durable = s.own.durable;
+    exact = s.own.exact;
     received = s.received;
     waits = nothing-waits;
     logs = λ d l o. rw (log-released n.own.limits.durable n.own.logs d) (keeps-released n.own.limits.durable (log_at n.own.logs d) (c.world.trims p d) (c.world.handlers.sends p h d) (c.world.numbers p d) (s.own.logs d l o));

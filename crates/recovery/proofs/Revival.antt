@@ -7,7 +7,8 @@ use Rattle.world.specs.declared.message.Message.{Message}
 use Rattle.world.specs.History.{count_of}
 use Rattle.theorems.proofs.Changes.{at-itself}
 use Rattle.cluster.specs.Cluster.{Cluster, Dead, Collecting}
-use Rattle.cluster.specs.Rules.{Opens, IsNode, does}
+use Rattle.cluster.specs.Rules.{Opens, IsNode}
+use Rattle.cluster.specs.Overlap.{Acts, goes}
 use Rattle.packets.specs.declared.kept.Kept.{Kept}
 use Rattle.node.specs.declared.limit.Limits.{Limits}
 use Rattle.recovery.specs.Collected.{none_told}
@@ -38,7 +39,7 @@ module _ (limits : Limits) (k : Kept) (life : ℕ) (c : Cluster) (durable : c.du
   skipped = life - c.stored me - 1
 
   abbrev c' : Cluster
-  c' = does c (Opens me skipped)
+  c' = goes c (Acts true (Opens me skipped))
 
   abbrev h : List Message
   h = take k.length (c.world.history me)
@@ -87,6 +88,8 @@ module _ (limits : Limits) (k : Kept) (life : ℕ) (c : Cluster) (durable : c.du
       grown = λ d. (let e = first-all d in omega (arith, e));
       heard = λ q l. heard-is q;
       durable = durable;
+      exact = at-itself me (λ b. (if b then true else c.exact me) ≡ true) refl;
+      lost = λ q l. at-itself me (λ b. (if b then (λ _. false) else c.lost me) q ≡ slice_index_or (replicate (k.count + 1) false) q true) (sym (get_or-replicate (k.count + 1) q false true (omega (arith, l, s.count))));
       sure = λ e q l. get_or-replicate (k.count + 1) q false true (omega (arith, l, s.count));
       greets = get_or-replicate (k.count + 1) 0 false true (omega arith);
       out = tt;

@@ -26,6 +26,7 @@ told_of told q = slice_index_or told q (none_told 0)
 pub record IsCollecting (own : TheOwn) (told : List TheCollected) : Type 0 where
   pub wide : length told ≡ suc own.count
   pub heard_wide : length own.heard ≡ suc own.count
+  pub lost_wide : length own.lost ≡ suc own.count
   pub short : IsShort own.logs own.base
   -- it has told itself nothing
   pub alone : (told_of told own.me).entries ≡ []

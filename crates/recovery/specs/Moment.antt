@@ -2,8 +2,9 @@
 use Rattle.std.specs.Prelude.{◌≡◌, ℕ, ◌+◌, ◌≤◌, List, length, map, take, drop, true}
 use Rattle.world.specs.Handlers.{Handlers}
 use Rattle.theorems.specs.Growth.{Grows}
-use Rattle.cluster.specs.Cluster.{Cluster, opening}
-use Rattle.cluster.specs.Rules.{Act, Run, after_run}
+use Rattle.cluster.specs.Cluster.{Cluster}
+use Rattle.cluster.specs.Rules.{Act}
+use Rattle.cluster.specs.Exact.{IsRunOf}
 use Rattle.cluster.specs.Promises.{AllAcknowledged}
 use Rattle.node.specs.declared.job.OpenJob.{OpenJob}
 use Rattle.node.specs.Stands.{job_of}
@@ -28,7 +29,6 @@ pub record HadReceived (c : Cluster) (p base : ℕ) (jobs : List OpenJob) : Type
 
 -- in each run a process that recovers keeps what it had received
 abbrev pub KeepsWhatItHad : Type 0
-KeepsWhatItHad = (count : ℕ) (f : Handlers) (acts : List Act) (n : TheCollecting) (r : TheReplaying) → count ≤ 15 → Grows f
-    → Run (opening count f) acts
-    → StandsCollecting n (after_run (opening count f) acts) n.own.me → has_all n ≡ true → Recovered n r
-    → HadReceived (after_run (opening count f) acts) n.own.me n.own.base r.plan
+KeepsWhatItHad = (count : ℕ) (f : Handlers) (acts : List Act) (c : Cluster) (n : TheCollecting) (r : TheReplaying) → count ≤ 15 → Grows f
+    → IsRunOf count f acts c → StandsCollecting n c n.own.me → has_all n ≡ true → Recovered n r
+    → HadReceived c n.own.me n.own.base r.plan

@@ -1,5 +1,5 @@
 -- A process that restores its RSNs as clauses see it, and after each of its calls
-use Rattle.std.specs.Prelude.{◌≡◌, ℕ, zero, suc, ◌+◌, List, [], length, map, replicate, Bool, true, false, not, ◌&&◌, ◌==◌, nat_lt}
+use Rattle.std.specs.Prelude.{◌≡◌, ℕ, zero, suc, ◌+◌, List, [], length, map, replicate, Bool, true, false, not, ◌&&◌, ◌||◌, ◌==◌, nat_lt}
 use Rattle.std.specs.Prelude.{nat_le, if◌then◌else◌, slice_index_or, slice_set}
 use Rattle.std.specs.List.{list_all}
 use Rattle.rsn.specs.Receipts.{Received}
@@ -90,6 +90,10 @@ abbrev pub answers : ℕ → ℕ → ℕ → ℕ → ℕ → List Pair → TheRe
 answers from i j covered s pairs n = is_reply from i j s n && nat_le covered (sent_to from n.own)
     && nat_le (last_ssn 0 pairs) (sent_to from n.own)
 
+-- the gateway answers by one page: one of it that isn't the last is dropped
+abbrev pub is_whole : ℕ → Flags → Bool
+is_whole from flags = not (from == 0) || is_done flags
+
 -- takes a page of a process: it is the last one, or asks for the next
 abbrev pub told : ℕ → ℕ → ℕ → ℕ → Flags → List Pair → TheRestoring → TheRestoring
 told from j covered s flags pairs n =
@@ -102,8 +106,7 @@ told from j covered s flags pairs n =
 
 -- takes the answer of the gateway: how many outputs it has, and no RSNs
 abbrev pub greeted : ℕ → Flags → TheRestoring → TheRestoring
-greeted covered flags n =
-    if is_done flags then record n { own = trusts flags (takes_in 0 covered [] n.own); answered = slice_set n.answered 0 true } else n
+greeted covered flags n = record n { own = trusts flags (takes_in 0 covered [] n.own); answered = slice_set n.answered 0 true }
 
 -- takes the page of a peer
 abbrev pub page_of : ℕ → ℕ → ℕ → ℕ → Flags → List Pair → TheRestoring → TheRestoring
@@ -130,7 +133,7 @@ asked_by q i k n =
 -- takes what another node says: drops all except answers and Asks
 abbrev pub heard : ℕ → Body → TheRestoring → TheRestoring
 heard from (Restored i j covered s flags pairs) n =
-    if in_range (Restored i j covered s flags pairs) && is_reply from i j s n
+    if in_range (Restored i j covered s flags pairs) && is_reply from i j s n && is_whole from flags
     then (if answers from i j covered s pairs n then page_of from j covered s flags pairs n
     else doubted (page_of from j covered s flags pairs n)) else n
 heard from (Ask i k) n = if in_range (Ask i k) then asked_by from i k n else n

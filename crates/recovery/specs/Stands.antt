@@ -3,9 +3,10 @@ use Rattle.std.specs.Prelude.{◌≡◌, ◌≢◌, ℕ, suc, ◌+◌, ◌<◌, 
 use Rattle.std.specs.Prelude.{slice_index_or}
 use Rattle.world.specs.declared.message.Message.{Message}
 use Rattle.world.specs.History.{count_of}
-use Rattle.cluster.specs.Parcels.{reaches}
+use Rattle.cluster.specs.Parcels.{Said, flagged, parcel, reaches}
 use Rattle.cluster.specs.Cluster.{Cluster, Collected, Dead, Collecting}
-use Rattle.cluster.specs.Rules.{Opens, May, does, IsNode, Asks, IsAll, entry_in}
+use Rattle.cluster.specs.Rules.{Opens, May, IsNode, Asks, IsAll, entry_in}
+use Rattle.cluster.specs.Overlap.{Acts as Happens, loss, goes}
 use Rattle.packets.specs.Packet.{flags_of, is_lost}
 use Rattle.packets.specs.declared.packet.Body.{Body}
 use Rattle.packets.specs.declared.packet.Body.TheVariants.{Ask, Told}
@@ -24,25 +25,26 @@ pub use Rattle.node.specs.Kept.{IsKeptOf}
 use Rattle.recovery.specs.Collected.{TheCollected}
 use Rattle.recovery.specs.Collection.{TheCollecting, told_of}
 
--- the process p says that all is lost; that is no packet of the cluster
-pub record IsLoss (p : ℕ) (flags : Flags) (entries : List LoggedMessage) : Type 0 where
+-- the process p said to d that all is lost; that is no packet of the cluster
+pub record IsLoss (c : Cluster) (p d i j k : ℕ) (flags : Flags) (entries : List LoggedMessage) : Type 0 where
   pub process : 0 < p
   pub flags_are : flags ≡ flags_of true true false
   pub none : entries ≡ []
+  pub said : Said (flagged (parcel p d (loss i j k)) false true) c.said
 
 -- a process asks, or says that all is lost; the gateway never does
-abbrev pub OfProcess : ℕ → Body → Type 0
-OfProcess p (Ask i k) = 0 < p
-OfProcess p (Told i j k flags entries) = is_lost flags ≡ true → IsLoss p flags entries
-OfProcess p body = Unit {0}
+abbrev pub OfProcess : Cluster → ℕ → ℕ → Body → Type 0
+OfProcess c p d (Ask i k) = 0 < p
+OfProcess c p d (Told i j k flags entries) = is_lost flags ≡ true → IsLoss c p d i j k flags entries
+OfProcess c p d body = Unit {0}
 
--- what the packet says was sent, unless it says that all is lost
+-- what the packet says was sent, or p said that all is lost
 abbrev pub IsSaid : Cluster → ℕ → ℕ → Body → Type 0
-IsSaid c from to body = OfProcess from body × (is_loss body ≡ false → WasSaid c.parcels from to body)
+IsSaid c p d body = OfProcess c p d body × (is_loss body ≡ false → WasSaid c p d body)
 
--- it was sent, as a packet of the process p, unless it says that
+-- so of a packet of the process p
 abbrev pub IsSent : Cluster → ℕ → NodePacket → Type 0
-IsSent c p x = (x.from ≡ p) × OfProcess p x.body × (is_loss x.body ≡ false → PutOut c.world.count c.parcels p x)
+IsSent c p x = (x.from ≡ p) × OfProcess c p x.to x.body × (is_loss x.body ≡ false → PutOut c p x)
 
 -- of what n messages send to one destination, a queue has released what the first `base` of them send, and so what the checkpoint covers;
 -- the rest waits, each for a later RSN
@@ -66,6 +68,8 @@ pub record HasOwn (o : TheOwn) (c : Cluster) (p : ℕ) (h : List Message) (trims
   pub heard : (q : ℕ) → q ≤ c.world.count → c.heard p q ≡ slice_index_or o.heard q 0
   -- a durable process of the cluster is durable by its limits
   pub durable : c.durable p ≡ true → o.limits.durable ≡ true
+  pub exact : c.exact p ≡ o.exact
+  pub lost : (q : ℕ) → q ≤ c.world.count → c.lost p q ≡ slice_index_or o.lost q true
   -- if it is exact, no peer said that it lost what it had; the gateway never does
   pub sure : o.exact ≡ true → (q : ℕ) → q ≤ c.world.count → slice_index_or o.lost q true ≡ false
   pub greets : slice_index_or o.lost 0 true ≡ false
@@ -98,7 +102,7 @@ pub record Reopens (p life : ℕ) (P : Cluster → Type 0) (c : Cluster) : Type 
   pub skipped : ℕ
   pub opens : May c (Opens p skipped)
   pub incarnation : suc (skipped + c.stored p) ≡ life
-  pub goes : GoesTo true p P (does c (Opens p skipped))
+  pub goes : GoesTo true p P (goes c (Happens true (Opens p skipped)))
 
 -- what a process owes that comes back: if p is dead, the kept state is what its checkpoint covers, and no incarnation from this one on was
 -- stored, then it is opened in this one, and goes on to a cluster with which it agrees; a durable one must be durable by its limits

@@ -146,7 +146,8 @@ impl Restoring {
             } => {
                 let pairs = pairs.as_slice();
                 let fits = self.is_answer(from, *incarnation, *teller, *covered, *above, pairs);
-                if self.is_reply(from, *incarnation, *teller, *above) {
+                let whole = from != 0 || flags.done();
+                if whole && self.is_reply(from, *incarnation, *teller, *above) {
                     self.take_page(from, *teller, *covered, *above, *flags, pairs, fits);
                 }
             }
@@ -243,11 +244,9 @@ impl Restoring {
     fn greet(&mut self, covered: u64, flags: Flags)
         ensures { self.new ≡ greeted covered flags self.old }
     {
-        if flags.done() {
-            self.replayed.take_in(0, covered, &[]);
-            self.replayed.trust(flags);
-            self.answered[0] = true;
-        }
+        self.replayed.take_in(0, covered, &[]);
+        self.replayed.trust(flags);
+        self.answered[0] = true;
     }
 
     /// Takes an Ask: `from` is recovering too, in its incarnation `life`, and asks what the log

@@ -1,5 +1,6 @@
 use Rattle.std.proofs.Common.{◌≡◌, ◌≢◌, sym, ap, ◌∙◌}
 use Rattle.std.proofs.lemmas.List.{length-set, get_or-set_other}
+use Rattle.packets.specs.Packet.{is_lost}
 use Rattle.recovery.specs.Own.{learns}
 use Rattle.recovery.specs.Collected.{TheCollected, none_told}
 use Rattle.recovery.specs.Collection.{TheCollecting}
@@ -16,6 +17,7 @@ invariant_of-self-2 c =
     rw own (record {
       wide = length-set told from c.add.new.self ∙ i.wide;
       heard_wide = length-set old.own.heard from c.args.teller ∙ i.heard_wide;
+      lost_wide = length-set old.own.lost from (is_lost c.args.flags) ∙ i.lost_wide;
       short = i.short;
       alone = ap (λ (t : TheCollected). t.entries) (get_or-set_other told from old.own.me c.add.new.self (none_told 0) apart) ∙ i.alone;
     })

@@ -1,4 +1,4 @@
-use Rattle.std.proofs.Common.{rules, ◌≡◌, ◌+◌, suc, ℕ, replicate, ap, ◌∙◌, refl, arith}
+use Rattle.std.proofs.Common.{rules, ◌≡◌, ◌+◌, suc, ℕ, Bool, false, replicate, ap, ◌∙◌, refl, arith}
 use Rattle.std.proofs.lemmas.Grind.{common_steps}
 use Rattle.std.proofs.lemmas.List.{length-set, length-replicate, get_or-replicate, replicate-append-replicate}
 use Rattle.recovery.specs.Own.{own_of}
@@ -15,6 +15,7 @@ invariant_of-result c =
     rw (own, told) (record {
       wide = length-replicate (k.count + 1) (none_told k.length) ∙ (let e : k.count + 1 ≡ suc k.count = omega arith in e);
       heard_wide = length-set (replicate (k.count + 1) 0) 0 1 ∙ length-replicate {A = ℕ} (k.count + 1) 0 ∙ (let e : k.count + 1 ≡ suc k.count = omega arith in e);
+      lost_wide = length-replicate {A = Bool} (k.count + 1) false ∙ (let e : k.count + 1 ≡ suc k.count = omega arith in e);
       short = logs-short k c.requires.kept;
       alone = ap (λ (t : TheCollected). t.entries) (get_or-replicate (k.count + 1) k.me (none_told k.length) (none_told 0) (omega (arith, (can-come k c.requires.kept).own)));
     })

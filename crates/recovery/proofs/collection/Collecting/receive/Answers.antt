@@ -11,4 +11,4 @@ returns-clause-acts c =
     let W : TheCollecting → Type 0 = λ v. IsCollecting v.own v.told in
     let within : IsCollecting old.own old.told = subst W c.self.view_is c.self.invariant in
     let P : TheCollecting → Type 0 = λ v. IsHanded c.args.packet.now old v in
-    on-ok c.hand.result _ _ (λ e. subst P (sym e) (handing old c.args.packet.now within.wide within.heard_wide)) c.hand.ensures.ok
+    on-ok c.hand.result _ _ (λ e. subst P (sym e) (handing old c.args.packet.now within.wide within.heard_wide within.lost_wide)) c.hand.ensures.ok

@@ -2,7 +2,8 @@
 use Rattle.std.specs.Prelude.{◌≡◌, ℕ, List, [], ◌∷◌, Option, Some, None, Bool, true}
 use Rattle.cluster.specs.Cluster.{Cluster}
 use Rattle.cluster.specs.Rules.{Act, Input, Puts, Arrives, Works, Replays, Recovers, Freezes, Keeps, Thaws, Dies, Opens}
-use Rattle.cluster.specs.Overlap.{Event, Acts, Meets, Loses, Lacks, Leaves, Doubts, Events, after_events}
+use Rattle.cluster.specs.Overlap.{Event, Acts, Meets, Loses, Lacks, Leaves, Doubts, after_events}
+use Rattle.cluster.specs.Exact.{Steps}
 
 -- P holds of each
 abbrev pub Each : {X : Type 0} → (X → Type 0) → List X → Type 0
@@ -43,16 +44,17 @@ abbrev pub own_event : Event → Option ℕ
 own_event (Acts exact a) = own_act a
 own_event e = Some (doer e)
 
--- the event is an act: it may happen although no recoveries meet
+-- the event is an act, or says that all is lost, which changes nothing else: it may happen although no recoveries meet
 abbrev pub IsAct : Event → Type 0
 IsAct (Acts exact a) = Unit {0}
+IsAct (Loses q p i j k) = Unit {0}
 IsAct e = ⊥
 
--- events of the process p that don't change stable storage lead from the cluster c to one for which P holds. If p is still exact, they are
--- acts
+-- events of the process p that don't change stable storage lead, by the whole rules, from the cluster c to one for which P holds. If p is
+-- still exact, they are acts
 pub record GoesTo (exact : Bool) (p : ℕ) (P : Cluster → Type 0) (c : Cluster) : Type 0 where
   pub events : List Event
-  pub run : Events c events
+  pub run : Steps c events
   pub by : Each (λ (e : Event). own_event e ≡ Some p) events
   pub acts : exact ≡ true → Each IsAct events
   pub stands : P (after_events c events)
