@@ -1,4 +1,5 @@
-use Rattle.std.proofs.Common.{◌≡◌, ◌+◌, List, ◌++◌, [], ◌∷◌, ap, sym, ◌∙◌, take, map, subst}
+use Rattle.std.proofs.Common.{◌≡◌, ◌+◌, List, ◌++◌, [], ◌∷◌, ap, sym, ◌∙◌, take, map, subst, arith}
+use Rattle.std.proofs.lemmas.Grind.{common_steps}
 use Rattle.std.specs.List.{flat_map, AllByRecursion}
 use Rattle.std.proofs.lemmas.List.{flat_map_more, map-append, take_more}
 use Rattle.node.specs.Queue.{TheQueue}
@@ -18,3 +19,9 @@ loop-log-preserved c =
           ∙ ap (λ qs. before ++ flat_map codes_bytes qs) (sym (map-append codes_of first (log ∷ []))) ∙ ap (λ qs. before ++ flat_map codes_bytes (map codes_of qs)) (sym more);
       whole = subst (AllByRecursion IsWhole) (sym more) (all-more IsWhole first log c.loop-log.invariant.whole c.in_ok-put_codes.ensures.whole);
     }
+
+pub returns-clause-value : goal.returns-clause-value
+returns-clause-value c = grind (arith, common_steps)
+
+pub returns-clause-whole : goal.returns-clause-whole
+returns-clause-whole c = grind (arith, common_steps)

@@ -15,3 +15,6 @@ returns-clause-fits c =
       heard = c.in_ok-put_rest.ensures.fits.0;
       logs = c.in_ok-put_rest.ensures.fits.1;
     }
+
+pub returns-clause-value : goal.returns-clause-value
+returns-clause-value c = grind (arith, common_steps)
