@@ -1,10 +1,10 @@
 //! Reads what a suspended node has beside its kept state.
 
 ghost use Rattle.std.specs.Prelude.{◌≡◌, IfOk};
-ghost use Rattle.packets.specs.Inside.Reader.{Gives, bytes_at, number_at, times};
+ghost use Rattle.packets.specs.Inside.Reader.{Gives, bytes_at, times};
 ghost use Rattle.recovery.specs.Resumption.{text_at, codes_at, rest_at};
 
-use packets::{PacketError, PacketFault, Page, byte_of, u64_of};
+use packets::{PacketError, PacketFault, Page, byte_of, many_of, u64_of};
 use std::alloc::Global;
 
 /// What a suspended node has beside its kept state, as it is written.
@@ -47,7 +47,7 @@ pub(crate) fn rest_of(alloc: Global, wide: u8, bytes: &[u8]) -> Result<(Rest, &[
 {
     let (life, after) = u64_of(bytes)?;
     let (exact, after) = byte_of(after)?;
-    let (heard, after) = numbers_of(alloc, u64::from(wide), after)?;
+    let (heard, after) = many_of(alloc, u64::from(wide), after)?;
     let (flags, after) = bytes_of(u64::from(wide), after)?;
     let resumed = Page::copied(alloc, flags)?;
     let (codes, after) = logs_of(alloc, wide, after)?;
@@ -81,19 +81,5 @@ fn codes_of(alloc: Global, bytes: &[u8]) -> Result<(Page<u64>, &[u8]), PacketErr
     ensures { Gives (λ x. (x.0, x.1.now)) result (codes_at bytes.now) }
 {
     let (count, rest) = u64_of(bytes)?;
-    numbers_of(alloc, count, rest)
-}
-
-/// `count` numbers, and the bytes after them.
-fn numbers_of(alloc: Global, count: u64, bytes: &[u8]) -> Result<(Page<u64>, &[u8]), PacketError>
-    ensures { Gives (λ x. (x.0, x.1.now)) result (times (number_at 8) count bytes.now) }
-{
-    let mut numbers = Page::new(alloc);
-    let mut rest = bytes;
-    for _ in 0..count {
-        let (number, after) = u64_of(rest)?;
-        numbers.push(number)?;
-        rest = after;
-    }
-    Ok((numbers, rest))
+    many_of(alloc, count, rest)
 }
