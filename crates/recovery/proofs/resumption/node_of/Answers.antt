@@ -24,3 +24,6 @@ returns c =
     let resumed : c.in_ok-resumed.resumed.items ≡ map is_set r.resumed = first_of (search rules, grind (arith, common_steps)) in
     rw (c.into_node.ensures, c.new-2.ensures, own, receipts, resumed)
     (ap (λ (qs : List TheQueue). record (made c.args.limits k r) { logs = qs }) (released-still c.args.limits.durable r.codes k.me k.logs))
+
+pub into_node-requires : goal.into_node-requires
+into_node-requires c = grind (arith, common_steps)

@@ -1,4 +1,4 @@
-use Rattle.std.proofs.Common.{length, ap, ◌∙◌, arith}
+use Rattle.std.proofs.Common.{length, ap, ◌∙◌, arith, rules}
 use Rattle.node.specs.Suspension.{numbered_by}
 use Rattle.node.proofs.Suspensions.{joined-length}
 use Rattle.recovery.proofs.own.Own.wake.Goals as goal
@@ -20,3 +20,6 @@ invariant_of-self c =
       alive = i.alive;
       covers = i.covers;
     }
+
+pub returns : goal.returns
+returns c = search rules

@@ -11,3 +11,6 @@ returns-in-Ok-clause-acts c =
     let is : c.ask_all.new.self ≡ begun r = first_of (search rules, grind (arith, common_steps)) in
     let P : TheRestoring → Type 0 = λ v. Begins r v in
     subst P (sym is) (beginning r)
+
+pub invariant_of-node : goal.invariant_of-node
+invariant_of-node c = grind (arith, common_steps)
