@@ -19,7 +19,7 @@ use Rattle.node_laws.specs.Inside.Process.{Process, Up, Covered, Collects, Repla
 use Rattle.node_laws.specs.Back.{length_of}
 use Rattle.recovery.specs.declared.lifecycle.Lifecycle.{Lifecycle}
 use Rattle.recovery.specs.declared.lifecycle.Lifecycle.TheVariants as lifecycle
-use Rattle.process.proofs.Bounds.{ticked-stay}
+use Rattle.process.proofs.Constancy.{ticked-stay}
 use Rattle.node_laws.specs.HostBack.{has_recovered, plan_of, keeps}
 use Rattle.node_laws.proofs.Chains.{Chain}
 

@@ -6,6 +6,8 @@ pub mod Rooms
 mod Holdings
 mod Lifecycles
 pub mod Bounds
+pub mod Constancy
+mod OwnBounds
 mod Bounded
 mod Ranges
 mod Questions
