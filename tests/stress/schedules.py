@@ -70,13 +70,13 @@ class List:
     def processes(self):
         return self.parties[1:]
 
-    def held(self, count):
-        """The processes whose jobs the scenario holds after so many calls, the first one first."""
+    def world(self, count):
+        """The world after so many calls, and the processes whose jobs are held then, the first one first."""
         scenario = sessions.Scenario("\n".join(self.heads + self.calls[:count]))
         world, held = scenario.open(), {}
         for _, call in scenario.calls:
             obey(world, held, call)
-        return [self.parties[p] for p in held]
+        return world, [self.parties[p] for p in held]
 
     def cut(self, count, failure):
         """The first so many calls, what fails then, the inputs that are missing, and a drive to the end."""
