@@ -252,7 +252,7 @@ class Cluster:
             if word == "logged":
                 key, payload = self.unanswered.pop(0)
                 if key != process:
-                    raise Wrong(f"{line}, where {key} was written to")
+                    self.fault = f"{line}, where {key} was written to"
                 self.logged[process, int(ssn)] = payload
             elif word == "output":
                 self.take_output(process, int(ssn), rest[0])

@@ -88,6 +88,8 @@ class Run:
 
     def judge(self):
         """What was answered is out once, at the place that the answer said; and nothing that wasn't handed in."""
+        if self.cluster.fault:
+            raise Wrong(self.cluster.fault)
         out = [bytes.fromhex(text) for text in self.cluster.outputs["echo"]]
         answered = {payload[0] for payload in self.cluster.logged.values()}
         numbers = [payload[0] for payload in out]
@@ -162,6 +164,11 @@ def torn(before, after, cut):
     return before[:at] + after[at:at + cut] + before[at + cut:]
 
 
+def covers(kept):
+    """How many messages the last whole checkpoint of these bytes covers."""
+    return struct.unpack_from("<Q", lives.last_of(kept), 8)[0]
+
+
 def covered_of(run, node):
     """A node begins, and is up again. How many messages its checkpoint covers, as it says while the gateway doesn't answer yet."""
     gateway = run.cluster.gateway.child
@@ -189,10 +196,13 @@ def tear(run, node, environment, cut):
         raise Wrong(f"{node.name} makes no checkpoint: {node.said[-3:]}")
     after = read(path)
     left = torn(before, after, cut)
+    earlier, later = (covers(it) for it in (before, after))
+    if earlier >= later:
+        raise Wrong(f"{node.name} died before it wrote its next checkpoint")
     with open(path, "wb") as file:
         file.write(left)
     covered = covered_of(run, node)
-    if covered != struct.unpack_from("<Q", lives.last_of(after if left == after else before), 8)[0]:
+    if covered != (later if left == after else earlier):
         raise Wrong(f"{node.name} came back with a checkpoint of {covered} messages, when {cut} bytes of the next were written")
     return left == after
 

@@ -57,7 +57,10 @@ class Feed(threading.Thread):
         self.cluster.wait_logged(0)
         last = max(ssn for _, ssn in self.cluster.logged)
         self.cluster.wait_for(lambda: len(self.cluster.outputs["notifier"]) >= last, 120)
+        self.cluster.goes_on()
         statuses = self.cluster.stop()
+        if self.cluster.fault:
+            raise Wrong(self.cluster.fault)
         if any(statuses):
             raise Wrong(f"programs ended with {statuses}: {[program.said[-1:] for program in self.cluster.programs]}")
         return self.cluster.outputs["notifier"], [node.kept()[0] for node in self.cluster.nodes]

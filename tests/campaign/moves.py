@@ -120,8 +120,6 @@ class Moves:
             programs = self.cluster.nodes if number % 10 else [self.cluster.gateway]
             self.move(self.campaign.chance.choice(programs))
         self.reap(0)
-        if self.storage.fault:
-            raise Wrong(self.storage.fault)
         self.campaign.notes += self.ways.items()
 
 

@@ -63,7 +63,7 @@ class Bucket(Storage):
     needs, replicas = "nats-server", 1
 
     def __init__(self, folder, host, port):
-        self.host, self.port, self.claims, self.fault, self.answers = host, port, {}, None, queue.Queue()
+        self.host, self.port, self.claims, self.fault, self.answers = host, port, {}, "no write was seen", queue.Queue()
         self.server = Server(True, port, host, os.path.join(folder, "jetstream"))
         self.word = f"nats:nats://{host}:{port}/bank"
 
@@ -115,6 +115,8 @@ class Bucket(Storage):
         store, *piece = subject.split(".")[4:]
         place = (store, *piece[:1])  # the files, or pieces of a life, which may go on until another one has put a stone behind them
         claim = struct.unpack_from("<Q", value)[0]
+        if not self.claims:
+            self.fault = None
         if claim < self.claims.get(place, 0):
             self.fault = f"life {claim} of process {store} writes {subject} after life {self.claims[place]}"
         self.claims[place] = claim
