@@ -159,8 +159,12 @@ def reloads(cluster, folder):
         new.signs(cluster.certificate(number), f"{cluster.names[number]}.programs")
         program.child.send_signal(signal.SIGHUP)
         has_said(program, "certificates were read again")
-    if says(LINES, context(os.path.join(folder, "program")), b"x"):
+    stranger = context(os.path.join(folder, "program"))
+    stranger.load_verify_locations(new.own)
+    before = grows(cluster.gateway, "strangers", 0)
+    if says(LINES, stranger, b"x"):
         raise Wrong("the earlier authority is still believed")
+    grows(cluster.gateway, "strangers", before + 1)
     two = Talk(LINES, context(new.signs(os.path.join(folder, "program2"), "program.programs")))
     two.says("outputs", "took echo 6")
     works(cluster, two, 7, 8)

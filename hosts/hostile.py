@@ -74,7 +74,7 @@ def lies(folder):
             bundle = lives.bundle(relay.id(), sender, 1, *chance.sample(told, 100))
             out.sendall(struct.pack("<I", len(bundle)) + bundle)
         works(cluster, one, *range(5, 30))
-    tells(relay, length=29, exact="yes", broken=LIES // 400)
+    tells(relay, length=29, exact="yes", broken=LIES // 400, refused=0)
 
 
 def halves(folder):

@@ -8,7 +8,7 @@ import time
 import lives
 from lives import Cluster, Wrong
 from disk import preload
-from listening import PROCESSES, begin, connect, is_refused, payload, tells, works
+from listening import PROCESSES, begin, connect, has_said, is_refused, payload, tells, works
 from proxy import Proxy
 
 
@@ -118,6 +118,7 @@ def greetings(folder):
                     for number in range(3):
                         for cluster_id in ids:
                             out.sendto(lives.greeting(word, process, cluster_id, store), cluster.path(number))
+    has_said(cluster.gateway, "came with another store than before")
     time.sleep(0.3)
     works(cluster, one, *range(2, 10))
     for node in cluster.nodes:
