@@ -12,4 +12,5 @@ with Gateway.revive(store) as again:
     again.apply(changes)
     again.tick()
     same = "the same" if again.take() == packet else "another one"
+assert same == "the same"
 print(f"input {ssn} for process {packet.to}: a packet of {len(packet.data)} bytes, {same} after a kill")
