@@ -2,9 +2,8 @@
 is told to be strict; whoever mends one takes it out here."""
 
 from node import Node
-from packets import DONE, Told
+from packets import Told
 
-GATEWAY = 0
 MOST_RECEIVED = 2**58
 MOST_SENT_FOR_ONE = 16
 
@@ -20,11 +19,6 @@ class NodeAsBuilt(Node):
         """One that has come back loses the packets that were not taken by then."""
         self.out.clear()
         super().begin_to_send()
-
-    def on_restored(self, peer, packet):
-        """The gateway answers by one page: another page of it is dropped."""
-        if peer != GATEWAY or packet.flags & DONE:
-            super().on_restored(peer, packet)
 
     def hear_of_teller(self, peer, packet):
         """The gateway's incarnation is 1, and is kept as its Told names it: a forged one is too."""
