@@ -12,11 +12,11 @@ use Rattle.verifier.specs.FileForm.{file_form_of}
 use Rattle.verifier.specs.declared.any_image.AnyImage.{AnyImage}
 use Rattle.verifier.specs.declared.any_image.AnyImage.TheVariants.{Flat, Span}
 use Rattle.verifier.specs.declared.file_form.FileForm.TheVariants.{Sbi1, Sbi2, Sbi3}
-use Rattle.interp.specs.Answer.{shown, IsRun, HasRun, MayRunAs}
+use Rattle.interp.specs.Answer.{shown, HasRun, MayRunAs}
 use Rattle.c_runs.specs.Arrays.{flat_image}
 use Rattle.c_runs.specs.Calls.{IsCallableForm, IsSeat}
 
-run_in : (form : ImageForm) (code : List Insn) (who : Who) (state message : List ℕ) (h : Handled) → length message ≡ 64 → IsHandled (file_form_of form) (slots_of code) who state message h → IsRun (file_form_of form) code who state (shown (file_form_of form) message) h
+run_in : (form : ImageForm) (code : List Insn) (who : Who) (state message : List ℕ) (h : Handled) → length message ≡ 64 → IsHandled (file_form_of form) (slots_of code) who state message h → IsHandled (file_form_of form) (slots_of code) who state (shown (file_form_of form) message) h
 run_in two.Sbi1 code who state message h size r =
     subst (λ m. IsHandled Sbi1 (slots_of code) who state m h) (sym (view64-whole message size)) r
 run_in two.Sbi2 code who state message h size r = r

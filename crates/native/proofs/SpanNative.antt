@@ -1,8 +1,10 @@
 -- The code as a whole.
 use Rattle.std.proofs.Common.{◌≡◌, ℕ, zero, suc, ◌+◌, ◌^◌, ◌<◌, ◌≤◌, true, false, List, [], ◌∷◌, length, refl, sym, ◌∙◌, subst, arith}
 use Rattle.std.specs.Prelude.{slice_index, slice_set}
+use Rattle.std.specs.List.{AllByRecursion}
 use Rattle.std.proofs.lemmas.Bool.{true≢false}
 use Rattle.decode.specs.declared.insn.Insn.{Insn}
+use Rattle.decode.specs.Encoding.{Fits}
 use Rattle.decode.specs.Slots.{slots_of}
 use Rattle.helpers.specs.declared.effects.Who.{Who}
 use Rattle.helpers.specs.Effects.{Emitted}
@@ -10,6 +12,7 @@ use Rattle.interp.specs.Words.{AreBytes}
 use Rattle.x86.specs.Machine.{State, Runs}
 use Rattle.spans.specs.Concrete.{array_size}
 use Rattle.verifier.specs.Span.Typed.{IsTypable}
+use Rattle.verifier.proofs.Spans.Slots.{are_fitting}
 use Rattle.native.specs.declared.prologue.Opening.TheVariants as opening
 use Rattle.native.specs.Correct.{IsCalled}
 use Rattle.native.specs.Saved.{saved_in, saved_for, may_write}
@@ -63,8 +66,8 @@ module _ (len m : ℕ) (who : Who) (c : State) (e : IsCalled who m c) where
   opened_small l (suc (suc (suc (suc (suc (suc (suc (suc (suc (suc (suc q))))))))))) = omega arith
 
 -- code that is laid whole is the handler's call
-pub span_native : (insns : List Insn) (len : ℕ) (code : List ℕ) → IsTypable insns len → length (slots_of insns) ≤ 1024 → len ≤ 1024 → length code < 2 ^ 64 → IsServed opening.Placed (tasks_in (slots_of insns) len (length (slots_of insns))) code → IsSpanNative insns len code
-span_native insns len code typable few small whole served = record {
+pub span_native : (insns : List Insn) (len : ℕ) (code : List ℕ) → IsTypable insns len → AllByRecursion Fits insns → length (slots_of insns) ≤ 1024 → len ≤ 1024 → length code < 2 ^ 64 → IsServed opening.Placed (tasks_in (slots_of insns) len (length (slots_of insns))) code → IsSpanNative insns len code
+span_native insns len code typable fits few small whole served = record {
   runs = λ m who c short sized holds me from called.
       let slots = slots_of insns in
       let n = length slots in
@@ -75,7 +78,7 @@ span_native insns len code typable few small whole served = record {
       let words = opened len m who c called in
       let none : Emitted = record { sends = []; outputs = [] } in
       let b : Begun slots len m who typable.0 c.array words = record {
-        begun = record { typed = typable.1; small = small; short = short; whole = sized; bytes = bytes_below c.array called.bytes; holds = holds; me = me; from = from };
+        begun = record { typed = typable.1; fits = are_fitting insns fits; small = small; short = short; whole = sized; bytes = bytes_below c.array called.bytes; holds = holds; me = me; from = from };
         few_slots = few;
         eleven = refl;
         message_is = refl;

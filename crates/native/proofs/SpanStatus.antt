@@ -109,7 +109,7 @@ module _ {slots : List (Option Insn)} {n long : ℕ} {who : Who} {table : Table}
       there = task_found slots n count s i a.before a.there;
       eligible = eligible_here.0;
       reaches = reaches s n ws ends_at i (within r.begun g);
-      fits = fits_in s n i a.fits;
+      fits = fits_in s n i (r.begun.fits s i a.there);
       next = λ to bs' mem' e' d l.
           let x = done (next.To to) bs' mem' e' d in
           let y = goes_on r.begun g x.0 mem' e' x.2 l to x.3 in

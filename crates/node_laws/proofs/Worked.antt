@@ -3,6 +3,7 @@ use Rattle.std.proofs.Common.{◌≡◌, inl, inr, ℕ, ◌≤◌, List, [], ◌
 use Rattle.std.specs.Prelude.{Some}
 use Rattle.decode.specs.declared.insn.Reg.{Reg}
 use Rattle.decode.specs.declared.insn.Insn.{Insn}
+use Rattle.decode.specs.Slots.{slots_of}
 use Rattle.decode.proofs.Forms.{same_reg}
 use Rattle.helpers.specs.declared.effects.Who.{Who}
 use Rattle.verifier.specs.declared.any_image.AnyImage.{AnyImage}
@@ -11,7 +12,7 @@ use Rattle.verifier.specs.declared.file_form.FileForm.TheVariants.{Sbi1}
 use Rattle.verifier.specs.AnyImage.{code_of, state_of}
 use Rattle.interp.specs.HandlerCall.{Handled, handled_by}
 use Rattle.interp.specs.Configuration.{entry}
-use Rattle.interp.specs.Answer.{answer_by, run_of, shown}
+use Rattle.interp.specs.Answer.{answer_by, shown}
 use Rattle.packets.specs.declared.packet.NodePacket.{NodePacket}
 use Rattle.packets.specs.Kept.{IsKept, KeptFits, kept_bytes}
 use Rattle.packets.specs.Packet.{entries_in_range, pairs_in_range}
@@ -68,15 +69,15 @@ use Rattle.process.specs.Work.{Works, TakesIn, job_at, answer_to}
 abbrev handled : ℕ → Handled
 handled k = record { state = input k; effects = record { sends = []; outputs = [] }; r0 = k; steps = 3 }
 
-runs-1 : (who : Who) (a : ℕ) → run_of Sbi1 (copies r0 r1 r2) who (a ∷ []) (shown Sbi1 (input 1)) ≡ Some (handled 1)
+runs-1 : (who : Who) (a : ℕ) → handled_by Sbi1 (slots_of (copies r0 r1 r2)) who (a ∷ []) (shown Sbi1 (input 1)) ≡ Some (handled 1)
 unfolding handled_by entry
 runs-1 who a = refl
 
-runs-2 : (who : Who) (a : ℕ) → run_of Sbi1 (copies r0 r1 r2) who (a ∷ []) (shown Sbi1 (input 2)) ≡ Some (handled 2)
+runs-2 : (who : Who) (a : ℕ) → handled_by Sbi1 (slots_of (copies r0 r1 r2)) who (a ∷ []) (shown Sbi1 (input 2)) ≡ Some (handled 2)
 unfolding handled_by entry
 runs-2 who a = refl
 
-runs-3 : (who : Who) (a : ℕ) → run_of Sbi1 (copies r0 r1 r2) who (a ∷ []) (shown Sbi1 (input 3)) ≡ Some (handled 3)
+runs-3 : (who : Who) (a : ℕ) → handled_by Sbi1 (slots_of (copies r0 r1 r2)) who (a ∷ []) (shown Sbi1 (input 3)) ≡ Some (handled 3)
 unfolding handled_by entry
 runs-3 who a = refl
 
@@ -84,10 +85,10 @@ same-code : (a b c : Reg) → a.number ≡ 0 → b.number ≡ 1 → c.number ≡
 same-code a b c e0 e1 e2 =
     ap (λ (r : Reg). copies r b c) (same_reg a r0 e0) ∙ (ap (λ (r : Reg). copies r0 r c) (same_reg b r1 e1) ∙ ap (λ (r : Reg). copies r0 r1 r) (same_reg c r2 e2))
 
-answers : (image : AnyImage) → IsCopying image → (who : Who) (a k : ℕ) → run_of Sbi1 (copies r0 r1 r2) who (a ∷ []) (shown Sbi1 (input k)) ≡ Some (handled k) → answer_by image who (a ∷ []) (input k) ≡ Some (handled k)
+answers : (image : AnyImage) → IsCopying image → (who : Who) (a k : ℕ) → handled_by Sbi1 (slots_of (copies r0 r1 r2)) who (a ∷ []) (shown Sbi1 (input k)) ≡ Some (handled k) → answer_by image who (a ∷ []) (input k) ≡ Some (handled k)
 answers image is who a k runs =
     let code : code_of image ≡ copies r0 r1 r2 = is.is_image.code_is ∙ same-code is.r0 is.r1 is.r2 is.numbers.0 is.numbers.1 is.numbers.2 in
-    ap (λ (f : FileForm). run_of f (code_of image) who (a ∷ []) (shown f (input k))) is.is_image.form_is ∙ (ap (λ (c : List Insn). run_of Sbi1 c who (a ∷ []) (shown Sbi1 (input k))) code ∙ runs)
+    ap (λ (f : FileForm). handled_by f (slots_of (code_of image)) who (a ∷ []) (shown f (input k))) is.is_image.form_is ∙ (ap (λ (c : List Insn). handled_by Sbi1 (slots_of c) who (a ∷ []) (shown Sbi1 (input k))) code ∙ runs)
 
 -- ---- what is stored
 

@@ -2,12 +2,13 @@
 use Rattle.std.proofs.Common.{◌≡◌, ◌≤◌, ◌∙◌, ℕ, List, length, sym, ap, subst}
 use Rattle.std.specs.Prelude.{Option, Some}
 use Rattle.decode.specs.declared.insn.Insn.{Insn}
+use Rattle.decode.specs.Slots.{slots_of}
 use Rattle.helpers.specs.declared.effects.Who.{Who}
 use Rattle.helpers.specs.Effects.{Emitted}
 use Rattle.verifier.specs.declared.file_form.FileForm.{FileForm}
 use Rattle.verifier.specs.AnyImage.{form_of, code_of}
-use Rattle.interp.specs.HandlerCall.{Handled}
-use Rattle.interp.specs.Answer.{answer_by, run_of, shown}
+use Rattle.interp.specs.HandlerCall.{Handled, handled_by}
+use Rattle.interp.specs.Answer.{answer_by, shown}
 use Rattle.node.specs.declared.job.OpenJob.{OpenJob}
 use Rattle.node.specs.declared.job.Given.{Given}
 use Rattle.node.specs.declared.node.TheConstants.{MOST_GIVEN}
@@ -44,7 +45,7 @@ works-as old new message who j h given is call answers g t =
     let same = call.0 in
     let code = call.1 in
     let as_who : answer_by j.image who j.state j.payload ≡ Some h = sym (ap (λ (w : Who). answer_by j.image w j.state j.payload) same.who_is) ∙ answers in
-    let r : FileForm → List Insn → List ℕ → Option Handled = λ f insns x. run_of f insns who j.state (shown f x) in
+    let r : FileForm → List Insn → List ℕ → Option Handled = λ f insns x. handled_by f (slots_of insns) who j.state (shown f x) in
     let a : answer_by old.image who j.state message.payload ≡ Some h =
     ap (λ (f : FileForm). r f (code_of old.image) message.payload) code.form
     ∙ ap (λ (insns : List Insn). r (form_of j.image) insns message.payload) code.code

@@ -7,8 +7,10 @@ use Rattle.std.proofs.lemmas.Bool.{or_parts, cases_eq, cases_lt, false≢true}
 use Rattle.std.proofs.lemmas.Bool.Decides.{nat_tests}
 use Rattle.std.proofs.lemmas.List.{get_or-set_same, get_or-set_other, get_or_past, length-set, get_or-drop, ext_get_or}
 use Rattle.decode.specs.declared.insn.Reg.{Reg}
-use Rattle.decode.specs.declared.insn.Condition.{Condition}
+use Rattle.decode.specs.declared.insn.Width.TheVariants.{W64}
+use Rattle.decode.specs.declared.insn.Operand.TheVariants as operand
 use Rattle.decode.specs.declared.insn.Insn.{Insn}
+use Rattle.decode.specs.declared.insn.Insn.TheVariants.{JumpIf}
 use Rattle.regtypes.specs.declared.image_form.ImageForm.{ImageForm}
 use Rattle.regtypes.specs.declared.frame.Region.{Region}
 use Rattle.regtypes.specs.declared.frame.Region.TheVariants.{Message, State, Stack}
@@ -21,7 +23,7 @@ use Rattle.regtypes.specs.declared.rule.Rule.{Rule}
 use Rattle.regtypes.specs.Frame.{kind_at, is_num, LeqKind, Leq}
 use Rattle.decode.specs.Attributes.{attributes_of}
 use Rattle.regtypes.specs.Rules.{is_unset, is_len, is_place, is_in_message, is_message, region_len, lie_inside, has_bytes, moved, is_near, is_sized, Argument, Number, Payload, Sized, arguments_of, takes, has, base_of, moved_of, reaches_out, moves_out, called, is_end, Tests, first_broken, tests_by, tests_of}
-use Rattle.regtypes.specs.Ways.{given, after_by, after_helper, after_called, after, least_shown, compared, shown_by, shown, raised, IsMonotone}
+use Rattle.regtypes.specs.Ways.{given, after_by, after_helper, after_called, after, least_shown, shown, raised, IsMonotone}
 use Rattle.regtypes.proofs.Parts.{LeqKinds, reads_unset, mixes, stores_in_message, takes_all, refuses, misgives, given_by, written_with}
 use Rattle.regtypes.proofs.Order.{LeqKind-refl}
 
@@ -318,12 +320,12 @@ shown_if x Num o le = inl refl
 shown_if x Len o le = inr (ap (λ k. cond (is_len k) o None) le)
 shown_if x (Place r k) o le = inl refl
 
-shown_kept : (met : Bool) (x : Option (Condition × Reg × ℤ)) (f g : List Kind) → LeqKinds f g → (shown_by met x g ≡ None) ⊎ (shown_by met x f ≡ shown_by met x g)
-shown_kept met (Some x) f g le = shown_if (kind_at f x.1.number) (kind_at g x.1.number) (least_shown met x.0 x.2) (le x.1.number)
-shown_kept met None f g le = inl refl
+shown_kept : (met : Bool) (i : Insn) (f g : List Kind) → LeqKinds f g → (shown met i g ≡ None) ⊎ (shown met i f ≡ shown met i g)
+shown_kept met (JumpIf condition W64 dst (operand.Imm c) offset) f g le = shown_if (kind_at f dst.number) (kind_at g dst.number) (least_shown met condition c) (le dst.number)
+shown_kept met i f g le = inl refl
 
 low_kept : (met : Bool) (i : Insn) (f g : Frame) → Leq f g → raised g.low (shown met i g.kinds) ≤ raised f.low (shown met i f.kinds)
-low_kept met i f g le = ⊎_elim none same (shown_kept met (compared i) f.kinds g.kinds le.kinds)
+low_kept met i f g le = ⊎_elim none same (shown_kept met i f.kinds g.kinds le.kinds)
   where
     none : shown met i g.kinds ≡ None → raised g.low (shown met i g.kinds) ≤ raised f.low (shown met i f.kinds)
     none e = let a = ap (raised g.low) e in let b = raised_grows f.low (shown met i f.kinds) in let c = le.low in omega (arith, a, b, c)

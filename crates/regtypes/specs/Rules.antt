@@ -169,8 +169,8 @@ rule_number V10 = 10
 abbrev pub Tests : Type 0
 Tests = List (Bool × Rule)
 
--- the rule of the first test that holds; None if none holds, and so no rule is broken
-abbrev pub first_broken : Tests → Option Rule
+-- what stands beside the first test that holds, such as the rule that is broken; None if none holds
+abbrev pub first_broken : {A : Type 0} → List (Bool × A) → Option A
 first_broken [] = None
 first_broken (t ∷ ts) = if t.0 then Some t.1 else first_broken ts
 

@@ -39,8 +39,7 @@ after_helper f = Num ∷ Unset ∷ Unset ∷ Unset ∷ Unset ∷ Unset ∷ drop 
 
 -- what is known of the registers after an instruction with these attributes, which may call a helper
 abbrev pub after_called : Option ℤ → Attributes → List Kind → List Kind
-after_called (Some helper) a = after_helper
-after_called None a = after_by a
+after_called helper a = option_map_or (λ _. after_helper) helper (after_by a)
 
 -- what is known of the registers after an instruction, on each of its ways
 abbrev pub after : Insn → List Kind → List Kind
@@ -58,19 +57,10 @@ least_shown false Less c = Some c
 least_shown false LessEqual c = Some (c +ℤ pos 1)
 least_shown met condition c = None
 
--- the 64-bit comparison with an immediate that decides a jump; None if there is none
-abbrev pub compared : Insn → Option (Condition × Reg × ℤ)
-compared (JumpIf condition W64 dst (operand.Imm c) offset) = Some (condition, dst, c)
-compared i = None
-
--- the least length of the message on a way of a comparison, if its length is compared
-abbrev pub shown_by : Bool → Option (Condition × Reg × ℤ) → List Kind → Option ℤ
-shown_by met (Some x) f = if is_len (kind_at f x.1.number) then least_shown met x.0 x.2 else None
-shown_by met None f = None
-
--- the same on a way of an instruction
+-- the least length of the message on a way of an instruction, if it compares the length with an immediate in 64 bits
 abbrev pub shown : Bool → Insn → List Kind → Option ℤ
-shown met i f = shown_by met (compared i) f
+shown met (JumpIf condition W64 dst (operand.Imm c) offset) f = if is_len (kind_at f dst.number) then least_shown met condition c else None
+shown met i f = None
 
 -- no message has more than 256 bytes
 abbrev pub raised : ℕ → Option ℤ → ℕ

@@ -6,8 +6,10 @@ use Rattle.std.specs.Slice.{IsItemAt}
 use Rattle.std.proofs.lemmas.Bool.Decides.{nat_tests}
 use Rattle.std.proofs.lemmas.List.{get_or-map}
 use Rattle.std.proofs.lemmas.Option.{slice_get-get_or, slice_get-map, slice_get_past, slice_get_read}
+use Rattle.decode.specs.Slots.{slots_of}
 use Rattle.interp.specs.Image.{TheImage}
-use Rattle.interp.specs.Answer.{answered, run_of, shown}
+use Rattle.interp.specs.HandlerCall.{handled_by}
+use Rattle.interp.specs.Answer.{answered, shown}
 use Rattle.replay.specs.Task.{TheTask, Answers}
 use Rattle.theorems.proofs.ListLemmas.{nth-within}
 use Rattle.world.specs.declared.message.Message.{Message}
@@ -100,7 +102,7 @@ module _ (images : List TheImage) (w : World) (count : w.count ≡ length images
           let so : (h : List Message) → j.task.state ≡ (handlers_of images).state j.task.who.me h → answered image (record { me = j.task.who.me; from = j.task.message.sender; count = length images }) ((handlers_of images).state j.task.who.me h) j.task.message.payload ≡ Some (answer_of j) =
           λ h is.
           let same : handled j ≡ answered image (record { me = j.task.who.me; from = j.task.message.sender; count = length images }) ((handlers_of images).state j.task.who.me h) j.task.message.payload =
-          λ i. run_of (form i) (code i) (record { me = j.task.who.me; from = o.task.from i; count = many i }) (is i) (shown (form i) j.task.message.payload) in
+          λ i. handled_by (form i) (slots_of (code i)) (record { me = j.task.who.me; from = o.task.from i; count = many i }) (is i) (shown (form i) j.task.message.payload) in
           sym same ∙ a.answers in
           record {
             state = λ h is. handlers_of-push images j.task.who.me image h j.task.message (answer_of j) at (so h is);

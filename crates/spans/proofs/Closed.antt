@@ -1,11 +1,11 @@
 -- What leaves a frame are frames.
-use Rattle.std.proofs.Common.{◌≡◌, ℕ, suc, ◌+◌, ◌-◌, ◌*◌, ◌/◌, ◌^◌, ◌<◌, ◌≤◌, min, max, Bool, true, false, Option, Some, None, ℤ, pos, negsuc, ◌+ℤ◌, ◌≤ℤ◌, refl, sym, subst, arith}
+use Rattle.std.proofs.Common.{◌≡◌, ℕ, suc, ◌+◌, ◌%◌, ◌-◌, ◌*◌, ◌/◌, ◌^◌, ◌<◌, ◌≤◌, min, max, Bool, true, false, Option, Some, None, ℤ, pos, negsuc, ◌+ℤ◌, ◌≤ℤ◌, refl, sym, subst, arith}
 use Rattle.std.specs.Prelude.{Result, Ok, Err, nat_lt, nat_le, int_le, ◌&&◌, ◌==◌, if◌then◌else◌}
 use Rattle.std.specs.Option.{option_map}
 use Rattle.std.proofs.lemmas.Bool.Decides.{nat_tests}
 use Rattle.std.proofs.lemmas.Int.{ints}
 use Rattle.std.proofs.lemmas.Nat.{pow_pos}
-use Rattle.std.proofs.Math.Nat.{mul-le-mul, div-le_self}
+use Rattle.std.proofs.Math.Nat.{mul-le-mul, div-le_self, mod-lt}
 use Rattle.decode.specs.declared.insn.Reg.{Reg}
 use Rattle.decode.specs.declared.insn.AluOp.{AluOp}
 use Rattle.decode.specs.declared.insn.AluOp.TheVariants.{Add, Sub, Mul, Div, Sdiv, Or, And, Lsh, Rsh, Mod, Smod, Xor, Mov, Arsh}
@@ -292,25 +292,25 @@ any-is : IsKind (Num (whole 64))
 any-is = whole-is 64
 
 pub closed : IsClosed
-closed state (Alu op width dst o) f w p h l = gives-is _ f dst w h (result_kind-is (alu_form op width o) (f dst.number) (operand_kind width o f) (h dst.number) (operand-is width o f h)) l
-closed state (MovSx x dst src) f w p h l =
+closed state (Alu op width dst o) f w h l = gives-is _ f dst w h (result_kind-is (alu_form op width o) (f dst.number) (operand_kind width o f) (h dst.number) (operand-is width o f h)) l
+closed state (MovSx x dst src) f w h l =
     gives-is _ f dst w h (from_span-is (extended_span (extension_offset x) (bits_of (extension_width x))) (λ s i. extended_span-is (extension_offset x) (bits_of (extension_width x)) s (few_bits (extension_width x)) i) (f src.number) (h src.number)) l
-closed state (Neg width dst) f w p h l = gives-is _ f dst w h (from_span-is (λ s. whole 64) (λ s i. whole-is 64) (f dst.number) (h dst.number)) l
-closed state (End order bits dst) f w p h l = gives-is _ f dst w h (from_span-is (λ s. whole 64) (λ s i. whole-is 64) (f dst.number) (h dst.number)) l
-closed state (Wide dst value) f w p h l = gives-is (Ok (Num (one value))) f dst w h (record { some = omega arith; words = p }) l
-closed state (Jump offset) f w p h l = jump_way f w h l
-closed state (JumpLong distance) f w p h l = jump_way f w h l
-closed state (JumpIf condition width dst o offset) f w p h l =
+closed state (Neg width dst) f w h l = gives-is _ f dst w h (from_span-is (λ s. whole 64) (λ s i. whole-is 64) (f dst.number) (h dst.number)) l
+closed state (End order bits dst) f w h l = gives-is _ f dst w h (from_span-is (λ s. whole 64) (λ s i. whole-is 64) (f dst.number) (h dst.number)) l
+closed state (Wide dst value) f w h l = gives-is (Ok (Num (one (value % 2 ^ 64)))) f dst w h (record { some = omega arith; words = mod-lt value (pow_pos 64) }) l
+closed state (Jump offset) f w h l = jump_way f w h l
+closed state (JumpLong distance) f w h l = jump_way f w h l
+closed state (JumpIf condition width dst o offset) f w h l =
     let i : IsSpan 64 l.0 = subst IsKind l.2 (h dst.number) in
     let j : IsSpan 64 l.1 = subst IsKind l.3 (operand-is width o f h) in
     let way = λ (c : Option Condition). way-is f dst o (shown c (bits_of width) l.0 l.1) h (shown-are c (bits_of width) l.0 l.1 i j) in
     subst (λ (z : Ways). IsWay z.0 × IsWay z.1) (sym l.4) (way (opposite condition), way (Some condition))
-closed state (Call helper) f w p h l = one_way (behind_helper f) w (behind_helper-is f h) l.1
-closed state Exit f w p h l = subst (λ (z : Ways). IsWay z.0 × IsWay z.1) (sym l.1) (tt, tt)
-closed state (Load size dst src offset) f w p h l =
+closed state (Call helper) f w h l = one_way (behind_helper f) w (behind_helper-is f h) l.1
+closed state Exit f w h l = subst (λ (z : Ways). IsWay z.0 × IsWay z.1) (sym l.1) (tt, tt)
+closed state (Load size dst src offset) f w h l =
     one_way _ w (with_kind-is f dst.number _ h (loaded_kind-is f (f src.number) offset (bytes_in size) (size-is size).1 h)) l.1
-closed state (LoadSx size dst src offset) f w p h l = one_way _ w (with_kind-is f dst.number (Num (whole 64)) h any-is) l.1
-closed state (StoreReg size dst src offset) f w p h l =
+closed state (LoadSx size dst src offset) f w h l = one_way _ w (with_kind-is f dst.number (Num (whole 64)) h any-is) l.1
+closed state (StoreReg size dst src offset) f w h l =
     one_way _ w (stored_frame-is f (f src.number) (f dst.number) offset (bytes_in size) h (h src.number)) l.1
-closed state (StoreImm size dst offset imm) f w p h l =
+closed state (StoreImm size dst offset imm) f w h l =
     one_way _ w (stored_frame-is f (operand_kind W64 (operand.Imm imm) f) (f dst.number) offset (bytes_in size) h (operand-is W64 (operand.Imm imm) f h)) l.1

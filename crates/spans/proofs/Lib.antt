@@ -6,6 +6,7 @@ pub mod Narrowing
 pub mod Access
 pub mod Monotone
 pub mod Memory
+pub mod Given
 pub mod Fits
 pub mod Closed
 pub mod Entry

@@ -286,7 +286,7 @@ monotone state (Neg width dst) f g w p q l h =
     gives-grows f g dst _ _ w l (from_span-refines (λ s. whole 64) (λ s t i j k. within-refl (whole 64)) (f dst.number) (g dst.number) (p dst.number) (q dst.number) (l dst.number)) h
 monotone state (End order bits dst) f g w p q l h =
     gives-grows f g dst _ _ w l (from_span-refines (λ s. whole 64) (λ s t i j k. within-refl (whole 64)) (f dst.number) (g dst.number) (p dst.number) (q dst.number) (l dst.number)) h
-monotone state (Wide dst value) f g w p q l h = gives-grows f g dst (Ok (Num (one value))) (Ok (Num (one value))) w l (within-refl (one value)) h
+monotone state (Wide dst value) f g w p q l h = gives-grows f g dst (Ok (Num (one (value % 2 ^ 64)))) (Ok (Num (one (value % 2 ^ 64)))) w l (within-refl (one (value % 2 ^ 64))) h
 monotone state (Jump offset) f g w p q l h = ((None, Some f), (refl, jumps f g w l h))
 monotone state (JumpLong distance) f g w p q l h = ((None, Some f), (refl, jumps f g w l h))
 monotone state (JumpIf condition width dst o offset) f g w p q l h =

@@ -1,8 +1,6 @@
 -- A typed handler that keeps a place in a word of the stack, adds a byte of the message to it, and stores through it.
 use Rattle.std.proofs.Common.{◌≡◌, ℕ, zero, suc, Some, None, pos, negsuc, refl, subst, arith}
 use Rattle.std.proofs.lemmas.Int.{ints}
-use Rattle.std.specs.Prelude.{FitsSigned}
-use Rattle.std.specs.Int.{w16}
 use Rattle.decode.specs.declared.insn.Reg.{Reg}
 use Rattle.decode.specs.declared.insn.Size.TheVariants as size
 use Rattle.decode.specs.declared.insn.AluOp.TheVariants as alu
@@ -98,29 +96,23 @@ is3 = with_kind-is f2 4 (Place State (at_place (pos 0))) is2 place-is
 is4 : IsFrame f4
 is4 = with_kind-is f3 4 (Place State (record { lo = pos 0; hi = pos 255 })) is3 places-is
 
-near : FitsSigned w16 (negsuc 7)
-near = record { sfits = omega arith }
-
-here : FitsSigned w16 (pos 0)
-here = record { sfits = omega arith }
-
 at0 : IsAllowed 256 6 code table 0 entry_frame
-at0 = record { insn = i0; ways = (Some f1, None); there = refl; before = omega arith; later = grind (arith, ints); fits = near; frame = entered.0; leaves = ((refl, refl), refl); goes = (f1, refl, Leq-refl f1); leaps = tt }
+at0 = record { insn = i0; ways = (Some f1, None); there = refl; before = omega arith; later = grind (arith, ints); frame = entered.0; leaves = ((refl, refl), refl); goes = (f1, refl, Leq-refl f1); leaps = tt }
 
 at1 : IsAllowed 256 6 code table 1 f1
-at1 = record { insn = i1; ways = (Some f2, None); there = refl; before = omega arith; later = grind (arith, ints); fits = here; frame = is1; leaves = (refl, refl); goes = (f2, refl, Leq-refl f2); leaps = tt }
+at1 = record { insn = i1; ways = (Some f2, None); there = refl; before = omega arith; later = grind (arith, ints); frame = is1; leaves = (refl, refl); goes = (f2, refl, Leq-refl f2); leaps = tt }
 
 at2 : IsAllowed 256 6 code table 2 f2
-at2 = record { insn = i2; ways = (Some f3, None); there = refl; before = omega arith; later = grind (arith, ints); fits = near; frame = is2; leaves = ((refl, refl), refl); goes = (f3, refl, Leq-refl f3); leaps = tt }
+at2 = record { insn = i2; ways = (Some f3, None); there = refl; before = omega arith; later = grind (arith, ints); frame = is2; leaves = ((refl, refl), refl); goes = (f3, refl, Leq-refl f3); leaps = tt }
 
 at3 : IsAllowed 256 6 code table 3 f3
-at3 = record { insn = i3; ways = (Some f4, None); there = refl; before = omega arith; later = grind (arith, ints); fits = tt; frame = is3; leaves = (Place State (record { lo = pos 0; hi = pos 255 }), refl, refl); goes = (f4, refl, Leq-refl f4); leaps = tt }
+at3 = record { insn = i3; ways = (Some f4, None); there = refl; before = omega arith; later = grind (arith, ints); frame = is3; leaves = (Place State (record { lo = pos 0; hi = pos 255 }), refl, refl); goes = (f4, refl, Leq-refl f4); leaps = tt }
 
 at4 : IsAllowed 256 6 code table 4 f4
-at4 = record { insn = i4; ways = (Some f4, None); there = refl; before = omega arith; later = grind (arith, ints); fits = here; frame = is4; leaves = ((refl, refl), refl); goes = (f4, refl, Leq-refl f4); leaps = tt }
+at4 = record { insn = i4; ways = (Some f4, None); there = refl; before = omega arith; later = grind (arith, ints); frame = is4; leaves = ((refl, refl), refl); goes = (f4, refl, Leq-refl f4); leaps = tt }
 
 at5 : IsAllowed 256 6 code table 5 f4
-at5 = record { insn = Exit; ways = (None, None); there = refl; before = omega arith; later = grind (arith, ints); fits = tt; frame = is4; leaves = (refl, refl); goes = tt; leaps = tt }
+at5 = record { insn = Exit; ways = (None, None); there = refl; before = omega arith; later = grind (arith, ints); frame = is4; leaves = (refl, refl); goes = tt; leaps = tt }
 
 equal : (f g : Frame) → Some f ≡ Some g → f ≡ g
 equal f g e = cc

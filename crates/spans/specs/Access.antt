@@ -1,16 +1,16 @@
 -- What loads and stores need of a frame, and what they leave.
 use Rattle.std.specs.Prelude.{◌≡◌, ℕ, ◌+◌, ◌-◌, ◌*◌, ◌/◌, ◌%◌, ◌==◌, ◌&&◌, nat_lt, nat_le, int_lt, int_le, ℤ, pos, negsuc, ◌+ℤ◌, Bool}
 use Rattle.std.specs.Prelude.{true, Option, Some, None, if◌then◌else◌}
+use Rattle.std.specs.Option.{option_map_or}
 use Rattle.regtypes.specs.declared.frame.Region.{Region}
 use Rattle.regtypes.specs.declared.frame.Region.TheVariants.{Message, State, Stack}
+use Rattle.regtypes.specs.Rules.{region_len}
 use Rattle.spans.specs.Span.{whole}
 use Rattle.spans.specs.Frame.{Reach, SpanKind, Num, Place, is_num, is_set, Frame, with_kind}
 
 -- how many bytes a region has: the message 512 with zeros after its own bytes, the state `state`, the stack 512
 abbrev pub region_size : ℕ → Region → ℕ
-region_size state Message = 512
-region_size state State = state
-region_size state Stack = 512
+region_size state r = region_len 512 state r
 
 -- ---- an access of n bytes, o bytes from one of the places of a reach
 
@@ -53,8 +53,7 @@ MayLoad state f k o n = ⊥
 
 -- the load of a whole word gives its kind, also a place; any other load gives a number of n bytes
 abbrev pub word_kind : Option ℕ → Frame → ℕ → SpanKind
-word_kind (Some c) f n = f c
-word_kind None f n = Num (whole (8 * n))
+word_kind word f n = option_map_or f word (Num (whole (8 * n)))
 
 -- what a load gives
 abbrev pub loaded_kind : Frame → SpanKind → ℤ → ℕ → SpanKind
@@ -81,8 +80,7 @@ wiped f s o n c = if is_reached s o n c then Num (whole 64) else f c
 
 -- a whole word gets the stored kind, also a place
 abbrev pub written_frame : Option ℕ → Frame → SpanKind → Reach → ℤ → ℕ → Frame
-written_frame (Some c) f k s o n = with_kind f c k
-written_frame None f k s o n = wiped f s o n
+written_frame word f k s o n = option_map_or (λ c. with_kind f c k) word (wiped f s o n)
 
 -- what a store leaves; of the bytes of message and state no frame says anything
 abbrev pub stored_frame : Frame → SpanKind → SpanKind → ℤ → ℕ → Frame

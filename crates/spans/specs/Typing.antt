@@ -1,7 +1,6 @@
 -- When code is typable in form 3.
 use Rattle.std.specs.Prelude.{◌≡◌, ℕ, ◌+◌, ◌<◌, pos, ◌+ℤ◌, ◌<ℤ◌, Option, Some, None, unsigned_abs}
 use Rattle.decode.specs.declared.insn.Insn.{Insn}
-use Rattle.decode.specs.Encoding.{Fits}
 use Rattle.decode.specs.Slots.{size_of}
 use Rattle.decode.specs.Distance.{distance}
 use Rattle.spans.specs.Frame.{Frame, IsFrame, Leq, entry_frame}
@@ -25,14 +24,13 @@ Enters table t None = Unit {0}
 Enters table t (Some g) = (h : Frame) × (table t ≡ Some h) × Leq g h
 
 -- at slot s an instruction begins that breaks no rule under the frame f and jumps to a later slot, and the frames that
--- leave it fit; `fits` repeats what the type of instructions says
+-- leave it fit
 pub record IsAllowed (state count : ℕ) (code : Code) (table : Table) (s : ℕ) (f : Frame) : Type 0 where
   pub insn : Insn
   pub ways : Ways
   pub there : code s ≡ Some insn
   pub before : s < count
   pub later : pos s <ℤ (pos (s + 1) +ℤ distance insn)
-  pub fits : Fits insn
   pub frame : IsFrame f
   pub leaves : Leaves state insn f ways
   pub goes : Enters table (s + size_of insn) ways.0

@@ -167,7 +167,7 @@ Leaves state (MovSx x dst src) f w =
     Gives (from_span (extended_span (extension_offset x) (bits_of (extension_width x))) (f src.number)) f dst w
 Leaves state (Neg width dst) f w = Gives (from_span (λ s. whole 64) (f dst.number)) f dst w
 Leaves state (End order bits dst) f w = Gives (from_span (λ s. whole 64) (f dst.number)) f dst w
-Leaves state (Wide dst value) f w = Gives (Ok (Num (one value))) f dst w
+Leaves state (Wide dst value) f w = Gives (Ok (Num (one (value % 2 ^ 64)))) f dst w
 Leaves state (Jump offset) f w = w ≡ (None, Some f)
 Leaves state (JumpLong distance) f w = w ≡ (None, Some f)
 Leaves state (JumpIf condition width dst o offset) f w =

@@ -1,5 +1,5 @@
 -- An instruction that breaks no rule of forms 1 and 2 breaks none of form 3, and leaves no less.
-use Rattle.std.proofs.Common.{◌≡◌, ℕ, zero, suc, ◌^◌, ◌<◌, ◌≤◌, Bool, true, false, List, length, Option, Some, None, ℤ, pos, negsuc, ◌+ℤ◌, refl, sym, ap, ◌∙◌, subst, arith}
+use Rattle.std.proofs.Common.{◌≡◌, ℕ, zero, suc, ◌%◌, ◌^◌, ◌<◌, ◌≤◌, Bool, true, false, List, length, Option, Some, None, ℤ, pos, negsuc, ◌+ℤ◌, refl, sym, ap, ◌∙◌, subst, arith}
 use Rattle.std.specs.Prelude.{Ok, Err, slice_set, is_none, nat_lt, int_le, ◌&&◌, ◌==◌, not, if◌then◌else◌, neg_ℤ}
 use Rattle.std.specs.Option.{option_map}
 use Rattle.std.proofs.lemmas.Bool.{false≢true}
@@ -17,7 +17,7 @@ use Rattle.decode.specs.declared.insn.Operand.{Operand}
 use Rattle.decode.specs.declared.insn.Operand.TheVariants as operand
 use Rattle.decode.specs.declared.insn.Insn.{Insn}
 use Rattle.decode.specs.declared.insn.Insn.TheVariants.{Alu, MovSx, Neg, End, Jump, JumpLong, JumpIf, Call, Exit, Load, LoadSx, StoreReg, StoreImm, Wide}
-use Rattle.decode.specs.Encoding.{Fits, bytes_in, loaded, extension_offset, extension_width}
+use Rattle.decode.specs.Encoding.{bytes_in, loaded, extension_offset, extension_width}
 use Rattle.operations.specs.Words.{bits_of}
 use Rattle.regtypes.specs.declared.image_form.ImageForm.{ImageForm}
 use Rattle.regtypes.specs.declared.image_form.ImageForm.TheVariants.{Sbi1, Sbi2}
@@ -94,10 +94,10 @@ equal c = grind (arith, nat_tests)
 given-is : (f : Frame) (c : ℕ) (k : SpanKind) → IsFrame (with_kind f c k) → IsKind k
 given-is f c k i = subst (λ (t : Bool). IsKind (if t then k else f c)) (equal c) (i c)
 
-module _ (state : ℕ) (i : Insn) (kinds : List FlatKind) (fits : Fits i) (eleven : length kinds ≡ 11) where
+module _ (state : ℕ) (i : Insn) (kinds : List FlatKind) (eleven : length kinds ≡ 11) where
   gives : (dst : Reg) (k : SpanKind) (x : FlatKind) (other : Frame) → Leaves state i (read_kinds kinds) (Some (with_kind (read_kinds kinds) dst.number k), None) → (IsKind k → LeqKind k (read_kind x)) → IsSubsumed state i kinds (read_kinds (slice_set kinds dst.number x)) other
   gives dst k x other l h =
-      let c = closed state i (read_kinds kinds) (Some (with_kind (read_kinds kinds) dst.number k), None) fits (read_frame-is kinds) l in
+      let c = closed state i (read_kinds kinds) (Some (with_kind (read_kinds kinds) dst.number k), None) (read_frame-is kinds) l in
       record {
         ways = (Some (with_kind (read_kinds kinds) dst.number k), None);
         leaves = l;
@@ -136,7 +136,7 @@ copied flat.Num u = refl
 copied flat.Len u = refl
 copied (flat.Place r k) u = refl
 
-module _ (state : ℕ) (op : AluOp) (width : Width) (dst : Reg) (o : Operand) (kinds : List FlatKind) (fits : Fits (Alu op width dst o)) (eleven : length kinds ≡ 11) (other : Frame) where
+module _ (state : ℕ) (op : AluOp) (width : Width) (dst : Reg) (o : Operand) (kinds : List FlatKind) (eleven : length kinds ≡ 11) (other : Frame) where
   abbrev Left : FlatKind → Type 0
   Left x = IsSubsumed state (Alu op width dst o) kinds (read_kinds (slice_set kinds dst.number x)) other
 
@@ -147,7 +147,7 @@ module _ (state : ℕ) (op : AluOp) (width : Width) (dst : Reg) (o : Operand) (k
       let b = operand_at width o kinds v q in
       let r = numbers_give (alu_form op width o) a.0 b.0 in
       let e = ap (λ x. result_kind (alu_form op width o) x (operand_kind width o (read_kinds kinds))) a.1 ∙ ap (result_kind (alu_form op width o) (Num a.0)) b.1 ∙ r.1 in
-      gives_number state (Alu op width dst o) kinds fits eleven dst r.0 other (Num r.0, e, refl)
+      gives_number state (Alu op width dst o) kinds eleven dst r.0 other (Num r.0, e, refl)
 
   -- a number is set
   sets : alu_form op width o ≡ Sets width → has is_unset kinds (register_of o) ≡ false → has is_place kinds (register_of o) ≡ false → Left flat.Num
@@ -156,7 +156,7 @@ module _ (state : ℕ) (op : AluOp) (width : Width) (dst : Reg) (o : Operand) (k
       let r = numbers_give (Sets width) b.0 b.0 in
       let a = read_kinds kinds dst.number in
       let e = ap (λ x. result_kind x a (operand_kind width o (read_kinds kinds))) form ∙ ap (result_kind (Sets width) a) b.1 ∙ r.1 in
-      gives_number state (Alu op width dst o) kinds fits eleven dst r.0 other (Num r.0, e, refl)
+      gives_number state (Alu op width dst o) kinds eleven dst r.0 other (Num r.0, e, refl)
 
   -- a number or a place is moved
   moves : (z : ℤ) → alu_form op width o ≡ Moves W64 z → has is_unset kinds (Some dst) ≡ false → not (is_near (moved z (kind_at kinds dst.number))) ≡ false → Left (moved z (kind_at kinds dst.number))
@@ -164,13 +164,13 @@ module _ (state : ℕ) (op : AluOp) (width : Width) (dst : Reg) (o : Operand) (k
       let k = kind_at kinds dst.number in
       let g = moved_given z k u (not_false (is_near (moved z k)) near) in
       let e = ap (λ x. result_kind x (read_kinds kinds dst.number) (operand_kind width o (read_kinds kinds))) form ∙ ap (moved_kind W64 z) (register kinds dst) ∙ g.1 in
-      gives state (Alu op width dst o) kinds fits eleven dst g.0 (moved z k) other (g.0, e, refl) g.2
+      gives state (Alu op width dst o) kinds eleven dst g.0 (moved z k) other (g.0, e, refl) g.2
 
 copies : (state : ℕ) (dst src : Reg) (kinds : List FlatKind) (other : Frame) → length kinds ≡ 11 → has is_unset kinds (Some src) ≡ false → IsSubsumed state (Alu alu.Mov W64 dst (operand.Reg src)) kinds (read_kinds (slice_set kinds dst.number (kind_at kinds src.number))) other
 copies state dst src kinds other eleven u =
     let k = kind_at kinds src.number in
     let e = ap set_kind (register kinds src) ∙ copied k u in
-    gives state (Alu alu.Mov W64 dst (operand.Reg src)) kinds tt eleven dst (read_kind k) k other (read_kind k, e, refl) (λ i. LeqKind-refl (read_kind k))
+    gives state (Alu alu.Mov W64 dst (operand.Reg src)) kinds eleven dst (read_kind k) k other (read_kind k, e, refl) (λ i. LeqKind-refl (read_kind k))
 
 -- ---- jumps
 
@@ -212,15 +212,15 @@ module _ (f : Frame) (dst : Reg) (width : Width) (o : Operand) (a b : Span) (da 
 
 module _ (form : ImageForm) (state : ℕ) (f : FlatFrame) (eleven : length f.kinds ≡ 11) (short : f.low ≤ 256) where
   abbrev Subsumed : Insn → Type 0
-  Subsumed i = Fits i → first_broken (tests_of form state i f) ≡ None → IsSubsumed state i f.kinds (read_frame (next i f)) (read_frame (taken i f))
+  Subsumed i = first_broken (tests_of form state i f) ≡ None → IsSubsumed state i f.kinds (read_frame (next i f)) (read_frame (taken i f))
 
   arithmetic : (op : AluOp) (width : Width) (dst : Reg) (o : Operand) → Subsumed (Alu op width dst o)
-  arithmetic alu.Mov W64 dst (operand.Reg src) fits h = let r = rules_of form state (Alu alu.Mov W64 dst (operand.Reg src)) f h in copies state dst src f.kinds _ eleven r.set.copied
-  arithmetic alu.Mov W64 dst (operand.Imm z) fits h = let r = rules_of form state (Alu alu.Mov W64 dst (operand.Imm z)) f h in sets state alu.Mov W64 dst (operand.Imm z) f.kinds fits eleven _ refl r.set.operand r.operand
-  arithmetic alu.Mov W32 dst o fits h = let r = rules_of form state (Alu alu.Mov W32 dst o) f h in sets state alu.Mov W32 dst o f.kinds fits eleven _ refl r.set.operand r.operand
-  arithmetic alu.Add W64 dst (operand.Imm z) fits h = let r = rules_of form state (Alu alu.Add W64 dst (operand.Imm z)) f h in moves state alu.Add W64 dst (operand.Imm z) f.kinds fits eleven _ z refl r.set.moved r.near
-  arithmetic alu.Sub W64 dst (operand.Imm z) fits h = let r = rules_of form state (Alu alu.Sub W64 dst (operand.Imm z)) f h in moves state alu.Sub W64 dst (operand.Imm z) f.kinds fits eleven _ (neg_ℤ z) refl r.set.moved r.near
-  arithmetic op width dst o fits h = let r = rules_of form state (Alu op width dst o) f h in computes state op width dst o f.kinds fits eleven _ r.set.number r.number r.set.operand r.operand
+  arithmetic alu.Mov W64 dst (operand.Reg src) h = let r = rules_of form state (Alu alu.Mov W64 dst (operand.Reg src)) f h in copies state dst src f.kinds _ eleven r.set.copied
+  arithmetic alu.Mov W64 dst (operand.Imm z) h = let r = rules_of form state (Alu alu.Mov W64 dst (operand.Imm z)) f h in sets state alu.Mov W64 dst (operand.Imm z) f.kinds eleven _ refl r.set.operand r.operand
+  arithmetic alu.Mov W32 dst o h = let r = rules_of form state (Alu alu.Mov W32 dst o) f h in sets state alu.Mov W32 dst o f.kinds eleven _ refl r.set.operand r.operand
+  arithmetic alu.Add W64 dst (operand.Imm z) h = let r = rules_of form state (Alu alu.Add W64 dst (operand.Imm z)) f h in moves state alu.Add W64 dst (operand.Imm z) f.kinds eleven _ z refl r.set.moved r.near
+  arithmetic alu.Sub W64 dst (operand.Imm z) h = let r = rules_of form state (Alu alu.Sub W64 dst (operand.Imm z)) f h in moves state alu.Sub W64 dst (operand.Imm z) f.kinds eleven _ (neg_ℤ z) refl r.set.moved r.near
+  arithmetic op width dst o h = let r = rules_of form state (Alu op width dst o) f h in computes state op width dst o f.kinds eleven _ r.set.number r.number r.set.operand r.operand
 
   -- ---- memory
 
@@ -234,19 +234,19 @@ module _ (form : ImageForm) (state : ℕ) (f : FlatFrame) (eleven : length f.kin
       subst (λ x. MayLoad state g x offset n × (is_num (loaded_kind g x offset n) ≡ true)) (sym (register f.kinds src)) (may_load f.low state g (any_stack f.kinds) short (kind_at f.kinds src.number) offset n b)
 
   load : (size : Size) (dst src : Reg) (offset : ℤ) → Subsumed (Load size dst src offset)
-  load size dst src offset fits h =
+  load size dst src offset h =
       let i = Load size dst src offset in
       let r = rules_of form state i f h in
       let m = loaded_by src offset (bytes_in size) (record { set = r.set.base; place = r.base; inside = r.inside }) in
       let k = loaded_kind (read_kinds f.kinds) (read_kinds f.kinds src.number) offset (bytes_in size) in
-      gives state i f.kinds fits eleven dst k flat.Num _ (m.0, refl) (any_word k m.1)
+      gives state i f.kinds eleven dst k flat.Num _ (m.0, refl) (any_word k m.1)
 
   load_signed : (size : SignedSize) (dst src : Reg) (offset : ℤ) → Subsumed (LoadSx size dst src offset)
-  load_signed size dst src offset fits h =
+  load_signed size dst src offset h =
       let i = LoadSx size dst src offset in
       let r = rules_of form state i f h in
       let m = loaded_by src offset (bytes_in (loaded size)) (record { set = r.set.base; place = r.base; inside = r.inside }) in
-      gives_number state i f.kinds fits eleven dst (whole 64) _ (m.0, refl)
+      gives_number state i f.kinds eleven dst (whole 64) _ (m.0, refl)
 
   abbrev Stored : SpanKind → Reg → ℤ → ℕ → Type 0
   Stored k dst offset n =
@@ -258,7 +258,7 @@ module _ (form : ImageForm) (state : ℕ) (f : FlatFrame) (eleven : length f.kin
       subst (λ x. MayStore state g k x offset n × Leq (stored_frame g k x offset n) g) (sym (register f.kinds dst)) (may_store f.low state g (any_stack f.kinds) short k num ik (kind_at f.kinds dst.number) offset n m b)
 
   store : (size : Size) (dst src : Reg) (offset : ℤ) → Subsumed (StoreReg size dst src offset)
-  store size dst src offset fits h =
+  store size dst src offset h =
       let n = bytes_in size in
       let r = rules_of form state (StoreReg size dst src offset) f h in
       let k = number_at f.kinds src r.set.operand r.operand in
@@ -266,7 +266,7 @@ module _ (form : ImageForm) (state : ℕ) (f : FlatFrame) (eleven : length f.kin
       record { ways = _; leaves = (m.0, refl); goes = m.1; leaps = tt }
 
   store_imm : (size : Size) (dst : Reg) (offset imm : ℤ) → Subsumed (StoreImm size dst offset imm)
-  store_imm size dst offset imm fits h =
+  store_imm size dst offset imm h =
       let n = bytes_in size in
       let r = rules_of form state (StoreImm size dst offset imm) f h in
       let k = operand_kind W64 (operand.Imm imm) (read_kinds f.kinds) in
@@ -294,44 +294,44 @@ module _ (form : ImageForm) (state : ℕ) (f : FlatFrame) (eleven : length f.kin
   -- ---- instructions
 
   subsumed : (i : Insn) → Subsumed i
-  subsumed (Alu op width dst o) fits h = arithmetic op width dst o fits h
-  subsumed (MovSx x dst src) fits h =
+  subsumed (Alu op width dst o) h = arithmetic op width dst o h
+  subsumed (MovSx x dst src) h =
       let r = rules_of form state (MovSx x dst src) f h in
       let n = number_at f.kinds src r.set.operand r.operand in
-      gives_number state (MovSx x dst src) f.kinds fits eleven dst _ _ (_, ap (from_span (extended_span (extension_offset x) (bits_of (extension_width x)))) n.1, refl)
-  subsumed (Neg width dst) fits h =
+      gives_number state (MovSx x dst src) f.kinds eleven dst _ _ (_, ap (from_span (extended_span (extension_offset x) (bits_of (extension_width x)))) n.1, refl)
+  subsumed (Neg width dst) h =
       let r = rules_of form state (Neg width dst) f h in
       let n = number_at f.kinds dst r.set.operand r.operand in
-      gives_number state (Neg width dst) f.kinds fits eleven dst (whole 64) _ (_, ap (from_span (λ s. whole 64)) n.1, refl)
-  subsumed (End order bits dst) fits h =
+      gives_number state (Neg width dst) f.kinds eleven dst (whole 64) _ (_, ap (from_span (λ s. whole 64)) n.1, refl)
+  subsumed (End order bits dst) h =
       let r = rules_of form state (End order bits dst) f h in
       let n = number_at f.kinds dst r.set.operand r.operand in
-      gives_number state (End order bits dst) f.kinds fits eleven dst (whole 64) _ (_, ap (from_span (λ s. whole 64)) n.1, refl)
-  subsumed (Wide dst value) fits h = gives_number state (Wide dst value) f.kinds fits eleven dst (one value) _ (_, refl, refl)
-  subsumed (Jump offset) fits h = record { ways = _; leaves = refl; goes = tt; leaps = Leq-refl (read_kinds f.kinds) }
-  subsumed (JumpLong distance) fits h = record { ways = _; leaves = refl; goes = tt; leaps = Leq-refl (read_kinds f.kinds) }
-  subsumed (JumpIf condition width dst o offset) fits h =
+      gives_number state (End order bits dst) f.kinds eleven dst (whole 64) _ (_, ap (from_span (λ s. whole 64)) n.1, refl)
+  subsumed (Wide dst value) h = gives_number state (Wide dst value) f.kinds eleven dst (one (value % 2 ^ 64)) _ (_, refl, refl)
+  subsumed (Jump offset) h = record { ways = _; leaves = refl; goes = tt; leaps = Leq-refl (read_kinds f.kinds) }
+  subsumed (JumpLong distance) h = record { ways = _; leaves = refl; goes = tt; leaps = Leq-refl (read_kinds f.kinds) }
+  subsumed (JumpIf condition width dst o offset) h =
       let r = rules_of form state (JumpIf condition width dst o offset) f h in
       let a = number_at f.kinds dst r.set.number r.number in
       let b = operand_at width o f.kinds r.set.operand r.operand in
       let leq = way_below (read_kinds f.kinds) dst width o a.0 b.0 a.1 b.1 in
       record { ways = _; leaves = (a.0, b.0, a.1, b.1, refl); goes = leq (opposite condition); leaps = leq (Some condition) }
-  subsumed (Call helper) fits h = record { ways = _; leaves = (arguments helper h, refl); goes = helped f.kinds; leaps = tt }
-  subsumed Exit fits h =
+  subsumed (Call helper) h = record { ways = _; leaves = (arguments helper h, refl); goes = helped f.kinds; leaps = tt }
+  subsumed Exit h =
       let k = not_false (is_flat_num (kind_at f.kinds 0)) (rules_of form state Exit f h).ended in
       record { ways = _; leaves = (number_known (kind_at f.kinds 0) k, refl); goes = tt; leaps = tt }
-  subsumed (Load size dst src offset) fits h = load size dst src offset fits h
-  subsumed (LoadSx size dst src offset) fits h = load_signed size dst src offset fits h
-  subsumed (StoreReg size dst src offset) fits h = store size dst src offset fits h
-  subsumed (StoreImm size dst offset imm) fits h = store_imm size dst offset imm fits h
+  subsumed (Load size dst src offset) h = load size dst src offset h
+  subsumed (LoadSx size dst src offset) h = load_signed size dst src offset h
+  subsumed (StoreReg size dst src offset) h = store size dst src offset h
+  subsumed (StoreImm size dst offset imm) h = store_imm size dst offset imm h
 
 -- V4 asks no frame
 frame_pointer_kept : (form : ImageForm) (state : ℕ) (i : Insn) (f : FlatFrame) → first_broken (tests_of form state i f) ≡ None → frame_pointer_rule i ≡ None
 frame_pointer_kept form state i f h = ap (λ (t : Bool). if t then Some V4 else None) (rules_of form state i f h).written
 
 pub rules_subsumed : AreRulesSubsumed
-rules_subsumed form state i f fits eleven short h =
-    let s = subsumed form state f eleven short i fits h in
+rules_subsumed form state i f eleven short h =
+    let s = subsumed form state f eleven short i h in
     let e = (exact state i (read_frame f)).1 s.ways s.leaves in
     let goes = subst (λ (w : Ways). LeqWay w.0 (Some (read_frame (next i f)))) e.1 s.goes in
     let leaps = subst (λ (w : Ways). LeqWay w.1 (Some (read_frame (taken i f)))) e.1 s.leaps in

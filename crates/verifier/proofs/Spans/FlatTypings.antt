@@ -23,11 +23,9 @@ use Rattle.verifier.specs.Span.Ways.{ways}
 use Rattle.verifier.specs.Span.Rules.{frame_pointer_rule, frame_rule}
 use Rattle.verifier.proofs.Spans.Exact.{neither}
 use Rattle.spans.specs.Typing.{Enters, target}
-use Rattle.verifier.specs.Inside.SpanPass.{AreFitting}
 use Rattle.verifier.specs.Fixpoint.{IsTyped}
 use Rattle.verifier.specs.Span.Typing.{IsAllowed, span_form}
 use Rattle.verifier.proofs.Spans.Forms.{none_broken}
-use Rattle.verifier.proofs.Spans.Slots.{are_fitting}
 use Rattle.verifier.specs.Span.FlatLaws.{AreTypingsSubsumed}
 use Rattle.verifier.specs.Span.FlatFrames.{read_frame, read_table}
 use Rattle.verifier.proofs.Spans.FlatFrames.{entered, order_kept, read_frame-is}
@@ -74,17 +72,16 @@ leaps table s i g a l = tt
 
 -- ---- slots
 
-module _ (form : ImageForm) (slots : List (Option Insn)) (state : ℕ) (table : FlatTable) (fits : AreFitting slots) (t : IsTyping form slots state table) where
+module _ (form : ImageForm) (slots : List (Option Insn)) (state : ℕ) (table : FlatTable) (t : IsTyping form slots state table) where
   allowed_at : (s : ℕ) (g : FlatFrame) (i : Insn) → frame_at table s ≡ Some g → insn_at slots s ≡ Some i → IsAllowed state slots (read_table table) s (read_frame g)
   allowed_at s g i e b =
       let k = both_pass (flow_tests slots s (flow_of i)) (tests_of form state i g) (typing_keeps form slots state table s g i t e b) in
-      let r = rules_subsumed form state i g (fits s i b) (t.whole s g e) (t.short s g e) k.1 in
+      let r = rules_subsumed form state i g (t.whole s g e) (t.short s g e) k.1 in
       let n = neither (frame_pointer_rule i) (frame_rule state i (read_frame g)) r.0 in
       let a = typing_leads form slots state table s g i t e b in
       record {
         insn = i;
         there = b;
-        fits = fits s i b;
         frame = read_frame-is g.kinds;
         kept = none_broken state slots s i (read_frame g) (k.0, n.0) n.1;
         goes = goes table s i g a r.1;
@@ -108,6 +105,6 @@ module _ (form : ImageForm) (slots : List (Option Insn)) (state : ℕ) (table : 
   }
 
 pub typings_subsumed : AreTypingsSubsumed
-typings_subsumed form code state table fits t =
-    let k = typed form (slots_of code) state table (are_fitting code fits) t in
+typings_subsumed form code state table t =
+    let k = typed form (slots_of code) state table t in
     (k, λ least l. l.least (read_table table) k)

@@ -77,7 +77,6 @@ module _ (state : ℕ) (slots : List (Option Insn)) where
   allowed_above a b s f le h = record {
     insn = h.insn;
     there = h.there;
-    fits = h.fits;
     frame = h.frame;
     kept = h.kept;
     goes = way_above a b le (s + size_of h.insn) (ways h.insn f).0 h.goes;
@@ -116,7 +115,6 @@ module _ (state : ℕ) (slots : List (Option Insn)) where
       record {
         insn = h.insn;
         there = h.there;
-        fits = h.fits;
         frame = ff;
         kept = k.0;
         goes = way_weaker t (s + size_of h.insn) (ways h.insn f).0 (ways h.insn g).0 k.1.0 h.goes;
@@ -156,7 +154,6 @@ module _ (state : ℕ) (slots : List (Option Insn)) (table : Table) where
           there = h.there;
           before = within slots s h.insn h.there;
           later = later slots s h.insn p.0;
-          fits = h.fits;
           frame = h.frame;
           leaves = (exact state h.insn f).0 p.2;
           goes = h.goes;
@@ -171,7 +168,6 @@ module _ (state : ℕ) (slots : List (Option Insn)) (table : Table) where
       record {
         insn = a.insn;
         there = a.there;
-        fits = a.fits;
         frame = a.frame;
         kept = none_broken state slots s a.insn f (p a.insn a.there) e.0;
         goes = subst (λ (v : Ways). calls.Enters table (s + size_of a.insn) v.0) e.1 a.goes;

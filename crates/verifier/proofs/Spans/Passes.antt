@@ -2,7 +2,6 @@
 use Rattle.std.proofs.Common.{◌≡◌, ℕ, ◌+◌, ◌<◌, List, Option, Some, None, refl, sym, subst, arith}
 use Rattle.std.specs.Option.{option_and_then}
 use Rattle.decode.specs.declared.insn.Insn.{Insn}
-use Rattle.decode.specs.Encoding.{Fits}
 use Rattle.decode.specs.Slots.{insn_at, size_of}
 use Rattle.regtypes.specs.declared.rule.Rule.{Rule}
 use Rattle.decode.specs.Flow.{flow_of}
@@ -82,7 +81,7 @@ module _ (state : ℕ) (slots : List (Option Insn)) (n : ℕ) (old : Table) (f :
     breaks = subst (λ o. option_and_then (λ (i : Insn). broken state slots n i f) o ≡ Some rule) (sym begin) h;
   }
 
-  module _ (fits : Fits i) (unbroken : broken state slots n i f ≡ None) where
+  module _ (unbroken : broken state slots n i f ≡ None) where
     kept : (first_broken (flow_tests slots n (flow_of i)) ≡ None) × (frame_pointer_rule i ≡ None) × (frame_rule state i f ≡ None)
     kept = unbroken_parts state slots n i f unbroken
 
@@ -99,7 +98,6 @@ module _ (state : ℕ) (slots : List (Option Insn)) (n : ℕ) (old : Table) (f :
     allow t h = record {
       insn = i;
       there = begin;
-      fits = fits;
       frame = frame;
       kept = unbroken;
       goes = h.0.1;
@@ -114,7 +112,7 @@ module _ (state : ℕ) (slots : List (Option Insn)) (n : ℕ) (old : Table) (f :
     -- where none is broken and what leaves is joined into the slots behind, the table is least for one slot more
     pub stepped : (new : Table) → IsSpread old n i (ways i f) new → IsLeast (span_form state slots) (n + 1) new
     stepped new sp =
-        let c = closed state i f (ways i f) fits frame leaves in
+        let c = closed state i f (ways i f) frame leaves in
         let p = size_positive i in
         let one = led_way state slots n (n + size_of i) (λ t. Unit {0}) old old sp.mid (ways i f).0 (omega (arith, p)) c.0 (λ g e. next_begins slots n i f g follows begin kept.0 e) (λ a b le h. tt) (led_none (span_form state slots) (form_3 state slots) n old) sp.goes in
         let two = led_way state slots n (target n i) (λ t. Unit {0} × calls.Enters t (n + size_of i) (ways i f).0) old sp.mid new (ways i f).1 (target_past slots n i kept.0) c.1 (λ g e. taken_begins slots n i f g kept.0 e) (λ a b le h. (tt, way_above state slots a b le (n + size_of i) (ways i f).0 h.1)) one sp.leaps in

@@ -1,9 +1,7 @@
 -- What form 3 allows of what forms 1 and 2 allow.
 use Rattle.std.specs.Prelude.{◌≡◌, ◌≤◌, ℕ, List, length, None, Some}
-use Rattle.std.specs.List.{AllByRecursion}
 use Rattle.limits.specs.declared.TheConstants.{PAYLOAD_BYTES, REGISTERS}
 use Rattle.decode.specs.declared.insn.Insn.{Insn}
-use Rattle.decode.specs.Encoding.{Fits}
 use Rattle.decode.specs.Slots.{slots_of}
 use Rattle.regtypes.specs.declared.image_form.ImageForm.{ImageForm}
 use Rattle.regtypes.specs.declared.frame.Frame.{Frame as FlatFrame}
@@ -29,7 +27,7 @@ IsOrderKept = (f g : FlatFrame) → FlatLeq f g → Leq (read_frame f) (read_fra
 -- that says no less; the state has `state` bytes
 abbrev pub AreRulesSubsumed : Type 0
 AreRulesSubsumed =
-    (form : ImageForm) (state : ℕ) (i : Insn) (f : FlatFrame) → Fits i → length f.kinds ≡ REGISTERS → f.low ≤ PAYLOAD_BYTES
+    (form : ImageForm) (state : ℕ) (i : Insn) (f : FlatFrame) → length f.kinds ≡ REGISTERS → f.low ≤ PAYLOAD_BYTES
     → first_broken (tests_of form state i f) ≡ None
     → (broken_rule state i (read_frame f) ≡ None)
     × LeqWay (ways i (read_frame f)).0 (Some (read_frame (next i f)))
@@ -39,7 +37,7 @@ AreRulesSubsumed =
 abbrev pub AreTypingsSubsumed : Type 0
 AreTypingsSubsumed =
     (form : ImageForm) (code : List Insn) (state : ℕ) (table : FlatTable)
-    → AllByRecursion Fits code → IsTyping form (slots_of code) state table
+    → IsTyping form (slots_of code) state table
     → IsTyped (span_form state (slots_of code)) (read_table table)
     × ((least : Table) → IsLeast (span_form state (slots_of code)) (length (slots_of code)) least
     → Below (span_form state (slots_of code)) least (read_table table))

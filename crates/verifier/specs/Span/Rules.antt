@@ -1,7 +1,7 @@
 -- The least rule that an instruction breaks under a frame (docs/FORMATS.md, "Rules of the verifier"); None if it breaks
 -- none of V3 to V10.
 use Rattle.std.specs.Prelude.{ℕ, zero, suc, ◌+◌, nat_le, ℤ, pos, Bool, Option, Some, None, false, if◌then◌else◌, min}
-use Rattle.std.specs.Option.{option_map_or}
+use Rattle.std.specs.Option.{option_map, option_map_or}
 use Rattle.std.specs.Result.{result_err}
 use Rattle.decode.specs.declared.insn.Width.TheVariants.{W64}
 use Rattle.decode.specs.declared.insn.Operand.TheVariants as operand
@@ -78,8 +78,7 @@ store_rule state f k (Place Stack s) o n =
 
 -- an argument that isn't what a helper takes, whatever is wrong with it
 abbrev pub argument_rule : Option Rule → Option Rule
-argument_rule None = None
-argument_rule (Some r) = Some V9
+argument_rule r = option_map (λ _. V9) r
 
 -- a place whose n bytes are in its region for each of its distances, and in the stack are numbers
 abbrev pub payload_rule : ℕ → Frame → SpanKind → ℕ → Option Rule
@@ -105,8 +104,7 @@ call_rule state f z = Some V8
 
 -- r0 at EXIT
 abbrev pub exit_rule : SpanKind → Option Rule
-exit_rule (Num s) = None
-exit_rule k = Some V10
+exit_rule k = option_map (λ _. V10) (number_rule k)
 
 -- ---- instructions
 

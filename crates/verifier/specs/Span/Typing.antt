@@ -4,7 +4,6 @@ use Rattle.std.specs.List.{slice_get}
 use Rattle.std.specs.Option.{option_and_then, option_map, option_or}
 use Rattle.std.specs.Global.{Box}
 use Rattle.decode.specs.declared.insn.Insn.{Insn}
-use Rattle.decode.specs.Encoding.{Fits}
 use Rattle.decode.specs.Slots.{insn_at, size_of}
 use Rattle.regtypes.specs.declared.rule.Rule.{Rule}
 use Rattle.decode.specs.Flow.{flow_of}
@@ -26,12 +25,10 @@ table_of items s = option_map (λ (b : Box Cells). frame_of b.value) (unwrap_or 
 abbrev pub broken : ℕ → List (Option Insn) → ℕ → Insn → Frame → Option Rule
 broken state slots s i f = option_or (first_broken (flow_tests slots s (flow_of i))) (broken_rule state i f)
 
--- at slot s an instruction begins that breaks no rule under the frame f, and the frames that leave it fit; `fits` repeats
--- what the type of instructions says
+-- at slot s an instruction begins that breaks no rule under the frame f, and the frames that leave it fit
 pub record IsAllowed (state : ℕ) (slots : List (Option Insn)) (table : Table) (s : ℕ) (f : Frame) : Type 0 where
   pub insn : Insn
   pub there : insn_at slots s ≡ Some insn
-  pub fits : Fits insn
   pub frame : IsFrame f
   pub kept : broken state slots s insn f ≡ None
   pub goes : Enters table (s + size_of insn) (ways insn f).0

@@ -1,5 +1,5 @@
 -- The frames that leave an instruction that breaks no rule.
-use Rattle.std.specs.Prelude.{◌≡◌, ℕ, ℤ, ◌≤ℤ◌, true, None, Some, Result}
+use Rattle.std.specs.Prelude.{◌≡◌, ℕ, ◌%◌, ◌^◌, ℤ, ◌≤ℤ◌, true, None, Some, Result}
 use Rattle.std.specs.Result.{result_unwrap_or}
 use Rattle.decode.specs.declared.insn.Reg.{Reg}
 use Rattle.decode.specs.declared.insn.Width.{Width}
@@ -38,7 +38,7 @@ ways (MovSx x dst src) f =
     (Some (gives (from_span (extended_span (extension_offset x) (bits_of (extension_width x))) (f src.number)) f dst), None)
 ways (Neg width dst) f = (Some (gives (from_span (λ s. whole 64) (f dst.number)) f dst), None)
 ways (End order bits dst) f = (Some (gives (from_span (λ s. whole 64) (f dst.number)) f dst), None)
-ways (Wide dst value) f = (Some (with_kind f dst.number (Num (one value))), None)
+ways (Wide dst value) f = (Some (with_kind f dst.number (Num (one (value % 2 ^ 64)))), None)
 ways (Jump offset) f = (None, Some f)
 ways (JumpLong distance) f = (None, Some f)
 ways (JumpIf condition width dst o offset) f = compares (f dst.number) (operand_kind width o f) condition width dst o f

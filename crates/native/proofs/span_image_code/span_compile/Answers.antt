@@ -20,7 +20,7 @@ returns-clause-native c =
     ∙ ap (λ l. tasks_in l c.state_len-state_len.result (length l)) laid
     ∙ ap (λ k. tasks_in slots k (length slots)) len in
     let small : p.len ≤ 1024 = subst (λ k. k ≤ 1024) len c.state_len-state_len.ensures.bound in
-    span_native p.code p.len code c.code-insns.ensures.typable c.code-insns.ensures.slots small (omega (arith, n, c.len-fits.type_inv)) (subst (λ ts. IsServed opening.Placed ts code) tasks c.in_ok-code.ensures)
+    span_native p.code p.len code c.code-insns.ensures.typable c.code-insns.ensures.fits c.code-insns.ensures.slots small (omega (arith, n, c.len-fits.type_inv)) (subst (λ ts. IsServed opening.Placed ts code) tasks c.in_ok-code.ensures)
 
 pub returns-clause-one : goal.returns-clause-one
 returns-clause-one c =

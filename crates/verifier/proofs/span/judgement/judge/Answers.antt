@@ -89,7 +89,7 @@ returns-in-Ok-spread-clause-judged c =
     let there = there_some c.args.table.now c.args.slot _ c.in-Some.frame c.deref.result.now (omega (arith, c.requires.same, c.requires.within)) c.in-Some.is c.deref.ensures in
     let begin = insn_is c.args.slots.now c.args.slot _ (Some c.in-Some-slots.insn) c.requires.within c.in-Some-slots.is in
     let spread = subst (λ (w : Ways). IsSpread (table_of c.args.table.now) c.args.slot c.in-Some-slots.insn w (table_of c.spread.new.table)) t.1 c.in-Ok-spread.ensures.spread in
-    stepped c.args.state_len c.args.slots.now c.args.slot (table_of c.args.table.now) (kind_at c.deref.result.now.kinds) c.in-Some-slots.insn c.requires.follows c.requires.least there begin (c.requires.fits c.args.slot c.in-Some-slots.insn begin) t.0 (table_of c.spread.new.table) spread
+    stepped c.args.state_len c.args.slots.now c.args.slot (table_of c.args.table.now) (kind_at c.deref.result.now.kinds) c.in-Some-slots.insn c.requires.follows c.requires.least there begin t.0 (table_of c.spread.new.table) spread
 
 pub returns-in-Err-spread-clause-size : goal.returns-in-Err-spread-clause-size
 returns-in-Err-spread-clause-size c = c.spread.ensures.size
