@@ -1,5 +1,5 @@
 -- Reading the packets of a bundle
-use Rattle.std.proofs.Common.{Bool, true, false, eqb, ◌↔◌, IsTrue, ◌≡◌, ◌∙◌, ℕ, ◌+◌, ◌<◌, ◌≤◌, List, [], ◌∷◌, ◌++◌, length, take, drop, refl, sym, ap, subst, append_assoc, arith}
+use Rattle.std.proofs.Common.{Bool, false, eqb, ◌↔◌, IsTrue, ◌≡◌, ◌∙◌, ℕ, ◌+◌, ◌<◌, ◌≤◌, List, [], ◌∷◌, ◌++◌, length, take, drop, refl, sym, ap, subst, append_assoc, arith}
 use Rattle.std.specs.List.{flat_map, AllByRecursion}
 use Rattle.std.proofs.lemmas.List.{take_at, drop_at, length-append, append-nil, flat_map_more}
 use Rattle.std.proofs.lemmas.Bool.{ne_eqb, false≢true}
@@ -54,9 +54,6 @@ all_read (x ∷ xs) (y ∷ ys) rest ax ay none e =
 pub record Fronts (packets : List (List ℕ)) (bytes rest : List ℕ) : Type 0 where
   pub each : AllByRecursion IsPart packets
   pub joined : bytes ≡ flat_map part_bytes packets ++ rest
-
-pub no_front : (bytes : List ℕ) → Fronts [] bytes bytes
-no_front bytes = record { each = tt; joined = refl }
 
 all_more : (xs : List (List ℕ)) (x : List ℕ) → AllByRecursion IsPart xs → IsPart x → AllByRecursion IsPart (xs ++ x ∷ [])
 all_more [] x all one = (one, tt)

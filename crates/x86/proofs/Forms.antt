@@ -1,5 +1,5 @@
 -- Each form read back.
-use Rattle.std.proofs.Common.{◌≡◌, ℕ, zero, suc, ◌+◌, ◌-◌, ◌/◌, ◌%◌, ◌^◌, ◌<◌, ◌≤◌, Bool, true, false, List, [], ◌∷◌, ◌++◌, Some, None, refl, sym, ap, ap₂, ◌∙◌, arith, append_assoc}
+use Rattle.std.proofs.Common.{◌≡◌, ℕ, zero, suc, ◌+◌, ◌/◌, ◌%◌, ◌^◌, ◌<◌, Bool, true, false, List, [], ◌∷◌, ◌++◌, Some, None, refl, sym, ap, ◌∙◌, arith, append_assoc}
 use Rattle.std.specs.Prelude.{if◌then◌else◌, ◌==◌, ◌&&◌, ◌≢◌, nat_lt}
 use Rattle.std.proofs.lemmas.Bool.Decides.{Decides-eqb}
 use Rattle.decode.specs.declared.insn.Width.{Width}
@@ -19,9 +19,9 @@ use Rattle.x86.specs.declared.instruction.ConditionCode.{ConditionCode}
 use Rattle.x86.specs.declared.instruction.ConditionCode.TheVariants as condition
 use Rattle.x86.specs.declared.instruction.Instr.{Instr}
 use Rattle.x86.specs.declared.instruction.Instr.TheVariants as instr
-use Rattle.x86.specs.Encoding.{rex, rex_by, prefix, prefix_by, byte_prefix, two, with_two, with_two_0f, with_memory, with_memory_0f, memory, memory_by, op_number, shift_number, code_of, is_small, bytes_of}
-use Rattle.x86.specs.Readings.{Reading, behind, one, width_of, base_of, alu_of, shift_of, condition_of, with_op, whole, four_bytes, eight_bytes, signed_byte, Place, Register, Memory, MemoryBy, modrm, on_register, on_memory, by_place, by_place_0f, by_place_66, by_opcode, by_opcode_0f, behind_rex, behind_66, by_opcode_66, no_rex, without_rex, read, IsNumberOf, ReadsBack, TellOne}
-use Rattle.x86.proofs.Numbers.{other, read_two, read_four, read_eight, spread_small}
+use Rattle.x86.specs.Encoding.{rex, rex_by, prefix, prefix_by, byte_prefix, two, with_two, with_two_0f, with_memory, with_memory_0f, memory, memory_by, op_number, shift_number, is_small, bytes_of}
+use Rattle.x86.specs.Readings.{Reading, behind, one, width_of, alu_of, shift_of, with_op, whole, four_bytes, eight_bytes, signed_byte, Place, Register, Memory, MemoryBy, modrm, on_register, on_memory, by_place, by_place_0f, by_place_66, behind_rex, behind_66, by_opcode_66, no_rex, without_rex, read, IsNumberOf, ReadsBack, TellOne}
+use Rattle.x86.proofs.Numbers.{read_two, read_four, read_eight, spread_small}
 use Rattle.x86.proofs.Places.{rex_bits, modrm_two, modrm_memory, modrm_memory_by}
 
 -- ---- behind a REX, or without one

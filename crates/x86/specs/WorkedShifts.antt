@@ -1,5 +1,5 @@
 -- Shifts and divisions.
-use Rattle.std.specs.Prelude.{◌-◌, List, [], ◌∷◌}
+use Rattle.std.specs.Prelude.{List, [], ◌∷◌}
 use Rattle.decode.specs.declared.insn.Width.TheVariants.{W32, W64}
 use Rattle.x86.specs.Machine.{Word, Unknown}
 use Rattle.x86.specs.Worked.{Row, Reg, Sets, octets}
