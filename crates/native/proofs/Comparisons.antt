@@ -22,7 +22,7 @@ use Rattle.native.specs.Code.{gpr, IsShort}
 use Rattle.native.specs.Comparison.{cmp_code, test_code, compare_code, condition_of}
 use Rattle.native.proofs.Agreement.{Agrees, reads_word}
 use Rattle.native.proofs.Signed.{less_32, less_64, at_most_32, at_most_64, not_less, not_at_most}
-use Rattle.native.proofs.Bodies.{mod_small, word_register}
+use Rattle.native.proofs.Computations.{mod_small, word_register}
 
 -- the flags' above is the order of words
 above : (a b : ℕ) → not (nat_lt a b || (a == b)) ≡ nat_lt b a

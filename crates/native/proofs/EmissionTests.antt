@@ -17,7 +17,7 @@ use Rattle.native.specs.Code.{gpr, codes}
 use Rattle.native.specs.Emission.{peer_tests, room_test, length_test}
 use Rattle.native.proofs.Runs.{GoesAll, has_front, has_back, codes-append}
 use Rattle.native.proofs.Agreement.{Agrees, after, same, put_rcx, put_flags, reads_word}
-use Rattle.native.proofs.Bodies.{on_then}
+use Rattle.native.proofs.Computations.{on_then}
 use Rattle.native.proofs.Helpers.{goes_one, Comes, comes_on, comes_short, comes_here, section, moved, le_small, loads_rcx}
 
 -- ---- a word of the record is loaded and compared

@@ -20,7 +20,7 @@ use Rattle.native.specs.Correct.{IsCalled}
 use Rattle.native.proofs.Registers.{listed, spread}
 use Rattle.native.proofs.Runs.{Ends, goes, GoesAll, all_go, has_front, has_back, codes-append}
 use Rattle.native.proofs.Agreement.{Agrees, after, clears, one_alike, put_word}
-use Rattle.native.proofs.Bodies.{on_then}
+use Rattle.native.proofs.Computations.{on_then}
 use Rattle.native.proofs.Helpers.{then_all, goes_one}
 
 abbrev pub state_of : List Value → List ℕ → Flags → List ℕ → List ℕ → List Value → State

@@ -28,9 +28,11 @@ use Rattle.native.specs.SlotCode.{IsDone}
 use Rattle.native.proofs.Runs.{codes-append}
 use Rattle.native.proofs.Agreement.{Agrees}
 use Rattle.native.proofs.Lengths.{send_few, output_few, send_sized_few, output_sized_few}
-use Rattle.native.proofs.Bodies.{Performs, plain_performs, word_register}
+use Rattle.native.proofs.Computations.{word_register}
+use Rattle.native.proofs.Bodies.{Performs, plain_performs}
 use Rattle.native.proofs.Divisions.{div_at, mod_at, sdiv_at, smod_at}
-use Rattle.native.proofs.Sized.{Given, given_at, given_by, sends_by, outputs_by, adds_sent, adds_output, copied_sized, copied_sized_by, copied_64_by, out as sized_out, sent as sized_sent, output_done as sized_output_done, send_done as sized_send_done, send_sized_at, output_sized_at}
+use Rattle.native.proofs.Additions.{sends_by, outputs_by, adds_sent, adds_output, copied_sized, copied_sized_by, copied_64_by}
+use Rattle.native.proofs.Sized.{Given, given_at, given_by, out as sized_out, sent as sized_sent, output_done as sized_output_done, send_done as sized_send_done, send_sized_at, output_sized_at}
 use Rattle.native.proofs.Helpers.{Adds, Comes, sends, outputs, send_straight, output_straight}
 use Rattle.native.proofs.Fixed.{sent, out, send_done, output_done, send_at, output_at}
 

@@ -24,7 +24,7 @@ use Rattle.native.specs.Code.{gpr}
 use Rattle.native.specs.Pending.{ArePending}
 use Rattle.native.specs.Targets.{marked_by, marked, targets_in}
 use Rattle.native.specs.Fusion.{sum_of, fused, is_covered}
-use Rattle.native.proofs.Bodies.{word_register}
+use Rattle.native.proofs.Computations.{word_register}
 
 -- ---- the tasks of fused slots
 

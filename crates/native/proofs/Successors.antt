@@ -41,7 +41,7 @@ use Rattle.native.proofs.Runs.{spread_small, Ends, goes, leaps, has_front, has_b
 use Rattle.native.proofs.Agreement.{Agrees, after, flushes, reads, puts, put_word, put_flags}
 use Rattle.native.proofs.FusionLemmas.{found_at, fused_sum, covered_behind, uncovered}
 use Rattle.native.proofs.Sound.{Sound, Safe, Same, set_small, put_same, does_sound, does_same, task_safe, task_puts, operand_small}
-use Rattle.native.proofs.Bodies.{word_register}
+use Rattle.native.proofs.Computations.{word_register}
 use Rattle.native.proofs.Execution.{Falls, performs}
 use Rattle.native.proofs.Records.{read_back, keeps_steps}
 use Rattle.native.proofs.Comparisons.{flags_of, compares, jumps}
