@@ -144,10 +144,6 @@ module _ {who : Who} {saved : List Value} {c : State} {words mem : List ℕ} {e 
   pub put_array : (bs : List ℕ) → Agrees who saved (record c { array = bs }) words bs e count
   put_array bs = put_blocks c.flags c.long bs c.record_ bs e refl a.keeps
 
-  -- the record is another
-  pub put_record : (e' : Emitted) (bs : List ℕ) → Keeps who e' bs → Agrees who saved (record c { record_ = bs }) words mem e' count
-  put_record e' bs k = put_blocks c.flags c.long c.array bs mem e' a.array k
-
   -- rcx and rdx are others, and the record keeps these effects
   pub put_scratch : (e' : Emitted) (s : State) → length s.regs ≡ 16 → ((q : ℕ) → q ≢ 1 → q ≢ 2 → value s q ≡ value c q) → s.array ≡ c.array → Keeps who e' s.record_ → s.pushed ≡ c.pushed → Agrees who saved s words mem e' count
   put_scratch e' s l f x y z = record {

@@ -1,6 +1,6 @@
 -- Which registers are kept.
 use Rattle.std.proofs.Common.{◌≡◌, ℕ, zero, suc, ◌+◌, ◌<◌, ◌≤◌, Bool, true, false, List, length, drop, Some, refl, sym, ap, ◌∙◌, subst, ⊎_elim, arith}
-use Rattle.std.specs.Prelude.{◌==◌, ◌||◌, slice_get}
+use Rattle.std.specs.Prelude.{◌||◌, slice_get}
 use Rattle.std.proofs.lemmas.Bool.{cases_lt}
 use Rattle.native.specs.declared.task.SlotTask.{SlotTask}
 use Rattle.native.specs.declared.task.SlotTask.TheVariants as task
@@ -27,20 +27,6 @@ added_may s (suc (suc (suc (suc (suc (suc (suc zero))))))) = or_true s.r13
 added_may s (suc (suc (suc (suc (suc (suc (suc (suc zero)))))))) = or_true s.r14
 added_may s (suc (suc (suc (suc (suc (suc (suc (suc (suc zero))))))))) = or_true s.r15
 added_may s (suc (suc (suc (suc (suc (suc (suc (suc (suc (suc r)))))))))) = refl
-
--- and those of before still may
-pub added_more : (s : SavedRegisters) (d : ℕ) → Includes s (and_register s d)
-added_more s d zero h = refl
-added_more s d (suc zero) h = refl
-added_more s d (suc (suc zero)) h = ap (λ b. b || (d == 2)) h
-added_more s d (suc (suc (suc zero))) h = refl
-added_more s d (suc (suc (suc (suc zero)))) h = refl
-added_more s d (suc (suc (suc (suc (suc zero))))) h = ap (λ b. b || (d == 5)) h
-added_more s d (suc (suc (suc (suc (suc (suc zero)))))) h = ap (λ b. b || (d == 6)) h
-added_more s d (suc (suc (suc (suc (suc (suc (suc zero))))))) h = ap (λ b. b || (d == 7)) h
-added_more s d (suc (suc (suc (suc (suc (suc (suc (suc zero)))))))) h = ap (λ b. b || (d == 8)) h
-added_more s d (suc (suc (suc (suc (suc (suc (suc (suc (suc zero))))))))) h = ap (λ b. b || (d == 9)) h
-added_more s d (suc (suc (suc (suc (suc (suc (suc (suc (suc (suc r)))))))))) h = refl
 
 -- a task that writes within some writes within more
 pub writes_more : (s u : SavedRegisters) (t : SlotTask) → Includes s u → WritesWithin s t → WritesWithin u t

@@ -1,5 +1,5 @@
 -- The task of each slot.
-use Rattle.std.proofs.Common.{◌≡◌, ℕ, zero, suc, ◌+◌, ◌<◌, ◌≤◌, List, [], ◌∷◌, ◌++◌, Option, Some, length, refl, sym, ap, ◌∙◌, ⊎_elim, arith, length-append}
+use Rattle.std.proofs.Common.{◌≡◌, ℕ, zero, suc, ◌<◌, ◌≤◌, List, [], ◌∷◌, ◌++◌, Option, Some, length, refl, sym, ap, ◌∙◌, ⊎_elim, arith, length-append}
 use Rattle.std.specs.Prelude.{slice_get}
 use Rattle.std.proofs.lemmas.Bool.{cases_lt}
 use Rattle.decode.specs.declared.insn.Insn.{Insn}
@@ -34,8 +34,3 @@ task_found slots len (suc n) s i l h =
     get_last (tasks_in slots len n) t s (sym e ∙ sym (tasks_long slots len n))
     ∙ ap Some (ap (λ m. task_there len m (insn_at slots m)) e ∙ ap (task_there len s) h))
     (cases_lt s n)
-
-pub tasks_more : (slots : List (Option Insn)) (len n : ℕ) (tasks more : List SlotTask) → tasks ≡ tasks_in slots len n → more ≡ tasks ++ task_there len n (insn_at slots n) ∷ [] → more ≡ tasks_in slots len (n + 1)
-tasks_more slots len n tasks more h e =
-    let k : suc n ≡ n + 1 = omega arith in
-    e ∙ ap (λ xs. xs ++ task_there len n (insn_at slots n) ∷ []) h ∙ ap (tasks_in slots len) k

@@ -1,34 +1,13 @@
 -- Steps that aren't counted yet, slot by slot.
 use Rattle.std.proofs.Common.{◌≡◌, ℕ, zero, suc, ◌+◌, ◌-◌, ◌<◌, ◌≤◌, Bool, true, false, cond, List, [], ◌∷◌, ◌++◌, length, Some, refl, sym, ap, ◌∙◌, subst, ⊎_elim, arith, length-append}
-use Rattle.std.specs.Prelude.{◌||◌, slice_get, slice_set, slice_index, replicate}
+use Rattle.std.specs.Prelude.{◌||◌, slice_get, slice_index, replicate}
 use Rattle.std.proofs.lemmas.Option.{slice_get-get_or}
-use Rattle.std.proofs.lemmas.Bool.{cases_eq, cases_lt}
-use Rattle.std.proofs.lemmas.List.{get_or-set_same, get_or-set_other, get_or_past, replicate_more}
+use Rattle.std.proofs.lemmas.Bool.{cases_lt}
+use Rattle.std.proofs.lemmas.List.{replicate_more}
 use Rattle.native.specs.declared.task.SlotTask.{SlotTask}
 use Rattle.native.specs.declared.task.SlotTask.TheVariants as task
 use Rattle.native.specs.SlotTasks.{task_at}
 use Rattle.native.specs.Pending.{far, lowered_behind, is_more_behind, passed, is_passed, settled, pending_in, IsBalanced}
-
--- an element that became less
-pub set_falls : (xs : List ℕ) (i v k : ℕ) → i < length xs → v ≤ slice_index xs i → slice_index (slice_set xs i v) k ≤ slice_index xs k
-set_falls xs i v k l h = ⊎_elim
-    (λ e. let x : slice_index (slice_set xs i v) k ≡ v = ap (slice_index (slice_set xs i v)) e ∙ get_or-set_same xs i v 0 l in
-    let y : slice_index xs k ≡ slice_index xs i = ap (slice_index xs) e in
-    omega arith)
-    (λ e. let x = get_or-set_other xs i k v 0 e in omega arith)
-    (cases_eq k i)
-
--- past the end there is 0
-pub past_zero : (xs : List ℕ) (i : ℕ) → length xs ≤ i → slice_index xs i ≡ 0
-past_zero xs i h = get_or_past xs i 0 h
-
--- nothing is left uncounted
-pub none_balanced : (k : ℕ) (t : SlotTask) → IsBalanced [] k t
-none_balanced k (task.Branch x w dst o to) = (omega arith, refl)
-none_balanced k (task.Leap to) = omega arith
-none_balanced k task.Exit = tt
-none_balanced k task.Dead = tt
-none_balanced k t = omega arith
 
 -- what is known of the list, and of it as it is made
 pub record AreFew (pending : List ℕ) : Type 0 where
@@ -58,13 +37,6 @@ some_more xs ys e a = subst AreSome (sym e) (record {
   };
 })
 
-pub some_first : (xs : List ℕ) → xs ≡ 0 ∷ [] → AreSome xs
-some_first xs e = subst AreSome (sym e) (record { some = omega arith; few = record { begins = refl; small = first } })
-  where
-    first : (k : ℕ) → slice_index (0 ∷ []) k ≤ 0x40000000
-    first zero = omega arith
-    first (suc k) = omega arith
-
 pub few_less : (xs ys : List ℕ) → ((k : ℕ) → slice_index ys k ≤ slice_index xs k) → AreFew xs → AreFew ys
 few_less xs ys h a = record {
   begins = let l = h 0 in let m = a.begins in omega arith;
@@ -76,9 +48,6 @@ pub record Filled (pending : List ℕ) (count : ℕ) : Type 0 where
   pub some : AreSome pending
   pub is : pending ≡ 0 ∷ replicate count far
 
-pub filled_first : (xs : List ℕ) → xs ≡ 0 ∷ [] → Filled xs 0
-filled_first xs e = record { some = some_first xs e; is = e }
-
 pub filled_more : (xs ys : List ℕ) (count : ℕ) → ys ≡ xs ++ 0x40000000 ∷ [] → Filled xs count → Filled ys (count + 1)
 filled_more xs ys count e f = record {
   some = some_more xs ys e f.some;
@@ -89,12 +58,6 @@ filled_more xs ys count e f = record {
 pub record Settling (tasks : List SlotTask) (pending : List ℕ) (count : ℕ) : Type 0 where
   pub few : AreFew pending
   pub is : settled tasks (16 - count) pending ≡ pending_in tasks
-
-pub settling_first : (tasks : List SlotTask) (xs : List ℕ) (count : ℕ) → count ≡ length tasks → Filled xs count → Settling tasks xs 0
-settling_first tasks xs count n f = record {
-  few = f.some.few;
-  is = ap (settled tasks 16) (f.is ∙ ap (λ k. 0 ∷ replicate k far) n);
-}
 
 module _ (tasks : List SlotTask) (xs ys : List ℕ) (count : ℕ) (l : count < 16) (e : ys ≡ passed tasks xs (length tasks)) (s : Settling tasks xs count) where
   -- one pass more
@@ -111,12 +74,6 @@ module _ (tasks : List SlotTask) (xs ys : List ℕ) (count : ℕ) (l : count < 1
 
   pub settling_end : is_passed tasks xs (length tasks) ≡ false → ys ≡ pending_in tasks
   settling_end t = step false t
-
--- after all of them nothing is left uncounted
-pub settling_none : (tasks : List SlotTask) (xs : List ℕ) (count : ℕ) → 16 ≤ count → Settling tasks xs count → [] ≡ pending_in tasks
-settling_none tasks xs count l s =
-    let n : 0 ≡ 16 - count = omega arith in
-    ap (λ k. settled tasks k xs) n ∙ s.is
 
 -- as far as a pass has come
 pub record Passed (tasks : List SlotTask) (old pending : List ℕ) (changed : Bool) (slot : ℕ) : Type 0 where

@@ -6,7 +6,6 @@ use Rattle.decode.specs.declared.insn.Condition.TheVariants as condition
 use Rattle.decode.specs.declared.insn.Operand.{Operand}
 use Rattle.decode.specs.declared.insn.Operand.TheVariants as operand
 use Rattle.operations.specs.Operations.{word_of}
-use Rattle.x86.specs.declared.instruction.Alu.{Alu}
 use Rattle.x86.specs.declared.instruction.Alu.TheVariants as alu
 use Rattle.x86.specs.declared.instruction.ConditionCode as x86
 use Rattle.x86.specs.declared.instruction.ConditionCode.TheVariants as met

@@ -2,7 +2,6 @@
 use Rattle.std.specs.Prelude.{◌≡◌, ℕ, ◌+◌, List, [], ◌∷◌, ◌++◌, Option, Some, None, length}
 use Rattle.decode.specs.declared.insn.Width.TheVariants.{W64}
 use Rattle.decode.specs.declared.insn.Size.TheVariants as size
-use Rattle.x86.specs.declared.instruction.Alu.{Alu}
 use Rattle.x86.specs.declared.instruction.Alu.TheVariants as alu
 use Rattle.x86.specs.declared.instruction.ConditionCode.TheVariants as met
 use Rattle.x86.specs.declared.instruction.Instr.{Instr}

@@ -1,4 +1,3 @@
-use Rattle.std.proofs.Common.{refl}
 use Rattle.native.proofs.Emitted.{where_ok, computed_by_body}
 use Rattle.native.proofs.task_code.emit_compute.Goals as goal
 
