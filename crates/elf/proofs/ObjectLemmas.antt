@@ -1,13 +1,10 @@
 -- The functions of a table and of a file, one more at a time.
-use Rattle.std.proofs.Common.{◌≡◌, ◌<◌, ◌≤◌, ◌⊎◌, ◌+◌, ◌*◌, ◌/◌, ◌^◌, ◌++◌, ◌∷◌, ◌∙◌, inl, inr, min, suc, ℕ, List, [], Option, length, get_or, refl, add-one, append-nil, append_assoc, ap, arith, subst, sym}
-use Rattle.elf.specs.Inside.{HasReference, IsUnread, IsUnreadRow, IsUnreadTable}
-use Rattle.elf.specs.Function.{IsChosen}
-use Rattle.elf.specs.Refusal.{AreBytesOutside, IsBroken, IsDamaged, IsFaultOf, IsRefusal, IsRowOutside}
-use Rattle.elf.specs.declared.fault.ObjectFault.{ObjectFault}
-use Rattle.elf.specs.declared.fault.ObjectFault.TheVariants.{Kind, ByteOrder, Processor, Linked, Damaged, NoFunction, NoSuchFunction, Several, Outside, Reference, Call, Slots, State}
+use Rattle.std.proofs.Common.{◌≡◌, ◌<◌, ◌≤◌, ◌+◌, ◌*◌, ◌/◌, ◌^◌, ◌++◌, ◌∷◌, ◌∙◌, inl, inr, min, suc, ℕ, List, [], Option, length, get_or, refl, add-one, append-nil, append_assoc, ap, arith, subst, sym}
+use Rattle.elf.specs.Inside.{IsUnread, IsUnreadRow, IsUnreadTable}
+use Rattle.elf.specs.Refusal.{AreBytesOutside, IsDamaged, IsFaultOf, IsRefusal}
 use Rattle.elf.specs.declared.fault.ObjectError.{ObjectError}
 use Rattle.elf.specs.declared.fault.ObjectError.TheVariants.{Fault, Memory}
-use Rattle.elf.specs.Object.{bytes_at, contents_of, functions_below, functions_in, functions_of, functions_of_table, if_function, section_at, section_count, sizes_below, stored_size, symbol_at, symbol_in}
+use Rattle.elf.specs.Object.{bytes_at, contents_of, functions_below, functions_in, functions_of_table, if_function, section_at, section_count, sizes_below, stored_size, symbol_at, symbol_in}
 use Rattle.elf.specs.declared.section.Section.{Section}
 use Rattle.elf.specs.declared.symbol.Symbol.{Symbol}
 
@@ -46,10 +43,6 @@ single [] x one is = absurd (omega arith)
 single (y ∷ []) x one is = ap (λ z. z ∷ []) (sym is)
 single (y ∷ z ∷ rest) x one is = absurd (omega arith)
 
--- sections that can't be read damage the file
-pub row_damages : (file : List ℕ) (index : ℕ) → index < section_count file → IsRowOutside file index → IsDamaged file
-row_damages file index lt away = (index, lt, inl away)
-
 pub bytes_damage : (file : List ℕ) (index : ℕ) → index < section_count file → ¬ ((section_at file index).kind ≡ 8)
     → AreBytesOutside file (section_at file index) → IsDamaged file
 bytes_damage file index lt kind away = (index, lt, inr (inr (inl (kind, away))))
@@ -73,25 +66,6 @@ table_unread file index (Fault fault) lt (damaged, inl why) = (damaged, why)
 table_unread file index (Fault fault) lt (damaged, inr (kind, inl away)) =
     (damaged, bytes_damage file index lt (λ eight. absurd (omega arith)) away)
 table_unread file index (Fault fault) lt (damaged, inr (kind, inr nameless)) = (damaged, (index, lt, inr (inr (inr (kind, nameless)))))
-
--- a section of relocations that isn't read damages it, too
-pub reference_broken : (file : List ℕ) (symbol : Symbol) (index : ℕ) (f : ObjectFault) → index < section_count file
-    → ((section_at file index).kind ≡ 9) ⊎ ((section_at file index).kind ≡ 4)
-    → HasReference file symbol (section_at file index) f → IsBroken file symbol f
-reference_broken file symbol index Damaged lt (inl kind) away = inl (bytes_damage file index lt (λ eight. absurd (omega arith)) away)
-reference_broken file symbol index Damaged lt (inr kind) away = inl (bytes_damage file index lt (λ eight. absurd (omega arith)) away)
-reference_broken file symbol index (Reference slot is_call table number) lt kind (row, is, at) = (index, row, lt, is, at)
-reference_broken file symbol index Outside lt kind why = absurd why
-reference_broken file symbol index (Call slot) lt kind why = absurd why
-reference_broken file symbol index (Slots slots) lt kind why = absurd why
-reference_broken file symbol index Kind lt kind why = absurd why
-reference_broken file symbol index ByteOrder lt kind why = absurd why
-reference_broken file symbol index (Processor number) lt kind why = absurd why
-reference_broken file symbol index Linked lt kind why = absurd why
-reference_broken file symbol index NoFunction lt kind why = absurd why
-reference_broken file symbol index NoSuchFunction lt kind why = absurd why
-reference_broken file symbol index Several lt kind why = absurd why
-reference_broken file symbol index (State length) lt kind why = absurd why
 
 -- the sizes of the sections, one more at a time
 pub no_sizes : (file : List ℕ) → 0 ≡ sizes_below file 0
@@ -121,20 +95,3 @@ sizes_kept file index total stored sum section before is counted added within sh
 pub unread_refused : (file : List ℕ) (name : Option (List ℕ)) (e : ObjectError) → IsUnread file e → IsRefusal file name e
 unread_refused file name Memory why = tt
 unread_refused file name (Fault fault) (damaged, why) = subst (IsFaultOf file name) (sym damaged) (inl why)
-
--- nor is one whose function is broken
-pub broken_refused : (file : List ℕ) (name : Option (List ℕ)) (symbol : Symbol) (f : ObjectFault) → IsChosen file name (functions_of file) symbol
-    → IsBroken file symbol f → IsFaultOf file name f
-broken_refused file name symbol Damaged chosen broken = inr (symbol, chosen, broken)
-broken_refused file name symbol Outside chosen broken = (symbol, chosen, broken)
-broken_refused file name symbol (Reference slot is_call table number) chosen broken = (symbol, chosen, broken)
-broken_refused file name symbol (Call slot) chosen broken = (symbol, chosen, broken)
-broken_refused file name symbol (Slots slots) chosen broken = (symbol, chosen, broken)
-broken_refused file name symbol Kind chosen broken = absurd broken
-broken_refused file name symbol ByteOrder chosen broken = absurd broken
-broken_refused file name symbol (Processor number) chosen broken = absurd broken
-broken_refused file name symbol Linked chosen broken = absurd broken
-broken_refused file name symbol NoFunction chosen broken = absurd broken
-broken_refused file name symbol NoSuchFunction chosen broken = absurd broken
-broken_refused file name symbol Several chosen broken = absurd broken
-broken_refused file name symbol (State length) chosen broken = absurd broken
