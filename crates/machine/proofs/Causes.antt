@@ -22,9 +22,6 @@ module _ (m : TheMachine) (w : World) (s : Stands m w) (room d feed : ℕ) (x : 
   causes : refusal_of w room (Input d feed x) ≡ least ((not (nat_lt 0 d && nat_le d (length m.processes)), 1) ∷ (nat_lt room (busy m + 1), 12) ∷ (is_taken feed m.outside, 14) ∷ [])
   causes = rw (jobs m w s, s.shows.count, s.shows.feeds feed) refl
 
-  pub input-outside : (nat_lt 0 d && nat_le d (length m.processes)) ≡ false → refusal_of w room (Input d feed x) ≡ Some 1
-  input-outside out = causes ∙ rw out refl
-
   module _ (inside : (nat_lt 0 d && nat_le d (length m.processes)) ≡ true) where
     pub input-full : room ≤ busy m → refusal_of w room (Input d feed x) ≡ Some 12
     input-full full = let late : nat_lt room (busy m + 1) ≡ true = grind (arith, nat_tests) in causes ∙ rw (inside, late) refl
@@ -68,9 +65,6 @@ module _ (m : TheMachine) (w : World) (s : Stands m w) (room p d i : ℕ) where
     inside : (nat_lt (length m.processes) p || nat_lt (length m.processes) d) ≡ false
     inside = grind (arith, nat_tests)
 
-    pub transmit-down : is_up_at m p ≡ false → refusal_of w room (Transmit p d i) ≡ Some 2
-    transmit-down off = rw (s.shows.count, inside, up_is m w s p within, off) refl
-
     module _ (up : is_up_at m p ≡ true) where
       pub transmit-same : p ≡ d → refusal_of w room (Transmit p d i) ≡ Some 5
       transmit-same e = let same : (p == d) ≡ true = grind (arith, nat_tests) in rw (s.shows.count, inside, up_at m w s p within up, same) refl
@@ -106,19 +100,6 @@ module _ (m : TheMachine) (w : World) (s : Stands m w) (room p d i : ℕ) where
 -- What lies under a key
 
 module _ (m : TheMachine) (w : World) (s : Stands m w) (room key : ℕ) where
-  module _ (none : slice_index_or m.slots key None ≡ None) where
-    nothing : w.wire key ≡ None
-    nothing = s.shows.wire key ∙ none
-
-    pub copy-nothing : refusal_of w room (Copy key) ≡ Some 4
-    copy-nothing = rw nothing refl
-
-    pub lose-nothing : refusal_of w room (Lose key) ≡ Some 4
-    lose-nothing = rw nothing refl
-
-    pub arrive-nothing : refusal_of w room (Arrive key) ≡ Some 4
-    arrive-nothing = rw nothing refl
-
   module _ (some : slice_index_or m.slots key None ≢ None) where
     something : is_none (w.wire key) ≡ false
     something = ap is_none (s.shows.wire key) ∙ by_slot (slice_index_or m.slots key None) some
@@ -140,9 +121,6 @@ module _ (m : TheMachine) (w : World) (s : Stands m w) (room key : ℕ) where
   module _ (k : Packet) (some : slice_index_or m.slots key None ≡ Some k) where
     there : w.wire key ≡ Some k
     there = s.shows.wire key ∙ some
-
-    pub arrive-busy : is_to_busy w (Some k) ≡ true → refusal_of w room (Arrive key) ≡ Some 3
-    arrive-busy busy_is = rw (there, busy_is) refl
 
     module _ (calm : is_to_busy w (Some k) ≡ false) (begun : ℕ) (begun_is : begun ≡ one_if (starts w (Some k))) where
       rest_is : refusal_of w room (Arrive key) ≡ least ((nat_lt room (busy m + begun + 1), 12) ∷ [])

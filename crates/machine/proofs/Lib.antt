@@ -3,6 +3,7 @@ pub mod Status
 pub mod OneProcess
 pub mod Causes
 pub mod Crashes
+pub mod Coverage
 pub mod Trims
 pub mod CheckpointLemmas
 pub mod RecoveryCauses
@@ -20,6 +21,7 @@ pub mod Releases
 pub mod Preservation
 pub mod KeepLemmas
 pub mod Arrivals
+pub mod NumberArrivals
 pub mod Replies
 pub mod ResultLemmas
 pub mod Commitment
@@ -33,5 +35,6 @@ pub mod Settlement
 pub mod Returns
 pub mod Restoration
 pub mod NumberLemmas
+pub mod Wants
 pub mod Picks
 pub mod StartLemmas

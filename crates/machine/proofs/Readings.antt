@@ -79,9 +79,6 @@ module _ (m : TheMachine) (w : World) (s : Stands m w) (p : ℕ) (inside : 0 < p
   pub phase-is : w.phase p ≡ phase_of (length m.processes) (process_at m p).mode (process_at m p).working
   phase-is = at.phase_is
 
-  pub incarnation-is : (process_at m p).incarnation ≡ w.incarnation p
-  incarnation-is = sym at.incarnation_is
-
   pub receipts-stand : ReceiptsStand w p (process_at m p).receipts
   receipts-stand =
       record {

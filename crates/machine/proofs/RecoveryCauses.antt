@@ -57,21 +57,6 @@ module _ (m : TheMachine) (w : World) (s : Stands m w) (p : ℕ) where
   others-not k h e down = ap not (any-some (λ q. not (q == p) && not (is_up (w.phase q))) (suc w.count) k (omega (arith, h, s.shows.count)) (rw (e, up_is m w s k h, down) refl))
 
 module _ (m : TheMachine) (w : World) (s : Stands m w) (room p : ℕ) where
-  outside_is : (nat_lt 0 p && nat_le p (length m.processes)) ≡ false → (nat_lt 0 p && nat_le p w.count) ≡ false
-  outside_is out = rw s.shows.count out
-
-  pub checkpoint-outside : (nat_lt 0 p && nat_le p (length m.processes)) ≡ false → refusal_of w room (Checkpoint p) ≡ Some 1
-  checkpoint-outside out = rw (outside_is out) refl
-
-  pub crash-outside : (nat_lt 0 p && nat_le p (length m.processes)) ≡ false → refusal_of w room (Crash p) ≡ Some 1
-  crash-outside out = rw (outside_is out) refl
-
-  pub recover-outside : (nat_lt 0 p && nat_le p (length m.processes)) ≡ false → refusal_of w room (Recover p) ≡ Some 1
-  recover-outside out = rw (outside_is out) refl
-
-  pub alone-outside : (nat_lt 0 p && nat_le p (length m.processes)) ≡ false → refusal_of w room (RecoverAlone p) ≡ Some 1
-  alone-outside out = rw (outside_is out) refl
-
   module _ (positive : 0 < p) (within : p ≤ length m.processes) where
     inside : (nat_lt 0 p && nat_le p w.count) ≡ true
     inside = let count = s.shows.count in grind (arith, nat_tests)
@@ -97,10 +82,6 @@ module _ (m : TheMachine) (w : World) (s : Stands m w) (room p : ℕ) where
         pub checkpoint-free : busy m < room → refusal_of w room (Checkpoint p) ≡ None
         checkpoint-free free = rw (inside, up_is m w s p within, up, busy_is, idle, jobs m w s, early room (busy m) free) refl
 
-    -- a crash
-    pub crash-down : is_lost (process_at m p).mode ≡ true → refusal_of w room (Crash p) ≡ Some 2
-    crash-down lost = rw (inside, down_is m w s p positive within, lost) refl
-
     -- one process works, or more
     one-works : (xs : List TheProcess) (k : ℕ) (d : TheProcess) → k < length xs → one_if (is_some (slice_index_or xs k d).working) ≤ count_by (λ (x : TheProcess). is_some x.working) xs
     one-works [] k d h = absurd (omega arith)
@@ -111,6 +92,7 @@ module _ (m : TheMachine) (w : World) (s : Stands m w) (room p : ℕ) where
         by_first false = omega arith
     one-works (x ∷ xs) (suc k) d h = let onward = one-works xs k d (omega (arith, h)) in omega (arith, onward, sum_by-cons (λ (z : TheProcess). cond (is_some z.working) 1 0) x xs)
 
+    -- a crash
     module _ (back : is_lost (process_at m p).mode ≡ false) where
       own : ℕ
       own = one_if (is_some (process_at m p).working)
@@ -131,10 +113,6 @@ module _ (m : TheMachine) (w : World) (s : Stands m w) (room p : ℕ) where
       unfolding own
       crash-free free = crash-is ∙ rw (early room (busy m - own) (omega (arith, free, own-some))) refl
 
-    -- a return
-    pub recover-peer : others_up w p ≡ false → refusal_of w room (Recover p) ≡ Some 8
-    recover-peer other = rw (inside, other) refl
-
     -- one that may come back
     return-is : (lost full : Bool) → is_lost (process_at m p).mode ≡ lost → nat_le room (busy m) ≡ full
         → least ((not (is_lost (process_at m p).mode), 10) ∷ (nat_lt room (busy m + 1), 12) ∷ []) ≡ option_and_then cause_of (returning m room p)
@@ -151,9 +129,6 @@ module _ (m : TheMachine) (w : World) (s : Stands m w) (room p : ℕ) where
     alone-rest = rw (inside, down_is m w s p positive within, jobs m w s) (return-is (is_lost (process_at m p).mode) (nat_le room (busy m)) refl refl)
 
   -- a trim
-  pub trim-outside : length m.processes < p → refusal_of w room (Trim p) ≡ Some 1
-  trim-outside out = let above : nat_lt (length m.processes) p ≡ true = grind (arith, nat_tests) in rw (s.shows.count, above) refl
-
   module _ (within : p ≤ length m.processes) where
     below : nat_lt (length m.processes) p ≡ false
     below = grind (arith, nat_tests)

@@ -84,9 +84,6 @@ module _ (m : TheMachine) (w : World) (s : Stands m w) (room p : ℕ) where
     inside : (nat_lt 0 p && nat_le p w.count) ≡ true
     inside = let count = s.shows.count in grind (arith, nat_tests)
 
-    pub replay-busy : is_some (process_at m p).working ≡ true → refusal_of w room (ReplayBegin p) ≡ Some 3
-    replay-busy works = rw (inside, working-is m w s p positive within, works) refl
-
     module _ (idle : is_some (process_at m p).working ≡ false) where
       pub replay-nothing : is_some (next_job (process_at m p).mode) ≡ false → refusal_of w room (ReplayBegin p) ≡ Some 11
       replay-nothing none = rw (inside, working-is m w s p positive within, idle, replaying-is m w s p positive within, none) refl
@@ -106,15 +103,9 @@ module _ (m : TheMachine) (w : World) (s : Stands m w) (room p : ℕ) where
       both_inside : (nat_lt 0 p && nat_le p w.count && (nat_lt 0 r && nat_le r w.count)) ≡ true
       both_inside = let count = s.shows.count in grind (arith, nat_tests)
 
-      pub resync-same : p ≡ r → refusal_of w room (ResyncWith p r) ≡ Some 5
-      resync-same e = let same : (p == r) ≡ true = grind (arith, nat_tests) in rw (both_inside, same) refl
-
       module _ (apart : p ≢ r) where
         other : (p == r) ≡ false
         other = grind (arith, nat_tests)
-
-        pub resync-down : is_up_at m r ≡ false → refusal_of w room (ResyncWith p r) ≡ Some 8
-        resync-down down = rw (both_inside, other, up_is m w s r peer_within, down) refl
 
         module _ (up : is_up_at m r ≡ true) where
           pub resync-done : has (todo_of (w.phase p)) r ≡ false → refusal_of w room (ResyncWith p r) ≡ Some 11

@@ -285,14 +285,6 @@ module _ (m : TheMachine) (w : World) (s : Stands m w) (p d : ℕ) (within : p �
           let inside : 0 < p = grind (arith, nat_tests) in
           rw e (sym (holds_at m w s p d inside within to apart (up_at m w s p within up)).released_is)
 
-  -- no more is released than was sent
-  pub released_sent : released_to w p d ≤ length (sent w p d)
-  released_sent = by_sender (p == 0) refl
-    where
-      by_sender : (b : Bool) → (p == 0) ≡ b → released_to w p d ≤ length (sent w p d)
-      by_sender true e = rw e (omega arith)
-      by_sender false e = let t = (s.tidy p).gated d in rw e (rw e at t)
-
 -- how many messages of its sender the receiver of a message has
 received_of-inside : (w : World) (p : ℕ) (x : Message) → 0 < p → received_of w p x ≡ count_of x.sender (w.history p)
 received_of-inside w zero x h = absurd (omega arith)

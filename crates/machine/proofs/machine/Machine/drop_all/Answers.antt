@@ -1,7 +1,7 @@
 use Rattle.std.proofs.Common.{arith, ◌≡◌, ◌+◌, suc, length, ap, ◌∙◌}
 use Rattle.machine.specs.Checkpoints.{dropped_by, dropped_to, trimmed_to, without_covered}
 use Rattle.machine.specs.Simulation.{TheMachine}
-use Rattle.machine.proofs.Trims.{width-to}
+use Rattle.machine.proofs.Coverage.{width-to}
 use Rattle.machine.proofs.machine.Machine.drop_all.Goals as goal
 
 pub drop_covered-dropped-requires : goal.drop_covered-dropped-requires

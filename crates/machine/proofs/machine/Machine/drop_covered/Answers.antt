@@ -3,7 +3,7 @@ use Rattle.std.proofs.lemmas.Grind.{common_steps}
 use Rattle.session_process.specs.Process.{trimmed_at}
 use Rattle.machine.specs.Fields.{IsSoundAt}
 use Rattle.machine.specs.Simulation.{TheMachine}
-use Rattle.machine.proofs.Trims.{trimmed-sound}
+use Rattle.machine.proofs.Coverage.{trimmed-sound}
 use Rattle.machine.proofs.Restoration.{put-sound}
 use Rattle.machine.proofs.Soundness.{sound_at}
 use Rattle.machine.proofs.machine.Machine.drop_covered.Goals as goal

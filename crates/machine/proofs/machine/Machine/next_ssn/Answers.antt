@@ -1,5 +1,5 @@
 use Rattle.std.proofs.Common.{◌<◌, arith, ◌∙◌}
-use Rattle.machine.proofs.Picks.{next-at}
+use Rattle.machine.proofs.Wants.{next-at}
 use Rattle.machine.proofs.machine.Machine.next_ssn.Goals as goal
 
 pub returns-clause-value : goal.returns-clause-value

@@ -9,7 +9,7 @@ use Rattle.session_process.specs.Wire.{Puts}
 use Rattle.machine.specs.Fields.{IsCarried}
 use Rattle.machine.specs.Reception.{Drops}
 use Rattle.machine.specs.Simulation.{TheMachine, Steps, process_at, is_up_at}
-use Rattle.machine.proofs.Arrivals.{number-past, number-unlogged, noted, records-else}
+use Rattle.machine.proofs.NumberArrivals.{number-past, number-unlogged, noted, records-else}
 use Rattle.machine.proofs.Preservation.{later, carried-put, keys-put}
 use Rattle.machine.proofs.Status.{key-low}
 use Rattle.machine.proofs.machine.Machine.note.Goals as goal

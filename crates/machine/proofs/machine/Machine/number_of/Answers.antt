@@ -3,7 +3,7 @@ use Rattle.std.specs.Prelude.{None}
 use Rattle.rsn.specs.declared.receipts.Judgement.{Judgement}
 use Rattle.rsn.specs.declared.receipts.Judgement.TheVariants.{Next, Duplicate, Early}
 use Rattle.machine.specs.Simulation.{process_at}
-use Rattle.machine.proofs.Picks.{known_as, known-within, number-is}
+use Rattle.machine.proofs.Wants.{known_as, known-within, number-is}
 use Rattle.machine.proofs.machine.Machine.number_of.Goals as goal
 
 pub returns-in-Duplicate-clause-value : goal.returns-in-Duplicate-clause-value

@@ -4,7 +4,7 @@ use Rattle.world.specs.Useful.{works_on, is_unacknowledged}
 use Rattle.session_process.specs.Process.{TheProcess}
 use Rattle.session_process.specs.declared.mode.Mode.TheVariants.{Live}
 use Rattle.machine.specs.Work.{phase_of}
-use Rattle.machine.proofs.Picks.{wants-next, wants-other, flag-is}
+use Rattle.machine.proofs.Wants.{wants-next, wants-other, flag-is}
 use Rattle.machine.proofs.machine.Machine.wants.Goals as goal
 
 pub returns-then-is_next : goal.returns-then-is_next
