@@ -1,5 +1,5 @@
-use Rattle.std.proofs.Common.{rules, ap, subst, sym, arith}
-use Rattle.std.proofs.lemmas.Grind.{common_steps}
-use Rattle.std.proofs.lemmas.Bool.Decides.{nat_tests}
-use Rattle.machine.specs.Jobs.{Matches}
+use Rattle.std.proofs.Common.{rules}
 use Rattle.machine.proofs.machine.Machine.is_open.Goals as goal
+
+pub returns-then-eq : goal.returns-then-eq
+returns-then-eq c = search rules
