@@ -1,3 +1,4 @@
 mod RequestLemmas
+mod RowLemmas
 mod TakenLemmas
 mod WalkLemmas

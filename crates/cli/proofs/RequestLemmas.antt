@@ -74,14 +74,6 @@ third_form rows n other another h =
     let three : n ≡ 3 = omega (arith, other, another, h.2.least, h.2.most) in
     subst (HasNumber (codes "form") 1 3 rows) three h
 
--- the number 2 is that of form 2
-pub second_form : (rows : List Row) (n : ℕ) → n ≡ 2 → HasNumber (codes "form") 1 3 rows n → MayHaveForm rows (Some Sbi2)
-second_form rows n two h = subst (HasNumber (codes "form") 1 3 rows) two h
-
--- and the number 1 is that of form 1
-pub first_form : (rows : List Row) (n : ℕ) → n ≡ 1 → HasNumber (codes "form") 1 3 rows n → MayHaveForm rows (Some Sbi1)
-first_form rows n one h = subst (HasNumber (codes "form") 1 3 rows) one h
-
 -- the length of a state that was given is in range
 state_in_range : (rows : List Row) (state : Option ℕ) → MayHaveState rows state → IfSome state (λ n. n ≤ STATE_BYTES)
 state_in_range rows None h = tt
