@@ -303,7 +303,10 @@ class Drawn:
         self.cluster = Cluster(count, set(), left_out, pass_on)
 
     def last(self, source, destination, kind):
-        return [parcel for parcel in self.cluster.net if parcel[:2] == (source, destination) and parcel[2][0] == kind][-1]
+        found = [parcel for parcel in self.cluster.net if parcel[:2] == (source, destination) and parcel[2][0] == kind]
+        if not found:
+            raise Broken("%s sends no %s" % ("node %d" % source if source else "the gateway", kind))
+        return found[-1]
 
     def go(self, source, destination, kind):
         parcel = self.last(source, destination, kind)
@@ -446,8 +449,6 @@ def guarded(run):
         return None, run()
     except Broken as broken:
         return str(broken), None
-    except (IndexError, KeyError) as error:
-        return "a call fails: " + type(error).__name__, None
 
 
 def all_rules(runs):
