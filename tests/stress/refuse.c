@@ -6,7 +6,7 @@
    too. At the program's end the file of COUNTS has a line of four numbers: how many requests there
    were, how many of them were refused, and how many blocks the program itself took and gave back.
    Requests of the C library count as requests, and their blocks, which it may keep, don't count.
-   refuse_requests tells a program how many requests there were so far. */
+   refuse_requests tells a program how many requests there were so far, refuse_refused how many were refused. */
 #define _GNU_SOURCE
 #include <errno.h>
 #include <fcntl.h>
@@ -28,6 +28,7 @@ static long first = -1, last = -1;
 static uintptr_t begin, end;
 
 long refuse_requests(void) { return atomic_load(&requests); }
+long refuse_refused(void) { return atomic_load(&refused); }
 
 /* The first object is the program. */
 static int of_program(struct dl_phdr_info *object, size_t size, void *unused) {

@@ -213,23 +213,26 @@ static void append(const void *bytes, size_t len) {
     told.len += len;
 }
 
-/* How often memory was asked for, which refuse.c counts, where it is loaded. */
+/* How often memory was asked for and refused, which refuse.c counts, where it is loaded. */
 extern long refuse_requests(void) __attribute__((weak));
+extern long refuse_refused(void) __attribute__((weak));
 
 static long requests(void) { return refuse_requests ? refuse_requests() : 0; }
+static long refusals(void) { return refuse_refused ? refuse_refused() : 0; }
 
-/* The call that was refused memory. */
-static const char *refused;
+/* The call that was refused memory; and the one that was carried out though a request was refused, with less memory. */
+static const char *refused, *with_less;
 
 /* Makes a call. Where it isn't done, it has written nothing, but for a size where there is no room. */
 static uint32_t made(const char *name, exported *call, uint32_t a, uint32_t b, bool asks) {
-    long asked = requests();
+    long asked = requests(), refused_before = refusals();
     memset(&out, UNWRITTEN, sizeof out);
     memset(&unwritten, UNWRITTEN, sizeof unwritten);
     uint32_t code = call(a, b);
     if (!asks && requests() != asked) fail(name, "asks for memory");
     if (code == SBLOG_SESSION_MEMORY && refused) fail(name, "answers want of memory twice");
     if (code == SBLOG_SESSION_MEMORY) refused = name;
+    if (code != SBLOG_SESSION_MEMORY && refusals() > refused_before) with_less = name;
     if (code == SBLOG_SESSION_ROOM) unwritten.size = out.size;
     if (code != SBLOG_SESSION_DONE && memcmp(&out, &unwritten, sizeof out)) fail(name, "is refused, and has written");
     return code;
@@ -378,6 +381,7 @@ int main(int count, char **words) {
     fwrite(lines, 1, lines_len, stdout);
     fwrite(last.bytes + last.trace, 1, last.len - last.trace, stdout);
     if (refused) printf("note: %s is refused\n", refused);
+    if (with_less) printf("note: %s makes do with less\n", with_less);
     if (is_whole) puts("note: a refused drive or arrival had made no call");
     if (is_cut) puts("note: a refused drive or arrival had made calls");
     if (left_open == SBLOG_SESSION_BUSY) puts("note: it left a process busy");
