@@ -9,7 +9,7 @@ import time
 import lives
 from lives import Cluster, Wrong
 from listening import PROCESSES, connect, payload, tells, works
-from looks import told
+from looks import has_sandbox, told
 from stopped import prints_once
 from storage import Bucket, Table, lets_through
 
@@ -67,10 +67,10 @@ def lives_on(folder, storage):
         program.home = tempfile.mkdtemp(dir=folder)
         storage.takes(program)
         tries(storage.word, program, cluster.file_of(0))
-    if subprocess.run([*cluster.nodes[0].command(), "--check", "--sandbox"], capture_output=True).returncode == 0:
-        user = pwd.getpwnam("nobody") if os.geteuid() == 0 else pwd.getpwuid(os.geteuid())
-        for program in cluster.programs:
-            program.words = ["--sandbox", "--user", user.pw_name]
+    user = pwd.getpwnam("nobody") if os.geteuid() == 0 else pwd.getpwuid(os.geteuid())
+    sandbox = has_sandbox(cluster.nodes[0])
+    for program in cluster.programs:
+        program.words = ["--user", user.pw_name, *["--sandbox"][:sandbox]]
     cluster.gateway.words += ["--listen", "unix:" + cluster.lines]
     cluster.start()
     one, (relay, echo) = connect(cluster), cluster.nodes

@@ -3,11 +3,10 @@ import os
 import pwd
 import re
 import shutil
-import subprocess
 
 from listening import PROCESSES, works
 from lives import Cluster, Wrong
-from looks import told
+from looks import has_sandbox, told
 from talk import Talk
 
 
@@ -35,11 +34,9 @@ def guarded(folder):
     words = ["--user", user.pw_name, "--metrics", "unix:" + os.path.join(folder, "figures-")]
     told([*cluster.nodes[0].command()[1:], "--user", "no-such-user"], 2)
     shutil.rmtree(cluster.nodes[0].store)
-    has_sandbox = subprocess.run(cluster.nodes[0].command() + ["--check", "--sandbox"], capture_output=True).returncode == 0
-    if not has_sandbox:
-        print("not tried, since the program was built without libseccomp: --sandbox")
+    sandbox = has_sandbox(cluster.nodes[0])
     for program in cluster.programs:
-        program.words = [*words[:3], words[3] + program.name, *["--sandbox"][:has_sandbox]]
+        program.words = [*words[:3], words[3] + program.name, *["--sandbox"][:sandbox]]
     cluster.gateway.words += ["--listen", "unix:" + cluster.lines]
     for life in range(2):
         cluster.start()
@@ -48,7 +45,7 @@ def guarded(folder):
         works(cluster, one, 3 * life + 1, 3 * life + 2)
         for program in cluster.programs:
             for state in states(program):
-                wanted = {"Uid": "\t".join(4 * [str(user.pw_uid)]), "NoNewPrivs": "1", "Seccomp": "2" if has_sandbox else state["Seccomp"]}
+                wanted = {"Uid": "\t".join(4 * [str(user.pw_uid)]), "NoNewPrivs": "1", "Seccomp": "2" if sandbox else state["Seccomp"]}
                 if not wanted.items() <= state.items():
                     raise Wrong(f"{program.name} is {state}")
         for path, mode, owner in modes(folder):

@@ -24,6 +24,19 @@ def told(words, *statuses):
     return done.stdout, done.stderr.splitlines()
 
 
+def has_sandbox(program):
+    """Whether --sandbox can be tried. A program that was built without libseccomp has to refuse it, and any other one to take it."""
+    linked = subprocess.run(["ldd", program_path()], capture_output=True, text=True, check=True).stdout
+    words = [*program.command()[1:], "--check", "--sandbox"]
+    if "libseccomp" in linked:
+        told(words)
+        return True
+    if not any("built where libseccomp isn't" in line for line in told(words, 2)[1]):
+        raise Wrong("--sandbox isn't refused by a program that was built without libseccomp")
+    print("not tried, since the program was built without libseccomp: --sandbox", flush=True)
+    return False
+
+
 def files_of(folder):
     """Each file below a folder, with its bytes and its time."""
     found = {}
