@@ -197,6 +197,8 @@ def part(folder, rounds, seed, port, begin):
     """A quarter of the rounds over each transport, with one fault at a time, and a quarter with several in durable nodes. The first stop of
     each kind is a plain one. `begin` makes a campaign."""
     kinds = [kind for kind in KINDS if kind != "nats" or shutil.which("nats-server")]
+    if len(kinds) < len(KINDS):
+        print("not tried, since there is no nats-server: stops over nats", flush=True)
     library, faults, rows, right = preload(folder), itertools.cycle(FAULTS), {}, True
     for place, kind in enumerate(kinds):
         transport, words, choose = KINDS[kind]
