@@ -219,6 +219,7 @@ static void files(int count) {
             SAME(state_len, 0);
         sblog_close(handle), done(file), done(fault);
     }
+    SAME(codes[SBLOG_DONE] && codes[SBLOG_HEADER] && codes[SBLOG_CODE] && codes[SBLOG_RULES], 1);
     printf("%d files: %d opened, refused %d by header, %d by encoding, %d by rules\n", count, codes[SBLOG_DONE],
            codes[SBLOG_HEADER], codes[SBLOG_CODE], codes[SBLOG_RULES]);
 }
