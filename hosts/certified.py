@@ -4,7 +4,6 @@ import shutil
 import signal
 import socket
 import ssl
-import subprocess
 import time
 
 import lives
@@ -12,7 +11,7 @@ from certificates import Authority, context
 from frames import LOGGED, Framed, frame
 from listening import PROCESSES, payload, tells, works
 from lives import Cluster, Wrong
-from looks import told
+from looks import is_built_with, told
 from talk import Talk
 
 PORT, LINES = 17760, 17769  # of tls
@@ -181,9 +180,7 @@ def tls(folder):
         return
     cluster = Cluster(folder, "programs", PROCESSES, transport="tls", port=PORT)
     cluster.gateway.words = ["--listen", f"tls:127.0.0.1:{LINES}"]
-    looks = subprocess.run(cluster.gateway.command() + ["--check"], capture_output=True, text=True)
-    if "this program was built where OpenSSL isn't" in looks.stderr:
-        print("skipped, since the program was built without OpenSSL: tls")
+    if not is_built_with("libssl", [*cluster.gateway.command()[1:], "--check"], "tls"):
         return
     authority = cluster.authority
     own_files(cluster, authority, folder)

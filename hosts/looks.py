@@ -24,17 +24,23 @@ def told(words, *statuses):
     return done.stdout, done.stderr.splitlines()
 
 
-def has_sandbox(program):
-    """Whether --sandbox can be tried. A program that was built without libseccomp has to refuse it, and any other one to take it."""
-    linked = subprocess.run(["ldd", program_path()], capture_output=True, text=True, check=True).stdout
-    words = [*program.command()[1:], "--check", "--sandbox"]
-    if "libseccomp" in linked:
-        told(words)
+def is_built_with(library, words, what):
+    """Whether the program was built with a library. One that wasn't has to say so if it gets these words, and `what` isn't tried then."""
+    if library in subprocess.run(["ldd", program_path()], capture_output=True, text=True, check=True).stdout:
         return True
-    if not any("built where libseccomp isn't" in line for line in told(words, 2)[1]):
-        raise Wrong("--sandbox isn't refused by a program that was built without libseccomp")
-    print("not tried, since the program was built without libseccomp: --sandbox", flush=True)
+    if not any("this program was built where" in line for line in told(words, *range(2, 8))[1]):
+        raise Wrong(f"{words}: the program doesn't say that it was built without {library}")
+    print(f"not tried, since the program was built without {library}: {what}", flush=True)
     return False
+
+
+def has_sandbox(program):
+    """Whether --sandbox can be tried. A program that was built for it has to take it."""
+    words = [*program.command()[1:], "--check", "--sandbox"]
+    is_there = is_built_with("libseccomp", words, "--sandbox")
+    if is_there:
+        told(words)
+    return is_there
 
 
 def files_of(folder):

@@ -6,11 +6,11 @@ import time
 
 from lives import Cluster, Wrong
 from listening import PROCESSES, connect, has_said, payload, works
-from looks import told
+from looks import is_built_with, told
 from storage import Bucket, Table, lets_through
 
 PORT, WAIT = 17820, 30  # WAIT: seconds that a program waits
-WAITS, ANSWERS, LACKS = "it doesn't answer: this program waits", "it answers, after", "the library for it isn't"
+WAITS, ANSWERS = "it doesn't answer: this program waits", "it answers, after"
 
 
 class Line:
@@ -73,25 +73,19 @@ class Exchange:
             self.lines.append(Line(self.socket.accept()[0], self.server))
 
 
-def is_built(program):
-    """Whether it was built with the library for its kind of store; else it ends at once, and says so."""
-    until = time.monotonic() + 10
-    while not any(it in line for line in program.said for it in (WAITS, LACKS)) and time.monotonic() < until:
-        time.sleep(0.01)
-    lacks = any(LACKS in line for line in program.said)
-    if lacks:
-        print(f"not tried, since the program was built without its library: a silent server of {program.store.partition(':')[0]}")
-    return not lacks
-
-
 def ends_alone(folder):
     """A server that takes connections, and says nothing: a program ends after its wait, and says so before."""
     deaf = socket.create_server(("127.0.0.1", 0))
-    port, cluster, began = deaf.getsockname()[1], Cluster(folder, "bank", PROCESSES), time.monotonic()
-    for program, word in zip(cluster.nodes, (f"postgres:host=127.0.0.1 port={port}", f"nats:nats://127.0.0.1:{port}/bank")):
+    port, cluster, programs = deaf.getsockname()[1], Cluster(folder, "bank", PROCESSES), []
+    for program, library, word in zip(cluster.nodes, ("libpq", "libnats"),
+                                      (f"postgres:host=127.0.0.1 port={port}", f"nats:nats://127.0.0.1:{port}/bank")):
         program.store = word
+        if is_built_with(library, [*program.command()[1:], "--check"], f"a silent server of {word.partition(':')[0]}"):
+            programs.append(program)
+    began = time.monotonic()
+    for program in programs:
         program.start()
-    for program in filter(is_built, cluster.nodes):
+    for program in programs:
         has_said(program, WAITS)
         status, took = program.ends(), time.monotonic() - began
         if status != 6 or not WAIT - 1 < took < 2 * WAIT:
